@@ -1,0 +1,184 @@
+-- One block: what is read is in the relation, and what is in the relation is read.
+use Rattle.std.proofs.Common.{◌≡◌, ℕ, ◌+◌, ◌<◌, true, false, cond, not, List, [], ◌∷◌, ◌++◌, length, Some, None, Result, Ok, Err, refl, ap, sym, subst, ◌∙◌, arith, inl, inr}
+use Rattle.std.specs.List.{list_all}
+use Rattle.std.proofs.lemmas.Bool.{cases_Bool}
+use Rattle.rb_script.specs.declared.fault.ScriptFault.{ScriptFault}
+use Rattle.rb_script.specs.declared.fault.ScriptFault.TheVariants as faults
+use Rattle.rb_script.specs.declared.marks.Stop.TheVariants.{Head}
+use Rattle.rb_script.specs.Lines.{Line}
+use Rattle.rb_script.specs.Marks.{is_lead, is_separator, continues, stops}
+use Rattle.rb_script.specs.Script.{PlainBlock}
+use Rattle.rb_script.specs.Joined.{joined}
+use Rattle.rb_script.specs.Directive.{PlainArgument}
+use Rattle.rb_script.specs.Limits.{are_few}
+use Rattle.rb_script.specs.Reads.{begins_lead, IsContinued, IsDirective, ReadsBlock}
+use Rattle.rb_script.specs.Reading.{◌>>=◌, Fails, upto, onward, head_of, after_head, HeadThere, head_at, few_or, Expectation, expectation_at, closed_or, after_separator, number_of, lead_of, from_head, is_empty, block_at}
+use Rattle.rb_script.proofs.GrammarLaws.{head_sound, head_complete}
+use Rattle.rb_script.proofs.ResultLaws.{bind_ok, done, ok_is, fails_through}
+use Rattle.rb_script.proofs.RunLaws.{upto-append-onward, none-upto, onward-first, upto-run, leads_none, head-append-after, head_continued, head_run}
+use Rattle.rb_script.proofs.ExpectationLaws.{expectation_sound, expectation_complete}
+
+-- ---- directives
+
+-- a head that was taken is there, and its arguments are few enough
+few_is : (n : ℕ) (there : HeadThere) (x : List ℕ × List PlainArgument) → few_or n there ≡ Ok x → (there ≡ Some x) × (are_few x.1 ≡ true)
+few_is n None x e = absurd cc
+few_is n (Some y) x e =
+    elim (cases_Bool (are_few y.1)) [
+      | inl t ↦ let same = ok_is y x (sym (ap (λ b. cond b (done y) (Err (faults.TooManyArguments n))) t) ∙ e) in (ap (λ (p : List ℕ × List PlainArgument). Some p) same, ap (λ (p : List ℕ × List PlainArgument). are_few p.1) (sym same) ∙ t)
+      | inr f ↦ let no : Err (faults.TooManyArguments n) ≡ done x = sym (ap (λ b. cond b (done y) (Err (faults.TooManyArguments n))) f) ∙ e in absurd cc
+    ]
+
+-- a head that is read is a directive
+pub directive_sound : (n : ℕ) (head : List Line) (x : List ℕ × List PlainArgument) → few_or n (head_at (joined head)) ≡ Ok x → IsDirective head
+directive_sound n head x e =
+    let found = few_is n (head_at (joined head)) x e in
+    record { name = x.0; args = x.1; derives = head_sound (joined head) x.0 x.1 found.0; few = found.1 }
+
+-- a directive is read
+directive_complete : (n : ℕ) (head : List Line) (d : IsDirective head) → few_or n (head_at (joined head)) ≡ Ok (d.name, d.args)
+directive_complete n head d =
+    ap (few_or n) (head_complete (joined head) d.name d.args d.derives) ∙ ap (λ b. cond b (done (d.name, d.args)) (Err (faults.TooManyArguments n))) d.few
+
+-- a head begins as the lines do
+begins_head : (ls : List Line) → begins_lead (head_of ls) ≡ begins_lead ls
+unfolding head_of
+begins_head [] = refl
+begins_head (line ∷ ls) = elim (continues line) as (λ t. begins_lead (cond t (line ∷ head_of ls) (line ∷ [])) ≡ is_lead line) [ true ↦ refl | false ↦ refl ]
+
+-- a head before a separator asks for no more
+continued : (ls a : List Line) (line : Line) (after : List Line) → after_head ls ≡ a ++ line ∷ after → IsContinued (head_of ls)
+continued ls [] line after e = head_continued ls line after e
+continued ls (first ∷ a) line after e = head_continued ls first (a ++ line ∷ after) e
+
+-- the block of a lead, a head, an input and what was found of its expectation
+abbrev pub made : List Line → List Line → List Line → List Line × List Line → Result (PlainBlock × List Line) ScriptFault
+made lead head input found = Ok (record { lead = lead; head = head; input = input; expected = found.0 }, found.1)
+
+-- what follows the head, by the faults of a missing separator and an unclosed expectation
+abbrev pub behind_head : ScriptFault → ScriptFault → List Line → (List Line × List Line → Result (PlainBlock × List Line) ScriptFault) → Result (PlainBlock × List Line) ScriptFault
+behind_head missing unclosed ls f = after_separator missing ls >>= λ after. closed_or unclosed (expectation_at after) >>= f
+
+-- ---- the steps of reading a block, whose head begins at line n
+
+-- the number of the first of these lines
+pub number_is : (n end : ℕ) (ls : List Line) → n + length ls ≡ end → n ≡ number_of end ls
+number_is n end ls e = omega arith
+
+-- a head that is no lead line has a line
+pub head_some : (ls head : List Line) → head ≡ head_of ls → begins_lead ls ≡ false → 0 < length head
+unfolding head_of
+head_some [] head run first = absurd cc
+head_some (line ∷ ls) head run first =
+    rw run (elim (continues line) as (λ t. 0 < length (cond t (line ∷ head_of ls) (line ∷ []))) [ true ↦ omega arith | false ↦ omega arith ])
+
+-- what follows a separator that is there
+pub separator_next : (fault : ScriptFault) (onwards more : List Line) (line : Line) → onwards ≡ line ∷ more → after_separator fault onwards ≡ Ok more
+separator_next fault onwards more line e = ap (after_separator fault) e
+
+module _ (end n : ℕ) (lead ls head after : List Line) (at : n ≡ number_of end ls) (run : head ≡ head_of ls) (rest : after ≡ after_head ls) where
+  -- a head that can't be read is the fault
+  pub head_fails : (e : ScriptFault) → Fails e (few_or n (head_at (joined head))) → Fails e (block_at end lead ls)
+  unfolding block_at
+  head_fails e h =
+      fails_through e (few_or n (head_at (joined head))) (block_at end lead ls) h (λ f. ap (λ (found : Result (List ℕ × List PlainArgument) ScriptFault). found >>= λ _. behind_head (faults.NoSeparator (number_of end ls)) (faults.NotClosed (number_of end (onward is_separator (after_head ls)))) (onward is_separator (after_head ls)) (made lead (head_of ls) (upto is_separator (after_head ls))))
+      (ap (λ (hd : List Line). few_or (number_of end ls) (head_at (joined hd))) (sym run) ∙ ap (λ (k : ℕ). few_or k (head_at (joined head))) (sym at) ∙ f))
+
+  -- what is read behind a head that was read
+  behind : (x : List ℕ × List PlainArgument) → few_or n (head_at (joined head)) ≡ Ok x → block_at end lead ls ≡ behind_head (faults.NoSeparator n) (faults.NotClosed (number_of end (onward is_separator after))) (onward is_separator after) (made lead head (upto is_separator after))
+  unfolding block_at
+  behind x h =
+      let of : ℕ → List Line → List Line → Result (PlainBlock × List Line) ScriptFault =
+      λ k hd af. few_or k (head_at (joined hd)) >>= λ _. behind_head (faults.NoSeparator k) (faults.NotClosed (number_of end (onward is_separator af))) (onward is_separator af) (made lead hd (upto is_separator af)) in
+      ap (λ (k : ℕ). of k (head_of ls) (after_head ls)) (sym at) ∙ ap (λ (hd : List Line). of n hd (after_head ls)) (sym run) ∙ ap (λ (af : List Line). of n head af) (sym rest)
+      ∙ ap (λ (found : Result (List ℕ × List PlainArgument) ScriptFault). found >>= λ _. behind_head (faults.NoSeparator n) (faults.NotClosed (number_of end (onward is_separator after))) (onward is_separator after) (made lead head (upto is_separator after))) h
+
+  module _ (x : List ℕ × List PlainArgument) (found : few_or n (head_at (joined head)) ≡ Ok x) where
+    -- no line ---- follows
+    pub no_separator : (onwards : List Line) → onwards ≡ onward is_separator after → onwards ≡ [] → block_at end lead ls ≡ Err (faults.NoSeparator n)
+    no_separator onwards e none =
+        behind x found ∙ ap (λ (on : List Line). behind_head (faults.NoSeparator n) (faults.NotClosed (number_of end (onward is_separator after))) on (made lead head (upto is_separator after))) (sym e ∙ none)
+
+    -- an expectation behind line m is not closed
+    pub not_closed : (m : ℕ) (onwards more : List Line) (line : Line) → m ≡ number_of end onwards → onwards ≡ onward is_separator after → onwards ≡ line ∷ more → None ≡ expectation_at more → block_at end lead ls ≡ Err (faults.NotClosed m)
+    not_closed m onwards more line is e first none =
+        behind x found ∙ ap (λ (on : List Line). behind_head (faults.NoSeparator n) (faults.NotClosed (number_of end on)) on (made lead head (upto is_separator after))) (sym e)
+        ∙ ap (λ (r : Result (List Line) ScriptFault). r >>= λ a. closed_or (faults.NotClosed (number_of end onwards)) (expectation_at a) >>= made lead head (upto is_separator after)) (separator_next (faults.NoSeparator n) onwards more line first)
+        ∙ ap (λ (there : Expectation). closed_or (faults.NotClosed (number_of end onwards)) there >>= made lead head (upto is_separator after)) (sym none) ∙ ap (λ (k : ℕ). Err (faults.NotClosed k)) (sym is)
+
+    -- the whole block is read
+    pub block_read : (input onwards more e next : List Line) (line : Line) → input ≡ upto is_separator after → onwards ≡ onward is_separator after → onwards ≡ line ∷ more → Some (e, next) ≡ expectation_at more
+        → block_at end lead ls ≡ Ok (record { lead = lead; head = head; input = input; expected = e }, next)
+    block_read input onwards more e next line inputs is first some =
+        let unclosed = faults.NotClosed (number_of end (onward is_separator after)) in
+        behind x found ∙ ap (λ (on : List Line). behind_head (faults.NoSeparator n) unclosed on (made lead head (upto is_separator after))) (sym is ∙ first)
+        ∙ ap (λ (there : Expectation). closed_or unclosed there >>= made lead head (upto is_separator after)) (sym some)
+        ∙ ap (λ (inp : List Line). made lead head inp (e, next)) (sym inputs)
+
+-- ---- a block that is read is in the relation
+
+-- a separator was there
+pub after_is : (fault : ScriptFault) (ls after : List Line) → after_separator fault ls ≡ Ok after → (line : Line) × (ls ≡ line ∷ after)
+after_is fault [] after e = absurd cc
+after_is fault (line ∷ ls) after e = (line, ap (λ (l : List Line). line ∷ l) (ok_is ls after e))
+
+-- an expectation was closed
+closed_is : (fault : ScriptFault) (found : Expectation) (x : List Line × List Line) → closed_or fault found ≡ Ok x → found ≡ Some x
+closed_is fault None x e = absurd cc
+closed_is fault (Some y) x e = ap (λ (p : List Line × List Line). Some p) (ok_is y x e)
+
+-- a block that is read is in the relation
+pub block_sound : (end : ℕ) (lead ls rest : List Line) (b : PlainBlock) → block_at end lead ls ≡ Ok (b, rest) → list_all is_lead lead ≡ true → begins_lead ls ≡ false → ReadsBlock (lead ++ ls) b rest
+unfolding block_at
+block_sound end lead ls rest b e leads first =
+    let ahead = after_head ls in
+    let missing = faults.NoSeparator (number_of end ls) in
+    let unclosed = faults.NotClosed (number_of end (onward is_separator ahead)) in
+    let make = made lead (head_of ls) (upto is_separator ahead) in
+    let h = bind_ok (few_or (number_of end ls) (head_at (joined (head_of ls)))) (λ _. behind_head missing unclosed (onward is_separator ahead) make) (b, rest) e in
+    let s = bind_ok (after_separator missing (onward is_separator ahead)) (λ after. closed_or unclosed (expectation_at after) >>= make) (b, rest) h.2 in
+    let f = bind_ok (closed_or unclosed (expectation_at s.0)) make (b, rest) s.2 in
+    let line = after_is missing (onward is_separator ahead) s.0 s.1 in
+    let x = expectation_sound s.0 f.0.0 f.0.1 (closed_is unclosed (expectation_at s.0) f.0 f.1) in
+    let cut : ahead ≡ upto is_separator ahead ++ line.0 ∷ s.0 = sym (upto-append-onward is_separator ahead) ∙ ap (λ (l : List Line). upto is_separator ahead ++ l) line.1 in
+    let found : PlainBlock × List Line = (record { lead = lead; head = head_of ls; input = upto is_separator ahead; expected = f.0.0 }, f.0.1) in
+    subst (λ (p : PlainBlock × List Line). ReadsBlock (lead ++ ls) p.0 p.1) (ok_is found (b, rest) f.2) (record {
+      separator = line.0;
+      after = s.0;
+      parts = ap (λ (l : List Line). lead ++ l) (sym (head-append-after ls) ∙ ap (λ (l : List Line). head_of ls ++ l) cut);
+      lead = leads;
+      head = (begins_head ls ∙ first, continued ls (upto is_separator ahead) line.0 s.0 cut);
+      directive = directive_sound (number_of end ls) (head_of ls) h.0 h.1;
+      input = none-upto is_separator ahead;
+      separates = onward-first is_separator ahead line.0 s.0 line.1;
+      readable = x.readable;
+      expected = x.expected;
+    })
+
+-- ---- a block in the relation is read
+
+-- where the head begins
+record Cut (ls lead from : List Line) : Type 0 where
+  lead_is : lead_of ls ≡ lead
+  from_is : from_head ls ≡ from
+  some : is_empty from ≡ false
+
+-- the lead lines stop at the head
+cut_lead : (ls lead head more : List Line) → ls ≡ lead ++ (head ++ more) → list_all is_lead lead ≡ true → begins_lead head ≡ false → Cut ls lead (head ++ more)
+cut_lead ls lead [] more e leads first = absurd cc
+cut_lead ls lead (line ∷ head) more e leads first =
+    let run = upto-run (stops Head) lead line (head ++ more) (sym (leads_none lead) ∙ leads) (ap not first) in
+    record { lead_is = ap (upto (stops Head)) e ∙ run.0; from_is = ap (onward (stops Head)) e ∙ run.1; some = refl }
+
+-- a block in the relation is read
+pub block_complete : (end : ℕ) (ls rest : List Line) (b : PlainBlock) → ReadsBlock ls b rest → (is_empty (from_head ls) ≡ false) × (block_at end (lead_of ls) (from_head ls) ≡ Ok (b, rest))
+block_complete end ls rest b r =
+    let more = b.input ++ r.separator ∷ r.after in
+    let c = cut_lead ls b.lead b.head more r.parts r.lead r.head.0 in
+    let head = head_run b.head more r.head.1 in
+    let input = upto-run is_separator b.input r.separator r.after r.input r.separates in (
+      ap is_empty c.from_is ∙ c.some,
+      ap (λ (l : List Line). block_at end l (from_head ls)) c.lead_is ∙ ap (λ (l : List Line). block_at end b.lead l) c.from_is
+          ∙ block_read end (number_of end (b.head ++ more)) b.lead (b.head ++ more) b.head more refl (sym head.0) (sym head.1) (r.directive.name, r.directive.args) (directive_complete (number_of end (b.head ++ more)) b.head r.directive)
+          b.input (r.separator ∷ r.after) r.after b.expected rest r.separator (sym input.0) (sym input.1) refl (sym (expectation_complete r.after b.expected rest r.readable r.expected)),
+    )

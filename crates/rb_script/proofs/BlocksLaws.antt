@@ -1,0 +1,170 @@
+-- Blocks one after the other, as a loop reads them, and the tail.
+use Rattle.std.proofs.Common.{◌≡◌, ℕ, suc, zero, ◌+◌, ◌-◌, ◌<◌, ◌≤◌, Bool, true, false, cond, eqb, List, [], ◌∷◌, ◌++◌, length, map, Result, Ok, Err, refl, ap, sym, subst, ◌∙◌, append_assoc, arith, inl, inr}
+use Rattle.std.specs.List.{list_all}
+use Rattle.std.specs.declared.rc.Rc.{Rc}
+use Rattle.std.specs.declared.alloc.Global.{Global}
+use Rattle.std.proofs.lemmas.List.{append-nil, map-append}
+use Rattle.std.proofs.lemmas.Bool.{cases_Bool, ne_eqb, not-true}
+use Rattle.rb_script.specs.declared.fault.ScriptFault.{ScriptFault}
+use Rattle.rb_script.specs.declared.fault.ScriptFault.TheVariants as faults
+use Rattle.rb_script.specs.declared.marks.Stop.TheVariants.{Head}
+use Rattle.rb_script.specs.Lines.{Line, lines, cut, in_first, without_returns}
+use Rattle.rb_script.specs.Marks.{is_lead, stops}
+use Rattle.rb_script.specs.Script.{PlainBlock, PlainScript}
+use Rattle.rb_script.specs.Shared.{values}
+use Rattle.rb_script.specs.Reads.{begins_lead, ReadsBlock, ReadsBlocks}
+use Rattle.rb_script.specs.Reading.{◌>>=◌, Fails, upto, onward, lead_of, from_head, is_empty, block_at, blocks_at, behind, tail_only}
+use Rattle.rb_script.proofs.ResultLaws.{bind_ok, done, ok_is, fails_through}
+use Rattle.rb_script.proofs.RunLaws.{upto-append-onward, none-upto, onward-first, upto-whole, leads_none}
+use Rattle.rb_script.proofs.BlockLaws.{block_sound, block_complete}
+
+-- what was read before, and what is still read
+abbrev pub with_blocks : List PlainBlock → Result PlainScript ScriptFault → Result PlainScript ScriptFault
+with_blocks front read = read >>= λ s. Ok (behind front s)
+
+-- a block moves from what is still read to what was read
+regroup : (front : List PlainBlock) (b : PlainBlock) (read : Result PlainScript ScriptFault) → with_blocks front (read >>= λ others. Ok (behind (b ∷ []) others)) ≡ with_blocks (front ++ b ∷ []) read
+regroup front b (Ok s) = ap (λ (bs : List PlainBlock). Ok (record { blocks = bs; tail = s.tail })) (sym (append_assoc front (b ∷ []) s.blocks))
+regroup front b (Err f) = refl
+
+-- a byte makes a line
+cut_some : (ls : List Line) (b : ℕ) → is_empty (map without_returns (in_first b ls)) ≡ false
+cut_some [] b = refl
+cut_some (line ∷ ls) b = refl
+
+-- whether there are lines can be seen at the bytes
+pub lines_empty : (bytes : List ℕ) → is_empty (lines bytes) ≡ eqb (length bytes) 0
+unfolding lines cut
+lines_empty [] = refl
+lines_empty (b ∷ bytes) =
+    let none : is_empty (map without_returns (cond (eqb b 10) ([] ∷ cut bytes) (in_first b (cut bytes)))) ≡ false =
+    elim (eqb b 10) as (λ t. is_empty (map without_returns (cond t ([] ∷ cut bytes) (in_first b (cut bytes)))) ≡ false) [ true ↦ refl | false ↦ cut_some (cut bytes) b ] in
+    none ∙ sym (ne_eqb (suc (length bytes)) 0 (λ e. omega arith))
+
+-- ---- one block
+
+-- a block, and those after it
+abbrev pub one_more : ℕ → ℕ → PlainBlock × List Line → Result PlainScript ScriptFault
+one_more room end found = blocks_at room end found.1 >>= λ others. Ok (behind (found.0 ∷ []) others)
+
+-- a block that was read stands before the others
+pub step_ok : (room end : ℕ) (ls : List Line) (b : PlainBlock) (after : List Line) → is_empty (from_head ls) ≡ false → block_at end (lead_of ls) (from_head ls) ≡ Ok (b, after) → blocks_at (suc room) end ls ≡ (blocks_at room end after >>= λ others. Ok (behind (b ∷ []) others))
+unfolding blocks_at
+step_ok room end ls b after some h =
+    ap (λ t. cond t (Ok (tail_only ls)) (block_at end (lead_of ls) (from_head ls) >>= one_more room end)) some
+    ∙ ap (λ (r : Result (PlainBlock × List Line) ScriptFault). r >>= one_more room end) h
+
+-- a block that can't be read is the fault
+step_err : (room end : ℕ) (ls : List Line) (e : ScriptFault) → is_empty (from_head ls) ≡ false → block_at end (lead_of ls) (from_head ls) ≡ Err e → blocks_at (suc room) end ls ≡ Err e
+unfolding blocks_at
+step_err room end ls e some h =
+    ap (λ t. cond t (Ok (tail_only ls)) (block_at end (lead_of ls) (from_head ls) >>= one_more room end)) some
+    ∙ ap (λ (r : Result (PlainBlock × List Line) ScriptFault). r >>= one_more room end) h
+
+-- where no head is left, the lines are the tail
+pub step_done : (room end : ℕ) (ls : List Line) → is_empty (from_head ls) ≡ true → blocks_at room end ls ≡ Ok (tail_only ls)
+unfolding blocks_at
+step_done zero end ls h = ap (λ t. cond t (Ok (tail_only ls)) (Err faults.TooManyDirectives)) h
+step_done (suc room) end ls h = ap (λ t. cond t (Ok (tail_only ls)) (block_at end (lead_of ls) (from_head ls) >>= one_more room end)) h
+
+-- a head for which there is no room is the fault
+step_full : (end : ℕ) (ls : List Line) → is_empty (from_head ls) ≡ false → blocks_at 0 end ls ≡ Err faults.TooManyDirectives
+unfolding blocks_at
+step_full end ls h = ap (λ t. cond t (Ok (tail_only ls)) (Err faults.TooManyDirectives)) h
+
+-- ---- the loop, which has read n blocks of at most so many
+
+module _ (most : ℕ) (front : List PlainBlock) (n end : ℕ) (ls : List Line) (total : Result PlainScript ScriptFault) (so_far : with_blocks front (blocks_at (most - n) end ls) ≡ total) where
+  -- there is room for one more
+  room_is : n < most → most - n ≡ suc (most - (n + 1))
+  room_is lt = omega arith
+
+  -- one block more was read
+  pub blocks_more : (b : PlainBlock) (after : List Line) → n < most → is_empty (from_head ls) ≡ false → block_at end (lead_of ls) (from_head ls) ≡ Ok (b, after) → with_blocks (front ++ b ∷ []) (blocks_at (most - (n + 1)) end after) ≡ total
+  blocks_more b after lt some h =
+      let room = most - (n + 1) in
+      sym (regroup front b (blocks_at room end after)) ∙ sym (ap (with_blocks front) (ap (λ (r : ℕ). blocks_at r end ls) (room_is lt) ∙ step_ok room end ls b after some h)) ∙ so_far
+
+  -- the next block can't be read
+  pub blocks_fail : (e : ScriptFault) → n < most → is_empty (from_head ls) ≡ false → Fails e (block_at end (lead_of ls) (from_head ls)) → Fails e total
+  blocks_fail e lt some h = fails_through e _ total h (λ f. sym so_far ∙ ap (with_blocks front) (ap (λ (r : ℕ). blocks_at r end ls) (room_is lt) ∙ step_err (most - (n + 1)) end ls e some f))
+
+  -- no head is left
+  pub blocks_done : is_empty (from_head ls) ≡ true → total ≡ Ok (record { blocks = front; tail = lead_of ls })
+  blocks_done h = sym so_far ∙ ap (with_blocks front) (step_done (most - n) end ls h) ∙ ap (λ (bs : List PlainBlock). Ok (record { blocks = bs; tail = lead_of ls })) (append-nil front)
+
+  -- a head is left, and there is no room
+  pub blocks_full : n ≡ most → is_empty (from_head ls) ≡ false → total ≡ Err faults.TooManyDirectives
+  blocks_full full h =
+      let none : most - n ≡ 0 = omega arith in
+      sym so_far ∙ ap (with_blocks front) (ap (λ (r : ℕ). blocks_at r end ls) none ∙ step_full end ls h)
+
+-- one pointer more has its value at the end
+pub pushed_value : (pointers new : List (Rc PlainBlock Global)) (p : Rc PlainBlock Global) (b : PlainBlock) → new ≡ pointers ++ p ∷ [] → p.value ≡ b → values new ≡ values pointers ++ b ∷ []
+pushed_value pointers new p b e is = ap values e ∙ map-append (λ (q : Rc PlainBlock Global). q.value) pointers (p ∷ []) ∙ ap (λ (x : PlainBlock). values pointers ++ x ∷ []) is
+
+-- the test of the bytes that are left is a test of their lines
+pub tested : (bytes : List ℕ) (ls : List Line) (r t : Bool) → lines bytes ≡ from_head ls → r ≡ eqb (length bytes) 0 → r ≡ t → is_empty (from_head ls) ≡ t
+tested bytes ls r t e told h = ap is_empty (sym e) ∙ lines_empty bytes ∙ sym told ∙ h
+
+-- the block is read from the same lines
+pub same_block : (end total : ℕ) (lead after ls : List Line) → end ≡ total → lead ≡ lead_of ls → after ≡ from_head ls → block_at end lead after ≡ block_at total (lead_of ls) (from_head ls)
+same_block end total lead after ls e f g =
+    ap (λ (n : ℕ). block_at n lead after) e ∙ ap (λ (l : List Line). block_at total l after) f ∙ ap (λ (l : List Line). block_at total (lead_of ls) l) g
+
+-- ---- all blocks: what is read is in the relation, and what is in the relation is read
+
+-- lines that are none
+nil_is : (ls : List Line) → is_empty ls ≡ true → ls ≡ []
+nil_is [] e = refl
+nil_is (line ∷ ls) e = absurd cc
+
+-- the lines before a head are lead lines
+pub leads_of : (ls : List Line) → list_all is_lead (lead_of ls) ≡ true
+leads_of ls = leads_none (lead_of ls) ∙ none-upto (stops Head) ls
+
+-- a head is no lead line
+pub begins_from : (ls from : List Line) → from_head ls ≡ from → is_empty from ≡ false → begins_lead from ≡ false
+begins_from ls [] e some = absurd cc
+begins_from ls (line ∷ from) e some = not-true (is_lead line) (onward-first (stops Head) ls line from e)
+
+-- where no head is left, the tail is in the relation
+tail_sound : (ls : List Line) → is_empty (from_head ls) ≡ true → ReadsBlocks ls [] (lead_of ls)
+tail_sound ls e = (sym (upto-append-onward (stops Head) ls) ∙ ap (λ (l : List Line). lead_of ls ++ l) (nil_is (from_head ls) e) ∙ append-nil (lead_of ls), leads_of ls)
+
+-- blocks and a tail in the relation, for which there is room
+abbrev Sound : ℕ → List Line → PlainScript → Type 0
+Sound room ls s = ReadsBlocks ls s.blocks s.tail × (length s.blocks ≤ room)
+
+-- the next block that is read is in the relation
+pub next_sound : (end : ℕ) (ls rest : List Line) (b : PlainBlock) → is_empty (from_head ls) ≡ false → block_at end (lead_of ls) (from_head ls) ≡ Ok (b, rest) → ReadsBlock ls b rest
+next_sound end ls rest b some e =
+    subst (λ (l : List Line). ReadsBlock l b rest) (upto-append-onward (stops Head) ls) (block_sound end (lead_of ls) (from_head ls) rest b e (leads_of ls) (begins_from ls (from_head ls) refl some))
+
+-- the blocks and the tail that are read are in the relation
+pub blocks_sound : (room end : ℕ) (ls : List Line) (s : PlainScript) → blocks_at room end ls ≡ Ok s → Sound room ls s
+unfolding blocks_at
+blocks_sound zero end ls s e =
+    elim (cases_Bool (is_empty (from_head ls))) [
+      | inl t ↦ subst (λ (x : PlainScript). Sound 0 ls x) (ok_is (tail_only ls) s (sym (ap (λ b. cond b (Ok (tail_only ls)) (Err faults.TooManyDirectives)) t) ∙ e)) (tail_sound ls t, omega arith)
+      | inr f ↦ let no : Err faults.TooManyDirectives ≡ done s = sym (ap (λ b. cond b (done (tail_only ls)) (Err faults.TooManyDirectives)) f) ∙ e in absurd cc
+    ]
+blocks_sound (suc room) end ls s e =
+    elim (cases_Bool (is_empty (from_head ls))) [
+      | inl t ↦ subst (λ (x : PlainScript). Sound (suc room) ls x) (ok_is (tail_only ls) s (sym (ap (λ b. cond b (Ok (tail_only ls)) (block_at end (lead_of ls) (from_head ls) >>= one_more room end)) t) ∙ e)) (tail_sound ls t, omega arith)
+      | inr f ↦
+          let x = bind_ok (block_at end (lead_of ls) (from_head ls)) (one_more room end) s (sym (ap (λ b. cond b (done (tail_only ls)) (block_at end (lead_of ls) (from_head ls) >>= one_more room end)) f) ∙ e) in
+          let y = bind_ok (blocks_at room end x.0.1) (λ more. Ok (behind (x.0.0 ∷ []) more)) s x.2 in
+          let later = blocks_sound room end x.0.1 y.0 y.1 in
+          subst (λ (z : PlainScript). Sound (suc room) ls z) (ok_is (behind (x.0.0 ∷ []) y.0) s y.2) ((x.0.1, next_sound end ls x.0.1 x.0.0 f x.1, later.0), omega arith)
+    ]
+
+-- the blocks and the tail in the relation are read
+pub blocks_complete : (room end : ℕ) (ls : List Line) (bs : List PlainBlock) (tail : List Line) → ReadsBlocks ls bs tail → length bs ≤ room → blocks_at room end ls ≡ Ok (record { blocks = bs; tail = tail })
+blocks_complete room end ls [] tail r few =
+    let run = upto-whole (stops Head) tail (sym (leads_none tail) ∙ r.1) in
+    step_done room end ls (ap is_empty (ap (onward (stops Head)) r.0 ∙ run.1)) ∙ ap (λ (l : List Line). Ok (record { blocks = []; tail = l })) (ap (upto (stops Head)) r.0 ∙ run.0)
+blocks_complete zero end ls (b ∷ bs) tail r few = absurd (omega arith)
+blocks_complete (suc room) end ls (b ∷ bs) tail r few =
+    let block = block_complete end ls r.0 b r.1 in
+    step_ok room end ls b r.0 block.0 block.1 ∙ ap (λ (later : Result PlainScript ScriptFault). later >>= λ others. Ok (behind (b ∷ []) others)) (blocks_complete room end r.0 bs tail r.2 (omega arith))

@@ -1,0 +1,197 @@
+-- Lines in one buffer.
+use Rattle.std.proofs.Common.{◌≡◌, ℕ, ◌+◌, ◌-◌, ◌≤◌, ◌<◌, List, [], ◌∷◌, ◌++◌, length, take, drop, get_or, set, refl, ap, sym, subst, ◌∙◌, append_assoc, zero, suc, length-append, eqb, true, eq-eqb, arith}
+use Rattle.std.specs.Prelude.{slice_get, Option, Some, Result, Ok, Err, OnOk, OnErr}
+use Rattle.std.proofs.lemmas.Bool.{eqb-true}
+use Rattle.std.proofs.lemmas.List.{append-nil}
+use Rattle.std.proofs.lemmas.List.Concat.{flat_map-append}
+use Rattle.rb_script.specs.Lines.{Line, line_text, text_of, extended}
+use Rattle.rb_script.specs.Flat.{ends_of, parted, line_start, IsFlat}
+
+take_front : (a b : List ℕ) → take (length a) (a ++ b) ≡ a
+take_front [] b = refl
+take_front (x ∷ a) b = ap (λ (l : List ℕ). x ∷ l) (take_front a b)
+
+drop_front : (a b : List ℕ) → drop (length a) (a ++ b) ≡ b
+drop_front [] b = refl
+drop_front (x ∷ a) b = drop_front a b
+
+-- the line that stands behind other text is cut out again
+first_part : (before line rest : List ℕ) → take ((length before + length line + 1) - length before - 1) (drop (length before) (before ++ (line ++ rest))) ≡ line
+first_part before line rest =
+    ap (λ (l : List ℕ). take ((length before + length line + 1) - length before - 1) l) (drop_front before (line ++ rest))
+    ∙ ap (λ (n : ℕ). take n (line ++ rest)) (let e : (length before + length line + 1) - length before - 1 ≡ length line = omega arith in e) ∙ take_front line rest
+
+-- lines are cut out of their text where they end
+pub parted_behind : (before : List ℕ) (ls : List Line) → parted (length before) (ends_of (length before) ls) (before ++ text_of ls) ≡ ls
+unfolding parted ends_of
+parted_behind before [] = refl
+parted_behind before (line ∷ ls) =
+    let whole : before ++ (line_text line ++ text_of ls) ≡ (before ++ line_text line) ++ text_of ls = sym (append_assoc before (line_text line) (text_of ls)) in
+    let len : length (before ++ line_text line) ≡ length before + length line + 1 = length-append before (line_text line) ∙ ap (λ (n : ℕ). length before + n) (length-append line (10 ∷ [])) ∙ omega arith in
+    ap (λ (l : List ℕ). take ((length before + length line + 1) - length before - 1) (drop (length before) (before ++ l)) ∷ parted (length before + length line + 1) (ends_of (length before + length line + 1) ls) (before ++ (line_text line ++ text_of ls))) (append_assoc line (10 ∷ []) (text_of ls))
+    ∙ ap (λ (l : Line). l ∷ parted (length before + length line + 1) (ends_of (length before + length line + 1) ls) (before ++ (line_text line ++ text_of ls))) (first_part before line (10 ∷ text_of ls))
+    ∙ ap (λ (l : List ℕ). line ∷ parted (length before + length line + 1) (ends_of (length before + length line + 1) ls) l) whole
+    ∙ ap (λ (n : ℕ). line ∷ parted n (ends_of n ls) ((before ++ line_text line) ++ text_of ls)) (sym len)
+    ∙ ap (λ (l : List Line). line ∷ l) (parted_behind (before ++ line_text line) ls)
+
+pub parted_whole : (ls : List Line) → parted 0 (ends_of 0 ls) (text_of ls) ≡ ls
+parted_whole ls = parted_behind [] ls
+
+-- ---- one buffer
+
+ends_push : (from : ℕ) (ls : List Line) (line : Line) → ends_of from (ls ++ line ∷ []) ≡ ends_of from ls ++ (from + length (text_of ls) + length (line_text line)) ∷ []
+unfolding ends_of
+ends_push from [] line = ap (λ (n : ℕ). n ∷ []) (let e : from + length line + 1 ≡ from + 0 + length (line_text line) = omega (arith, length-append line (10 ∷ [])) in e)
+ends_push from (first ∷ ls) line =
+    let n = from + length first + 1 in
+    let len : length (text_of (first ∷ ls)) ≡ length first + 1 + length (text_of ls) = length-append (line_text first) (text_of ls) ∙ ap (λ (k : ℕ). k + length (text_of ls)) (length-append first (10 ∷ [])) in
+    let e : n + length (text_of ls) + length (line_text line) ≡ from + length (text_of (first ∷ ls)) + length (line_text line) = omega (arith, len) in
+    ap (λ (l : List ℕ). n ∷ l) (ends_push n ls line) ∙ ap (λ (k : ℕ). n ∷ (ends_of n ls ++ k ∷ [])) e
+
+text-append : (a b : List Line) → text_of (a ++ b) ≡ text_of a ++ text_of b
+text-append a b = flat_map-append line_text a b
+
+-- what is flat is told by its lines
+pub from_lines : (ends text : List ℕ) (ls : List Line) → ends ≡ ends_of 0 ls → text ≡ text_of ls → IsFlat ends text × (parted 0 ends text ≡ ls)
+from_lines ends text ls e t =
+    let same : parted 0 ends text ≡ ls = ap (λ (n : List ℕ). parted 0 n text) e ∙ ap (λ (n : List ℕ). parted 0 (ends_of 0 ls) n) t ∙ parted_whole ls in
+    (record { text_is = t ∙ ap text_of (sym same); ends_are = e ∙ ap (ends_of 0) (sym same) }, same)
+
+pub flat_nil : (ends text : List ℕ) → ends ≡ [] → text ≡ [] → IsFlat ends text × (parted 0 ends text ≡ [])
+unfolding ends_of
+flat_nil ends text e t = from_lines ends text [] e t
+
+-- a line more
+pub flat_push : (ends text ends' text' : List ℕ) (line : Line) → IsFlat ends text → text' ≡ text ++ line_text line → ends' ≡ ends ++ length text' ∷ [] → IsFlat ends' text' × (parted 0 ends' text' ≡ parted 0 ends text ++ line ∷ [])
+flat_push ends text ends' text' line flat t e =
+    let ls = parted 0 ends text in
+    let whole : text' ≡ text_of (ls ++ line ∷ []) = t ∙ ap (λ (l : List ℕ). l ++ line_text line) flat.text_is ∙ ap (λ (l : List ℕ). text_of ls ++ l) (sym (append-nil (line_text line))) ∙ sym (text-append ls (line ∷ [])) in
+    let len : length text' ≡ 0 + length (text_of ls) + length (line_text line) = ap length t ∙ length-append text (line_text line) ∙ ap (λ (l : List ℕ). length l + length (line_text line)) flat.text_is ∙ omega arith in
+    from_lines ends' text' (ls ++ line ∷ []) (e ∙ ap (λ (n : ℕ). ends ++ n ∷ []) len ∙ ap (λ (l : List ℕ). l ++ (0 + length (text_of ls) + length (line_text line)) ∷ []) flat.ends_are ∙ sym (ends_push 0 ls line)) whole
+
+-- as many ends as lines
+pub parted_len : (from : ℕ) (ends text : List ℕ) → length (parted from ends text) ≡ length ends
+unfolding parted
+parted_len from [] text = refl
+parted_len from (end ∷ ends) text = ap (λ (n : ℕ). suc n) (parted_len end ends text)
+
+-- a line more, or the same lines, as a call answered
+pub flat_pushed : {X E : Type 0} (r : Result X E) (ends text ends' text' : List ℕ) (line : Line) → IsFlat ends text → OnOk r (text' ≡ text ++ line_text line) → OnOk r (ends' ≡ ends ++ length text' ∷ []) → OnErr r ((text' ≡ text) × (ends' ≡ ends)) → IsFlat ends' text'
+flat_pushed (Ok x) ends text ends' text' line flat t e h = (flat_push ends text ends' text' line flat t e).0
+flat_pushed (Err x) ends text ends' text' line flat t e h = subst (λ (l : List ℕ). IsFlat l text') (sym h.1) (subst (λ (l : List ℕ). IsFlat ends l) (sym h.0) flat)
+
+pub parted_pushed : {X E : Type 0} (r : Result X E) (ends text ends' text' : List ℕ) (line : Line) → IsFlat ends text → OnOk r (text' ≡ text ++ line_text line) → OnOk r (ends' ≡ ends ++ length text' ∷ []) → OnOk r (parted 0 ends' text' ≡ parted 0 ends text ++ line ∷ [])
+parted_pushed (Ok x) ends text ends' text' line flat t e = (flat_push ends text ends' text' line flat t e).1
+parted_pushed (Err x) ends text ends' text' line flat t e = tt
+
+-- ---- a line
+
+slice_get_there : (ls : List Line) (i : ℕ) → i < length ls → (line : Line) × (slice_get ls i ≡ Some line)
+slice_get_there [] i lt = absurd (omega arith)
+slice_get_there (line ∷ ls) zero lt = (line, refl)
+slice_get_there (line ∷ ls) (suc i) lt = slice_get_there ls i (omega arith)
+
+-- a line stands there in the text, with its LF
+pub record LineAt (start end : ℕ) (text : List ℕ) (line : Line) : Type 0 where
+  pub order : start < end
+  pub within : end ≤ length text
+  pub part : take (end - start - 1) (drop start text) ≡ line
+
+start_next : (end : ℕ) (ends : List ℕ) (i : ℕ) → get_or (end ∷ ends) i 0 ≡ line_start end ends i
+start_next end ends zero = refl
+start_next end ends (suc i) = refl
+
+pub line_there : (before : List ℕ) (ls : List Line) (i : ℕ) (line : Line) → slice_get ls i ≡ Some line
+    → LineAt (line_start (length before) (ends_of (length before) ls) i) (get_or (ends_of (length before) ls) i 0) (before ++ text_of ls) line
+unfolding ends_of
+line_there before [] i line e = absurd cc
+line_there before (first ∷ ls) zero line e =
+    let same : first ≡ line = cc e in
+    subst (λ (l : Line). LineAt (length before) (length before + length first + 1) (before ++ (line_text first ++ text_of ls)) l) same (record {
+      order = omega arith;
+      within = omega (arith, length-append before (line_text first ++ text_of ls), length-append (line_text first) (text_of ls), length-append first (10 ∷ []));
+      part = ap (λ (l : List ℕ). take ((length before + length first + 1) - length before - 1) (drop (length before) (before ++ l))) (append_assoc first (10 ∷ []) (text_of ls)) ∙ first_part before first (10 ∷ text_of ls);
+    })
+line_there before (first ∷ ls) (suc i) line e =
+    let n = length before + length first + 1 in
+    let whole : before ++ (line_text first ++ text_of ls) ≡ (before ++ line_text first) ++ text_of ls = sym (append_assoc before (line_text first) (text_of ls)) in
+    let len : length (before ++ line_text first) ≡ n = length-append before (line_text first) ∙ ap (λ (k : ℕ). length before + k) (length-append first (10 ∷ [])) ∙ omega arith in
+    subst (λ (s : ℕ). LineAt s (get_or (ends_of n ls) i 0) (before ++ (line_text first ++ text_of ls)) line) (sym (start_next n (ends_of n ls) i))
+    (subst (λ (t : List ℕ). LineAt (line_start n (ends_of n ls) i) (get_or (ends_of n ls) i 0) t line) (sym whole)
+    (subst (λ (k : ℕ). LineAt (line_start k (ends_of k ls) i) (get_or (ends_of k ls) i 0) ((before ++ line_text first) ++ text_of ls) line) len (line_there (before ++ line_text first) ls i line e)))
+
+-- a line of flat lines
+pub flat_line : (ends text : List ℕ) (i : ℕ) → IsFlat ends text → i < length ends → (line : Line) × (slice_get (parted 0 ends text) i ≡ Some line) × LineAt (line_start 0 ends i) (get_or ends i 0) text line
+flat_line ends text i flat lt =
+    let ls = parted 0 ends text in
+    let (line, there) = slice_get_there ls i (let within : i < length ls = omega (arith, parted_len 0 ends text) in within) in
+    (line, there, subst (λ (t : List ℕ). LineAt (line_start 0 ends i) (get_or ends i 0) t line) (sym flat.text_is) (subst (λ (k : List ℕ). LineAt (line_start 0 k i) (get_or k i 0) (text_of ls) line) (sym flat.ends_are) (line_there [] ls i line there)))
+
+-- there are no lines where there are no ends
+pub empty_is : (from n : ℕ) (ends text : List ℕ) → n ≡ length ends → (eqb n 0 ≡ true → parted from ends text ≡ []) × (parted from ends text ≡ [] → eqb n 0 ≡ true)
+unfolding parted
+empty_is from n [] text e = (λ h. refl, λ h. eq-eqb n 0 e)
+empty_is from n (end ∷ ends) text e = (λ h. absurd (omega (arith, eqb-true n 0 h)), λ h. absurd cc)
+
+pub slice_is : (found : Option Line) (end start first : ℕ) (text : List ℕ) (line : Line) → found ≡ Some line → start ≡ first → LineAt first end text line → found ≡ Some (take (end - 1 - start) (drop start text))
+slice_is found end start first text line there e at =
+    let same : end - 1 - start ≡ end - first - 1 = omega arith in
+    there ∙ ap (λ (l : Line). Some l) (sym (ap (λ (n : ℕ). take n (drop start text)) same ∙ ap (λ (n : ℕ). take (end - first - 1) (drop n text)) e ∙ at.part))
+
+-- ---- the last line grows
+
+last_of : (ls : List Line) → 0 < length ls → (init : List Line) × (last : Line) × (ls ≡ init ++ last ∷ [])
+last_of [] lt = absurd (omega arith)
+last_of (line ∷ []) lt = ([], line, refl)
+last_of (line ∷ next ∷ ls) lt = let more = last_of (next ∷ ls) (omega arith) in (line ∷ more.0, more.1, ap (λ (l : List Line). line ∷ l) more.2)
+
+pub extended-push : (init : List Line) (last bytes : List ℕ) → extended (init ++ last ∷ []) bytes ≡ init ++ (last ++ bytes) ∷ []
+unfolding extended
+extended-push [] last bytes = refl
+extended-push (line ∷ []) last bytes = refl
+extended-push (line ∷ next ∷ init) last bytes = ap (λ (l : List Line). line ∷ l) (extended-push (next ∷ init) last bytes)
+
+take_shorter : (a : List ℕ) (x : ℕ) → take (length (a ++ x ∷ []) - 1) (a ++ x ∷ []) ≡ a
+take_shorter a x = ap (λ (n : ℕ). take n (a ++ x ∷ [])) (let e : length (a ++ x ∷ []) - 1 ≡ length a = omega (arith, length-append a (x ∷ [])) in e) ∙ take_front a (x ∷ [])
+
+set_last : (a : List ℕ) (x y : ℕ) → set (a ++ x ∷ []) (length (a ++ x ∷ []) - 1) y ≡ a ++ y ∷ []
+set_last [] x y = refl
+set_last (z ∷ a) x y =
+    let e : length (z ∷ (a ++ x ∷ [])) - 1 ≡ suc (length (a ++ x ∷ []) - 1) = omega (arith, length-append a (x ∷ [])) in
+    ap (λ (n : ℕ). set (z ∷ (a ++ x ∷ [])) n y) e ∙ ap (λ (l : List ℕ). z ∷ l) (set_last a x y)
+
+line_text_push : (init : List Line) (last : Line) → text_of (init ++ last ∷ []) ≡ (text_of init ++ last) ++ 10 ∷ []
+line_text_push init last = text-append init (last ∷ []) ∙ ap (λ (l : List ℕ). text_of init ++ l) (append-nil (line_text last)) ∙ sym (append_assoc (text_of init) last (10 ∷ []))
+
+-- the bytes stand before the last LF
+extended_text : (init : List Line) (last bytes : List ℕ) → take (length (text_of (init ++ last ∷ [])) - 1) (text_of (init ++ last ∷ [])) ++ line_text bytes ≡ text_of (init ++ (last ++ bytes) ∷ [])
+extended_text init last bytes =
+    ap (λ (l : List ℕ). take (length l - 1) l ++ line_text bytes) (line_text_push init last) ∙ ap (λ (l : List ℕ). l ++ line_text bytes) (take_shorter (text_of init ++ last) 10)
+    ∙ sym (append_assoc (text_of init ++ last) bytes (10 ∷ [])) ∙ ap (λ (l : List ℕ). l ++ 10 ∷ []) (append_assoc (text_of init) last bytes) ∙ sym (line_text_push init (last ++ bytes))
+
+flat_extend : (ends text ends' text' : List ℕ) (bytes : List ℕ) → 0 < length ends → IsFlat ends text → text' ≡ take (length text - 1) text ++ line_text bytes → ends' ≡ set ends (length ends - 1) (length text')
+    → IsFlat ends' text' × (parted 0 ends' text' ≡ extended (parted 0 ends text) bytes)
+flat_extend ends text ends' text' bytes some flat t e =
+    let ls = parted 0 ends text in
+    let parts = last_of ls (let lt : 0 < length ls = omega (arith, parted_len 0 ends text) in lt) in
+    let init = parts.0 in
+    let last = parts.1 in
+    let is : ls ≡ init ++ last ∷ [] = parts.2 in
+    let text_is : text ≡ text_of (init ++ last ∷ []) = flat.text_is ∙ ap text_of is in
+    let ends_are : ends ≡ ends_of 0 init ++ (0 + length (text_of init) + length (line_text last)) ∷ [] = flat.ends_are ∙ ap (ends_of 0) is ∙ ends_push 0 init last in
+    let whole : text' ≡ text_of (init ++ (last ++ bytes) ∷ []) = t ∙ ap (λ (l : List ℕ). take (length l - 1) l ++ line_text bytes) text_is ∙ extended_text init last bytes in
+    let len : length text' ≡ 0 + length (text_of init) + length (line_text (last ++ bytes)) =
+    ap length whole ∙ ap length (text-append init ((last ++ bytes) ∷ []) ∙ ap (λ (l : List ℕ). text_of init ++ l) (append-nil (line_text (last ++ bytes)))) ∙ length-append (text_of init) (line_text (last ++ bytes)) ∙ omega arith in
+    let made = from_lines ends' text' (init ++ (last ++ bytes) ∷ [])
+    (e ∙ ap (λ (l : List ℕ). set l (length l - 1) (length text')) ends_are ∙ set_last (ends_of 0 init) (0 + length (text_of init) + length (line_text last)) (length text') ∙ ap (λ (n : ℕ). ends_of 0 init ++ n ∷ []) len ∙ sym (ends_push 0 init (last ++ bytes))) whole in
+    (made.0, made.1 ∙ sym (ap (λ (l : List Line). extended l bytes) is ∙ extended-push init last bytes))
+
+pub flat_extended : {X E : Type 0} (r : Result X E) (ends text ends' text' : List ℕ) (bytes : List ℕ) → 0 < length ends → IsFlat ends text → OnOk r (text' ≡ take (length text - 1) text ++ line_text bytes) → OnOk r (ends' ≡ set ends (length ends - 1) (length text'))
+    → OnErr r ((text' ≡ text) × (ends' ≡ ends)) → IsFlat ends' text'
+flat_extended (Ok x) ends text ends' text' bytes some flat t e h = (flat_extend ends text ends' text' bytes some flat t e).0
+flat_extended (Err x) ends text ends' text' bytes some flat t e h = subst (λ (l : List ℕ). IsFlat l text') (sym h.1) (subst (λ (l : List ℕ). IsFlat ends l) (sym h.0) flat)
+
+pub parted_extended : {X E : Type 0} (r : Result X E) (ends text ends' text' : List ℕ) (bytes : List ℕ) → 0 < length ends → IsFlat ends text → OnOk r (text' ≡ take (length text - 1) text ++ line_text bytes) → OnOk r (ends' ≡ set ends (length ends - 1) (length text'))
+    → OnOk r (parted 0 ends' text' ≡ extended (parted 0 ends text) bytes)
+parted_extended (Ok x) ends text ends' text' bytes some flat t e = (flat_extend ends text ends' text' bytes some flat t e).1
+parted_extended (Err x) ends text ends' text' bytes some flat t e = tt

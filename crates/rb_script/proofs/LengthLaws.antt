@@ -1,0 +1,52 @@
+-- How long texts are.
+use Rattle.std.proofs.Common.{◌≡◌, ℕ, ◌+◌, ◌^◌, ◌<◌, Bool, true, false, cond, List, [], ◌∷◌, ◌++◌, length, ap, sym, ◌∙◌, arith}
+use Rattle.std.specs.List.{flat_map}
+use Rattle.std.proofs.lemmas.List.{length-append}
+use Rattle.std.proofs.lemmas.List.Concat.{flat_map-append}
+use Rattle.rb_script.specs.Lines.{Line, line_text, text_of}
+use Rattle.rb_script.specs.Marks.{rule}
+use Rattle.rb_script.specs.Script.{PlainBlock, PlainScript, text, block_lines, block_text, shown, needs_double}
+use Rattle.rb_script.specs.Reading.{capped}
+
+-- a line with its LF, and the lines after it
+pub line-text-length : (line : Line) (rest : List Line) → length (text_of (line ∷ rest)) ≡ (length line + 1) + length (text_of rest)
+line-text-length line rest = length-append (line_text line) (text_of rest) ∙ ap (λ (n : ℕ). n + length (text_of rest)) (length-append line (10 ∷ []))
+
+-- lines, and the lines after them
+pub text-append-length : (a b : List Line) → length (text_of (a ++ b)) ≡ length (text_of a) + length (text_of b)
+text-append-length a b = ap length (flat_map-append line_text a b) ∙ length-append (text_of a) (text_of b)
+
+-- what shows the double form has 15 bytes
+pub shown-length : (e : List Line) (double : Bool) (n : ℕ) → double ≡ needs_double e → n ≡ cond double 15 0 → length (text_of (shown e)) ≡ length (text_of e) + n
+shown-length e true n h is =
+    ap (λ t. length (text_of (cond t (rule ∷ e ++ rule ∷ rule ∷ []) e))) (sym h) ∙ line-text-length rule (e ++ rule ∷ rule ∷ []) ∙ ap (λ (k : ℕ). 5 + k) (text-append-length e (rule ∷ rule ∷ [])) ∙ omega arith
+shown-length e false n h is = ap (λ t. length (text_of (cond t (rule ∷ e ++ rule ∷ rule ∷ []) e))) (sym h) ∙ omega arith
+
+-- the text of a block, part by part
+pub block-text-length : (b : PlainBlock) → length (block_text b) ≡ length (text_of b.lead) + length (text_of b.head) + length (text_of b.input) + 6 + length (text_of (shown b.expected))
+block-text-length b =
+    let last = shown b.expected ++ [] ∷ [] in
+    text-append-length b.lead (b.head ++ (b.input ++ rule ∷ last)) ∙ ap (λ (n : ℕ). length (text_of b.lead) + n) (text-append-length b.head (b.input ++ rule ∷ last)
+    ∙ ap (λ (n : ℕ). length (text_of b.head) + n) (text-append-length b.input (rule ∷ last) ∙ ap (λ (n : ℕ). length (text_of b.input) + n) (line-text-length rule last ∙ ap (λ (n : ℕ). 5 + n) (text-append-length (shown b.expected) ([] ∷ [])))))
+    ∙ omega arith
+
+-- the text of a list of blocks
+abbrev pub blocks_len : List PlainBlock → ℕ
+blocks_len bs = length (text_of (flat_map block_lines bs))
+
+-- a block, and the blocks after it
+pub blocks-cons-length : (b : PlainBlock) (bs : List PlainBlock) → blocks_len (b ∷ bs) ≡ length (block_text b) + blocks_len bs
+blocks-cons-length b bs = text-append-length (block_lines b) (flat_map block_lines bs)
+
+-- a sum that stops at its greatest value, one block further
+pub sum_more : (b : PlainBlock) (bs rest : List PlainBlock) (total next whole : ℕ) → bs ≡ b ∷ rest → next ≡ capped (total + capped (length (block_text b))) → capped (total + blocks_len bs) ≡ whole → capped (next + blocks_len rest) ≡ whole
+sum_more b bs rest total next whole e is so_far = let split = ap blocks_len e ∙ blocks-cons-length b rest in omega arith
+
+-- and with no block left
+pub sum_end : (bs : List PlainBlock) (total whole : ℕ) → bs ≡ [] → total < 2 ^ 64 → capped (total + blocks_len bs) ≡ whole → total ≡ whole
+sum_end bs total whole e fits so_far = let none = ap blocks_len e in omega arith
+
+-- the text of a script: its blocks, and its tail
+pub text-length : (s : PlainScript) → length (text s) ≡ blocks_len s.blocks + length (text_of s.tail)
+unfolding text
+text-length s = text-append-length (flat_map block_lines s.blocks) s.tail

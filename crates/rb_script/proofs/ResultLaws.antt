@@ -1,0 +1,88 @@
+-- Results of reading, step by step.
+use Rattle.std.proofs.Common.{◌≡◌, ◌≢◌, ◌⊎◌, inl, inr, Bool, true, false, cond, Option, Some, None, Result, Ok, Err, refl, ap, subst}
+use Rattle.std.specs.Prelude.{IfSome, IfOk, IfErr}
+use Rattle.rb_script.specs.declared.fault.ScriptFault.{ScriptFault}
+use Rattle.rb_script.specs.declared.fault.ScriptFault.TheVariants as faults
+use Rattle.rb_script.specs.Reading.{◌>>=◌, Fails, Gives}
+
+-- both steps were answered
+pub bind_ok : {A B : Type 0} (r : Result A ScriptFault) (f : A → Result B ScriptFault) (y : B) → (r >>= f) ≡ Ok y → (x : A) × (r ≡ Ok x) × (f x ≡ Ok y)
+bind_ok (Ok x) f y e = (x, refl, e)
+bind_ok (Err d) f y e = absurd cc
+
+-- an answer, at the type of faults here
+abbrev pub done : {A : Type 0} → A → Result A ScriptFault
+done x = Ok x
+
+-- answers that are equal have equal values
+pub ok_is : {A : Type 0} (x y : A) → done x ≡ done y → x ≡ y
+ok_is x y e = cc
+
+-- the test failed, and what follows was answered
+pub guard_ok : {A : Type 0} (b : Bool) (d : ScriptFault) (x : Result A ScriptFault) (y : A) → cond b (Err d) x ≡ Ok y → (b ≡ false) × (x ≡ Ok y)
+guard_ok true d x y e = absurd cc
+guard_ok false d x y e = (refl, e)
+
+-- a fault of a step is the fault of the whole
+pub fails_through : {X Y : Type 0} (e : ScriptFault) (a : Result X ScriptFault) (b : Result Y ScriptFault) → Fails e a → (a ≡ Err e → b ≡ Err e) → Fails e b
+fails_through faults.TooLong a b h f = f h
+fails_through (faults.LineTooLong n) a b h f = f h
+fails_through (faults.BadLine n) a b h f = f h
+fails_through (faults.NoSeparator n) a b h f = f h
+fails_through (faults.NotClosed n) a b h f = f h
+fails_through faults.TooManyDirectives a b h f = f h
+fails_through faults.NotOneBlock a b h f = f h
+fails_through (faults.TooManyArguments n) a b h f = f h
+fails_through faults.OutOfMemory a b h f = tt
+
+-- a fault, at a type that is given
+abbrev pub failed : {A : Type 0} → ScriptFault → Result A ScriptFault
+failed e = Err e
+
+-- faults that are equal as results are equal
+pub same_fault : {X : Type 0} (e d : ScriptFault) → failed {A = X} e ≡ failed {A = X} d → e ≡ d
+same_fault e d h = cc
+
+-- the first step failed, or the second did
+pub bind_err : {A B : Type 0} (r : Result A ScriptFault) (f : A → Result B ScriptFault) (e : ScriptFault) → (r >>= f) ≡ Err e → (r ≡ Err e) ⊎ ((x : A) × (r ≡ Ok x) × (f x ≡ Err e))
+bind_err {A} {B} (Ok x) f e h = inr (x, refl, h)
+bind_err {A} {B} (Err d) f e h = inl (ap (λ (y : ScriptFault). failed {A = A} y) (same_fault d e h))
+
+-- the test passed, or what follows failed
+pub guard_err : {A : Type 0} (b : Bool) (d : ScriptFault) (x : Result A ScriptFault) (e : ScriptFault) → cond b (Err d) x ≡ Err e → ((b ≡ true) × (d ≡ e)) ⊎ ((b ≡ false) × (x ≡ Err e))
+guard_err true d x e h = inl (refl, same_fault d e h)
+guard_err false d x e h = inr (refl, h)
+
+-- a fault that is found early is the same for each result
+pub early_through : (X Y : Type 0) (early : Option ScriptFault) (e : ScriptFault) → IfSome early (λ fault. failed {A = X} e ≡ failed {A = X} fault) → IfSome early (λ fault. failed {A = Y} e ≡ failed {A = Y} fault)
+early_through X Y None e h = tt
+early_through X Y (Some fault) e h = ap (λ (d : ScriptFault). failed {A = Y} d) (same_fault e fault h)
+
+-- ---- what a function answered, where reading gives what fits and nothing else
+
+-- where memory didn't run out, a fault is none of an answer
+fails_ok : {X : Type 0} (e : ScriptFault) (x : X) → Fails e (done x) → e ≢ faults.OutOfMemory → ⊥
+fails_ok faults.TooLong x h ne = cc
+fails_ok (faults.LineTooLong n) x h ne = cc
+fails_ok (faults.BadLine n) x h ne = cc
+fails_ok (faults.NoSeparator n) x h ne = cc
+fails_ok (faults.NotClosed n) x h ne = cc
+fails_ok faults.TooManyDirectives x h ne = cc
+fails_ok faults.NotOneBlock x h ne = cc
+fails_ok (faults.TooManyArguments n) x h ne = cc
+fails_ok faults.OutOfMemory x h ne = ne refl
+
+module _ {X : Type 0} (Fits : X → Type 0) (read : Result X ScriptFault) (sound : (x : X) → read ≡ Ok x → Fits x) (complete : (x : X) → Fits x → read ≡ Ok x) where
+  -- what is answered fits
+  pub answer_fits : (result : Result X ScriptFault) → Gives {X = X} {Y = X} (λ x. x) result read → IfOk result Fits
+  answer_fits (Ok x) h = sound x h
+  answer_fits (Err e) h = tt
+
+  -- what fits is answered, unless memory ran out
+  pub fit_answered : (result : Result X ScriptFault) → Gives {X = X} {Y = X} (λ x. x) result read → (x : X) → Fits x → Gives {X = X} {Y = X} (λ x. x) result (Ok x)
+  fit_answered result h x fits = subst (λ (r : Result X ScriptFault). Gives {X = X} {Y = X} (λ x. x) result r) (complete x fits) h
+
+  -- where a fault is answered nothing fits, unless memory ran out
+  pub none_fits : (result : Result X ScriptFault) → Gives {X = X} {Y = X} (λ x. x) result read → IfErr result (λ e. e ≢ faults.OutOfMemory → (x : X) → Fits x → ⊥)
+  none_fits (Ok x) h = tt
+  none_fits (Err e) h = λ ne x fits. fails_ok e x (subst (λ (r : Result X ScriptFault). Fails e r) (complete x fits) h) ne

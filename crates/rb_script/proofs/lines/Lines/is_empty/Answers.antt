@@ -1,0 +1,6 @@
+use Rattle.std.proofs.Common.{arith}
+use Rattle.rb_script.proofs.FlatLaws.{parted_len, empty_is}
+use Rattle.rb_script.proofs.lines.Lines.is_empty.Goals as goal
+
+pub returns : goal.returns
+returns c = rw (← c.self.view_is) (rw c.is_empty.ensures (empty_is 0 _ c.self.inside.ends.items c.self.inside.text.items c.self.inside.ends.ok.0))

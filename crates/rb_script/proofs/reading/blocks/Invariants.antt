@@ -1,0 +1,21 @@
+use Rattle.std.proofs.Common.{◌≡◌, ◌-◌, ◌≤◌, vec_len}
+use Rattle.std.specs.List.{AllByRecursion}
+use Rattle.rb_script.specs.declared.limits.TheConstants.{MAX_DIRECTIVES}
+use Rattle.rb_script.specs.Lines.{lines}
+use Rattle.rb_script.specs.Held.{IsLine}
+use Rattle.rb_script.specs.Cursor.{end_of}
+use Rattle.rb_script.specs.Shared.{values}
+use Rattle.rb_script.specs.Reading.{blocks_at}
+use Rattle.rb_script.proofs.BlocksLaws.{with_blocks}
+use Rattle.rb_script.proofs.reading.blocks.Given as goal
+
+abbrev pub invariant-loop-found : goal.invariant-loop-found
+invariant-loop-found l = record {
+  read : with_blocks (values l.found.items) (blocks_at (MAX_DIRECTIVES - vec_len l.found) (end_of l.start) (lines l.at.rest.now)) ≡ blocks_at MAX_DIRECTIVES (end_of l.start) (lines l.start.rest.now);
+  end : end_of l.at ≡ end_of l.start;
+  lines_left : AllByRecursion IsLine (lines l.at.rest.now);
+  few : vec_len l.found ≤ MAX_DIRECTIVES;
+}
+
+abbrev pub decreases-loop-found : goal.decreases-loop-found
+decreases-loop-found l = MAX_DIRECTIVES - vec_len l.found

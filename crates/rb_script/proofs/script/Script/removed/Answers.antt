@@ -1,0 +1,28 @@
+use Rattle.rb_script.proofs.PlaceLaws.{refused, grown, with_removed, old_fits, there_within, remove_nowhere, remove_made, remove_held}
+use Rattle.rb_script.proofs.script.Script.removed.Goals as goal
+
+pub returns-in_default : goal.returns-in_default
+returns-in_default c =
+    let settled = refused _ _ (remove_nowhere c.args.self.now c.args.place c.in_default.ensures) in
+    record { exact = settled.exact; early = settled.early }
+
+pub overflow_sub-text_len : goal.overflow_sub-text_len
+overflow_sub-text_len c = old_fits c.args.self.now c.args.place c.in-Some.old.now c.in-Some.ensures c.text_len.result c.text_len-2.result c.text_len.ensures.len c.text_len-2.ensures.len
+
+pub with_part-requires : goal.with_part-requires
+with_part-requires c =
+    let s = c.args.self.now in
+    let k = c.args.place in
+    let old = c.in-Some.old.now in
+    let there = c.in-Some.ensures in
+    let inside = there_within s k old there in
+    record { from = inside.0; to = inside.1; held = remove_held s k old there c.text_len.result c.text_len-2.result c.text_len.ensures.held c.text_len.ensures.len c.text_len-2.ensures.len }
+
+pub returns : goal.returns
+returns c =
+    let s = c.args.self.now in
+    let k = c.args.place in
+    let old = c.in-Some.old.now in
+    let there = c.in-Some.ensures in
+    let settled = grown c.with_part.result _ (with_removed s k old there) (remove_made s k old there) c.with_part.ensures.ok c.with_part.ensures.err in
+    record { exact = settled.exact; early = settled.early }

@@ -1,0 +1,10 @@
+-- What is gone from `rest` went out.
+use Rattle.std.proofs.Common.{length}
+use Rattle.rb_script.proofs.WriteLaws.{Sent}
+use Rattle.rb_script.proofs.sink.put_whole.Given as goal
+
+abbrev pub invariant-loop-rest : goal.invariant-loop-rest
+invariant-loop-rest g l = Sent (g.W.Write.contents l.initial.writer) (g.W.Write.contents l.writer) l.bytes l.rest
+
+abbrev pub decreases-loop-rest : goal.decreases-loop-rest
+decreases-loop-rest g l = length l.rest

@@ -1,0 +1,116 @@
+-- What each fault says of the bytes. (This project's.)
+use Rattle.std.specs.Prelude.{◌≡◌, ℕ, ◌+◌, ◌≤◌, ◌<◌, ◌⊎◌, true, false, not, List, [], ◌∷◌, ◌++◌, length}
+use Rattle.std.specs.List.{list_all, AllByRecursion}
+use Rattle.rb_script.specs.declared.fault.ScriptFault.{ScriptFault}
+use Rattle.rb_script.specs.declared.fault.ScriptFault.TheVariants.{TooLong, LineTooLong, BadLine, NoSeparator, NotClosed, TooManyDirectives, NotOneBlock, TooManyArguments, OutOfMemory}
+use Rattle.rb_script.specs.declared.limits.TheConstants.{MAX_SCRIPT, MAX_LINE, MAX_DIRECTIVES}
+use Rattle.rb_script.specs.Lines.{Line, lines}
+use Rattle.rb_script.specs.Marks.{is_lead, is_separator}
+use Rattle.rb_script.specs.Script.{PlainBlock, PlainScript, text}
+use Rattle.rb_script.specs.Joined.{joined}
+use Rattle.rb_script.specs.Directive.{PlainArgument, Derives}
+use Rattle.rb_script.specs.Limits.{are_few}
+use Rattle.rb_script.specs.Reads.{begins_lead, is_readable, IsDirective, ReadsPlain, ReadsDouble, ReadsBlock, ReadsBlocks, alone}
+use Rattle.rb_script.specs.Reading.{head_of, after_head, number_of}
+
+-- the lines begin with these blocks, and the rest follows
+abbrev pub ReadsSome : List Line → List PlainBlock → List Line → Type 0
+ReadsSome ls [] rest = ls ≡ rest
+ReadsSome ls (b ∷ bs) rest = (after : List Line) × ReadsBlock ls b after × ReadsSome after bs rest
+
+-- The head at the front is no name and arguments.
+pub record IsBadLine (end : ℕ) (from : List Line) (n : ℕ) : Type 0 where
+  pub number : n ≡ number_of end from
+  pub none : (name : List ℕ) (args : List PlainArgument) → Derives (joined (head_of from)) name args → ⊥
+
+-- It has more arguments, or values, than there may be.
+pub record HasManyArguments (end : ℕ) (from : List Line) (n : ℕ) : Type 0 where
+  pub name : List ℕ
+  pub args : List PlainArgument
+  pub number : n ≡ number_of end from
+  pub derives : Derives (joined (head_of from)) name args
+  pub many : are_few args ≡ false
+
+-- It is a directive, and no line ---- follows it.
+pub record HasNoSeparator (end : ℕ) (from : List Line) (n : ℕ) : Type 0 where
+  pub number : n ≡ number_of end from
+  pub directive : IsDirective (head_of from)
+  pub none : list_all (λ line. not (is_separator line)) (after_head from) ≡ true
+
+-- It is a directive, and no expectation stands after the first line ---- that follows it.
+pub record IsNotClosed (end : ℕ) (from : List Line) (n : ℕ) : Type 0 where
+  pub input : List Line
+  pub separator : Line
+  pub after : List Line
+  pub parts : after_head from ≡ input ++ separator ∷ after
+  pub first : list_all (λ line. not (is_separator line)) input ≡ true
+  pub separates : is_separator separator ≡ true
+  pub number : n ≡ number_of end (separator ∷ after)
+  pub directive : IsDirective (head_of from)
+  pub none : (expected rest : List Line) → is_readable expected ≡ true → ReadsPlain after expected rest ⊎ ReadsDouble after expected rest → ⊥
+
+-- why no block is read from the head at the front; end is the number after the last line
+abbrev pub IsHeadFault : ℕ → List Line → ScriptFault → Type 0
+IsHeadFault end from (BadLine n) = IsBadLine end from n
+IsHeadFault end from (TooManyArguments n) = HasManyArguments end from n
+IsHeadFault end from (NoSeparator n) = HasNoSeparator end from n
+IsHeadFault end from (NotClosed n) = IsNotClosed end from n
+IsHeadFault end from TooLong = ⊥
+IsHeadFault end from (LineTooLong n) = ⊥
+IsHeadFault end from TooManyDirectives = ⊥
+IsHeadFault end from NotOneBlock = ⊥
+IsHeadFault end from OutOfMemory = ⊥
+
+-- after some blocks and lead lines a head begins from which no block is read
+pub record StopsAt (ls : List Line) (fault : ScriptFault) : Type 0 where
+  pub blocks : List PlainBlock
+  pub lead : List Line
+  pub from : List Line
+  pub before : ReadsSome ls blocks (lead ++ from)
+  pub leads : list_all is_lead lead ≡ true
+  pub head : begins_lead from ≡ false
+  pub few : length blocks < MAX_DIRECTIVES
+  pub why : IsHeadFault (1 + length ls) from fault
+
+-- line n is the first that is too long
+pub record HasLongLine (ls : List Line) (n : ℕ) : Type 0 where
+  pub front : List Line
+  pub line : Line
+  pub rest : List Line
+  pub parts : ls ≡ front ++ line ∷ rest
+  pub number : n ≡ 1 + length front
+  pub short : AllByRecursion (λ l. length l ≤ MAX_LINE) front
+  pub long : MAX_LINE < length line
+
+-- a head follows as many blocks as there may be
+pub record HasManyBlocks (ls : List Line) : Type 0 where
+  pub blocks : List PlainBlock
+  pub lead : List Line
+  pub from : List Line
+  pub before : ReadsSome ls blocks (lead ++ from)
+  pub leads : list_all is_lead lead ≡ true
+  pub head : begins_lead from ≡ false
+  pub many : length blocks ≡ MAX_DIRECTIVES
+
+-- the lines are blocks and a tail, whose text is too long
+pub record HasLongText (ls : List Line) : Type 0 where
+  pub script : PlainScript
+  pub parts : ReadsBlocks ls script.blocks script.tail
+  pub long : MAX_SCRIPT < length (text script)
+
+-- the lines are blocks and a tail, and not one block alone
+pub record IsNotAlone (ls : List Line) : Type 0 where
+  pub script : PlainScript
+  pub parts : ReadsBlocks ls script.blocks script.tail
+  pub others : (b : PlainBlock) → script ≡ alone b → ⊥
+
+abbrev pub IsFault : List ℕ → ScriptFault → Type 0
+IsFault bytes TooLong = (MAX_SCRIPT < length bytes) ⊎ HasLongText (lines bytes)
+IsFault bytes (LineTooLong n) = HasLongLine (lines bytes) n
+IsFault bytes (BadLine n) = StopsAt (lines bytes) (BadLine n)
+IsFault bytes (NoSeparator n) = StopsAt (lines bytes) (NoSeparator n)
+IsFault bytes (NotClosed n) = StopsAt (lines bytes) (NotClosed n)
+IsFault bytes TooManyDirectives = HasManyBlocks (lines bytes)
+IsFault bytes NotOneBlock = IsNotAlone (lines bytes)
+IsFault bytes (TooManyArguments n) = StopsAt (lines bytes) (TooManyArguments n)
+IsFault bytes OutOfMemory = ⊥

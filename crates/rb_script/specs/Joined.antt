@@ -1,0 +1,28 @@
+-- The head of a block as one text.
+use Rattle.std.specs.Prelude.{ℕ, Bool, true, false, ◌||◌, ◌==◌, if◌then◌else◌, List, [], ◌∷◌, ◌++◌}
+use Rattle.rb_script.specs.Lines.{Line}
+use Rattle.rb_script.specs.Marks.{is_blank, continues}
+
+-- a line without its last byte that isn't blank, and what follows it
+unfoldable pub body : Line → Line
+body [] = []
+body (b ∷ line) = if is_blank line then [] else b ∷ body line
+
+-- The lines of a head, joined by one blank each. A line that asks for a next one where there is none takes an empty one.
+unfoldable pub joined : List Line → List ℕ
+joined [] = []
+joined (line ∷ ls) = if continues line then body line ++ 32 ∷ joined ls else line
+
+-- what is left of the joined head behind a line's part of it
+abbrev pub behind_piece : Bool → List Line → List ℕ
+behind_piece true ls = 32 ∷ joined ls
+behind_piece false ls = []
+
+-- the bytes before the first that isn't of the kind, and those from it on
+unfoldable pub while_of : (ℕ → Bool) → List ℕ → List ℕ
+while_of p [] = []
+while_of p (b ∷ bytes) = if p b then b ∷ while_of p bytes else []
+
+unfoldable pub after_while : (ℕ → Bool) → List ℕ → List ℕ
+after_while p [] = []
+after_while p (b ∷ bytes) = if p b then after_while p bytes else b ∷ bytes

@@ -1,0 +1,84 @@
+-- What parsing a head answers, against what stands there.
+use Rattle.std.specs.Prelude.{◌≡◌, ℕ, Bool, true, false, nat_le, if◌then◌else◌, List, [], ◌∷◌, ◌++◌, length, drop, map, Option, Some, None, Result, Ok, Err}
+use Rattle.std.specs.List.{list_all, AllByRecursion}
+use Rattle.rb_script.specs.declared.span.Span.{Span}
+use Rattle.rb_script.specs.declared.argument.Argument.{Argument}
+use Rattle.rb_script.specs.declared.tokens.Tokens.{Tokens}
+use Rattle.rb_script.specs.declared.tokens.HeadFault.{HeadFault}
+use Rattle.rb_script.specs.declared.tokens.HeadFault.TheVariants as head_faults
+use Rattle.rb_script.specs.declared.fault.ScriptFault.{ScriptFault}
+use Rattle.rb_script.specs.declared.limits.TheConstants.{MAX_ARGUMENTS, MAX_VALUES}
+use Rattle.std.specs.Prelude.{Vec}
+use Rattle.std.specs.declared.alloc.Global.{Global}
+use Rattle.rb_script.specs.Lines.{Line}
+use Rattle.rb_script.specs.Joined.{while_of, after_while}
+use Rattle.rb_script.specs.Directive.{PlainArgument, is_inside, pieces}
+use Rattle.rb_script.specs.Tokens.{SpannedArgument, token, argument_of, IsPart}
+use Rattle.rb_script.specs.Limits.{has_few_values, are_few}
+use Rattle.rb_script.specs.Reading.{ArgumentThere, ArgumentsThere, begins, Fails}
+
+-- an item more, or nothing where there are enough
+abbrev pub with_one : {T : Type 0} → ℕ → Option (List T) → T → Option (List T)
+with_one most None item = None
+with_one most (Some items) item = if nat_le most (length items) then None else Some (items ++ item ∷ [])
+
+-- ---- values
+
+-- the kept values are these, each a part of a line, or these are too many
+abbrev pub KeepsValues : List Line → Option (Vec Span Global) → List (List ℕ) → Type 0
+KeepsValues head None values = nat_le (length values) MAX_VALUES ≡ false
+KeepsValues head (Some kept) values = (map (token head) kept.items ≡ values) × (nat_le (length values) MAX_VALUES ≡ true) × AllByRecursion (IsPart head) kept.items
+
+-- the values up to the closing parenthesis, and what follows it
+abbrev pub ValuesThere : Type 0
+ValuesThere = Option (List (List ℕ) × List ℕ)
+
+unfoldable pub values_at : List ℕ → ValuesThere
+values_at bytes = if begins 41 (after_while is_inside bytes) then Some (pieces (while_of is_inside bytes), drop 1 (after_while is_inside bytes)) else None
+
+abbrev pub ParsesList : List Line → Result (Option (Vec Span Global)) HeadFault → List ℕ → List ℕ → Type 0
+ParsesList head (Ok kept) left bytes = (values : List (List ℕ)) × (values_at bytes ≡ Some (values, left)) × KeepsValues head kept values
+ParsesList head (Err head_faults.Bad) left bytes = values_at bytes ≡ None
+ParsesList head (Err head_faults.OutOfMemory) left bytes = Unit {0}
+
+-- ---- arguments
+
+abbrev pub spanned : Argument → SpannedArgument
+spanned a = record { key = a.key; has_equals = a.has_equals; values = a.values.items }
+
+-- each token is a part of a line
+abbrev pub AreParts : List Line → SpannedArgument → Type 0
+AreParts head a = IsPart head a.key × AllByRecursion (IsPart head) a.values
+
+-- the kept argument is this one, or this has too many values
+abbrev pub KeepsArgument : List Line → Option Argument → PlainArgument → Type 0
+KeepsArgument head None a = has_few_values a ≡ false
+KeepsArgument head (Some kept) a = (argument_of head (spanned kept) ≡ a) × (has_few_values a ≡ true) × AreParts head (spanned kept)
+
+abbrev pub ParsesArgument : List Line → Result (Option Argument) HeadFault → List ℕ → ArgumentThere → Type 0
+ParsesArgument head (Ok kept) left there = (a : PlainArgument) × (there ≡ Some (a, left)) × KeepsArgument head kept a
+ParsesArgument head (Err head_faults.Bad) left there = there ≡ None
+ParsesArgument head (Err head_faults.OutOfMemory) left there = Unit {0}
+
+-- the kept arguments are these, or these are too many
+abbrev pub KeepsArguments : List Line → Option (Vec Argument Global) → List PlainArgument → Type 0
+KeepsArguments head None args = are_few args ≡ false
+KeepsArguments head (Some kept) args = (map (λ a. argument_of head (spanned a)) kept.items ≡ args) × (are_few args ≡ true) × AllByRecursion (λ a. AreParts head (spanned a)) kept.items
+
+abbrev pub ParsesArguments : List Line → Result (Option (Vec Argument Global)) HeadFault → ArgumentsThere → Type 0
+ParsesArguments head (Ok kept) there = (args : List PlainArgument) × (there ≡ Some args) × KeepsArguments head kept args
+ParsesArguments head (Err head_faults.Bad) there = there ≡ None
+ParsesArguments head (Err head_faults.OutOfMemory) there = Unit {0}
+
+-- ---- the head
+
+-- where the tokens stand, as lists of bytes
+abbrev pub texts : List Line → Tokens → List ℕ × List PlainArgument
+texts head t = (token head t.name, map (λ a. argument_of head (spanned a)) t.args.items)
+
+abbrev pub TokensAreParts : List Line → Tokens → Type 0
+TokensAreParts head t = IsPart head t.name × AllByRecursion (λ a. AreParts head (spanned a)) t.args.items
+
+abbrev pub ParsesHead : List Line → Result Tokens ScriptFault → Result (List ℕ × List PlainArgument) ScriptFault → Type 0
+ParsesHead head (Ok t) there = (there ≡ Ok (texts head t)) × TokensAreParts head t
+ParsesHead head (Err e) there = Fails e there

@@ -1,0 +1,22 @@
+-- Scripts whose blocks are shared.
+use Rattle.std.specs.Prelude.{◌≡◌, ℕ, ◌+◌, List, length, map, take, drop, ◌++◌, Option}
+use Rattle.std.specs.declared.rc.Rc.{Rc}
+use Rattle.std.specs.declared.alloc.Global.{Global}
+use Rattle.rb_script.specs.Lines.{Line}
+use Rattle.rb_script.specs.Script.{PlainBlock, PlainScript, text}
+use Rattle.rb_script.specs.Held.{IsScript}
+use Rattle.rb_script.specs.declared.reading.Parts.{Parts}
+
+-- the blocks behind their pointers
+abbrev pub values : {T : Type 0} → List (Rc T Global) → List T
+values pointers = map (λ p. p.value) pointers
+
+abbrev pub script_of : List (Rc PlainBlock Global) → List Line → PlainScript
+script_of blocks tail = record { blocks = values blocks; tail = tail }
+
+pub record IsHeldScript (s : PlainScript) (text_len : ℕ) : Type 0 where
+  pub script : IsScript s
+  pub len : text_len ≡ length (text s)
+
+abbrev pub parts_view : Parts → PlainScript
+parts_view p = script_of p.blocks.items p.tail

@@ -1,0 +1,305 @@
+//! Making an edit of a script.
+
+ghost use Rattle.std.specs.Prelude.{◌≡◌, ◌≤◌, ◌==◌, ◌++◌, true, not, length, take, drop, IfOk, OnOk, option_to_list};
+ghost use Rattle.std.specs.List.{list_all, flat_map};
+ghost use Rattle.rb_script.specs.Lines.{text_of};
+ghost use Rattle.rb_script.specs.Script.{block_lines, all_expecting, expecting};
+ghost use Rattle.rb_script.specs.Reading.{capped};
+ghost use Rattle.rb_script.specs.Shared.{values};
+ghost use Rattle.rb_script.specs.Edits.{ends_in_return, is_text_line, is_expectation};
+
+use crate::block::Block;
+use crate::edit::Edit;
+use crate::fault::EditFault;
+use crate::limits::{MAX_DIRECTIVES, MAX_LINE, MAX_SCRIPT};
+use crate::lines::Lines;
+use crate::reading::is_readable;
+use crate::script::Script;
+use std::alloc::{AllocError, Global};
+use std::rc::Rc;
+
+/// Whether no byte ends the line.
+fn has_no_end(line: &[u8]) -> bool
+    ensures { result ≡ list_all (λ b. not (b == 10)) line.now }
+{
+    line.iter().all(|b| *b != b'\n')
+}
+
+/// Whether the last byte is a carriage return.
+fn ends_in_return(line: &[u8]) -> bool
+    ensures { result ≡ ends_in_return line.now }
+{
+    match line.last() {
+        Some(last) => *last == b'\r',
+        None => false,
+    }
+}
+
+/// Whether the line can stand in a script.
+fn is_text_line(line: &[u8]) -> bool
+    ensures { result ≡ is_text_line line.now }
+{
+    has_no_end(line) && !ends_in_return(line) && line.len() <= MAX_LINE
+}
+
+/// Whether the lines can be an expectation.
+fn is_expectation(lines: &Lines) -> bool
+    ensures { result ≡ is_expectation lines.now }
+{
+    if !is_readable(lines) {
+        return false;
+    }
+    for i in 0..lines.len() {
+        if !is_text_line(lines.line(i)) {
+            return false;
+        }
+    }
+    true
+}
+
+/// Whether each output can be an expectation.
+fn are_expectations(outputs: &[Lines]) -> bool
+    ensures { result ≡ list_all is_expectation outputs.now }
+{
+    outputs.iter().all(is_expectation)
+}
+
+/// Adds pointers to these blocks.
+fn share(into: &mut Vec<Rc<Block>>, blocks: &[Rc<Block>]) -> Result<(), AllocError>
+    ensures { OnOk result (values into.new.items ≡ values into.old.items ++ values blocks.now) }
+{
+    for block in blocks {
+        into.push(block.clone()?)?;
+    }
+    Ok(())
+}
+
+/// The blocks before `from`, the new one if there is one, and the blocks from `to` on.
+fn spliced(
+    alloc: Global,
+    blocks: &[Rc<Block>],
+    from: usize,
+    new: Option<Block>,
+    to: usize,
+) -> Result<Vec<Rc<Block>>, AllocError>
+    requires from { from ≤ length blocks.now }
+    requires to { to ≤ length blocks.now }
+    ensures { IfOk result (λ v. values v.items ≡ take from (values blocks.now) ++ (option_to_list new ++ drop to (values blocks.now))) }
+{
+    let mut made = Vec::with_capacity(alloc, blocks.len() + 1)?;
+    share(&mut made, &blocks[..from])?;
+    if let Some(block) = new {
+        made.push(Rc::new(alloc, block)?)?;
+    }
+    share(&mut made, &blocks[to..])?;
+    Ok(made)
+}
+
+impl Script {
+    ghost use Rattle.std.specs.Prelude.{◌≡◌, [], Err, IfErr, IfOk, length};
+    ghost use Rattle.rb_script.specs.Script.{text, with_outputs};
+    ghost use Rattle.rb_script.specs.Held.{IsScript};
+    ghost use Rattle.rb_script.specs.Shared.{script_of, IsHeldScript};
+    ghost use Rattle.rb_script.specs.Edits.{edited, with_blocks, Makes};
+    ghost use Rattle.rb_script.specs.declared.edit.Edit.TheVariants.{Insert, Replace, Remove, Expect, Accept};
+
+    /// The script that the edit makes. `outputs` has one output a directive; only [`Edit::Accept`] uses them.
+    /// Refusals come in the order of [`EditFault`], and all but want of memory before any growth.
+    pub fn edited(&self, edit: &Edit, outputs: &[Lines]) -> Result<Script, EditFault>
+        requires { length outputs.now ≡ length self.now.blocks }
+        ensures exact { Makes result (edited self.now edit.now outputs.now) }
+        ensures early { IfErr (edited self.now edit.now outputs.now) (λ fault. result ≡ Err fault) }
+    {
+        match edit {
+            Edit::Insert(place, block) => self.inserted(*place, block),
+            Edit::Replace(place, block) => self.replaced(*place, block),
+            Edit::Remove(place) => self.removed(*place),
+            Edit::Expect(place, lines) => self.expecting(*place, lines),
+            Edit::Accept => self.accepting(outputs),
+        }
+    }
+
+    fn inserted(&self, place: usize, block: &Block) -> Result<Script, EditFault>
+        ensures exact { Makes result (edited self.now (Insert place block.now) []) }
+        ensures early { IfErr (edited self.now (Insert place block.now) []) (λ fault. result ≡ Err fault) }
+    {
+        let count = self.len();
+        if place == 0 || place - 1 > count {
+            return Err(EditFault::NoSuchPlace);
+        }
+        if count >= MAX_DIRECTIVES {
+            return Err(EditFault::TooManyDirectives);
+        }
+        let text_len = self.text_len().saturating_add(block.text_len());
+        if text_len > MAX_SCRIPT {
+            return Err(EditFault::TooLong);
+        }
+        let copy = block.try_copy()?;
+        self.with_part(place - 1, Some(copy), place - 1, text_len)
+    }
+
+    fn replaced(&self, place: usize, block: &Block) -> Result<Script, EditFault>
+        ensures exact { Makes result (edited self.now (Replace place block.now) []) }
+        ensures early { IfErr (edited self.now (Replace place block.now) []) (λ fault. result ≡ Err fault) }
+    {
+        let Some(old) = self.block(place) else {
+            return Err(EditFault::NoSuchPlace);
+        };
+        let rest = self.text_len() - old.text_len();
+        let text_len = rest.saturating_add(block.text_len());
+        if text_len > MAX_SCRIPT {
+            return Err(EditFault::TooLong);
+        }
+        let copy = block.try_copy()?;
+        self.with_part(place - 1, Some(copy), place, text_len)
+    }
+
+    fn removed(&self, place: usize) -> Result<Script, EditFault>
+        ensures exact { Makes result (edited self.now (Remove place) []) }
+        ensures early { IfErr (edited self.now (Remove place) []) (λ fault. result ≡ Err fault) }
+    {
+        let Some(old) = self.block(place) else {
+            return Err(EditFault::NoSuchPlace);
+        };
+        let text_len = self.text_len() - old.text_len();
+        self.with_part(place - 1, None, place, text_len)
+    }
+
+    fn expecting(&self, place: usize, lines: &Lines) -> Result<Script, EditFault>
+        ensures exact { Makes result (edited self.now (Expect place lines.now) []) }
+        ensures early { IfErr (edited self.now (Expect place lines.now) []) (λ fault. result ≡ Err fault) }
+    {
+        let Some(old) = self.block(place) else {
+            return Err(EditFault::NoSuchPlace);
+        };
+        if !is_expectation(lines) {
+            return Err(EditFault::BadExpectation);
+        }
+        let rest = self.text_len() - old.text_len();
+        let text_len = rest.saturating_add(old.text_len_with(lines));
+        if text_len > MAX_SCRIPT {
+            return Err(EditFault::TooLong);
+        }
+        let block = old.with_expected(lines)?;
+        self.with_part(place - 1, Some(block), place, text_len)
+    }
+
+    fn accepting(&self, outputs: &[Lines]) -> Result<Script, EditFault>
+        requires { length outputs.now ≡ length self.now.blocks }
+        ensures exact { Makes result (edited self.now Accept outputs.now) }
+        ensures early { IfErr (edited self.now Accept outputs.now) (λ fault. result ≡ Err fault) }
+    {
+        if !are_expectations(outputs) {
+            return Err(EditFault::BadExpectation);
+        }
+        let text_len = self.text_len_with(outputs);
+        if text_len > MAX_SCRIPT {
+            return Err(EditFault::TooLong);
+        }
+        self.with_outputs(outputs, text_len)
+    }
+
+    // How long the canonical text is.
+    fn text_len(&self) -> usize
+        ensures len { result ≡ length (text self.now) }
+        // What is held is a script.
+        ensures held { IsScript self.now }
+    {
+        self.text_len
+    }
+
+    // How long the canonical text would be with these outputs as expectations.
+    fn text_len_with(&self, outputs: &[Lines]) -> usize
+        requires { length outputs.now ≡ length self.now.blocks }
+        ensures { result ≡ capped (length (text (with_outputs self.now outputs.now))) }
+    {
+        let tail = self.tail.text().len();
+        tail.saturating_add(text_len_with(&self.blocks, outputs))
+    }
+
+    // The script with these outputs as expectations.
+    fn with_outputs(&self, outputs: &[Lines], text_len: usize) -> Result<Script, EditFault>
+        requires count { length outputs.now ≡ length self.now.blocks }
+        requires readable { list_all is_expectation outputs.now ≡ true }
+        requires len { text_len ≡ length (text (with_outputs self.now outputs.now)) }
+        requires short { text_len ≤ MAX_SCRIPT }
+        ensures ok { IfOk result (λ s. s ≡ with_outputs self.now outputs.now) }
+        ensures err { IfErr result (λ e. e ≡ EditFault.OutOfMemory) }
+    {
+        let blocks = all_expecting(self.alloc, &self.blocks, outputs)?;
+        self.with_blocks(blocks, text_len)
+    }
+
+    // The script with the new block, if there is one, in place of its blocks from `from` up to `to`.
+    fn with_part(
+        &self,
+        from: usize,
+        new: Option<Block>,
+        to: usize,
+        text_len: usize,
+    ) -> Result<Script, EditFault>
+        requires from { from ≤ length self.now.blocks }
+        requires to { to ≤ length self.now.blocks }
+        requires held { IsHeldScript (with_blocks self.now (take from self.now.blocks ++ (option_to_list new ++ drop to self.now.blocks))) text_len }
+        ensures ok { IfOk result (λ s. s ≡ with_blocks self.now (take from self.now.blocks ++ (option_to_list new ++ drop to self.now.blocks))) }
+        ensures err { IfErr result (λ e. e ≡ EditFault.OutOfMemory) }
+    {
+        let blocks = spliced(self.alloc, &self.blocks, from, new, to)?;
+        self.with_blocks(blocks, text_len)
+    }
+
+    // The script with these blocks in place of its own.
+    fn with_blocks(&self, blocks: Vec<Rc<Block>>, text_len: usize) -> Result<Script, EditFault>
+        requires { IsHeldScript (script_of blocks.items self.now.tail) text_len }
+        ensures ok { IfOk result (λ s. s ≡ script_of blocks.items self.now.tail) }
+        ensures err { IfErr result (λ e. e ≡ EditFault.OutOfMemory) }
+    {
+        Ok(Script {
+            alloc: self.alloc,
+            blocks,
+            tail: self.tail.clone()?,
+            text_len,
+        })
+    }
+}
+
+/// How long the texts of the blocks are with these outputs as expectations.
+fn text_len_with(blocks: &[Rc<Block>], outputs: &[Lines]) -> usize
+    requires { length outputs.now ≡ length blocks.now }
+    ensures { result ≡ capped (length (text_of (flat_map block_lines (all_expecting (values blocks.now) outputs.now)))) }
+{
+    let mut total: usize = 0;
+    for (i, block) in blocks.iter().enumerate() {
+        total = total.saturating_add(block.text_len_with(&outputs[i]));
+    }
+    total
+}
+
+/// Each block with its output as its expectation. A block that expects its output already is shared.
+fn all_expecting(
+    alloc: Global,
+    blocks: &[Rc<Block>],
+    outputs: &[Lines],
+) -> Result<Vec<Rc<Block>>, AllocError>
+    requires count { length outputs.now ≡ length blocks.now }
+    requires readable { list_all is_expectation outputs.now ≡ true }
+    ensures { IfOk result (λ v. values v.items ≡ all_expecting (values blocks.now) outputs.now) }
+{
+    let mut made = Vec::with_capacity(alloc, blocks.len())?;
+    for (i, block) in blocks.iter().enumerate() {
+        made.push(expecting(alloc, block, &outputs[i])?)?;
+    }
+    Ok(made)
+}
+
+/// The block with this output as its expectation.
+fn expecting(alloc: Global, block: &Rc<Block>, output: &Lines) -> Result<Rc<Block>, AllocError>
+    requires { is_expectation output.now ≡ true }
+    ensures { IfOk result (λ b. b.value ≡ expecting block.now.value output.now) }
+{
+    if block.expected().same(output) {
+        block.clone()
+    } else {
+        Ok(Rc::new(alloc, block.with_expected(output)?)?)
+    }
+}

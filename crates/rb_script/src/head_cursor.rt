@@ -1,0 +1,199 @@
+//! A place in a joined head, over its lines.
+
+ghost use Rattle.std.specs.Prelude.{◌≡◌, ◌+◌, ◌-◌, ◌<◌, ◌≤◌, ◌++◌, ◌∷◌, ℕ, length, take, drop, slice_get};
+ghost use Rattle.rb_script.specs.Lines.{Line};
+ghost use Rattle.rb_script.specs.Marks.{is_space, continues};
+ghost use Rattle.rb_script.specs.Joined.{body, joined, behind_piece, while_of, after_while};
+ghost use Rattle.rb_script.specs.Tokens.{line_at, token, IsPart};
+ghost use Rattle.rb_script.specs.Kinds.{is_of};
+
+use crate::lines::Lines;
+use crate::marks::{continues, is_space};
+use crate::span::Span;
+use std::marker::Model;
+
+/// A kind of bytes.
+#[derive(Clone, Copy)]
+pub(crate) enum Kind {
+    /// A space or a tab.
+    Space,
+    /// What parts the values within parentheses: blanks and commas.
+    Gap,
+    /// What a name or a key is made of.
+    Word,
+    /// What a value without parentheses is made of.
+    Value,
+    /// What a value within parentheses is made of.
+    Piece,
+}
+
+impl Kind {
+    /// Whether the byte is of the kind.
+    fn has(self, b: u8) -> bool
+        ensures { result ≡ is_of self b }
+    {
+        match self {
+            Kind::Space => is_space(b),
+            Kind::Gap => is_space(b) || b == b',',
+            Kind::Word => !(is_space(b) || b == b'=' || b == b'(' || b == b')'),
+            Kind::Value => !is_space(b),
+            Kind::Piece => !(is_space(b) || b == b',' || b == b'(' || b == b')'),
+        }
+    }
+
+    /// How many bytes of the kind stand at the front.
+    fn run_len(self, bytes: &[u8]) -> usize
+        ensures len { result ≤ length bytes.now }
+        ensures run { take result bytes.now ≡ while_of (is_of self) bytes.now }
+        ensures rest { drop result bytes.now ≡ after_while (is_of self) bytes.now }
+    {
+        for (i, b) in bytes.iter().enumerate() {
+            if !self.has(*b) {
+                return i;
+            }
+        }
+        bytes.len()
+    }
+}
+
+/// The line without its last byte that is no blank, and what follows it.
+fn body(line: &[u8]) -> &[u8]
+    ensures value { result.now ≡ body line.now }
+    ensures part { result.now ≡ take (length result.now) line.now }
+{
+    let mut front = line;
+    while let Some((last, shorter)) = front.split_last() {
+        front = shorter;
+        if !is_space(*last) {
+            break;
+        }
+    }
+    front
+}
+
+/// What a line gives to the joined head, and whether the next line follows it.
+fn piece_of(head: &Lines, line: usize) -> (&[u8], bool)
+    requires { line < length head.now }
+    ensures joined { joined (drop line head.now) ≡ result.0.now ++ behind_piece result.1 (drop (line + 1) head.now) }
+    ensures part { result.0.now ≡ take (length result.0.now) (line_at head.now line) }
+    ensures fits { length result.0.now ≤ length (line_at head.now line) }
+{
+    let text = head.line(line);
+    if continues(text) {
+        (body(text), true)
+    } else {
+        (text, false)
+    }
+}
+
+/// A place in a joined head: what is left of one line's piece, and the lines after it.
+#[derive(Drop)]
+pub(crate) struct HeadCursor<'a> {
+    head: &'a Lines,
+    line: usize,
+    piece: &'a [u8],
+    at: usize,
+    is_continued: bool,
+}
+
+impl<'a> Model for HeadCursor<'a> {
+    ghost use Rattle.std.specs.Prelude.{◌+◌, ◌++◌, drop};
+    ghost use Rattle.rb_script.specs.Joined.{behind_piece};
+    ghost use Rattle.rb_script.specs.HeadPlaces.{HeadPlace, IsHeadPlace};
+
+    ghost Value = { HeadPlace };
+
+    ghost view = { λ c. record { head = c.head.now; left = drop c.at c.piece.now ++ behind_piece c.is_continued (drop (c.line + 1) c.head.now) } };
+
+    ghost invariant = { λ c. IsHeadPlace c.head.now c.line c.piece.now c.at };
+}
+
+impl<'a> HeadCursor<'a> {
+    ghost use Rattle.std.specs.Prelude.{◌≡◌, ◌<◌, length, drop, slice_get, option_copied};
+    ghost use Rattle.rb_script.specs.Joined.{joined, while_of, after_while};
+    ghost use Rattle.rb_script.specs.Tokens.{token, IsPart};
+    ghost use Rattle.rb_script.specs.Kinds.{is_of, IsToken};
+
+    /// The beginning of the joined head.
+    pub(crate) fn new(head: &'a Lines) -> HeadCursor<'a>
+        requires { 0 < length head.now }
+        ensures head { result.head ≡ head.now }
+        ensures left { result.left ≡ joined head.now }
+    {
+        let (piece, is_continued) = piece_of(head, 0);
+        HeadCursor {
+            head,
+            line: 0,
+            piece,
+            at: 0,
+            is_continued,
+        }
+    }
+
+    /// The next byte. One blank stands between the pieces of two lines.
+    pub(crate) fn peek(&self) -> Option<u8>
+        ensures { result ≡ slice_get self.now.left 0 }
+    {
+        if self.at < self.piece.len() {
+            Some(self.piece[self.at])
+        } else if self.is_continued {
+            Some(b' ')
+        } else {
+            None
+        }
+    }
+
+    /// Goes past the next byte.
+    pub(crate) fn advance(&mut self)
+        requires { 0 < length self.old.left }
+        ensures left { self.new.left ≡ drop 1 self.old.left }
+        ensures head { self.new.head ≡ self.old.head }
+    {
+        if self.at < self.piece.len() {
+            self.at += 1;
+        } else {
+            let count = self.head.len();
+            let next = self.line + 1;
+            let (piece, is_continued) = if next < count {
+                self.line = next;
+                piece_of(self.head, next)
+            } else {
+                (&[] as &[u8], false)
+            };
+            self.piece = piece;
+            self.at = 0;
+            self.is_continued = is_continued;
+        }
+    }
+
+    /// Goes past the bytes of the kind.
+    pub(crate) fn skip(&mut self, kind: Kind)
+        ensures left { self.new.left ≡ after_while (is_of kind) self.old.left }
+        ensures head { self.new.head ≡ self.old.head }
+    {
+        while let Some(b) = self.peek() {
+            if !kind.has(b) {
+                break;
+            }
+            self.advance();
+        }
+    }
+
+    /// Goes past the bytes of the kind, and says where they stand. No blank is of the kind, so they stand in one line.
+    pub(crate) fn take(&mut self, kind: Kind) -> Span
+        requires { IsToken kind }
+        ensures token { token self.old.head result ≡ while_of (is_of kind) self.old.left }
+        ensures left { self.new.left ≡ after_while (is_of kind) self.old.left }
+        ensures head { self.new.head ≡ self.old.head }
+        ensures part { IsPart self.old.head result }
+    {
+        let start = self.at;
+        let end = start + kind.run_len(&self.piece[start..]);
+        self.at = end;
+        Span {
+            line: self.line,
+            start,
+            end,
+        }
+    }
+}

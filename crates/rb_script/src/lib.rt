@@ -1,0 +1,38 @@
+//! Interaction scripts: read, edited and written.
+//!
+//! A script is a list of blocks and a tail of lines. A block is a directive with its expectation: lead lines
+//! (blank lines and comments), the head (a name and arguments), input lines, a line `----`, and the expected
+//! lines. [`Script::read`] reads the bytes of a script, [`Script::edited`] makes an edit of it, and
+//! [`Script::write_to`] writes its canonical text, which reads as the same script.
+#![tactic(auto)]
+
+mod argument;
+mod block;
+mod cursor;
+mod directive;
+mod edit;
+mod edits;
+mod fault;
+mod head_cursor;
+mod limits;
+mod lines;
+mod marks;
+mod reading;
+mod script;
+mod sink;
+mod span;
+mod tokens;
+mod writing;
+
+pub use block::Block;
+pub use directive::DirectiveRef;
+pub use edit::Edit;
+pub use fault::{EditFault, ScriptFault};
+pub use limits::{MAX_ARGUMENTS, MAX_DIRECTIVES, MAX_LINE, MAX_SCRIPT, MAX_VALUES};
+pub use lines::Lines;
+pub use script::Script;
+pub use sink::{Counting, Sink, Through, WriteFault};
+pub use span::Span;
+
+#[cfg(test)]
+mod tests;

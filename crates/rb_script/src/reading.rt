@@ -1,0 +1,276 @@
+//! Reading blocks, from the first line on.
+
+ghost use Rattle.std.specs.Prelude.{◌≡◌, ◌+◌, ◌^◌, ◌<◌, [], ◌∷◌, true, false, length, drop, not, IfOk, IfSome, IfNone, MatchOption, Err};
+ghost use Rattle.std.specs.List.{list_all, AllByRecursion};
+ghost use Rattle.rb_script.specs.Lines.{lines};
+ghost use Rattle.rb_script.specs.Marks.{is_blank, is_lead, is_separator, stops};
+ghost use Rattle.rb_script.specs.Reads.{begins_lead, begins_rule, is_readable};
+ghost use Rattle.rb_script.specs.Reading.{upto, onward, head_of, after_head, after_blank, to_pair, then_blank, plain_at, expectation_at, block_at, blocks_at, parts_of, block_of, Gives, long_line, no_long_line, capped, early_fault, read_of};
+ghost use Rattle.rb_script.specs.Cursor.{seen, end_of};
+ghost use Rattle.rb_script.specs.Script.{text};
+ghost use Rattle.rb_script.specs.Held.{IsLine};
+ghost use Rattle.rb_script.specs.Shared.{parts_view};
+
+use crate::block::{Block, Front};
+use crate::cursor::Cursor;
+use crate::fault::ScriptFault;
+use crate::limits::{MAX_DIRECTIVES, MAX_LINE, MAX_SCRIPT};
+use crate::lines::Lines;
+use crate::marks::{Stop, continues, is_rule};
+use crate::script::Script;
+use crate::tokens::tokens_of;
+use std::alloc::{AllocError, Global};
+use std::rc::Rc;
+
+// Each of these gathers lines in `room`, whose memory serves all, and copies them out at their size.
+
+/// The lines up to the first at which the run stops, and the lines from it on.
+fn run<'a>(
+    room: &mut Lines,
+    start: Cursor<'a>,
+    stop: Stop,
+) -> Result<(Lines, Cursor<'a>), AllocError>
+    ensures run { IfOk result (λ p. p.0 ≡ upto (stops stop) (lines start.entry.rest.now)) }
+    ensures rest { IfOk result (λ p. lines p.1.rest.now ≡ onward (stops stop) (lines start.entry.rest.now)) }
+    ensures end { IfOk result (λ p. end_of p.1 ≡ end_of start.entry) }
+{
+    room.clear();
+    let mut at = start;
+    while let Some((line, after)) = at.next() {
+        if stop.at(line) {
+            break;
+        }
+        room.push(line)?;
+        at = after;
+    }
+    Ok((room.try_copy()?, at))
+}
+
+/// The first line and those that it asks for, and the lines after them.
+fn head<'a>(room: &mut Lines, start: Cursor<'a>) -> Result<(Lines, Cursor<'a>), AllocError>
+    ensures run { IfOk result (λ p. p.0 ≡ head_of (lines start.entry.rest.now)) }
+    ensures rest { IfOk result (λ p. lines p.1.rest.now ≡ after_head (lines start.entry.rest.now)) }
+    ensures end { IfOk result (λ p. end_of p.1 ≡ end_of start.entry) }
+{
+    room.clear();
+    let mut at = start;
+    while let Some((line, after)) = at.next() {
+        room.push(line)?;
+        at = after;
+        if !continues(line) {
+            break;
+        }
+    }
+    Ok((room.try_copy()?, at))
+}
+
+/// Whether no line ---- is the last or stands before another.
+pub(crate) fn is_readable(lines: &Lines) -> bool
+    ensures { result ≡ is_readable lines.now }
+{
+    let mut after_rule = false;
+    for i in 0..lines.len() {
+        let rule = is_rule(lines.line(i));
+        if rule && after_rule {
+            return false;
+        }
+        after_rule = rule;
+    }
+    !after_rule
+}
+
+/// A plain expectation, and the lines after it.
+fn plain<'a>(room: &mut Lines, start: Cursor<'a>) -> Result<Option<(Lines, Cursor<'a>)>, AllocError>
+    ensures found { IfOk result (λ found. seen found ≡ plain_at (lines start.entry.rest.now)) }
+    ensures end { IfOk result (λ found. IfSome found (λ p. end_of p.1 ≡ end_of start.entry)) }
+{
+    let (expected, at) = run(room, start, Stop::Blank)?;
+    if is_readable(&expected) {
+        Ok(Some((expected, at.after_blank())))
+    } else {
+        Ok(None)
+    }
+}
+
+/// An expectation in the double form behind its first line ----, and the lines after it.
+fn double<'a>(
+    room: &mut Lines,
+    start: Cursor<'a>,
+) -> Result<Option<(Lines, Cursor<'a>)>, AllocError>
+    ensures found { IfOk result (λ found. seen found ≡ then_blank (to_pair (lines start.entry.rest.now))) }
+    ensures end { IfOk result (λ found. IfSome found (λ p. end_of p.1 ≡ end_of start.entry)) }
+{
+    room.clear();
+    let mut at = start;
+    while let Some((line, after)) = at.next() {
+        if is_rule(line) {
+            if let Some(rest) = after.after_rule() {
+                return Ok(Some((room.try_copy()?, rest.after_blank())));
+            }
+        }
+        room.push(line)?;
+        at = after;
+    }
+    Ok(None)
+}
+
+#[tactic(auto, unfolding(crate::specs::Reading::expectation_at))]
+fn expectation<'a>(
+    room: &mut Lines,
+    start: Cursor<'a>,
+) -> Result<Option<(Lines, Cursor<'a>)>, AllocError>
+    ensures found { IfOk result (λ found. seen found ≡ expectation_at (lines start.entry.rest.now)) }
+    ensures end { IfOk result (λ found. IfSome found (λ p. end_of p.1 ≡ end_of start.entry)) }
+{
+    match start.after_rule() {
+        Some(after) => double(room, after),
+        None => plain(room, start),
+    }
+}
+
+/// The block whose lead was read, and the lines after it.
+fn block<'a>(
+    alloc: Global,
+    room: &mut Lines,
+    lead: Lines,
+    start: Cursor<'a>,
+) -> Result<(Block, Cursor<'a>), ScriptFault>
+    requires lead { list_all is_lead lead ≡ true }
+    requires lead_lines { AllByRecursion IsLine lead }
+    requires lines { AllByRecursion IsLine (lines start.rest.now) }
+    requires head { begins_lead (lines start.rest.now) ≡ false }
+    ensures gives { Gives (λ p. (p.0, lines p.1.rest.now)) result (block_at (end_of start.entry) lead (lines start.entry.rest.now)) }
+    ensures end { IfOk result (λ p. end_of p.1 ≡ end_of start.entry) }
+{
+    let number = start.number;
+    let (head, at) = head(room, start)?;
+    let tokens = tokens_of(alloc, &head, number)?;
+    let (input, at) = run(room, at, Stop::Separator)?;
+    let separator = at.number;
+    let Some((_, at)) = at.next() else {
+        return Err(ScriptFault::NoSeparator(number));
+    };
+    let Some((expected, at)) = expectation(room, at)? else {
+        return Err(ScriptFault::NotClosed(separator));
+    };
+    let front = Rc::new(
+        alloc,
+        Front {
+            lead,
+            head,
+            input,
+            name: tokens.name,
+            args: tokens.args,
+        },
+    )?;
+    Ok((Block::new(front, expected), at))
+}
+
+/// The blocks and the tail.
+#[derive(Drop)]
+struct Parts {
+    blocks: Vec<Rc<Block>>,
+    tail: Lines,
+}
+
+/// The blocks and the tail of the lines.
+fn blocks(alloc: Global, start: Cursor<'_>) -> Result<Parts, ScriptFault>
+    requires { AllByRecursion IsLine (lines start.rest.now) }
+    ensures { Gives parts_view result (blocks_at MAX_DIRECTIVES (end_of start.entry) (lines start.entry.rest.now)) }
+{
+    let mut room = Lines::new(alloc);
+    let mut found = Vec::new(alloc);
+    let mut at = start;
+    loop {
+        let (lead, after) = run(&mut room, at, Stop::Head)?;
+        if after.rest.is_empty() {
+            return Ok(Parts {
+                blocks: found,
+                tail: lead,
+            });
+        }
+        if found.len() == MAX_DIRECTIVES {
+            return Err(ScriptFault::TooManyDirectives);
+        }
+        let (block, after) = block(alloc, &mut room, lead, after)?;
+        found.push(Rc::new(alloc, block)?)?;
+        at = after;
+    }
+}
+
+/// The first line that is too long is a fault.
+fn check_lines(start: Cursor<'_>) -> Result<(), ScriptFault>
+    ensures { result ≡ no_long_line (long_line start.entry.number (lines start.entry.rest.now)) }
+{
+    let mut at = start;
+    while let Some((line, after)) = at.next() {
+        if line.len() > MAX_LINE {
+            return Err(ScriptFault::LineTooLong(at.number));
+        }
+        at = after;
+    }
+    Ok(())
+}
+
+/// The blocks and the tail of the bytes. What is too long is found before any growth.
+#[tactic(auto, using(crate::proofs::HeldLaws::checked_lines), unfolding(crate::specs::Reading::parts_of))]
+fn read_parts(alloc: Global, bytes: &[u8]) -> Result<Parts, ScriptFault>
+    ensures exact { Gives parts_view result (parts_of bytes.now) }
+    ensures early { IfSome (early_fault bytes.now) (λ fault. result ≡ Err fault) }
+{
+    if bytes.len() > MAX_SCRIPT {
+        return Err(ScriptFault::TooLong);
+    }
+    let start = Cursor {
+        rest: bytes,
+        number: 1,
+    };
+    check_lines(start)?;
+    blocks(alloc, start)
+}
+
+/// How long the canonical text is.
+fn text_len(parts: &Parts) -> usize
+    ensures { result ≡ capped (length (text (parts_view parts.now))) }
+{
+    let mut total = parts.tail.text().len();
+    for block in &parts.blocks {
+        total = total.saturating_add(block.text_len());
+    }
+    total
+}
+
+/// The script of the bytes, or the first fault.
+#[tactic(auto, unfolding(crate::specs::Reading::read_of, crate::specs::Reading::fits_text))]
+pub(crate) fn script(alloc: Global, bytes: &[u8]) -> Result<Script, ScriptFault>
+    ensures exact { Gives (λ s. s) result (read_of bytes.now) }
+    ensures early { IfSome (early_fault bytes.now) (λ fault. result ≡ Err fault) }
+{
+    let parts = read_parts(alloc, bytes)?;
+    let text_len = text_len(&parts);
+    if text_len > MAX_SCRIPT {
+        return Err(ScriptFault::TooLong);
+    }
+    Ok(Script {
+        alloc,
+        blocks: parts.blocks,
+        tail: Rc::new(alloc, parts.tail)?,
+        text_len,
+    })
+}
+
+/// The one block of the bytes, or the first fault.
+#[tactic(auto, unfolding(crate::specs::Reading::block_of, crate::specs::Reading::fits_text))]
+pub(crate) fn one_block(alloc: Global, bytes: &[u8]) -> Result<Block, ScriptFault>
+    ensures exact { Gives (λ b. b) result (block_of bytes.now) }
+    ensures early { IfSome (early_fault bytes.now) (λ fault. result ≡ Err fault) }
+{
+    let parts = read_parts(alloc, bytes)?;
+    if parts.blocks.len() != 1 || !parts.tail.is_empty() {
+        return Err(ScriptFault::NotOneBlock);
+    }
+    if text_len(&parts) > MAX_SCRIPT {
+        return Err(ScriptFault::TooLong);
+    }
+    Ok(parts.blocks[0].try_copy()?)
+}

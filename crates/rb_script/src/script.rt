@@ -1,0 +1,112 @@
+//! A script: blocks, and the lines after them.
+
+use crate::block::Block;
+use crate::fault::ScriptFault;
+use crate::lines::Lines;
+use crate::reading;
+use std::alloc::Global;
+use std::marker::Model;
+use std::rc::Rc;
+
+/// A script.
+#[derive(Drop)]
+pub struct Script {
+    pub(crate) alloc: Global,
+    // scripts share blocks, so that an edit copies pointers
+    pub(crate) blocks: Vec<Rc<Block>>,
+    pub(crate) tail: Rc<Lines>,
+    // the length of the canonical text
+    pub(crate) text_len: usize,
+}
+
+impl Model for Script {
+    ghost use Rattle.std.specs.Prelude.{◌≡◌, length};
+    ghost use Rattle.rb_script.specs.Script.{PlainScript};
+
+    ghost Value = { PlainScript };
+
+    ghost use Rattle.rb_script.specs.Shared.{script_of, IsHeldScript};
+
+    ghost view = { λ s. script_of s.blocks.items s.tail.value };
+
+    ghost invariant = { λ s. IsHeldScript (script_of s.blocks.items s.tail.value) s.text_len };
+}
+
+impl Script {
+    ghost use Rattle.std.specs.Prelude.{◌≡◌, ◌≢◌, ℕ, List, ◌-◌, ◌==◌, IfOk, IfErr, IfSome, Ok, Err, None, length, slice_get, option_copied, if◌then◌else◌};
+    ghost use Rattle.rb_script.specs.Script.{PlainScript, text};
+    ghost use Rattle.rb_script.specs.Reads.{Reads};
+    ghost use Rattle.rb_script.specs.Held.{IsScript};
+    ghost use Rattle.rb_script.specs.Reading.{Gives, read_of, block_of, early_fault};
+    ghost use Rattle.rb_script.specs.Faults.{IsFault};
+
+    /// The script of the bytes.
+    pub fn read(alloc: Global, bytes: &[u8]) -> Result<Script, ScriptFault>
+        // What is read is the script of the bytes.
+        ensures found { IfOk result (λ s. Reads bytes.now s) }
+        // What is the script of the bytes is read, unless memory runs out.
+        ensures only { (s : PlainScript) → Reads bytes.now s → Gives {X = PlainScript} {Y = PlainScript} (λ s. s) result (Ok s) }
+        // Where it is a fault, the bytes are no script, unless memory ran out.
+        ensures refused { IfErr result (λ fault. fault ≢ ScriptFault.OutOfMemory → (s : PlainScript) → Reads bytes.now s → ⊥) }
+        // Which fault it is.
+        ensures exact { Gives (λ s. s) result (read_of bytes.now) }
+        // These are found before any growth.
+        ensures early { IfSome (early_fault bytes.now) (λ fault. result ≡ Err fault) }
+    {
+        reading::script(alloc, bytes)
+    }
+
+    /// How many blocks there are.
+    pub fn len(&self) -> usize
+        ensures { result ≡ length self.now.blocks }
+    {
+        self.blocks.len()
+    }
+
+    pub fn is_empty(&self) -> bool
+        ensures { result ≡ (length self.now.blocks == 0) }
+    {
+        self.blocks.is_empty()
+    }
+
+    /// The block at a place, which counts from 1.
+    pub fn block(&self, place: usize) -> Option<&Block>
+        ensures { option_copied result ≡ (if place == 0 then None else slice_get self.now.blocks (place - 1)) }
+    {
+        match place {
+            0 => None,
+            _ => match self.blocks.get(place - 1) {
+                Some(block) => Some(&**block),
+                None => None,
+            },
+        }
+    }
+
+    // What is held is a script.
+    pub(crate) fn is_held(&self)
+        ensures held { IsScript self.now }
+    {
+        let _len = &self.text_len;
+    }
+
+    /// Bytes are at most one script.
+    pub fn reads_once()
+        ensures { (bytes : List ℕ) (a b : PlainScript) → Reads bytes a → Reads bytes b → a ≡ b }
+    {}
+
+    /// What bytes read as can be held.
+    pub fn read_is_held()
+        ensures { (bytes : List ℕ) (s : PlainScript) → Reads bytes s → IsScript s }
+    {}
+
+    /// What a fault says of the bytes, where a script or one block was read.
+    pub fn fault_is()
+        ensures script { (bytes : List ℕ) (fault : ScriptFault) → read_of bytes ≡ Err fault → IsFault bytes fault }
+        ensures block { (bytes : List ℕ) (fault : ScriptFault) → block_of bytes ≡ Err fault → IsFault bytes fault }
+    {}
+
+    /// The text of each script that can be held reads as that script.
+    pub fn text_reads_back()
+        ensures { (s : PlainScript) → IsScript s → Reads (text s) s }
+    {}
+}

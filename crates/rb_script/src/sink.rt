@@ -1,0 +1,76 @@
+//! Where text goes.
+
+ghost use Rattle.std.specs.Prelude.{ℕ, List, Option, None, IsOk, ◌+◌, ◌≡◌, min, length};
+ghost use Rattle.rb_script.specs.Writes.{Writes};
+
+use std::io::Write;
+use thiserror::Error;
+
+/// The writer failed, or took no byte.
+#[derive(Clone, Copy, Debug, PartialEq, Eq, Error)]
+#[error("the writer failed")]
+pub struct WriteFault;
+
+/// Takes text. Unlike a `Write` it can be known to take all.
+pub trait Sink {
+    // the bytes that it holds, where they are known
+    ghost held: { Self → Option (List ℕ) };
+
+    // no write fails
+    ghost takes_all: { Self → Type 0 };
+
+    /// Takes the bytes. On a failure it has taken a beginning of them.
+    fn put(&mut self, bytes: &[u8]) -> Result<(), WriteFault>
+        ensures wrote { Writes result (held self.old) (held self.new) bytes.now }
+        ensures all { takes_all self.old → IsOk result × takes_all self.new };
+}
+
+/// A `Write` as a sink. Each error is a failure, an interrupted call and a write that takes no byte too.
+#[derive(Drop)]
+pub struct Through<'a, W>(pub &'a mut W);
+
+impl<W: Write> Sink for Through<'_, W> {
+    ghost held = { λ t. W.contents t.0.now };
+
+    ghost takes_all = { λ _. ⊥ };
+
+    fn put(&mut self, bytes: &[u8]) -> Result<(), WriteFault> {
+        put_whole(self.0, bytes)
+    }
+}
+
+/// Writes all the bytes.
+fn put_whole<W: Write>(writer: &mut W, bytes: &[u8]) -> Result<(), WriteFault>
+    ensures { Writes result (W.contents writer.old) (W.contents writer.new) bytes.now }
+{
+    let mut rest = bytes;
+    while !rest.is_empty() {
+        match writer.write(rest) {
+            Ok(taken) if taken > 0 => rest = &rest[taken..],
+            _ => return Err(WriteFault),
+        }
+    }
+    Ok(())
+}
+
+/// Takes all text, and keeps its length alone.
+#[derive(Drop)]
+pub struct Counting {
+    /// How many bytes came; it stops at its greatest value.
+    pub count: usize,
+}
+
+impl Sink for Counting {
+    ghost held = { λ _. None };
+
+    ghost takes_all = { λ _. Unit {0} };
+
+    fn put(&mut self, bytes: &[u8]) -> Result<(), WriteFault>
+        ensures wrote { Writes result None None bytes.now }
+        ensures all { Unit {0} → IsOk result × Unit {0} }
+        ensures counted { self.new.count ≡ min (self.old.count + length bytes.now) usize.MAX }
+    {
+        self.count = self.count.saturating_add(bytes.len());
+        Ok(())
+    }
+}

@@ -1,0 +1,226 @@
+//! The name and the arguments of a head.
+
+ghost use Rattle.std.specs.Prelude.{◌≡◌, ◌<◌, ◌++◌, ◌∷◌, ℕ, List, [], length, IfOk, option_map};
+ghost use Rattle.rb_script.specs.Lines.{Line};
+ghost use Rattle.rb_script.specs.Joined.{joined};
+ghost use Rattle.rb_script.specs.Directive.{PlainArgument};
+ghost use Rattle.rb_script.specs.Reading.{list_at, value_at, behind_key, argument_at, arguments_at, few_or, head_at};
+ghost use Rattle.rb_script.specs.Parsed.{with_one, KeepsArgument, KeepsArguments, ParsesList, ParsesArgument, ParsesArguments, ParsesHead};
+ghost use Rattle.rb_script.specs.Tokens.{token, IsPart};
+ghost use Rattle.rb_script.specs.declared.tokens.HeadFault.TheVariants.{OutOfMemory};
+
+use crate::argument::Argument;
+use crate::fault::ScriptFault;
+use crate::head_cursor::{HeadCursor, Kind};
+use crate::limits::{MAX_ARGUMENTS, MAX_VALUES};
+use crate::lines::Lines;
+use crate::marks::is_space;
+use crate::span::Span;
+use std::alloc::{AllocError, AllocFailed, Global};
+
+/// Where the name and the arguments of a head stand.
+#[derive(Drop)]
+pub(crate) struct Tokens {
+    pub(crate) name: Span,
+    pub(crate) args: Vec<Argument>,
+}
+
+/// Why a part of a head can't be read.
+#[derive(Clone, Copy)]
+pub(crate) enum HeadFault {
+    /// It isn't in the grammar.
+    Bad,
+    /// Memory was refused.
+    OutOfMemory,
+}
+
+impl From<AllocError> for HeadFault {
+    ghost from_gives = { λ _ e. e ≡ OutOfMemory };
+
+    fn from(_e: AllocError) -> HeadFault {
+        HeadFault::OutOfMemory
+    }
+}
+
+impl<T: Drop> From<AllocFailed<T>> for HeadFault {
+    ghost from_gives = { λ _ e. e ≡ OutOfMemory };
+
+    fn from(_e: AllocFailed<T>) -> HeadFault {
+        HeadFault::OutOfMemory
+    }
+}
+
+// One item more, or nothing where they are too many. So a head of a million arguments takes no memory for them.
+fn with_item<T: Drop>(
+    items: Option<Vec<T>>,
+    item: T,
+    most: usize,
+) -> Result<Option<Vec<T>>, AllocError>
+    ensures { IfOk result (λ r. option_map (λ v. v.items) r ≡ with_one most (option_map (λ v. v.items) items) item) }
+{
+    match items {
+        Some(mut items) if items.len() < most => {
+            items.push(item)?;
+            Ok(Some(items))
+        }
+        _ => Ok(None),
+    }
+}
+
+// The values up to the closing parenthesis, which is taken, or nothing where they are too many.
+fn list(alloc: Global, at: &mut HeadCursor<'_>) -> Result<Option<Vec<Span>>, HeadFault>
+    ensures gives { ParsesList at.old.head result at.new.left at.old.left }
+    ensures head { at.new.head ≡ at.old.head }
+{
+    let mut found = Some(Vec::new(alloc));
+    loop {
+        at.skip(Kind::Gap);
+        let Some(b) = at.peek() else {
+            return Err(HeadFault::Bad);
+        };
+        if b == b'(' {
+            return Err(HeadFault::Bad);
+        }
+        if b == b')' {
+            at.advance();
+            return Ok(found);
+        }
+        let value = at.take(Kind::Piece);
+        found = with_item(found, value, MAX_VALUES)?;
+    }
+}
+
+// The argument whose key and opening parenthesis were read.
+#[tactic(auto, unfolding(crate::specs::Reading::list_at))]
+fn list_argument(
+    alloc: Global,
+    key: Span,
+    at: &mut HeadCursor<'_>,
+) -> Result<Option<Argument>, HeadFault>
+    requires { IsPart at.old.head key }
+    ensures gives { ParsesArgument at.old.head result at.new.left (list_at (token at.old.head key) at.old.left) }
+    ensures head { at.new.head ≡ at.old.head }
+{
+    match list(alloc, at)? {
+        Some(values) => Ok(Some(Argument {
+            key,
+            has_equals: true,
+            values,
+        })),
+        None => Ok(None),
+    }
+}
+
+// The argument whose key and `=` were read.
+#[tactic(auto, unfolding(crate::specs::Reading::value_at))]
+fn value_argument(
+    alloc: Global,
+    key: Span,
+    at: &mut HeadCursor<'_>,
+) -> Result<Option<Argument>, HeadFault>
+    requires { IsPart at.old.head key }
+    ensures gives { ParsesArgument at.old.head result at.new.left (value_at (token at.old.head key) at.old.left) }
+    ensures head { at.new.head ≡ at.old.head }
+{
+    if let Some(b'(') = at.peek() {
+        at.advance();
+        return list_argument(alloc, key, at);
+    }
+    let mut values = Vec::new(alloc);
+    values.push(at.take(Kind::Value))?;
+    Ok(Some(Argument {
+        key,
+        has_equals: true,
+        values,
+    }))
+}
+
+// The argument whose key was read.
+#[tactic(auto, unfolding(crate::specs::Reading::behind_key))]
+fn argument_of_key(
+    alloc: Global,
+    key: Span,
+    at: &mut HeadCursor<'_>,
+) -> Result<Option<Argument>, HeadFault>
+    requires { IsPart at.old.head key }
+    ensures gives { ParsesArgument at.old.head result at.new.left (behind_key (token at.old.head key) at.old.left) }
+    ensures head { at.new.head ≡ at.old.head }
+{
+    if let Some(b'=') = at.peek() {
+        at.advance();
+        return value_argument(alloc, key, at);
+    }
+    Ok(Some(Argument {
+        key,
+        has_equals: false,
+        values: Vec::new(alloc),
+    }))
+}
+
+// The argument at the front, or nothing where its values are too many.
+#[tactic(auto, unfolding(crate::specs::Reading::argument_at))]
+fn argument(alloc: Global, at: &mut HeadCursor<'_>) -> Result<Option<Argument>, HeadFault>
+    ensures gives { ParsesArgument at.old.head result at.new.left (argument_at at.old.left) }
+    ensures head { at.new.head ≡ at.old.head }
+{
+    let key = at.take(Kind::Word);
+    if key.start == key.end {
+        return Err(HeadFault::Bad);
+    }
+    argument_of_key(alloc, key, at)
+}
+
+// One argument more, or nothing where they or its values are too many.
+fn with_argument(
+    found: Option<Vec<Argument>>,
+    argument: Option<Argument>,
+) -> Result<Option<Vec<Argument>>, AllocError>
+    ensures { IfOk result (λ r. (head : List Line) (so_far : List PlainArgument) (a : PlainArgument) →
+        KeepsArguments head found so_far → KeepsArgument head argument a → KeepsArguments head r (so_far ++ a ∷ [])) }
+{
+    match argument {
+        Some(argument) => with_item(found, argument, MAX_ARGUMENTS),
+        None => Ok(None),
+    }
+}
+
+// The arguments up to the end of the head, or nothing where they or the values of one are too many.
+fn arguments(alloc: Global, at: &mut HeadCursor<'_>) -> Result<Option<Vec<Argument>>, HeadFault>
+    ensures gives { ParsesArguments at.old.head result (arguments_at (length at.old.left) at.old.left) }
+{
+    let mut found = Some(Vec::new(alloc));
+    loop {
+        let first = at.peek();
+        at.skip(Kind::Space);
+        if at.peek().is_none() {
+            return Ok(found);
+        }
+        match first {
+            Some(b) if is_space(b) => {
+                let argument = argument(alloc, at)?;
+                found = with_argument(found, argument)?;
+            }
+            _ => return Err(HeadFault::Bad),
+        }
+    }
+}
+
+/// Where the name and the arguments of the head that begins at this line stand.
+#[tactic(auto, unfolding(crate::specs::Reading::head_at, crate::specs::Reading::word_head))]
+pub(crate) fn tokens_of(alloc: Global, head: &Lines, number: usize) -> Result<Tokens, ScriptFault>
+    requires { 0 < length head.now }
+    ensures gives { ParsesHead head.now result (few_or number (head_at (joined head.now))) }
+{
+    let mut at = HeadCursor::new(head);
+    at.skip(Kind::Space);
+    let name = at.take(Kind::Word);
+    if name.start == name.end {
+        return Err(ScriptFault::BadLine(number));
+    }
+    match arguments(alloc, &mut at) {
+        Ok(Some(args)) => Ok(Tokens { name, args }),
+        Ok(None) => Err(ScriptFault::TooManyArguments(number)),
+        Err(HeadFault::Bad) => Err(ScriptFault::BadLine(number)),
+        Err(HeadFault::OutOfMemory) => Err(ScriptFault::OutOfMemory),
+    }
+}

@@ -1,0 +1,99 @@
+//! Writing canonical text.
+
+ghost use Rattle.std.specs.Prelude.{◌≡◌, IsOk, length};
+ghost use Rattle.rb_script.specs.Lines.{text_of};
+ghost use Rattle.rb_script.specs.Script.{shown, block_text, front_text, needs_double, expecting};
+ghost use Rattle.rb_script.specs.Reading.{capped};
+ghost use Rattle.rb_script.specs.Writes.{Writes};
+
+use crate::block::Block;
+use crate::lines::Lines;
+use crate::marks::{is_blank, is_rule};
+use crate::script::Script;
+use crate::sink::{Sink, WriteFault};
+
+/// Whether only the double form can show these lines.
+pub(crate) fn needs_double(expected: &Lines) -> bool
+    ensures { result ≡ needs_double expected.now }
+{
+    for i in 0..expected.len() {
+        let line = expected.line(i);
+        if is_blank(line) || is_rule(line) {
+            return true;
+        }
+    }
+    false
+}
+
+/// How long the text of these expected lines is, with what shows their form.
+pub(crate) fn shown_len(expected: &Lines) -> usize
+    ensures { result ≡ capped (length (text_of (shown expected.now))) }
+{
+    let marks = if needs_double(expected) { 15 } else { 0 };
+    expected.text().len().saturating_add(marks)
+}
+
+// Writes the expected lines in their form.
+fn put_expected<S: Sink>(sink: &mut S, expected: &Lines) -> Result<(), WriteFault>
+    ensures wrote { Writes result (S.held sink.old) (S.held sink.new) (text_of (shown expected.now)) }
+    ensures all { S.takes_all sink.old → IsOk result × S.takes_all sink.new }
+{
+    if !needs_double(expected) {
+        return sink.put(expected.text());
+    }
+    sink.put(b"----\n")?;
+    sink.put(expected.text())?;
+    sink.put(b"----\n----\n")
+}
+
+// Writes what stands above the expectation.
+fn put_front<S: Sink>(sink: &mut S, block: &Block) -> Result<(), WriteFault>
+    ensures wrote { Writes result (S.held sink.old) (S.held sink.new) (front_text block.now) }
+    ensures all { S.takes_all sink.old → IsOk result × S.takes_all sink.new }
+{
+    let front = block.front();
+    sink.put(front.lead.text())?;
+    sink.put(front.head.text())?;
+    sink.put(front.input.text())?;
+    sink.put(b"----\n")
+}
+
+// Writes a block with these expected lines in place of its own.
+fn put_block<S: Sink>(sink: &mut S, block: &Block, expected: &Lines) -> Result<(), WriteFault>
+    ensures wrote { Writes result (S.held sink.old) (S.held sink.new) (block_text (expecting block.now expected.now)) }
+    ensures all { S.takes_all sink.old → IsOk result × S.takes_all sink.new }
+{
+    put_front(sink, block)?;
+    put_expected(sink, expected)?;
+    sink.put(b"\n")
+}
+
+impl Script {
+    ghost use Rattle.std.specs.Prelude.{◌≡◌, IsOk, length};
+    ghost use Rattle.rb_script.specs.Script.{text, with_outputs};
+    ghost use Rattle.rb_script.specs.Writes.{Writes};
+
+    /// Writes the canonical text. Takes no memory. On a failure what went out is a beginning of the text.
+    pub fn write_to<S: Sink>(&self, sink: &mut S) -> Result<(), WriteFault>
+        ensures wrote { Writes result (S.held sink.old) (S.held sink.new) (text self.now) }
+        ensures all { S.takes_all sink.old → IsOk result × S.takes_all sink.new }
+    {
+        for block in &self.blocks {
+            put_block(sink, block, block.expected())?;
+        }
+        sink.put(self.tail.text())
+    }
+
+    /// Writes the canonical text with the outputs, one a block, in place of the expectations. Takes no memory.
+    /// On a failure what went out is a beginning of the text.
+    pub fn write_with<S: Sink>(&self, outputs: &[Lines], sink: &mut S) -> Result<(), WriteFault>
+        requires { length outputs.now ≡ length self.now.blocks }
+        ensures wrote { Writes result (S.held sink.old) (S.held sink.new) (text (with_outputs self.now outputs.now)) }
+        ensures all { S.takes_all sink.old → IsOk result × S.takes_all sink.new }
+    {
+        for (i, block) in self.blocks.iter().enumerate() {
+            put_block(sink, block, &outputs[i])?;
+        }
+        sink.put(self.tail.text())
+    }
+}
