@@ -1,0 +1,5 @@
+pub mod ExtendLaws
+pub mod PieceLaws
+pub mod QuotedLaws
+pub mod TextLaws
+pub mod ShownLaws

@@ -1,0 +1,35 @@
+-- Texts of lists, as they join the last line.
+use Rattle.std.proofs.Common.{◌≡◌, ℕ, ◌<◌, ◌+◌, List, [], ◌∷◌, ◌++◌, length, take, get_or, decimal, refl, ap, sym, ◌∙◌, append-nil}
+use Rattle.std.proofs.lemmas.List.{take_more}
+use Rattle.std.proofs.lemmas.List.Concat.{flat_map-append}
+use Rattle.std.specs.List.{flat_map}
+use Rattle.rb_texts.specs.Lines.{Line, extended}
+use Rattle.rb_texts.specs.Texts.{ids_text}
+use Rattle.rb_texts.proofs.ExtendLaws.{extended_twice}
+
+-- a further id
+abbrev pub comma_before : ℕ → List ℕ
+comma_before id = 44 ∷ decimal id
+
+-- no ids have no text
+pub ids_text-nil : ids_text [] ≡ []
+unfolding ids_text
+ids_text-nil = refl
+
+-- each id but the first stands after a comma
+pub ids_text-cons : (id : ℕ) (ids : List ℕ) → ids_text (id ∷ ids) ≡ decimal id ++ flat_map comma_before ids
+unfolding ids_text
+ids_text-cons id [] = sym (append-nil (decimal id))
+ids_text-cons id (other ∷ ids) = ap (λ (l : List ℕ). decimal id ++ (44 ∷ l)) (ids_text-cons other ids)
+
+-- the text of one element more
+pub flat_map-take : {X : Type 0} (f : X → List ℕ) (xs : List X) (i : ℕ) (d : X) → i < length xs → flat_map f (take (i + 1) xs) ≡ flat_map f (take i xs) ++ f (get_or xs i d)
+flat_map-take f xs i d h =
+    ap (flat_map f) (take_more xs i d h) ∙ flat_map-append f (take i xs) (get_or xs i d ∷ [])
+    ∙ ap (λ (l : List ℕ). flat_map f (take i xs) ++ l) (append-nil (f (get_or xs i d)))
+
+-- one element more joins the last line
+pub extended_more : {X : Type 0} (f : X → List ℕ) (xs : List X) (i : ℕ) (d : X) (before now after : List Line) → i < length xs
+    → now ≡ extended before (flat_map f (take i xs)) → after ≡ extended now (f (get_or xs i d)) → after ≡ extended before (flat_map f (take (i + 1) xs))
+extended_more f xs i d before now after h so_far add =
+    extended_twice before now after (flat_map f (take i xs)) (f (get_or xs i d)) so_far add ∙ ap (extended before) (sym (flat_map-take f xs i d h))

@@ -1,0 +1,8 @@
+pub use Rattle.rb_script.specs.Lines
+pub use Rattle.rb_script.specs.Marks
+pub mod Levels
+pub mod Quoted
+pub mod Shapes
+pub mod Items
+pub mod Texts
+pub mod Pieces

@@ -1,0 +1,16 @@
+-- The pieces that a line is put together of.
+use Rattle.std.specs.Prelude.{ℕ, decimal, List}
+use Rattle.std.specs.List.{flat_map}
+use Rattle.rb_texts.specs.declared.piece.Piece.{Piece}
+use Rattle.rb_texts.specs.declared.piece.Piece.TheVariants as pieces
+use Rattle.rb_texts.specs.Quoted.{quoted}
+use Rattle.rb_texts.specs.Texts.{ids_text}
+
+abbrev pub piece_text : Piece → List ℕ
+piece_text (pieces.Bytes bytes) = bytes.now
+piece_text (pieces.Number n) = decimal n
+piece_text (pieces.Quoted bytes) = quoted bytes.now
+piece_text (pieces.Ids ids) = ids_text ids.now
+
+abbrev pub pieces_text : List Piece → List ℕ
+pieces_text ps = flat_map piece_text ps

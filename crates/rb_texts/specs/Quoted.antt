@@ -1,0 +1,28 @@
+-- Text in double quotes. (This project's.)
+use Rattle.std.specs.Prelude.{ℕ, Bool, true, ◌+◌, ◌/◌, ◌%◌, ◌==◌, ◌&&◌, not, nat_le, nat_lt, if◌then◌else◌, List, [], ◌∷◌, ◌++◌}
+use Rattle.std.specs.List.{flat_map}
+
+-- one of the sixteen lower-case hexadecimal digits
+abbrev pub hex_digit : ℕ → ℕ
+hex_digit n = if nat_lt n 10 then n + 48 else n + 87
+
+-- a byte that stands for itself: a printable one that is neither `"` nor a backslash
+abbrev pub is_plain : ℕ → Bool
+is_plain b = nat_le 32 b && nat_le b 126 && not (b == 34) && not (b == 92)
+
+-- a byte as `\xNN`
+abbrev pub numbered : ℕ → List ℕ
+numbered b = 92 ∷ 120 ∷ hex_digit (b / 16) ∷ hex_digit (b % 16) ∷ []
+
+-- a byte as it stands between quotes
+abbrev pub escaped : ℕ → List ℕ
+escaped b = if is_plain b then b ∷ [] else numbered b
+
+-- the first byte, if there is one, doesn't stand for itself
+abbrev pub begins_numbered : List ℕ → Bool
+begins_numbered [] = true
+begins_numbered (b ∷ bytes) = not (is_plain b)
+
+-- the bytes in double quotes
+unfoldable pub quoted : List ℕ → List ℕ
+quoted bytes = 34 ∷ flat_map escaped bytes ++ 34 ∷ []
