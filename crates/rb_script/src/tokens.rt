@@ -102,11 +102,14 @@ fn list_argument(
     ensures head { at.new.head ≡ at.old.head }
 {
     match list(alloc, at)? {
-        Some(values) => Ok(Some(Argument {
-            key,
-            has_equals: true,
-            values,
-        })),
+        Some(mut values) => {
+            values.shrink_to_fit();
+            Ok(Some(Argument {
+                key,
+                has_equals: true,
+                values,
+            }))
+        }
         None => Ok(None),
     }
 }
@@ -126,7 +129,7 @@ fn value_argument(
         at.advance();
         return list_argument(alloc, key, at);
     }
-    let mut values = Vec::new(alloc);
+    let mut values = Vec::with_capacity(alloc, 1)?;
     values.push(at.take(Kind::Value))?;
     Ok(Some(Argument {
         key,
@@ -218,7 +221,10 @@ pub(crate) fn tokens_of(alloc: Global, head: &Lines, number: usize) -> Result<To
         return Err(ScriptFault::BadLine(number));
     }
     match arguments(alloc, &mut at) {
-        Ok(Some(args)) => Ok(Tokens { name, args }),
+        Ok(Some(mut args)) => {
+            args.shrink_to_fit();
+            Ok(Tokens { name, args })
+        }
         Ok(None) => Err(ScriptFault::TooManyArguments(number)),
         Err(HeadFault::Bad) => Err(ScriptFault::BadLine(number)),
         Err(HeadFault::OutOfMemory) => Err(ScriptFault::OutOfMemory),

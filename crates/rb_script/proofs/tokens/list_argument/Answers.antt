@@ -9,7 +9,7 @@ returns-in_err-values-clause-gives c =
 
 pub returns-in-Some-clause-gives : goal.returns-in-Some-clause-gives
 returns-in-Some-clause-gives c =
-    list_kept c.args.at.now.head c.args.key c.list.new.at.left c.args.at.now.left c.in-Some.values c.requires (rw c.in-Some.is at c.in_ok-values.ensures.gives)
+    rw c.shrink_to_fit.ensures.items (list_kept c.args.at.now.head c.args.key c.list.new.at.left c.args.at.now.left c.in-Some.values c.requires (rw c.in-Some.is at c.in_ok-values.ensures.gives))
 
 pub returns-in-None-clause-gives : goal.returns-in-None-clause-gives
 returns-in-None-clause-gives c = list_too_long c.args.at.now.head c.args.key c.list.new.at.left c.args.at.now.left (rw c.in-None.is at c.in_ok-values.ensures.gives)
