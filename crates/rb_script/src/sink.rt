@@ -25,17 +25,18 @@ pub trait Sink {
         ensures all { takes_all self.old → IsOk result × takes_all self.new };
 }
 
-/// A `Write` as a sink. Each error is a failure, an interrupted call and a write that takes no byte too.
+/// A `Write` as a sink, or `Through(&mut writer)`. Each error is a failure, an interrupted call and a write that
+/// takes no byte too.
 #[derive(Drop)]
-pub struct Through<'a, W>(pub &'a mut W);
+pub struct Through<W>(pub W);
 
-impl<W: Write> Sink for Through<'_, W> {
-    ghost held = { λ t. W.contents t.0.now };
+impl<W: Write> Sink for Through<W> {
+    ghost held = { λ t. W.contents t.0 };
 
     ghost takes_all = { λ _. ⊥ };
 
     fn put(&mut self, bytes: &[u8]) -> Result<(), WriteFault> {
-        put_whole(self.0, bytes)
+        put_whole(&mut self.0, bytes)
     }
 }
 

@@ -1,0 +1,23 @@
+//! What the words choose, and why they choose nothing.
+
+use clap::Error;
+
+/// What the words choose. What they don't give is `None`.
+#[derive(Debug, Drop)]
+pub struct Choice {
+    /// The subcommand's name: `run`, `rewrite` or `session`.
+    pub mode: Option<String>,
+    /// Its FILE, as it was given.
+    pub file: Option<String>,
+    /// The text of its `--every`, as it was given.
+    pub every: Option<String>,
+}
+
+/// Why the words choose nothing.
+#[derive(Debug, Drop)]
+pub enum ChoiceFault {
+    /// `clap` refuses the words, or they ask for help, which the error prints.
+    Refused(Error),
+    /// Memory was refused.
+    OutOfMemory,
+}

@@ -1,0 +1,16 @@
+pub use Rattle.rb_script.specs.Lines
+pub use Rattle.rb_script.specs.Tokens
+pub use Rattle.rb_script.specs.Directive
+pub use Rattle.rb_texts.specs.Items
+pub use Rattle.rb_texts.specs.Levels
+pub use Rattle.rb_texts.specs.Texts
+pub use Rattle.rb_texts.specs.Shapes
+pub mod Cluster
+pub mod Numbers
+pub mod Arguments
+pub mod Forms
+pub mod Checks
+pub mod AddNodes
+pub mod LogLevel
+pub mod RaftState
+pub mod Outcome

@@ -1,0 +1,27 @@
+-- `raft-state`: a line for each node. (etcd raft's interaction tests have the directive; this project's form.)
+use Rattle.std.specs.Prelude.{ℕ, ◌-◌, List, length, drop}
+use Rattle.rb_texts.specs.Items.{PlainItem, PlainNode, raft_state}
+use Rattle.rb_cluster.specs.Cluster.{Node}
+
+-- how many bytes of a content are shown, the last ones
+abbrev pub CONTENT_SHOWN : ℕ
+CONTENT_SHOWN = 32
+
+abbrev pub end_of : List ℕ → List ℕ
+end_of content = drop (length content - CONTENT_SHOWN) content
+
+abbrev pub node_line : Node → PlainNode
+node_line n = record {
+  id = n.id;
+  role = n.role;
+  term = n.term;
+  vote = n.vote;
+  lead = n.lead;
+  commit = n.commit;
+  applied = n.applied;
+  content_len = length n.content;
+  content_end = end_of n.content;
+}
+
+abbrev pub state_item : Node → PlainItem
+state_item n = raft_state (node_line n)

@@ -1,0 +1,70 @@
+-- The first line of bytes that begin with a line.
+use Rattle.std.proofs.Common.{◌≡◌, ◌≢◌, ◌≤◌, ◌∙◌, ℕ, List, [], ◌∷◌, ◌++◌, length, map, refl, ap, arith}
+use Rattle.std.proofs.lemmas.Bool.{ne_eqb}
+use Rattle.std.proofs.lemmas.List.Elements.{All-head, All-tail}
+use Rattle.rb_script.specs.Lines.{Line, put_before, without_returns, in_first, cut, lines}
+use Rattle.rb_line.specs.Begun.{HasNoFeed}
+
+feed_free_head : (b : ℕ) (begun : List ℕ) → HasNoFeed (b ∷ begun) → b ≢ 10
+feed_free_head b begun h = All-head (λ x. x ≢ 10) b begun h
+
+feed_free_tail : (b : ℕ) (begun : List ℕ) → HasNoFeed (b ∷ begun) → HasNoFeed begun
+feed_free_tail b begun h = All-tail (λ x. x ≢ 10) b begun h
+
+cut_next : (b : ℕ) (bytes : List ℕ) → b ≢ 10 → cut (b ∷ bytes) ≡ in_first b (cut bytes)
+unfolding cut
+cut_next b bytes h = rw (ne_eqb b 10 h) refl
+
+-- up to a line feed
+pub cut_line : (begun rest : List ℕ) → HasNoFeed begun → cut (begun ++ 10 ∷ rest) ≡ begun ∷ cut rest
+unfolding cut
+cut_line [] rest h = refl
+cut_line (b ∷ begun) rest h =
+    cut_next b (begun ++ 10 ∷ rest) (feed_free_head b begun h) ∙ ap (in_first b) (cut_line begun rest (feed_free_tail b begun h))
+
+-- the last, with no line feed
+pub cut_last : (begun : List ℕ) → HasNoFeed begun → begun ≢ [] → cut begun ≡ begun ∷ []
+unfolding cut
+cut_last [] h some = absurd (some refl)
+cut_last (b ∷ []) h some = cut_next b [] (feed_free_head b [] h)
+cut_last (b ∷ (c ∷ begun)) h some =
+    cut_next b (c ∷ begun) (feed_free_head b (c ∷ begun) h)
+    ∙ ap (in_first b) (cut_last (c ∷ begun) (feed_free_tail b (c ∷ begun) h) (λ e. let l : length (c ∷ begun) ≡ 0 = ap length e in omega (arith, l)))
+
+pub lines_line : (begun rest : List ℕ) → HasNoFeed begun → lines (begun ++ 10 ∷ rest) ≡ without_returns begun ∷ lines rest
+unfolding lines
+lines_line begun rest h = ap (map without_returns) (cut_line begun rest h)
+
+pub lines_last : (begun : List ℕ) → HasNoFeed begun → begun ≢ [] → lines begun ≡ without_returns begun ∷ lines []
+unfolding lines cut
+lines_last begun h some = ap (map without_returns) (cut_last begun h some)
+
+-- ---- a line that goes on
+
+in_first_begins : (b : ℕ) (ls : List Line) → (rest : List ℕ) × (next : List Line) × (in_first b ls ≡ (b ∷ rest) ∷ next)
+in_first_begins b [] = ([], [], refl)
+in_first_begins b (line ∷ ls) = (line, ls, refl)
+
+-- bytes with no line feed begin the first line
+pub cut_begins : (begun more : List ℕ) → HasNoFeed begun → begun ≢ [] → (rest : List ℕ) × (ls : List Line) × (cut (begun ++ more) ≡ (begun ++ rest) ∷ ls)
+cut_begins [] more h some = absurd (some refl)
+cut_begins (b ∷ []) more h some =
+    let (rest, ls, e) = in_first_begins b (cut more) in
+    (rest, ls, cut_next b more (feed_free_head b [] h) ∙ e)
+cut_begins (b ∷ (c ∷ begun)) more h some =
+    let not_empty : (c ∷ begun) ≢ [] = λ e. let l : length (c ∷ begun) ≡ 0 = ap length e in omega (arith, l) in
+    let (rest, ls, e) = cut_begins (c ∷ begun) more (feed_free_tail b (c ∷ begun) h) not_empty in
+    (rest, ls, cut_next b (c ∷ begun ++ more) (feed_free_head b (c ∷ begun) h) ∙ ap (in_first b) e)
+
+put_before_longer : (b : ℕ) (xs ys : List ℕ) → length xs ≤ length ys → length (put_before b xs) ≤ length (put_before b ys)
+put_before_longer b [] [] h = omega arith
+put_before_longer b [] (y ∷ ys) h = grind (arith)
+put_before_longer b (x ∷ xs) [] h = absurd (omega arith)
+put_before_longer b (x ∷ xs) (y ∷ ys) h = omega arith
+
+-- a line that goes on is no shorter
+pub without_returns_longer : (begun rest : List ℕ) → length (without_returns begun) ≤ length (without_returns (begun ++ rest))
+unfolding without_returns
+without_returns_longer [] rest = omega arith
+without_returns_longer (b ∷ begun) rest =
+    put_before_longer b (without_returns begun) (without_returns (begun ++ rest)) (without_returns_longer begun rest)

@@ -1,0 +1,3 @@
+pub mod BegunLaws
+pub mod CutLaws
+pub mod GivenLaws

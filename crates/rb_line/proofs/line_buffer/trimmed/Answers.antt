@@ -1,0 +1,17 @@
+use Rattle.std.proofs.Common.{◌≡◌, ◌++◌, ◌∷◌, [], sym, ap, ◌∙◌}
+use Rattle.rb_script.specs.Lines.{without_returns}
+use Rattle.rb_script.proofs.LineLaws.{without_returns_kept, without_returns_dropped, without_returns_nil}
+use Rattle.rb_line.proofs.line_buffer.trimmed.Goals as goal
+
+pub loop-last-preserved : goal.loop-last-preserved
+loop-last-preserved c =
+    let parts : c.loop-last.front.now ≡ c.in-Some.shorter.now ++ c.in-Some.last.now ∷ [] = c.in-Some.ensures.cases.0 in
+    sym (without_returns_dropped c.in-Some.shorter.now c.in-Some.last.now c.if-last-ne13.false) ∙ ap without_returns (sym parts) ∙ c.loop-last.invariant
+
+pub returns-then-last-ne13 : goal.returns-then-last-ne13
+returns-then-last-ne13 c =
+    let parts : c.loop-last.front.now ≡ c.in-Some.shorter.now ++ c.in-Some.last.now ∷ [] = c.in-Some.ensures.cases.0 in
+    parts ∙ sym (without_returns_kept c.in-Some.shorter.now c.in-Some.last.now c.if-last-ne13.true) ∙ ap without_returns (sym parts) ∙ c.loop-last.invariant
+
+pub returns-in_default : goal.returns-in_default
+returns-in_default c = without_returns_nil c.loop-last.front.now c.in_default.ensures.cases ∙ c.loop-last.invariant

@@ -1,0 +1,33 @@
+-- What comes next of the lines of known bytes. (This project's; lines are those of rb_script's Lines.)
+use Rattle.std.specs.Prelude.{◌≡◌, ◌<◌, ◌≤◌, ℕ, List, [], ◌∷◌, Option, Some, None, IfSome, length, ⊤}
+use Rattle.std.specs.Io.KnownBytes.{Consumes, IsAtEnd}
+use Rattle.rb_script.specs.Lines.{Line, lines}
+use Rattle.rb_script.specs.declared.limits.TheConstants.{MAX_LINE}
+use Rattle.rb_line.specs.Begun.{HasNoFeed, TurnsLong}
+use Rattle.rb_line.specs.declared.line_reader.Next.{Next}
+use Rattle.rb_line.specs.declared.line_reader.Next.TheVariants as next
+
+-- known bytes lose their first line, which is this
+abbrev pub LosesLine : Option (List ℕ) → Option (List ℕ) → Line → Type 0
+LosesLine None left line = ⊤
+LosesLine (Some all) None line = ⊥
+LosesLine (Some all) (Some left) line = lines all ≡ line ∷ lines left
+
+-- known bytes lose as many as show that their first line is too long
+abbrev pub LosesLong : Option (List ℕ) → Option (List ℕ) → Type 0
+LosesLong before after = (begun : List ℕ) × TurnsLong begun × Consumes before after begun
+
+-- the first of the lines is too long
+abbrev pub IsFirstLong : List Line → Type 0
+IsFirstLong [] = ⊥
+IsFirstLong (line ∷ ls) = MAX_LINE < length line
+
+-- what is given of the bytes that were left before, which leaves those after
+abbrev pub Gives : Next → Option (List ℕ) → Option (List ℕ) → Line → Type 0
+Gives next.Line before after line = LosesLine before after line × (length line ≤ MAX_LINE)
+Gives next.TooLong before after line = IfSome before (λ all. IsFirstLong (lines all)) × LosesLong before after
+Gives next.End before after line = IsAtEnd before × (after ≡ Some [])
+
+-- no line ended in the bytes that were lost
+abbrev pub StopsInLine : Option (List ℕ) → Option (List ℕ) → Type 0
+StopsInLine before after = (begun : List ℕ) × HasNoFeed begun × Consumes before after begun

@@ -1,0 +1,5 @@
+pub use Rattle.rb_script.specs.Lines
+pub mod Begun
+pub mod Feeding
+pub mod Left
+pub mod Given

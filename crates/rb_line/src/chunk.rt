@@ -1,0 +1,78 @@
+//! Bytes that were read and not yet taken.
+
+ghost use Rattle.std.specs.Prelude.{◌≡◌, ◌↔◌, ◌∷◌, [], IfNone, IfSome, OnOk, OnErr, IsTrue};
+ghost use Rattle.std.specs.Io.KnownBytes.{Consumes, IsAtEnd, Keeps};
+
+use crate::InputFault;
+use std::io::Read;
+use std::marker::Model;
+
+// How many bytes one call may give.
+const CHUNK: usize = 16_384;
+
+/// The bytes that one call gave, as far as they weren't taken.
+#[derive(Drop)]
+pub(crate) struct Chunk {
+    bytes: [u8; CHUNK],
+    from: usize,
+    to: usize,
+}
+
+impl Model for Chunk {
+    ghost use Rattle.std.specs.Prelude.{◌≤◌, ◌-◌, List, ℕ, drop, length, take};
+
+    ghost Value = { List ℕ };
+
+    ghost view = { λ a. take (a.to - a.from) (drop a.from a.bytes) };
+
+    ghost invariant = { λ a. (a.from ≤ a.to) × (a.to ≤ length a.bytes) };
+}
+
+impl Chunk {
+    pub(crate) fn new() -> Chunk
+        ensures { result ≡ [] }
+    {
+        Chunk {
+            bytes: [0; CHUNK],
+            from: 0,
+            to: 0,
+        }
+    }
+
+    /// Whether all bytes were taken.
+    pub(crate) fn is_empty(&self) -> bool
+        ensures { IsTrue result ↔ (self.now ≡ []) }
+    {
+        self.from == self.to
+    }
+
+    /// Takes the next byte.
+    pub(crate) fn take_next(&mut self) -> Option<u8>
+        ensures none { IfNone result ((self.old ≡ []) × (self.new ≡ [])) }
+        ensures some { IfSome result (λ byte. self.old ≡ byte ∷ self.new) }
+    {
+        if self.from == self.to {
+            return None;
+        }
+        let byte = self.bytes[self.from];
+        self.from += 1;
+        Some(byte)
+    }
+
+    /// Holds what one more call gives. Nothing then says that the reader is at its end.
+    pub(crate) fn fill<R: Read>(&mut self, reader: &mut R) -> Result<(), InputFault>
+        ensures ok { OnOk result (Consumes (R.remaining reader.old) (R.remaining reader.new) self.new) }
+        ensures end { OnOk result (self.new ≡ [] → IsAtEnd (R.remaining reader.new)) }
+        ensures err { OnErr result ((self.new ≡ []) × Keeps (R.remaining reader.old) (R.remaining reader.new)) }
+    {
+        self.from = 0;
+        self.to = 0;
+        match reader.read(self.bytes.as_mut_slice()) {
+            Ok(n) => {
+                self.to = n;
+                Ok(())
+            }
+            Err(_) => Err(InputFault),
+        }
+    }
+}

@@ -1,0 +1,126 @@
+//! The lines of a reader.
+
+ghost use Rattle.std.specs.Prelude.{◌≡◌, ◌<◌, ◌≤◌, ◌++◌, ℕ, List, Option, [], false, IfOk, IfErr, OnOk};
+ghost use Rattle.std.specs.Io.KnownBytes.{Keeps};
+ghost use Rattle.rb_line.specs.Begun.{Holds};
+ghost use Rattle.rb_line.specs.Left.{calls_of, left_of, line_of};
+ghost use Rattle.rb_line.specs.Given.{Gives, StopsInLine};
+ghost use Rattle.rb_line.specs.Feeding.{Takes};
+
+use crate::chunk::Chunk;
+use crate::{Fed, LineBuffer};
+use std::alloc::{AllocError, Global};
+use std::io::Read;
+
+/// What comes next from a reader.
+#[derive(Clone, Copy, Debug, PartialEq, Eq)]
+pub enum Next {
+    /// A line, which the `LineReader` holds.
+    Line,
+    /// A line that is too long. What follows of it would come next.
+    TooLong,
+    /// The end.
+    End,
+}
+
+/// The reader failed, or all calls of it were made.
+#[derive(Clone, Copy, Debug, PartialEq, Eq)]
+pub struct InputFault;
+
+/// Gives the lines of a reader, one at a time.
+#[derive(Drop)]
+pub struct LineReader {
+    line: LineBuffer,
+    unread: Chunk,
+    calls: u64,
+    has_ended: bool,
+}
+
+impl LineReader {
+    /// Takes the room for the longest line. At most `calls` calls will be made of the reader; a further one counts
+    /// as a failure.
+    ///
+    /// # Errors
+    ///
+    /// Where memory was refused. No other call takes any.
+    pub fn new(alloc: Global, calls: u64) -> Result<LineReader, AllocError>
+        ensures left { IfOk result (λ lines. (known : Option (List ℕ)) → left_of lines known ≡ known) }
+        ensures calls { IfOk result (λ lines. calls_of lines ≡ calls) }
+    {
+        let line = LineBuffer::new(alloc)?;
+        Ok(LineReader {
+            line,
+            unread: Chunk::new(),
+            calls,
+            has_ended: false,
+        })
+    }
+
+    /// Reads on to the end of the next line. Each call is to be handed the same reader. Once the end was met, the
+    /// reader isn't asked again.
+    ///
+    /// # Errors
+    ///
+    /// At the first error of the reader, an interrupted call too, and where all calls were made. The line that was
+    /// begun is lost then.
+    pub fn next<R: Read>(&mut self, reader: &mut R) -> Result<Next, InputFault>
+        ensures given { IfOk result (λ next. Gives next (left_of self.old (R.remaining reader.old))
+            (left_of self.new (R.remaining reader.new)) (line_of self.new)) }
+        ensures failed { IfErr result (λ _. StopsInLine (left_of self.old (R.remaining reader.old))
+            (left_of self.new (R.remaining reader.new))) }
+        ensures calls { calls_of self.new ≤ calls_of self.old }
+    {
+        self.line.clear();
+        while !self.has_ended {
+            match take_line(&mut self.line, &mut self.unread) {
+                Fed::More => self.refill(reader)?,
+                Fed::Line => return Ok(Next::Line),
+                Fed::TooLong => return Ok(Next::TooLong),
+            }
+        }
+        if self.line.is_empty() {
+            Ok(Next::End)
+        } else {
+            Ok(Next::Line)
+        }
+    }
+
+    /// The line that came last, without its end.
+    pub fn line(&self) -> &[u8]
+        ensures { result.now ≡ line_of self.now }
+    {
+        self.line.line()
+    }
+
+    // Makes one more call, where one is left.
+    fn refill<R: Read>(&mut self, reader: &mut R) -> Result<(), InputFault>
+        requires taken { self.old.unread ≡ [] }
+        requires going { self.old.has_ended ≡ false }
+        ensures counted { OnOk result (self.new.calls < self.old.calls) }
+        ensures calls { self.new.calls ≤ self.old.calls }
+        ensures line { self.new.line ≡ self.old.line }
+        ensures left { Keeps (left_of self.old (R.remaining reader.old)) (left_of self.new (R.remaining reader.new)) }
+    {
+        if self.calls == 0 {
+            return Err(InputFault);
+        }
+        self.calls -= 1;
+        self.unread.fill(reader)?;
+        self.has_ended = self.unread.is_empty();
+        Ok(())
+    }
+}
+
+// Feeds the line what is unread, up to its end.
+fn take_line(line: &mut LineBuffer, unread: &mut Chunk) -> Fed
+    ensures { (begun : List ℕ) → Holds begun line.old → Takes result begun unread.old unread.new line.new }
+{
+    while let Some(byte) = unread.take_next() {
+        match line.feed(byte) {
+            Fed::More => {}
+            Fed::Line => return Fed::Line,
+            Fed::TooLong => return Fed::TooLong,
+        }
+    }
+    Fed::More
+}

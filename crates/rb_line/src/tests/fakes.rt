@@ -1,0 +1,50 @@
+//! A reader that fails, and long texts.
+
+use std::alloc::{AllocError, Global};
+use std::io;
+use std::io::{Error, ErrorKind, Read};
+
+/// Gives at most `most` bytes a call, and fails by an interruption at the call `fails_at`, which counts from 0.
+#[derive(Drop)]
+pub struct FailingReader<'a> {
+    rest: &'a [u8],
+    most: usize,
+    calls: usize,
+    fails_at: usize,
+}
+
+impl<'a> FailingReader<'a> {
+    pub fn new(rest: &'a [u8], most: usize, fails_at: usize) -> FailingReader<'a> {
+        FailingReader {
+            rest,
+            most,
+            calls: 0,
+            fails_at,
+        }
+    }
+
+    pub fn calls(&self) -> usize {
+        self.calls
+    }
+}
+
+impl Read for FailingReader<'_> {
+    fn read(&mut self, buf: &mut [u8]) -> io::Result<usize> {
+        let call = self.calls;
+        self.calls = call.saturating_add(1);
+        if call == self.fails_at {
+            return Err(Error::from(ErrorKind::Interrupted));
+        }
+        let most = self.most.min(buf.len());
+        self.rest.read(&mut buf[..most])
+    }
+}
+
+/// The text so many times.
+pub fn repeated(alloc: Global, text: &[u8], times: usize) -> Result<Vec<u8>, AllocError> {
+    let mut bytes = Vec::new(alloc);
+    for _ in 0..times {
+        bytes.extend_from_slice(text)?;
+    }
+    Ok(bytes)
+}
