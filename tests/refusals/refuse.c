@@ -1,7 +1,9 @@
-// Makes one call of malloc or realloc fail: the one whose number is in REFUSE_AT, counted from 1.
+// Makes one call of malloc or realloc fail: the one whose number is in REFUSE_AT, counted from 1. That it was met is
+// told on standard error, since a program that asks again for less may go on as if it had not been.
 #define _GNU_SOURCE
 #include <dlfcn.h>
 #include <stdlib.h>
+#include <unistd.h>
 
 static long seen, at = -1;
 
@@ -10,7 +12,10 @@ static int refused(void) {
         const char *number = getenv("REFUSE_AT");
         at = number ? atol(number) : 0;
     }
-    return ++seen == at;
+    if (++seen != at) return 0;
+    static const char told[] = "refused\n";
+    if (write(2, told, sizeof told - 1) < 0) abort();
+    return 1;
 }
 
 void *malloc(size_t size) {

@@ -1,0 +1,106 @@
+//! Why the program ends without having done what was asked.
+
+use rb_args::ChoiceFault;
+use rb_bench::{BenchFault, ReadFault, script_fault_line, script_fault_name};
+use rb_script::ScriptFault;
+use std::alloc::AllocError;
+use std::io;
+
+/// Why the program ends early.
+#[derive(Debug, Drop)]
+pub(crate) enum Refusal {
+    /// Help, or words that are not taken; the text is clap's.
+    Clap(clap::Error),
+    Usage,
+    Script(ScriptFault),
+    Io,
+    OutOfMemory,
+}
+
+impl Refusal {
+    /// Writes the one line that says why, and answers the status.
+    pub(crate) fn tell<R: Eprint + Print>(self, rt: &R) -> u8 {
+        match self {
+            Refusal::Clap(error) => tell_clap(rt, error),
+            Refusal::Usage => {
+                let _ = eprintln!(rt; "raftbench: bad usage");
+                2
+            }
+            Refusal::Script(fault) => {
+                tell_script(rt, fault);
+                3
+            }
+            Refusal::Io => tell_io(rt),
+            Refusal::OutOfMemory => {
+                let _ = eprintln!(rt; "raftbench: out of memory");
+                5
+            }
+        }
+    }
+}
+
+fn tell_io<R: Eprint>(rt: &R) -> u8 {
+    let _ = eprintln!(rt; "raftbench: input or output failed");
+    4
+}
+
+fn tell_script<R: Eprint>(rt: &R, fault: ScriptFault) {
+    let name = script_fault_name(fault);
+    let _ = match script_fault_line(fault) {
+        Some(line) => eprintln!(rt; "raftbench: script refused: {name} at line {line}"),
+        None => eprintln!(rt; "raftbench: script refused: {name}"),
+    };
+}
+
+// Help goes to standard output, with status 0.
+fn tell_clap<R: Eprint + Print>(rt: &R, error: clap::Error) -> u8 {
+    if error.print(rt).is_err() {
+        return tell_io(rt);
+    }
+    if error.use_stderr() { 2 } else { 0 }
+}
+
+impl From<ChoiceFault> for Refusal {
+    fn from(fault: ChoiceFault) -> Refusal {
+        match fault {
+            ChoiceFault::Refused(error) => Refusal::Clap(error),
+            ChoiceFault::OutOfMemory => Refusal::OutOfMemory,
+        }
+    }
+}
+
+impl From<BenchFault> for Refusal {
+    fn from(fault: BenchFault) -> Refusal {
+        match fault {
+            BenchFault::Spacing => Refusal::Usage,
+            BenchFault::Script(fault) => Refusal::Script(fault),
+            BenchFault::Io => Refusal::Io,
+            BenchFault::OutOfMemory => Refusal::OutOfMemory,
+        }
+    }
+}
+
+impl From<ReadFault> for Refusal {
+    fn from(fault: ReadFault) -> Refusal {
+        match fault {
+            ReadFault::Io => Refusal::Io,
+            ReadFault::OutOfMemory => Refusal::OutOfMemory,
+        }
+    }
+}
+
+impl From<io::Error> for Refusal {
+    fn from(error: io::Error) -> Refusal {
+        if error.kind() == io::ErrorKind::OutOfMemory {
+            Refusal::OutOfMemory
+        } else {
+            Refusal::Io
+        }
+    }
+}
+
+impl From<AllocError> for Refusal {
+    fn from(_error: AllocError) -> Refusal {
+        Refusal::OutOfMemory
+    }
+}

@@ -1,0 +1,9 @@
+pub mod Faults
+pub mod Names
+pub mod Answers
+pub mod Commands
+pub mod Talk
+pub mod Serves
+pub mod Replies
+pub mod Hearing
+pub mod Turns

@@ -1,0 +1,35 @@
+-- The names of faults, and the lines that they tell. (This project's.)
+use Rattle.std.specs.Prelude.{ℕ, codes, List, Option, Some, None}
+use Rattle.rb_script.specs.declared.fault.ScriptFault.{ScriptFault}
+use Rattle.rb_script.specs.declared.fault.ScriptFault.TheVariants as scripts
+use Rattle.rb_script.specs.declared.fault.EditFault.{EditFault}
+use Rattle.rb_script.specs.declared.fault.EditFault.TheVariants as edits
+
+abbrev pub script_name : ScriptFault → List ℕ
+script_name scripts.TooLong = codes "TooLong"
+script_name (scripts.LineTooLong line) = codes "LineTooLong"
+script_name (scripts.BadLine line) = codes "BadLine"
+script_name (scripts.NoSeparator line) = codes "NoSeparator"
+script_name (scripts.NotClosed line) = codes "NotClosed"
+script_name scripts.TooManyDirectives = codes "TooManyDirectives"
+script_name scripts.NotOneBlock = codes "NotOneBlock"
+script_name (scripts.TooManyArguments line) = codes "TooManyArguments"
+script_name scripts.OutOfMemory = codes "OutOfMemory"
+
+abbrev pub script_line : ScriptFault → Option ℕ
+script_line scripts.TooLong = None
+script_line (scripts.LineTooLong line) = Some line
+script_line (scripts.BadLine line) = Some line
+script_line (scripts.NoSeparator line) = Some line
+script_line (scripts.NotClosed line) = Some line
+script_line scripts.TooManyDirectives = None
+script_line scripts.NotOneBlock = None
+script_line (scripts.TooManyArguments line) = Some line
+script_line scripts.OutOfMemory = None
+
+abbrev pub edit_name : EditFault → List ℕ
+edit_name edits.NoSuchPlace = codes "NoSuchPlace"
+edit_name edits.BadExpectation = codes "BadExpectation"
+edit_name edits.TooManyDirectives = codes "TooManyDirectives"
+edit_name edits.TooLong = codes "TooLong"
+edit_name edits.OutOfMemory = codes "OutOfMemory"

@@ -1,0 +1,92 @@
+-- A session's conversation: commands, each with its answer, up to the end of the input. (This project's.)
+use Rattle.std.specs.Prelude.{◌≡◌, ℕ, ◌+◌, ◌<◌, ◌⊎◌, Bool, false, true, nat_lt, List, [], ◌∷◌, ◌++◌, length, take, codes}
+use Rattle.std.specs.List.{list_any, flat_map}
+use Rattle.rb_script.specs.declared.limits.TheConstants.{MAX_LINE}
+use Rattle.rb_script.specs.Lines.{Line}
+use Rattle.rb_command.specs.declared.command.Command.{Command}
+use Rattle.rb_command.specs.declared.command.Command.TheVariants.{Given}
+use Rattle.rb_command.specs.Commands.{command_of}
+use Rattle.rb_replay.specs.Report.{mismatches}
+use Rattle.rb_replay.specs.Held.{Held}
+use Rattle.rb_bench.specs.Answers.{status_of}
+use Rattle.rb_bench.specs.Commands.{AnswersCommand, refused}
+
+-- A line that was sent, the lines given to it, and what came of it: whether memory refused it, the answer, and the
+-- session after it.
+pub record Exchange : Type 0 where
+  pub line : Line
+  pub given : List Line
+  pub no_memory : Bool
+  pub answer : List ℕ
+  pub after : Held
+
+abbrev pub is_long : Line → Bool
+is_long line = nat_lt MAX_LINE (length line)
+
+-- how many lines are given to a command
+abbrev pub given_count : Command → ℕ
+given_count (Given kind place count) = count
+given_count _ = 0
+
+-- how many lines a line asks for, itself among them
+abbrev pub wanted : Line → ℕ
+wanted line = 1 + given_count (command_of line)
+
+-- the lines of an exchange
+abbrev pub taken : Exchange → List Line
+taken x = x.line ∷ x.given
+
+abbrev pub answer_of : Exchange → List ℕ
+answer_of x = x.answer
+
+-- A session is sent the lines, and answers.
+pub record Responds (h : Held) (x : Exchange) : Type 0 where
+  pub whole : length (taken x) ≡ wanted x.line
+  pub short : list_any is_long (taken x) ≡ false
+  pub answers : AnswersCommand h (command_of x.line) x.given x.no_memory x.answer x.after
+
+-- one exchange after another
+abbrev pub Converses : Held → List Exchange → Held → Type 0
+Converses h [] last = last ≡ h
+Converses h (x ∷ xs) last = Responds h x × Converses x.after xs last
+
+-- the lines that a line asks for, with itself, as far as there are lines
+abbrev pub asked : List Line → List Line
+asked [] = []
+asked (line ∷ ls) = take (wanted line) (line ∷ ls)
+
+-- there are fewer lines than are asked for
+abbrev pub IsCut : List Line → Type 0
+IsCut [] = ⊥
+IsCut (line ∷ ls) = length (line ∷ ls) < wanted line
+
+-- Too long a line, or an end before all lines were given, ends the session.
+abbrev pub BreaksOff : List Line → List ℕ → Type 0
+BreaksOff ls text =
+    ((list_any is_long (asked ls) ≡ true) × (text ≡ refused (codes "LineTooLong")))
+    ⊎ ((list_any is_long (asked ls) ≡ false) × IsCut ls × (text ≡ refused (codes "CutOff")))
+
+-- How a session ends with these lines left: what is still written, and the status.
+abbrev pub Ends : Held → List Line → List ℕ → ℕ → Type 0
+Ends h [] text status = (text ≡ []) × (status ≡ status_of (mismatches h.script))
+Ends h (line ∷ ls) text status = BreaksOff (line ∷ ls) text × (status ≡ 4)
+
+-- The conversation over lines: it begins with this session, and this is written.
+pub record Talks (h : Held) (ls : List Line) (text : List ℕ) (status : ℕ) : Type 0 where
+  pub exchanges : List Exchange
+  pub last : Held
+  pub rest : List Line
+  pub ending : List ℕ
+  pub lines_are : ls ≡ flat_map taken exchanges ++ rest
+  pub converses : Converses h exchanges last
+  pub ends : Ends last rest ending status
+  pub text_is : text ≡ flat_map answer_of exchanges ++ ending
+
+-- The answers to the first commands of a conversation.
+pub record Begins (h : Held) (ls : List Line) (text : List ℕ) : Type 0 where
+  pub exchanges : List Exchange
+  pub last : Held
+  pub rest : List Line
+  pub lines_are : ls ≡ flat_map taken exchanges ++ rest
+  pub converses : Converses h exchanges last
+  pub text_is : text ≡ flat_map answer_of exchanges

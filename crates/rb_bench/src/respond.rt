@@ -1,0 +1,100 @@
+//! What a session answers to a command.
+
+ghost use Rattle.std.specs.Prelude.{◌≡◌, [], Bool, List, IfOk};
+ghost use Rattle.rb_script.specs.Lines.{Line};
+ghost use Rattle.rb_script.specs.Reading.{Gives};
+ghost use Rattle.rb_script.specs.declared.edit.Edit.{Edit};
+ghost use Rattle.rb_bench.specs.Commands.{AnswersEdit, AnswersGiven, AnswersCommand, edit_of};
+ghost use Rattle.rb_bench.specs.Hearing.{IsGiven, Hears};
+ghost use Rattle.rb_bench.specs.Replies.{reply_text};
+ghost use Rattle.rb_bench.specs.Turns.{IsTurn};
+
+use crate::given::Given;
+use crate::hear::Heard;
+use crate::reply::Reply;
+use crate::running::{Mode, status};
+use rb_cluster::{Cluster, Meter};
+use rb_command::{Command, Kind};
+use rb_replay::Session;
+use rb_script::{Block, Edit, EditFault, Lines, MAX_SCRIPT, ScriptFault};
+use std::alloc::Global;
+
+/// The edit that a command asks for with its lines.
+fn edit_of(alloc: Global, kind: Kind, place: usize, lines: Lines) -> Result<Edit, ScriptFault>
+    ensures { Gives {X = Edit} {Y = Edit} (λ e. e) result (edit_of kind place lines) }
+{
+    match kind {
+        Kind::Insert => Ok(Edit::Insert(place, Block::read(alloc, lines.text())?)),
+        Kind::Replace => Ok(Edit::Replace(place, Block::read(alloc, lines.text())?)),
+        Kind::Expect => Ok(Edit::Expect(place, lines)),
+    }
+}
+
+/// Makes an edit, each with a meter of its own.
+fn make(session: &mut Session<Cluster>, edit: &Edit) -> Reply
+    ensures { (no_memory : Bool) × AnswersEdit session.old edit.now no_memory (reply_text session.new result) session.new }
+{
+    let mut meter = Meter::new();
+    match session.edit(edit, &mut meter) {
+        Ok(changed) => Reply::Done(changed),
+        Err(fault) => Reply::BadEdit(fault),
+    }
+}
+
+/// Makes the edit that a command asks for with its lines.
+fn make_given(
+    alloc: Global,
+    session: &mut Session<Cluster>,
+    kind: Kind,
+    place: usize,
+    given: Given,
+) -> Reply
+    ensures { (ls : List Line) → IsGiven given ls
+        → (no_memory : Bool) × AnswersGiven session.old kind place ls no_memory (reply_text session.new result) session.new }
+{
+    if given.text_len > MAX_SCRIPT {
+        return Reply::BadEdit(EditFault::TooLong);
+    }
+    if given.has_no_memory {
+        return Reply::BadEdit(EditFault::OutOfMemory);
+    }
+    match edit_of(alloc, kind, place, given.lines) {
+        Ok(edit) => make(session, &edit),
+        Err(fault) => Reply::BadBlock(fault),
+    }
+}
+
+/// What is answered to a command and the lines given to it.
+fn respond(alloc: Global, session: &mut Session<Cluster>, command: Command, given: Given) -> Reply
+    ensures { (ls : List Line) → IsGiven given ls
+        → (no_memory : Bool) × AnswersCommand session.old command ls no_memory (reply_text session.new result) session.new }
+{
+    match command {
+        Command::Blank => Reply::Nothing,
+        Command::Bad => Reply::BadCommand,
+        Command::Given(kind, place, _) => make_given(alloc, session, kind, place, given),
+        Command::Remove(place) => make(session, &Edit::Remove(place)),
+        Command::Accept => make(session, &Edit::Accept),
+        Command::Show(place) => Reply::Output(place),
+        Command::Report => Reply::Report,
+        Command::Script => Reply::Script,
+        Command::Rewrite => Reply::Rewrite,
+    }
+}
+
+/// What is answered to what came in, and the status if that ends the session.
+pub(crate) fn reply_to(
+    alloc: Global,
+    session: &mut Session<Cluster>,
+    heard: Heard,
+) -> (Reply, Option<u8>)
+    ensures { (ls rest : List Line) → Hears heard ls rest
+        → IsTurn session.old ls rest (reply_text session.new result.0) session.new result.1 }
+{
+    match heard {
+        Heard::Command(command, given) => (respond(alloc, session, command, given), None),
+        Heard::End => (Reply::Nothing, Some(status(session, Mode::Run))),
+        Heard::LineTooLong => (Reply::LineTooLong, Some(4)),
+        Heard::CutOff => (Reply::CutOff, Some(4)),
+    }
+}

@@ -1,0 +1,130 @@
+//! Writing what a session answers.
+
+ghost use Rattle.std.specs.Prelude.{◌≡◌, decimal};
+ghost use Rattle.rb_script.specs.Writes.{Writes};
+ghost use Rattle.rb_bench.specs.Commands.{at_line, fault_text, refused, done, output_text, shown, output_at};
+ghost use Rattle.rb_bench.specs.Replies.{reply_text};
+
+use crate::names::{edit_fault_name, script_fault_line, script_fault_name};
+use crate::reply::Reply;
+use crate::running::flush;
+use itoa::Buffer;
+use rb_cluster::Cluster;
+use rb_replay::{Changed, Session};
+use rb_script::{Lines, ScriptFault, Sink, Through, WriteFault};
+use std::io::Write;
+
+/// Writes a number in decimal digits.
+fn put_number<S: Sink>(sink: &mut S, n: u64) -> Result<(), WriteFault>
+    ensures { Writes result (S.held sink.old) (S.held sink.new) (decimal n) }
+{
+    let mut digits = Buffer::new();
+    sink.put(digits.format(n).as_bytes())
+}
+
+// Writes at which line it is, where there is one.
+fn put_line_number<S: Sink>(sink: &mut S, line: Option<usize>) -> Result<(), WriteFault>
+    ensures { Writes result (S.held sink.old) (S.held sink.new) (at_line line) }
+{
+    let Some(line) = line else {
+        return Ok(());
+    };
+    sink.put(b" at line ")?;
+    put_number(sink, line as u64)
+}
+
+// Writes the name of a fault, and the line that it tells.
+fn put_fault<S: Sink>(sink: &mut S, fault: ScriptFault) -> Result<(), WriteFault>
+    ensures { Writes result (S.held sink.old) (S.held sink.new) (fault_text fault) }
+{
+    sink.put(script_fault_name(fault).as_bytes())?;
+    put_line_number(sink, script_fault_line(fault))
+}
+
+fn put_refused<S: Sink>(sink: &mut S, name: &[u8]) -> Result<(), WriteFault>
+    ensures { Writes result (S.held sink.old) (S.held sink.new) (refused name.now) }
+{
+    sink.put(b"refused ")?;
+    sink.put(name)?;
+    sink.put(b"\n")
+}
+
+fn put_bad_block<S: Sink>(sink: &mut S, fault: ScriptFault) -> Result<(), WriteFault>
+    ensures { Writes result (S.held sink.old) (S.held sink.new) (refused (fault_text fault)) }
+{
+    sink.put(b"refused ")?;
+    put_fault(sink, fault)?;
+    sink.put(b"\n")
+}
+
+fn put_done<S: Sink>(sink: &mut S, changed: Changed) -> Result<(), WriteFault>
+    ensures { Writes result (S.held sink.old) (S.held sink.new) (done changed) }
+{
+    sink.put(b"done executed=")?;
+    put_number(sink, changed.executed)?;
+    sink.put(b" mismatches=")?;
+    put_number(sink, changed.mismatches as u64)?;
+    sink.put(b"\n")
+}
+
+fn put_output<S: Sink>(sink: &mut S, output: &Lines) -> Result<(), WriteFault>
+    ensures { Writes result (S.held sink.old) (S.held sink.new) (output_text output.now) }
+{
+    sink.put(b"output ")?;
+    put_number(sink, output.len() as u64)?;
+    sink.put(b"\n")?;
+    sink.put(output.text())
+}
+
+// The output at a place, or that there is none.
+fn put_shown<S: Sink>(
+    sink: &mut S,
+    session: &Session<Cluster>,
+    place: usize,
+) -> Result<(), WriteFault>
+    ensures { Writes result (S.held sink.old) (S.held sink.new) (shown (output_at session.now.script place)) }
+{
+    match session.output(place) {
+        Some(output) => put_output(sink, output),
+        None => put_refused(sink, b"NoSuchPlace"),
+    }
+}
+
+fn put_reply<S: Sink>(
+    sink: &mut S,
+    session: &Session<Cluster>,
+    reply: Reply,
+) -> Result<(), WriteFault>
+    ensures { Writes result (S.held sink.old) (S.held sink.new) (reply_text session.now reply) }
+{
+    match reply {
+        Reply::Nothing => Ok(()),
+        Reply::BadCommand => put_refused(sink, b"BadCommand"),
+        Reply::BadBlock(fault) => put_bad_block(sink, fault),
+        Reply::BadEdit(fault) => put_refused(sink, edit_fault_name(fault).as_bytes()),
+        Reply::LineTooLong => put_refused(sink, b"LineTooLong"),
+        Reply::CutOff => put_refused(sink, b"CutOff"),
+        Reply::Done(changed) => put_done(sink, changed),
+        Reply::Output(place) => put_shown(sink, session, place),
+        Reply::Report => session.write_report(sink),
+        Reply::Script => session.write_script(sink),
+        Reply::Rewrite => session.write_rewritten(sink),
+    }
+}
+
+/// Writes an answer, and hands it on. Where there is none the writer isn't touched.
+pub(crate) fn send<W: Write>(
+    writer: &mut Through<W>,
+    session: &Session<Cluster>,
+    reply: Reply,
+) -> Result<(), WriteFault>
+    ensures { Writes result (W.contents writer.old.0) (W.contents writer.new.0) (reply_text session.now reply) }
+{
+    if reply == Reply::Nothing {
+        return Ok(());
+    }
+    match put_reply(writer, session, reply) {
+        Ok(()) => flush(writer),
+        Err(fault) => Err(fault),
+    }
+}

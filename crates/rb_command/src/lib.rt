@@ -1,0 +1,14 @@
+//! The commands of a session, one a line.
+//!
+//! [`command_of`] says which command a line is. A line that is none is [`Command::Bad`], and a blank one
+//! [`Command::Blank`]: there is no failure, and nothing is allocated.
+#![tactic(auto)]
+
+mod command;
+mod numbers;
+mod words;
+
+pub use command::{Command, Kind, MAX_GIVEN, command_of};
+
+#[cfg(test)]
+mod tests;

@@ -1,0 +1,46 @@
+-- What a session holds is fresh.
+use Rattle.std.proofs.Common.{◌≡◌, ℕ, ◌+◌, ◌/◌, ◌≤◌, List, ◌∷◌, ◌++◌, length, take, drop, map, ap, sym, ◌∙◌, arith, subst}
+use Rattle.std.proofs.lemmas.List.{map-append, take-map, drop-map}
+use Rattle.rb_script.specs.declared.limits.TheConstants.{MAX_DIRECTIVES}
+use Rattle.rb_script.specs.Script.{PlainScript}
+use Rattle.rb_cluster.specs.Cluster.{Cluster}
+use Rattle.rb_script.specs.Lines.{Line}
+use Rattle.rb_replay.specs.Run.{directives, state, outputs}
+use Rattle.rb_replay.specs.Report.{differing, mismatches}
+use Rattle.rb_replay.specs.Places.{AreKept, multiples}
+use Rattle.rb_replay.specs.Held.{Held, IsFresh}
+use Rattle.rb_replay.proofs.NearLaws.{start-kept}
+use Rattle.rb_replay.proofs.RunLaws.{both, outputs-same, states-same, lengths-same}
+
+-- a script of the same directives
+pub fresh-same : (h inside : Held) (new : PlainScript) (ms : List ℕ) → inside ≡ h → IsFresh inside → directives new ≡ directives h.script → ms ≡ mismatches new
+    → IsFresh (record { script = new; spacing = inside.spacing; outputs = inside.outputs; mismatches = ms; places = inside.places; kept = inside.kept })
+fresh-same h inside new ms view fresh same compared =
+    let along : directives new ≡ directives inside.script = same ∙ sym (ap (λ (h : Held). directives h.script) view) in
+    let long : length new.blocks ≡ length inside.script.blocks = lengths-same new inside.script along in
+    record {
+      answered = fresh.answered ∙ sym (outputs-same new inside.script along);
+      compared = compared;
+      states = fresh.states ∙ sym (states-same new inside.script inside.places along);
+      near = subst (λ (n : ℕ). AreKept inside.spacing n inside.places) (sym long) fresh.near;
+      spaced = fresh.spaced;
+      few = omega (arith, fresh.few, long);
+    }
+
+-- what stays and what comes between, by its meaning
+pub joined-map : {M : Type 0} (meaning : M → Cluster) (f r : ℕ) (kept fresh : List M) → map meaning (take f kept ++ (fresh ++ drop r kept)) ≡ take f (map meaning kept) ++ (map meaning fresh ++ drop r (map meaning kept))
+joined-map meaning f r kept fresh =
+    map-append meaning (take f kept) (fresh ++ drop r kept)
+    ∙ both (λ (a b : List Cluster). a ++ b) (sym (take-map meaning f kept)) (map-append meaning fresh (drop r kept) ∙ ap (λ (b : List Cluster). map meaning fresh ++ b) (sym (drop-map meaning r kept)))
+
+-- what a run of the whole script gives
+pub fresh-whole : (s : PlainScript) (K : ℕ) (os : List (List Line)) (ms places : List ℕ) (kept : List Cluster) → 1 ≤ K → K ≤ 64 → length s.blocks ≤ MAX_DIRECTIVES → os ≡ outputs s → ms ≡ differing (0 + 1) (drop 0 s.blocks) os → places ≡ 0 ∷ multiples K (length s.blocks / K) → kept ≡ map (state s) places
+    → IsFresh (record { script = s; spacing = K; outputs = os; mismatches = ms; places = places; kept = kept })
+fresh-whole s K os ms places kept one most few answered compared placed states = record {
+  answered = answered;
+  compared = compared ∙ ap (λ (n : ℕ). differing n s.blocks os) (omega arith) ∙ ap (differing 1 s.blocks) answered;
+  states = states;
+  near = subst (AreKept K (length s.blocks)) (sym placed) (start-kept K (length s.blocks) one);
+  spaced = (one, most);
+  few = few;
+}

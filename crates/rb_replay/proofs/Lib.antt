@@ -1,0 +1,15 @@
+pub mod RunLaws
+pub mod PlaceLaws
+pub mod PaceLaws
+pub mod PartLaws
+pub mod ReuseLaws
+pub mod ReadyLaws
+pub mod NearLaws
+pub mod DifferingLaws
+pub mod NextLaws
+pub mod CourseLaws
+pub mod FreshLaws
+pub mod EditLaws
+pub mod WriteLaws
+pub mod AfterLaws
+pub mod MemberLaws

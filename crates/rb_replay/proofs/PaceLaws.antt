@@ -1,0 +1,56 @@
+-- Laws of places that are kept on the way.
+use Rattle.std.proofs.Common.{◌≡◌, ℕ, suc, ◌+◌, ◌-◌, ◌*◌, ◌/◌, ◌<◌, ◌≤◌, List, [], ◌∷◌, ◌++◌, length, refl, ap, sym, ◌∙◌, arith, inl, inr}
+use Rattle.std.proofs.lemmas.List.{length_push}
+use Rattle.std.proofs.lemmas.Nat.{div-mul-add}
+use Rattle.std.proofs.lemmas.Bool.{cases_lt}
+use Rattle.rb_replay.specs.Places.{every}
+use Rattle.rb_replay.specs.Course.{IsPaced, IsPacedOn}
+use Rattle.rb_replay.proofs.RunLaws.{both}
+
+pub paced_start : (K from : ℕ) → IsPaced K from from K []
+paced_start K from = record { so_far = refl; next = omega arith; most = omega arith; fresh = λ _. refl }
+
+pub paced_push : (K from at due : ℕ) (ps : List ℕ) → 1 ≤ K → due ≡ 0 → IsPaced K from at due ps → IsPacedOn K from at K (ps ++ at ∷ [])
+paced_push K from at due ps one none p =
+    let more : length (ps ++ at ∷ []) ≡ suc (length ps) = length_push ps at ∙ omega arith in
+    let here : at ≡ from + suc (length ps) * K = omega (arith, p.next) in
+    record {
+      so_far = both (λ (s : List ℕ) (x : ℕ). s ++ x ∷ []) p.so_far here ∙ sym (ap (every K from) more);
+      next = rw more (omega (arith, here));
+      least = one;
+      most = omega arith;
+    }
+
+pub paced_stay : (K from at due : ℕ) (ps : List ℕ) → 0 < due → IsPaced K from at due ps → IsPacedOn K from at due ps
+paced_stay K from at due ps some p = record { so_far = p.so_far; next = p.next; least = some; most = p.most }
+
+pub paced_step : (K from at due : ℕ) (ps : List ℕ) → IsPacedOn K from at due ps → IsPaced K from (at + 1) (due - 1) ps
+paced_step K from at due ps p = record { so_far = p.so_far; next = omega (arith, p.next, p.least); most = omega (arith, p.most); fresh = λ e. absurd (omega (arith, p.most, p.least)) }
+
+few : (j K s from due : ℕ) → due < K → from ≤ s → s + due ≡ from + (j + 1) * K → from < s
+few j K s from due lt le next = omega (arith, next)
+
+-- how many were kept before a meeting, and up to the end
+pub paced_meeting : (K from s due : ℕ) (ps : List ℕ) → 1 ≤ K → from ≤ s → IsPaced K from s due ps → ps ≡ every K from ((s - 1 - from) / K)
+paced_meeting K from s due ps one le p = p.so_far ∙ ap (every K from) (sym (many K from s due (length ps) one le p.next p.most p.fresh))
+  where
+    many : (K from s due j : ℕ) → 1 ≤ K → from ≤ s → s + due ≡ from + (j + 1) * K → due ≤ K → (due ≡ K → s ≡ from) → (s - 1 - from) / K ≡ j
+    many K from s due j one le next most fresh =
+        elim (cases_lt due K) [
+          | inl lt ↦
+              let is : s - 1 - from ≡ j * K + (K - 1 - due) = omega (arith, next, few j K s from due lt le next) in
+              ap (λ (x : ℕ). x / K) is ∙ div-mul-add j K (K - 1 - due) (omega arith)
+          | inr ge ↦
+              let whole : due ≡ K = omega arith in
+              let none : j * K ≡ 0 = omega (arith, fresh whole, next) in
+              let is : s - 1 - from ≡ j * K + 0 = omega (arith, fresh whole) in
+              ap (λ (x : ℕ). x / K) is ∙ div-mul-add j K 0 (omega arith)
+        ]
+
+pub paced_end : (K from n due : ℕ) (ps : List ℕ) → IsPacedOn K from n due ps → ps ≡ every K from ((n - from) / K)
+paced_end K from n due ps p = p.so_far ∙ ap (every K from) (sym (many K from n due (length ps) p.next p.least p.most))
+  where
+    many : (K from n due j : ℕ) → n + due ≡ from + (j + 1) * K → 1 ≤ due → due ≤ K → (n - from) / K ≡ j
+    many K from n due j next least most =
+        let is : n - from ≡ j * K + (K - due) = omega (arith, next) in
+        ap (λ (x : ℕ). x / K) is ∙ div-mul-add j K (K - due) (omega arith)

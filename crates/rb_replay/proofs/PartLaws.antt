@@ -1,0 +1,109 @@
+-- Laws of the plain work on places.
+use Rattle.std.proofs.Common.{◌≡◌, ℕ, zero, suc, ◌+◌, ◌-◌, ◌<◌, ◌≤◌, List, [], ◌∷◌, ◌++◌, length, take, drop, map, refl, ap, sym, ◌∙◌, arith, get_or, true, false, append_assoc}
+use Rattle.std.specs.Prelude.{filter, nat_lt, nat_le, remove}
+use Rattle.std.proofs.lemmas.Bool.{le-leb}
+use Rattle.std.proofs.lemmas.Bool.Decides.{nat_tests}
+use Rattle.std.proofs.lemmas.List.{take_at, drop_at, map-append, take-map, length-take-le, drop_more, drop_all, take_all, length-drop, take-take, drop-drop, take_more, drop-map}
+use Rattle.std.proofs.Math.Seq.{take-add}
+use Rattle.rb_replay.proofs.RunLaws.{both}
+use Rattle.std.proofs.lemmas.List.Edits.{get_or-remove_below, get_or-remove_above}
+use Rattle.rb_replay.specs.Places.{thin, thin_after, IsRising}
+
+pub nothing_below : (a bound : ℕ) (ps : List ℕ) → bound ≤ a → IsRising a ps → ([] ≡ filter (λ p. nat_lt p bound) ps) × (ps ≡ filter (λ p. nat_le bound p) ps)
+nothing_below a bound [] le rising = (refl, refl)
+nothing_below a bound (p ∷ ps) le rising =
+    let more = nothing_below (p + 1) bound ps (omega arith) rising.1 in
+    let no : nat_lt p bound ≡ false = grind (arith, nat_tests) in
+    let yes : nat_le bound p ≡ true = grind (arith, nat_tests) in
+    (rw no more.0, rw yes (ap (λ qs. p ∷ qs) more.1))
+
+-- where a rising list passes the bound, it falls into the two filters
+pub split_rising : (a bound i : ℕ) (ps : List ℕ) → IsRising a ps → i ≤ length ps → ((k : ℕ) → k < i → get_or ps k 0 < bound) → (i < length ps → bound ≤ get_or ps i 0) → (take i ps ≡ filter (λ p. nat_lt p bound) ps) × (drop i ps ≡ filter (λ p. nat_le bound p) ps)
+split_rising a bound zero [] rising le below above = (refl, refl)
+split_rising a bound (suc i) [] rising le below above = absurd (omega arith)
+split_rising a bound zero (p ∷ ps) rising le below above =
+    let here : bound ≤ p = above (omega arith) in
+    nothing_below p bound (p ∷ ps) here (omega arith, rising.1)
+split_rising a bound (suc i) (p ∷ ps) rising le below above =
+    let here : p < bound = below 0 (omega arith) in
+    let more = split_rising (p + 1) bound i ps rising.1 (omega arith) (λ k lt. below (suc k) (omega arith)) (λ lt. above (omega arith)) in
+    let yes : nat_lt p bound ≡ true = grind (arith, nat_tests) in
+    let no : nat_le bound p ≡ false = grind (arith, nat_tests) in
+    (rw yes (ap (λ qs. p ∷ qs) more.0), rw no more.1)
+
+-- two turns around a cut and a join put a list in between
+pub turns : {A : Type 0} (x f : List A) (from to r : ℕ) (a b j d : List A) → from ≤ to → r + to ≡ length x → a ≡ drop to x ++ take to x → b ≡ take (r + from) a → j ≡ b ++ f → d ≡ drop r j ++ take r j → d ≡ take from x ++ (f ++ drop to x)
+turns {A} x f from to r a b j d le all turned cut joined back =
+    let long : length (drop to x) ≡ r = rw length-drop (omega arith) in
+    let front : take from (take to x) ≡ take from x = take-take from to x le in
+    let two : b ≡ drop to x ++ take from x = cut ∙ ap (take (r + from)) turned ∙ take_past (drop to x) (take to x) r from long ∙ ap (λ (t : List A). drop to x ++ t) front in
+    let three : j ≡ drop to x ++ (take from x ++ f) = joined ∙ ap (λ (t : List A). t ++ f) two ∙ append_assoc (drop to x) (take from x) f in
+    back ∙ ap (λ (t : List A). drop r t ++ take r t) three ∙ both (λ (s t : List A). s ++ t) (drop_at (drop to x) (take from x ++ f) r long) (take_at (drop to x) (take from x ++ f) r long) ∙ append_assoc (take from x) f (drop to x)
+  where
+    take_past : {A : Type 0} (x y : List A) (r m : ℕ) → length x ≡ r → take (r + m) (x ++ y) ≡ x ++ take m y
+    take_past {A} x y r m long = take-add r m (x ++ y) ∙ both (λ (s t : List A). s ++ t) (take_at x y r long) (ap (take m) (drop_at x y r long))
+
+-- what thinning makes of the places, where those before the one at i are settled
+abbrev pub thinned_from : ℕ → ℕ → List ℕ → List ℕ
+thinned_from K i ps = take i ps ++ thin_after K (get_or ps (i - 1) 0) (get_or ps i 0) (drop (i + 1) ps)
+
+pub thinned_start : (K : ℕ) (ps : List ℕ) → 2 ≤ length ps → thin K ps ≡ thinned_from K 1 ps
+thinned_start K [] h = absurd (omega arith)
+thinned_start K (p ∷ []) h = absurd (omega arith)
+thinned_start K (p ∷ q ∷ ps) h = refl
+
+thinned_next : (K i : ℕ) (ps : List ℕ) → i + 1 < length ps → thinned_from K i ps ≡ take i ps ++ thin_after K (get_or ps (i - 1) 0) (get_or ps i 0) (get_or ps (i + 1) 0 ∷ drop (i + 1 + 1) ps)
+thinned_next K i ps lt = ap (λ (t : List ℕ). take i ps ++ thin_after K (get_or ps (i - 1) 0) (get_or ps i 0) t) (drop_more ps (i + 1) 0 lt)
+
+-- a place that goes
+pub thinned_drop : (K i : ℕ) (ps : List ℕ) → 1 ≤ i → i + 1 < length ps → get_or ps (i + 1) 0 - get_or ps (i - 1) 0 ≤ K → thinned_from K i ps ≡ thinned_from K i (remove ps i)
+thinned_drop K i ps one lt near =
+    let within : i < length ps = omega arith in
+    let before : i - 1 < i = omega arith in
+    let here : i ≤ i = omega arith in
+    let yes : nat_le (get_or ps (i + 1) 0 - get_or ps (i - 1) 0) K ≡ true = le-leb (get_or ps (i + 1) 0 - get_or ps (i - 1) 0) K near in
+    let long : length (take i ps) ≡ i = length-take-le i ps (omega arith) in
+    let front : take i (remove ps i) ≡ take i ps = take_at (take i ps) (drop (suc i) ps) i long in
+    let back : drop (i + 1) (remove ps i) ≡ drop (i + 1 + 1) ps = drop_removed i ps long in
+    let a : get_or (remove ps i) (i - 1) 0 ≡ get_or ps (i - 1) 0 = get_or-remove_below ps i 0 (i - 1) before within in
+    let b : get_or (remove ps i) i 0 ≡ get_or ps (i + 1) 0 = get_or-remove_above ps i 0 i here within in
+    let goes : take i ps ++ thin_after K (get_or ps (i - 1) 0) (get_or ps i 0) (get_or ps (i + 1) 0 ∷ drop (i + 1 + 1) ps) ≡ take i ps ++ thin_after K (get_or ps (i - 1) 0) (get_or ps (i + 1) 0) (drop (i + 1 + 1) ps) = rw yes refl in
+    let same : thinned_from K i (remove ps i) ≡ take i ps ++ thin_after K (get_or ps (i - 1) 0) (get_or ps (i + 1) 0) (drop (i + 1 + 1) ps) = rw (front, back, a, b) refl in
+    thinned_next K i ps lt ∙ goes ∙ sym same
+  where
+    drop_removed : (i : ℕ) (ps : List ℕ) → length (take i ps) ≡ i → drop (i + 1) (remove ps i) ≡ drop (i + 1 + 1) ps
+    drop_removed i ps long =
+        sym (drop-drop 1 i (remove ps i)) ∙ ap (drop 1) (drop_at (take i ps) (drop (suc i) ps) i long) ∙ drop-drop 1 (suc i) ps ∙ ap (λ (n : ℕ). drop n ps) (omega arith)
+
+-- a place that stays
+pub thinned_keep : (K i : ℕ) (ps : List ℕ) → 1 ≤ i → i + 1 < length ps → K < get_or ps (i + 1) 0 - get_or ps (i - 1) 0 → thinned_from K i ps ≡ thinned_from K (i + 1) ps
+thinned_keep K i ps one lt far =
+    let within : i < length ps = omega arith in
+    let no : nat_le (get_or ps (i + 1) 0 - get_or ps (i - 1) 0) K ≡ false = grind (arith, nat_tests) in
+    let more : take (i + 1) ps ≡ take i ps ++ get_or ps i 0 ∷ [] = take_more ps i 0 within in
+    let back : i + 1 - 1 ≡ i = omega arith in
+    let stays : take i ps ++ thin_after K (get_or ps (i - 1) 0) (get_or ps i 0) (get_or ps (i + 1) 0 ∷ drop (i + 1 + 1) ps) ≡ take i ps ++ (get_or ps i 0 ∷ thin_after K (get_or ps i 0) (get_or ps (i + 1) 0) (drop (i + 1 + 1) ps)) = rw no refl in
+    let same : thinned_from K (i + 1) ps ≡ (take i ps ++ get_or ps i 0 ∷ []) ++ thin_after K (get_or ps i 0) (get_or ps (i + 1) 0) (drop (i + 1 + 1) ps) = rw (more, back) refl in
+    thinned_next K i ps lt ∙ stays ∙ sym (same ∙ append_assoc (take i ps) (get_or ps i 0 ∷ []) (thin_after K (get_or ps i 0) (get_or ps (i + 1) 0) (drop (i + 1 + 1) ps)))
+
+-- no place is left to look at
+pub thinned_end : (K i : ℕ) (ps : List ℕ) → i + 1 ≡ length ps → thinned_from K i ps ≡ ps
+thinned_end K i ps all =
+    let within : i < length ps = omega arith in
+    let none : drop (i + 1) ps ≡ [] = drop_all (i + 1) ps (omega arith) in
+    rw none (sym (take_more ps i 0 within) ∙ take_all (i + 1) ps (omega arith))
+
+-- what is kept goes with its place
+pub map-remove : {A B : Type 0} (f : A → B) (xs : List A) (i : ℕ) → map f (remove xs i) ≡ remove (map f xs) i
+map-remove f xs i = map-append f (take i xs) (drop (suc i) xs) ∙ both (λ s t. s ++ t) (sym (take-map f i xs)) (sym (drop-map f (suc i) xs))
+
+pub kept-remove : {A B C : Type 0} (f : A → C) (h : B → C) (xs : List A) (ys : List B) (i : ℕ) → map f xs ≡ map h ys → map f (remove xs i) ≡ map h (remove ys i)
+kept-remove f h xs ys i same = map-remove f xs i ∙ ap (λ t. remove t i) same ∙ sym (map-remove h ys i)
+
+-- equal images have equal elements
+pub map_at : {A B C : Type 0} (f : A → C) (h : B → C) (xs : List A) (ys : List B) (k : ℕ) (x : A) (y : B) → map f xs ≡ map h ys → k < length ys → f (get_or xs k x) ≡ h (get_or ys k y)
+map_at f h [] [] k x y same lt = absurd (omega arith)
+map_at f h [] (b ∷ ys) k x y same lt = cc
+map_at f h (a ∷ xs) [] k x y same lt = absurd (omega arith)
+map_at f h (a ∷ xs) (b ∷ ys) zero x y same lt = cc
+map_at f h (a ∷ xs) (b ∷ ys) (suc k) x y same lt = let rest : map f xs ≡ map h ys = cc in map_at f h xs ys k x y rest (omega arith)

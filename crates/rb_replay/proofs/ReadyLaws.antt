@@ -1,0 +1,289 @@
+-- Laws of what stands ready for a change.
+use Rattle.std.proofs.Common.{◌≡◌, ℕ, zero, suc, ◌+◌, ◌-◌, ◌<◌, ◌≤◌, max, min, List, [], ◌∷◌, ◌++◌, length, take, drop, map, refl, ap, sym, ◌∙◌, arith, inl, inr, get_or, true, false, append_assoc, Option, Some, None}
+use Rattle.std.specs.Prelude.{filter, nat_lt, nat_le, Result, Ok, Err, OnErr, IfOk}
+use Rattle.std.proofs.lemmas.Bool.{le-leb}
+use Rattle.std.proofs.lemmas.Bool.Decides.{nat_tests, leb_tells}
+use Rattle.std.proofs.lemmas.List.{take-append-drop, map-append, take-map, drop-map, take-take, drop_all, append-nil, length-append, length-take-le}
+use Rattle.rb_script.specs.Lines.{Line}
+use Rattle.rb_script.specs.Reading.{directive_of}
+use Rattle.rb_cluster.specs.Cluster.{Cluster}
+use Rattle.rb_replay.specs.declared.cut.Cut.{Cut}
+use Rattle.rb_replay.specs.declared.seam.Seam.{Seam}
+use Rattle.rb_replay.specs.Run.{directives, state, outputs}
+use Rattle.rb_replay.specs.Places.{IsRising, AreNear, AreKept, last_up_to}
+use Rattle.rb_replay.specs.Reuse.{Change, start, stop, old_place, new_place, Meets, IsFirstMeeting, IsChange, fresh_places, places_before}
+use Rattle.rb_replay.specs.Cuts.{front_bound, old_stop, run_places, IsSeam, IsMended}
+use Rattle.rb_replay.proofs.RunLaws.{both, outputs-front, states-front, length-outputs}
+use Rattle.rb_replay.proofs.DifferingLaws.{AreAtMost}
+use Rattle.rb_replay.proofs.ReuseLaws.{blocks-on, outputs-after, states-after, start-le, kept-within, stop-within}
+
+-- kept places are rising
+pub near-rising : (K n before : ℕ) (ps : List ℕ) → AreNear K n before ps → IsRising (before + 1) ps
+near-rising K n before [] near = tt
+near-rising K n before (p ∷ ps) near = (omega arith, near-rising K n p ps near.2)
+
+pub kept-rising : (K n : ℕ) (ps : List ℕ) → AreKept K n ps → IsRising 0 ps
+kept-rising K n [] kept = absurd kept
+kept-rising K n (p ∷ ps) kept = (omega arith, near-rising K n p ps kept.1)
+
+pub kept-some : (K n : ℕ) (ps : List ℕ) → AreKept K n ps → 0 < length ps
+kept-some K n [] kept = absurd kept
+kept-some K n (p ∷ ps) kept = omega arith
+
+pub kept-zero : (K n : ℕ) (ps : List ℕ) → AreKept K n ps → get_or ps 0 0 ≡ 0
+kept-zero K n [] kept = refl
+kept-zero K n (p ∷ ps) kept = kept.0
+
+-- clusters at the places below a bound
+pub same-below : (f h : ℕ → Cluster) (b : ℕ) (ps : List ℕ) → ((p : ℕ) → p < b → f p ≡ h p) → map f (filter (λ p. nat_lt p b) ps) ≡ map h (filter (λ p. nat_lt p b) ps)
+same-below f h b [] same = refl
+same-below f h b (p ∷ ps) same =
+    elim (leb_tells (suc p) b) [
+      | inl t ↦ rw t.0 (both (λ (x : Cluster) (xs : List Cluster). x ∷ xs) (same p t.1) (same-below f h b ps same))
+      | inr e ↦ rw e.0 (same-below f h b ps same)
+    ]
+
+-- a kept place, and those after it
+pub all-from : (a b : ℕ) (ps : List ℕ) → b ≤ a → IsRising a ps → filter (λ p. nat_le b p) ps ≡ ps
+all-from a b [] le rising = refl
+all-from a b (p ∷ ps) le rising =
+    let yes : nat_le b p ≡ true = le-leb b p (omega arith) in
+    rw yes (ap (λ (qs : List ℕ). p ∷ qs) (all-from (p + 1) b ps (omega arith) rising.1))
+
+rising-at : (a k : ℕ) (ps : List ℕ) (x : ℕ) → IsRising a ps → k < length ps → get_or ps k x ≡ x → a ≤ x
+rising-at a k [] x rising lt is = absurd (omega arith)
+rising-at a zero (p ∷ ps) x rising lt is = omega (arith, is, rising.0)
+rising-at a (suc k) (p ∷ ps) x rising lt is = let t : p + 1 ≤ x = rising-at (p + 1) k ps x rising.1 (omega arith) is in omega (arith, rising.0)
+
+pub from-kept : (a x k : ℕ) (ps : List ℕ) → IsRising a ps → k < length ps → get_or ps k x ≡ x → filter (λ p. nat_le x p) ps ≡ x ∷ filter (λ p. nat_le (x + 1) p) ps
+from-kept a x k [] rising lt is = absurd (omega arith)
+from-kept a x zero (p ∷ ps) rising lt is =
+    let yes : nat_le x p ≡ true = le-leb x p (omega arith) in
+    let past : nat_le (x + 1) p ≡ false = grind (arith, nat_tests) in
+    let after : IsRising (p + 1) ps = rising.1 in
+    rw (yes, past) (both (λ (q : ℕ) (qs : List ℕ). q ∷ qs) is (all-from (p + 1) x ps (omega arith) rising.1 ∙ sym (all-from (p + 1) (x + 1) ps (omega arith) rising.1)))
+from-kept a x (suc k) (p ∷ ps) rising lt is =
+    let above : p + 1 ≤ x = rising-at (p + 1) k ps x rising.1 (omega arith) is in
+    let before : nat_le x p ≡ false = grind (arith, nat_tests) in
+    let before' : nat_le (x + 1) p ≡ false = grind (arith, nat_tests) in
+    rw (before, before') (from-kept (p + 1) x k ps rising.1 (omega arith) is)
+
+-- the start, by where it stands
+pub none_up_to : (a q : ℕ) (ps : List ℕ) → q < a → IsRising a ps → last_up_to q ps ≡ 0
+none_up_to a q [] lt rising = refl
+none_up_to a q (p ∷ ps) lt rising =
+    let past : nat_le p q ≡ false = grind (arith, nat_tests) in
+    rw past (none_up_to (p + 1) q ps (omega arith) rising.1)
+
+rising-least : (a k : ℕ) (ps : List ℕ) → IsRising a ps → k < length ps → a ≤ get_or ps k 0
+rising-least a k [] rising lt = absurd (omega arith)
+rising-least a zero (p ∷ ps) rising lt = rising.0
+rising-least a (suc k) (p ∷ ps) rising lt = let t : p + 1 ≤ get_or ps k 0 = rising-least (p + 1) k ps rising.1 (omega arith) in omega (arith, rising.0)
+
+pub start-at : (a q k : ℕ) (ps : List ℕ) → IsRising a ps → k < length ps → ((i : ℕ) → i < k + 1 → get_or ps i 0 < q + 1) → (suc k < length ps → q + 1 ≤ get_or ps (suc k) 0) → get_or ps k 0 ≡ last_up_to q ps
+start-at a q k [] rising lt below above = absurd (omega arith)
+start-at a q zero (p ∷ []) rising lt below above =
+    let here : p < q + 1 = below 0 (omega arith) in
+    let yes : nat_le p q ≡ true = le-leb p q (omega arith) in
+    rw yes (omega arith)
+start-at a q zero (p ∷ r ∷ ps) rising lt below above =
+    let here : p < q + 1 = below 0 (omega arith) in
+    let next : q + 1 ≤ r = above (omega arith) in
+    let yes : nat_le p q ≡ true = le-leb p q (omega arith) in
+    let none : last_up_to q (r ∷ ps) ≡ 0 = none_up_to r q (r ∷ ps) (omega arith) (omega arith, rising.1.1) in
+    rw yes (max-zero p (last_up_to q (r ∷ ps)) none)
+  where
+    max-zero : (p m : ℕ) → m ≡ 0 → p ≡ max p m
+    max-zero p m z = omega arith
+start-at a q (suc k) (p ∷ ps) rising lt below above =
+    let here : p < q + 1 = below 0 (omega arith) in
+    let yes : nat_le p q ≡ true = le-leb p q (omega arith) in
+    let ih : get_or ps k 0 ≡ last_up_to q ps = start-at (p + 1) q k ps rising.1 (omega arith) (λ i i_lt. below (suc i) (omega arith)) (λ k_lt. above (omega arith)) in
+    let least : p + 1 ≤ get_or ps k 0 = rising-least (p + 1) k ps rising.1 (omega arith) in
+    rw yes (larger p (get_or ps k 0) (last_up_to q ps) ih least)
+  where
+    larger : (p x m : ℕ) → x ≡ m → p + 1 ≤ x → x ≡ max p m
+    larger p x m e le = omega arith
+
+pub start-before : (q n : ℕ) (ps : List ℕ) → IsRising 0 ps → 1 ≤ n → n ≤ length ps → ((i : ℕ) → i < n → get_or ps i 0 < q + 1) → (n < length ps → q + 1 ≤ get_or ps n 0) → get_or ps (n - 1) 0 ≡ last_up_to q ps
+start-before q zero ps rising one le below above = absurd (omega arith)
+start-before q (suc k) ps rising one le below above =
+    let index : suc k - 1 ≡ k = omega arith in
+    ap (λ (i : ℕ). get_or ps i 0) index ∙ start-at 0 q k ps rising (omega arith) (λ i lt. below i (omega arith)) above
+
+-- the places at a meeting: its own, and those after it
+pub places-met : (c : Change) (s : ℕ) → IsChange c → Meets c s → s ∷ map (new_place c) (filter (λ p. nat_le (old_place c s + 1) p) c.places) ≡ map (new_place c) (filter (λ p. nat_le (old_place c s) p) c.places)
+places-met c s is m =
+    let back : s ≡ new_place c (old_place c s) = there c s m.in_rest in
+    both (λ (q : ℕ) (qs : List ℕ). q ∷ qs) back refl ∙ sym (ap (map (new_place c)) (from-kept 0 (old_place c s) m.is_kept.0 c.places (kept-rising c.spacing (length c.old.blocks) c.places is.kept) m.is_kept.1 m.is_kept.2))
+  where
+    there : (c : Change) (s : ℕ) → c.new_rest ≤ s → s ≡ new_place c (old_place c s)
+    there c s le = omega arith
+
+-- what holds anyway holds on an error
+pub on_err_always : {T E P : Type 0} (r : Result T E) → P → OnErr r P
+on_err_always (Ok x) p = tt
+on_err_always (Err e) p = p
+
+-- ---- a front of the front
+
+blocks-front : (c : Change) (i : ℕ) → IsChange c → i ≤ c.front → take i c.new.blocks ≡ take i c.old.blocks
+blocks-front c i is le = sym (take-take i c.front c.new.blocks le) ∙ ap (take i) is.same_front ∙ take-take i c.front c.old.blocks le
+
+front-of : (c : Change) (i : ℕ) → IsChange c → i ≤ c.front → take i (directives c.new) ≡ take i (directives c.old)
+front-of c i is le = take-map directive_of i c.new.blocks ∙ ap (map directive_of) (blocks-front c i is le) ∙ sym (take-map directive_of i c.old.blocks)
+
+pub states-before : (c : Change) (i : ℕ) → IsChange c → i ≤ c.front → state c.old i ≡ state c.new i
+states-before c i is le = sym (states-front c.new c.old i (front-of c i is le))
+
+-- ---- the old run, from where it is used again
+
+-- from there on, blocks and outputs are the old ones
+blocks-end : (c : Change) (o : Option ℕ) → IsChange c → IsFirstMeeting c o → drop (stop c o) c.new.blocks ≡ drop (old_stop c o) c.old.blocks
+blocks-end c None is first = drop_all (length c.new.blocks) c.new.blocks (omega arith) ∙ sym (drop_all (length c.old.blocks) c.old.blocks (omega arith))
+blocks-end c (Some s) is first = blocks-on c s is first.0.in_rest
+
+outputs-end : (c : Change) (o : Option ℕ) → IsChange c → IsFirstMeeting c o → drop (stop c o) (outputs c.new) ≡ drop (old_stop c o) (outputs c.old)
+outputs-end c None is first = drop_all (length c.new.blocks) (outputs c.new) (omega (arith, length-outputs c.new)) ∙ sym (drop_all (length c.old.blocks) (outputs c.old) (omega (arith, length-outputs c.old)))
+outputs-end c (Some s) is first = outputs-after c s is first.0.in_rest first.0.same
+
+moved-stop : (c : Change) (o : Option ℕ) → IsChange c → IsFirstMeeting c o → stop c o ≡ old_stop c o - c.old_rest + c.new_rest
+moved-stop c None is first = omega (arith, is.lengths, is.old_within)
+moved-stop c (Some s) is first = let le : c.new_rest ≤ s = first.0.in_rest in omega arith
+
+rest-first : (c : Change) (o : Option ℕ) → IsChange c → IsFirstMeeting c o → c.old_rest ≤ old_stop c o
+rest-first c None is first = is.old_within
+rest-first c (Some s) is first = omega arith
+
+pub old_stop-within : (c : Change) (o : Option ℕ) → IsChange c → IsFirstMeeting c o → old_stop c o ≤ length c.old.blocks
+old_stop-within c None is first = omega arith
+old_stop-within c (Some s) is first = kept-within c.spacing (length c.old.blocks) c.places (old_place c s) is.kept first.0.is_kept
+
+pub start-first : (c : Change) (o : Option ℕ) → IsChange c → IsFirstMeeting c o → start c ≤ stop c o
+start-first c None is first = let le : start c ≤ c.front = start-le c in omega (arith, is.new_from, is.new_within)
+start-first c (Some s) is first = first.0.from_start
+
+pub start-old : (c : Change) (o : Option ℕ) → IsChange c → IsFirstMeeting c o → start c ≤ old_stop c o
+start-old c o is first = let le : start c ≤ c.front = start-le c in let rest : c.old_rest ≤ old_stop c o = rest-first c o is first in omega (arith, is.old_from)
+
+-- the old outputs before the start and after the stop, and those of the run between them
+pub outputs-ready : (c : Change) (o : Option ℕ) (os : List (List Line)) → IsChange c → IsFirstMeeting c o → take (start c) (outputs c.new) ++ os ≡ take (stop c o) (outputs c.new) → take (start c) (outputs c.old) ++ (os ++ drop (old_stop c o) (outputs c.old)) ≡ outputs c.new
+outputs-ready c o os is first on =
+    both (λ (a b : List (List Line)). a ++ (os ++ b)) (sym (outputs-front c.new c.old (start c) (front-of c (start c) is (start-le c)))) (sym (outputs-end c o is first))
+    ∙ sym (append_assoc (take (start c) (outputs c.new)) os (drop (stop c o) (outputs c.new)))
+    ∙ ap (λ (a : List (List Line)). a ++ drop (stop c o) (outputs c.new)) on
+    ∙ take-append-drop (stop c o) (outputs c.new)
+
+-- how many outputs a run brought
+pub run-length : (c : Change) (o : Option ℕ) (os : List (List Line)) → IsChange c → IsFirstMeeting c o → take (start c) (outputs c.new) ++ os ≡ take (stop c o) (outputs c.new) → start c + length os ≡ stop c o
+run-length c o os is first on =
+    let le : start c ≤ stop c o = start-first c o is first in
+    let within : stop c o ≤ length c.new.blocks = stop-within c o is first in
+    let front : length (take (start c) (outputs c.new)) ≡ start c = length-take-le (start c) (outputs c.new) (omega (arith, length-outputs c.new)) in
+    let whole : length (take (stop c o) (outputs c.new)) ≡ stop c o = length-take-le (stop c o) (outputs c.new) (omega (arith, length-outputs c.new)) in
+    omega (arith, ap length on, length-append (take (start c) (outputs c.new)) os)
+
+pub mended-ready : (c : Change) (cut : Cut) (o : Option ℕ) (os : List (List Line)) → cut.old_rest ≡ c.old_rest → cut.new_rest ≡ c.new_rest → IsChange c → IsFirstMeeting c o → take (start c) (outputs c.new) ++ os ≡ take (stop c o) (outputs c.new) → IsMended c.old c.new cut (start c) os (old_stop c o)
+mended-ready c cut o os olds news is first on =
+    let long : start c + length os ≡ stop c o = run-length c o os is first on in
+    record {
+      same_front = blocks-front c (start c) is (start-le c);
+      same_answers = outputs-front c.new c.old (start c) (front-of c (start c) is (start-le c));
+      answers_on = on ∙ ap (λ (n : ℕ). take n (outputs c.new)) (sym long);
+      same_rest = ap (λ (n : ℕ). drop n c.new.blocks) long ∙ blocks-end c o is first;
+      same_end = ap (λ (n : ℕ). drop n (outputs c.new)) long ∙ outputs-end c o is first;
+      moved = rw (olds, news) (long ∙ moved-stop c o is first);
+      in_rest = rw olds (rest-first c o is first);
+      order = start-old c o is first;
+      old_within = old_stop-within c o is first;
+      new_within = rw long (stop-within c o is first);
+    }
+
+-- ---- clusters that are kept
+
+-- the places of what stays, of what was run, and of what is used again
+abbrev pub joined_places : Change → Option ℕ → List ℕ
+joined_places c o =
+    filter (λ p. nat_lt p (front_bound c o)) c.places ++ (run_places c o ++ map (new_place c) (filter (λ p. nat_le (old_stop c o + 1) p) c.places))
+
+none-past-near : (K n before : ℕ) (ps : List ℕ) → AreNear K n before ps → filter (λ p. nat_le (n + 1) p) ps ≡ []
+none-past-near K n before [] near = refl
+none-past-near K n before (p ∷ ps) near =
+    let here : p ≤ n = near-end K n p ps near.2 in
+    let no : nat_le (n + 1) p ≡ false = grind (arith, nat_tests) in
+    rw no (none-past-near K n p ps near.2)
+  where
+    near-end : (K n before : ℕ) (ps : List ℕ) → AreNear K n before ps → before ≤ n
+    near-end K n before [] near = near.0
+    near-end K n before (p ∷ ps) near = let t : p ≤ n = near-end K n p ps near.2 in omega (arith, near.0)
+
+none-past : (K n : ℕ) (ps : List ℕ) → AreKept K n ps → filter (λ p. nat_le (n + 1) p) ps ≡ []
+none-past K n [] kept = refl
+none-past K n (p ∷ ps) kept =
+    let no : nat_le (n + 1) p ≡ false = first K n p kept.0 in
+    rw no (none-past-near K n p ps kept.1)
+  where
+    first : (K n p : ℕ) → p ≡ 0 → nat_le (n + 1) p ≡ false
+    first K n p zero_first = grind (arith, nat_tests)
+
+pub joined-before : (c : Change) (o : Option ℕ) → IsChange c → IsFirstMeeting c o → joined_places c o ≡ places_before c o
+joined-before c None is first =
+    let none : filter (λ p. nat_le (length c.old.blocks + 1) p) c.places ≡ [] = none-past c.spacing (length c.old.blocks) c.places is.kept in
+    ap (λ (ps : List ℕ). filter (λ p. nat_lt p (start c + 1)) c.places ++ (fresh_places c None ++ map (new_place c) ps)) none
+    ∙ ap (λ (ps : List ℕ). filter (λ p. nat_lt p (start c + 1)) c.places ++ ps) (append-nil (fresh_places c None))
+joined-before c (Some s) is first =
+    ap (λ (ps : List ℕ). filter (λ p. nat_lt p (min (start c + 1) s)) c.places ++ ps)
+    (append_assoc (fresh_places c (Some s)) (s ∷ []) (map (new_place c) (filter (λ p. nat_le (old_place c s + 1) p) c.places))
+    ∙ ap (λ (ps : List ℕ). fresh_places c (Some s) ++ ps) (places-met c s is first.0))
+
+front-small : (c : Change) (o : Option ℕ) (p : ℕ) → p < front_bound c o → p ≤ c.front
+front-small c None p lt = let le : start c ≤ c.front = start-le c in omega arith
+front-small c (Some s) p lt = let le : start c ≤ c.front = start-le c in omega arith
+
+moved-states : (c : Change) (o : Option ℕ) (p : ℕ) → IsChange c → IsFirstMeeting c o → old_stop c o + 1 ≤ p → p ≤ length c.old.blocks → state c.old p ≡ state c.new (new_place c p)
+moved-states c None p is first past within = absurd (omega arith)
+moved-states c (Some s) p is first past within =
+    let le : c.new_rest ≤ s = first.0.in_rest in
+    let back : old_place c (new_place c p) ≡ p = omega arith in
+    sym (states-after c s (new_place c p) is le (omega arith) first.0.same ∙ ap (state c.old) back)
+
+-- each of the places is one of the script
+near-all : (K n before : ℕ) (ps : List ℕ) → AreNear K n before ps → (before ≤ n) × AreAtMost n ps
+near-all K n before [] near = (near.0, tt)
+near-all K n before (p ∷ ps) near = let more = near-all K n p ps near.2 in (omega (arith, near.0, more.0), (more.0, more.1))
+
+pub kept-all : (K n : ℕ) (ps : List ℕ) → AreKept K n ps → AreAtMost n ps
+kept-all K n [] kept = tt
+kept-all K n (p ∷ ps) kept = near-all K n p ps kept.1
+
+same-past : (f h : ℕ → Cluster) (to : ℕ → ℕ) (b n : ℕ) (ps : List ℕ) → AreAtMost n ps → ((p : ℕ) → b ≤ p → p ≤ n → f p ≡ h (to p)) → map f (filter (λ p. nat_le b p) ps) ≡ map h (map to (filter (λ p. nat_le b p) ps))
+same-past f h to b n [] all same = refl
+same-past f h to b n (p ∷ ps) all same =
+    elim (leb_tells b p) [
+      | inl t ↦ rw t.0 (both (λ (x : Cluster) (xs : List Cluster). x ∷ xs) (same p t.1 all.0) (same-past f h to b n ps all.1 same))
+      | inr e ↦ rw e.0 (same-past f h to b n ps all.1 same)
+    ]
+
+pub states-ready : (c : Change) (o : Option ℕ) (seam : Seam) (kept fresh : List Cluster) → IsChange c → IsFirstMeeting c o → IsSeam c o seam → kept ≡ map (state c.old) c.places → fresh ≡ map (state c.new) (run_places c o)
+    → take seam.front kept ++ (fresh ++ drop seam.rest kept) ≡ map (state c.new) (joined_places c o)
+states-ready c o seam kept fresh is first at olds run =
+    let fronts : List ℕ = filter (λ p. nat_lt p (front_bound c o)) c.places in
+    let rests : List ℕ = filter (λ p. nat_le (old_stop c o + 1) p) c.places in
+    let one : take seam.front kept ≡ map (state c.new) (filter (λ p. nat_lt p (front_bound c o)) c.places) =
+    ap (take seam.front) olds ∙ take-map (state c.old) seam.front c.places ∙ ap (map (state c.old)) at.fronts
+    ∙ same-below (state c.old) (state c.new) (front_bound c o) c.places (λ p lt. states-before c p is (front-small c o p lt)) in
+    let three : drop seam.rest kept ≡ map (state c.new) (map (new_place c) (filter (λ p. nat_le (old_stop c o + 1) p) c.places)) =
+    ap (drop seam.rest) olds ∙ drop-map (state c.old) seam.rest c.places ∙ ap (map (state c.old)) at.rests
+    ∙ same-past (state c.old) (state c.new) (new_place c) (old_stop c o + 1) (length c.old.blocks) c.places (kept-all c.spacing (length c.old.blocks) c.places is.kept) (λ p le within. moved-states c o p is first le within) in
+    both (λ (a b : List Cluster). a ++ b) one (both (λ (a b : List Cluster). a ++ b) run three ∙ sym (map-append (state c.new) (run_places c o) (map (new_place c) (filter (λ p. nat_le (old_stop c o + 1) p) c.places))))
+    ∙ sym (map-append (state c.new) (filter (λ p. nat_lt p (front_bound c o)) c.places) (run_places c o ++ map (new_place c) (filter (λ p. nat_le (old_stop c o + 1) p) c.places)))
+
+-- the front stays before the rest
+pub bounds-order : (c : Change) (o : Option ℕ) → IsChange c → IsFirstMeeting c o → front_bound c o ≤ old_stop c o + 1
+bounds-order c None is first = let le : start c ≤ old_stop c None = start-old c None is first in omega arith
+bounds-order c (Some s) is first = let le : start c ≤ old_stop c (Some s) = start-old c (Some s) is first in omega arith
+
+-- what follows of a value follows where there is one
+pub ok-along : {T E : Type 0} (r : Result T E) (P Q : T → Type 0) → ((x : T) → P x → Q x) → IfOk r P → IfOk r Q
+ok-along (Ok x) P Q f p = f x p
+ok-along (Err e) P Q f p = tt

@@ -1,0 +1,88 @@
+-- Laws of one run.
+use Rattle.std.proofs.Common.{◌≡◌, ℕ, zero, suc, ◌+◌, ◌<◌, List, [], ◌∷◌, ◌++◌, length, take, drop, map, refl, ap, sym, ◌∙◌, arith, add-one, get_or}
+use Rattle.std.proofs.lemmas.List.{length-map}
+use Rattle.std.proofs.Math.Seq.{take-add}
+use Rattle.rb_script.specs.Lines.{Line}
+use Rattle.rb_script.specs.Script.{PlainBlock, PlainScript}
+use Rattle.rb_script.specs.Directive.{PlainDirective}
+use Rattle.rb_script.specs.Reading.{directive_of}
+use Rattle.rb_cluster.specs.Cluster.{Cluster, empty}
+use Rattle.rb_cluster.specs.Outcome.{outcome}
+use Rattle.rb_replay.specs.Run.{directives, led, answers, state, outputs}
+
+-- a function of two equal arguments
+pub both : {A B C : Type 0} (f : A → B → C) {a b : A} {x y : B} → a ≡ b → x ≡ y → f a x ≡ f b y
+both {A} {B} {C} f {a} {b} {x} {y} p q = ap (λ (t : A). f t x) p ∙ ap (f b) q
+
+pub led-append : (c : Cluster) (xs ys : List PlainDirective) → led c (xs ++ ys) ≡ led (led c xs) ys
+led-append c [] ys = refl
+led-append c (x ∷ xs) ys = led-append (outcome c x).cluster xs ys
+
+pub length-answers : (c : Cluster) (xs : List PlainDirective) → length (answers c xs) ≡ length xs
+length-answers c [] = refl
+length-answers c (x ∷ xs) = ap suc (length-answers (outcome c x).cluster xs)
+
+pub take-answers : (c : Cluster) (n : ℕ) (xs : List PlainDirective) → take n (answers c xs) ≡ answers c (take n xs)
+take-answers c zero xs = refl
+take-answers c (suc n) [] = refl
+take-answers c (suc n) (x ∷ xs) = ap (λ os. (outcome c x).output ∷ os) (take-answers (outcome c x).cluster n xs)
+
+pub drop-answers : (c : Cluster) (n : ℕ) (xs : List PlainDirective) → drop n (answers c xs) ≡ answers (led c (take n xs)) (drop n xs)
+drop-answers c zero xs = refl
+drop-answers c (suc n) [] = refl
+drop-answers c (suc n) (x ∷ xs) = drop-answers (outcome c x).cluster n xs
+
+pub length-directives : (s : PlainScript) → length (directives s) ≡ length s.blocks
+length-directives s = length-map s.blocks directive_of
+
+pub length-outputs : (s : PlainScript) → length (outputs s) ≡ length s.blocks
+length-outputs s = length-answers empty (directives s) ∙ length-directives s
+
+-- the cluster some places on
+pub state-add : (s : PlainScript) (i j : ℕ) → state s (i + j) ≡ led (state s i) (take j (drop i (directives s)))
+state-add s i j = rw take-add (led-append empty (take i (directives s)) (take j (drop i (directives s))))
+
+pub drop-outputs : (s : PlainScript) (i : ℕ) → drop i (outputs s) ≡ answers (state s i) (drop i (directives s))
+drop-outputs s i = drop-answers empty i (directives s)
+
+-- Scripts whose directives agree from a place on, in equal clusters there, have equal clusters from there on.
+pub states-on : (new old : PlainScript) (i k j : ℕ) → drop i (directives new) ≡ drop k (directives old) → state new i ≡ state old k → state new (i + j) ≡ state old (k + j)
+states-on new old i k j rest same = state-add new i j ∙ both (λ (c : Cluster) (ds : List PlainDirective). led c (take j ds)) same rest ∙ sym (state-add old k j)
+
+-- and equal outputs
+pub outputs-on : (new old : PlainScript) (i k : ℕ) → drop i (directives new) ≡ drop k (directives old) → state new i ≡ state old k → drop i (outputs new) ≡ drop k (outputs old)
+outputs-on new old i k rest same = drop-outputs new i ∙ both (λ (c : Cluster) (ds : List PlainDirective). answers c ds) same rest ∙ sym (drop-outputs old k)
+
+-- Scripts with an equal front have equal clusters there, and equal outputs.
+pub states-front : (new old : PlainScript) (i : ℕ) → take i (directives new) ≡ take i (directives old) → state new i ≡ state old i
+states-front new old i same = ap (led empty) same
+
+pub outputs-front : (new old : PlainScript) (i : ℕ) → take i (directives new) ≡ take i (directives old) → take i (outputs new) ≡ take i (outputs old)
+outputs-front new old i same = take-answers empty i (directives new) ∙ ap (answers empty) same ∙ sym (take-answers empty i (directives old))
+
+-- Scripts of the same directives run the same.
+pub states-same : (new old : PlainScript) (ps : List ℕ) → directives new ≡ directives old → map (state new) ps ≡ map (state old) ps
+states-same new old ps same = ap (λ (ds : List PlainDirective). map (λ (i : ℕ). led empty (take i ds)) ps) same
+
+pub outputs-same : (new old : PlainScript) → directives new ≡ directives old → outputs new ≡ outputs old
+outputs-same new old same = ap (answers empty) same
+
+pub lengths-same : (new old : PlainScript) → directives new ≡ directives old → length new.blocks ≡ length old.blocks
+lengths-same new old same = sym (length-directives new) ∙ ap length same ∙ length-directives old
+
+-- the cluster one directive on, and its output
+led_suc : (c : Cluster) (bs : List PlainBlock) (i : ℕ) (b : PlainBlock) → i < length bs → led c (take (suc i) (map directive_of bs)) ≡ (outcome (led c (take i (map directive_of bs))) (directive_of (get_or bs i b))).cluster
+led_suc c [] i d lt = absurd (omega arith)
+led_suc c (b ∷ bs) zero d lt = refl
+led_suc c (b ∷ bs) (suc i) d lt = led_suc (outcome c (directive_of b)).cluster bs i d (omega arith)
+
+answers_suc : (c : Cluster) (bs : List PlainBlock) (i : ℕ) (b : PlainBlock) → i < length bs → take (suc i) (answers c (map directive_of bs)) ≡ take i (answers c (map directive_of bs)) ++ (outcome (led c (take i (map directive_of bs))) (directive_of (get_or bs i b))).output ∷ []
+answers_suc c [] i d lt = absurd (omega arith)
+answers_suc c (b ∷ bs) zero d lt = refl
+answers_suc c (b ∷ bs) (suc i) d lt = ap (λ (os : List (List Line)). (outcome c (directive_of b)).output ∷ os) (answers_suc (outcome c (directive_of b)).cluster bs i d (omega arith))
+
+pub state_next : (s : PlainScript) (i : ℕ) (b : PlainBlock) → i < length s.blocks → state s (i + 1) ≡ (outcome (state s i) (directive_of (get_or s.blocks i b))).cluster
+state_next s i b lt = rw add-one (led_suc empty s.blocks i b lt)
+
+pub outputs_next : (s : PlainScript) (i : ℕ) (b : PlainBlock) → i < length s.blocks → take (i + 1) (outputs s) ≡ take i (outputs s) ++ (outcome (state s i) (directive_of (get_or s.blocks i b))).output ∷ []
+outputs_next s i b lt = rw add-one (answers_suc empty s.blocks i b lt)

@@ -1,0 +1,11 @@
+use Rattle.std.proofs.Common.{◌≡◌, ◌<◌, length, get_or, ◌∙◌, eq-eqb}
+use Rattle.std.proofs.lemmas.List.{get_or_default}
+use Rattle.rb_replay.proofs.NextLaws.{next-past, next-none}
+use Rattle.rb_replay.proofs.rerun.is_kept.Goals as goal
+
+pub returns-in-Some-clause-none : goal.returns-in-Some-clause-none
+returns-in-Some-clause-none c = λ no.
+    let at : c.in-Some.kept.now ≡ get_or c.args.places.now c.args.index c.in-Some.kept.now = c.in-Some.ensures.lookup.1 in
+    let differs : c.args.index < length c.args.places.now → get_or c.args.places.now c.args.index 0 ≡ c.args.place → ⊥ = λ lt is.
+    let yes = eq-eqb c.in-Some.kept.now c.args.place (at ∙ get_or_default c.args.places.now c.args.index c.in-Some.kept.now 0 lt ∙ is) in absurd (cc (no, yes)) in
+    (next-none c.args.places.now c.args.place c.args.index c.requires.rising c.requires.next differs, next-past c.args.places.now c.args.place c.args.index c.requires.next differs)

@@ -1,0 +1,50 @@
+-- What edits make of a session, and the script after a list of edits. (This project's.)
+use Rattle.std.specs.Prelude.{◌≡◌, List, [], ◌∷◌, length, Result, Ok, Err}
+use Rattle.rb_script.specs.declared.edit.Edit.{Edit}
+use Rattle.rb_script.specs.declared.fault.EditFault.{EditFault}
+use Rattle.rb_script.specs.Script.{PlainScript}
+use Rattle.rb_script.specs.Edits.{edited}
+use Rattle.rb_replay.specs.declared.session.Changed.{Changed}
+use Rattle.rb_replay.specs.Run.{outputs}
+use Rattle.rb_replay.specs.Report.{mismatches}
+use Rattle.rb_replay.specs.Held.{Held, IsFresh}
+use Rattle.rb_replay.specs.Reuse.{ReusesFor}
+
+-- An accepted edit puts its script in. What is held then is what one run of that script gives.
+pub record IsEdited (old : Held) (edit : Edit) (changed : Changed) (new : Held) : Type 0 where
+  pub script : edited old.script edit (outputs old.script) ≡ Ok new.script
+  pub fresh : IsFresh new
+  pub spacing : new.spacing ≡ old.spacing
+  pub reuse : ReusesFor old edit new.script changed.executed new.places
+  pub mismatches_are : changed.mismatches ≡ length (mismatches new.script)
+
+abbrev pub Answer : Type 0
+Answer = Result Changed EditFault
+
+-- a refused one leaves all as it was
+abbrev pub IsAnswer : Held → Edit → Answer → Held → Type 0
+IsAnswer old edit (Ok changed) new = IsEdited old edit changed new
+IsAnswer old edit (Err fault) new = new ≡ old
+
+-- edits, each with its answer
+abbrev pub Answered : Type 0
+Answered = List (Edit × Answer)
+
+-- these answers lead from the first session to the last
+abbrev pub Leads : Held → Answered → Held → Type 0
+Leads first [] last = last ≡ first
+Leads first (step ∷ steps) last = (next : Held) × IsAnswer first step.0 step.1 next × Leads next steps last
+
+abbrev pub or_same : PlainScript → Result PlainScript EditFault → PlainScript
+or_same s (Ok new) = new
+or_same s (Err fault) = s
+
+-- the script with the edit made, if it was accepted
+abbrev pub after_one : PlainScript → Edit → Answer → PlainScript
+after_one s edit (Ok changed) = or_same s (edited s edit (outputs s))
+after_one s edit (Err fault) = s
+
+-- The script with those edits made that were accepted.
+abbrev pub after : PlainScript → Answered → PlainScript
+after s [] = s
+after s (step ∷ steps) = after (after_one s step.0 step.1) steps

@@ -1,0 +1,98 @@
+-- A change, by what the code knows of it. (This project's.)
+use Rattle.std.specs.Prelude.{◌≡◌, ℕ, ◌+◌, ◌-◌, ◌<◌, ◌≤◌, min, nat_le, nat_lt, List, [], ◌∷◌, ◌++◌, length, take, drop, map, filter, slice_index, Option, Some, None}
+use Rattle.rb_script.specs.Script.{PlainScript}
+use Rattle.rb_script.specs.declared.edit.Edit.{Edit}
+use Rattle.rb_script.specs.declared.edit.Edit.TheVariants.{Insert, Replace, Remove, Expect, Accept}
+use Rattle.rb_replay.specs.declared.cut.Cut.{Cut}
+use Rattle.rb_replay.specs.declared.cut.Effect.{Effect}
+use Rattle.rb_replay.specs.declared.cut.Effect.TheVariants as effects
+use Rattle.rb_replay.specs.declared.rerun.Rerun.{Rerun}
+use Rattle.rb_replay.specs.declared.seam.Seam.{Seam}
+use Rattle.rb_replay.specs.declared.ready.Ready.{Ready}
+use Rattle.rb_script.specs.Lines.{Line}
+use Rattle.rb_cluster.specs.Cluster.{Cluster}
+use Rattle.rb_replay.specs.Course.{HasRun}
+use Rattle.rb_replay.specs.Run.{state, outputs}
+use Rattle.rb_replay.specs.Report.{mismatches}
+use Rattle.rb_replay.specs.Held.{Held}
+use Rattle.rb_replay.specs.Reuse.{Change, change, start, stop, old_place, IsFirstMeeting, fresh_places, places_before}
+
+abbrev pub change_by : Held → PlainScript → Cut → Change
+change_by h new cut = change h new cut.front cut.old_rest cut.new_rest
+
+abbrev pub effect_of : Edit → Effect
+effect_of (Insert k block) = effects.Splice (record { front = k - 1; old_rest = k - 1; new_rest = k })
+effect_of (Replace k block) = effects.Splice (record { front = k - 1; old_rest = k; new_rest = k })
+effect_of (Remove k) = effects.Splice (record { front = k - 1; old_rest = k; new_rest = k - 1 })
+effect_of (Expect k lines) = effects.Expect k
+effect_of Accept = effects.Accept
+
+-- where a place, or the next one after it, stands in a list of places
+pub record IsNext (places : List ℕ) (place index : ℕ) : Type 0 where
+  pub within : index ≤ length places
+  pub below : (k : ℕ) → k < index → slice_index places k < place
+  pub above : index < length places → place ≤ slice_index places index
+
+-- the places of the clusters that a run brings: at a meeting its own too
+abbrev pub run_places : Change → Option ℕ → List ℕ
+run_places c None = fresh_places c None
+run_places c (Some s) = fresh_places c (Some s) ++ s ∷ []
+
+-- up to where old places stay, and from where on the old run is used again
+abbrev pub front_bound : Change → Option ℕ → ℕ
+front_bound c None = start c + 1
+front_bound c (Some s) = min (start c + 1) s
+
+abbrev pub old_stop : Change → Option ℕ → ℕ
+old_stop c None = length c.old.blocks
+old_stop c (Some s) = old_place c s
+
+-- what a run of an edited script brings back
+pub record IsRerun {M : Type 0} (meaning : M → Cluster) (c : Change) (r : Rerun M) : Type 0 where
+  pub is_first : IsFirstMeeting c r.met
+  pub from_is : r.course.from ≡ start c
+  pub at_is : r.course.at ≡ stop c r.met
+  pub spacing_is : r.course.spacing ≡ c.spacing
+  pub has_run : HasRun meaning c.new r.course
+  pub places_are : r.course.places.items ≡ run_places c r.met
+
+-- Where the old run goes on: which of its places stay, and which are used again.
+pub record IsSeam (c : Change) (meeting : Option ℕ) (seam : Seam) : Type 0 where
+  pub old_stop_is : seam.old_stop ≡ old_stop c meeting
+  pub fronts : take seam.front c.places ≡ filter (λ p. nat_lt p (front_bound c meeting)) c.places
+  pub rests : drop seam.rest c.places ≡ filter (λ p. nat_le (old_stop c meeting + 1) p) c.places
+  pub order : seam.front ≤ seam.rest
+  pub within : seam.rest ≤ length c.places
+
+abbrev pub no_cut : Cut
+no_cut = record { front = 0; old_rest = 0; new_rest = 0 }
+
+-- Blocks and outputs of two scripts are the same up to a place, and from an old place on, but that they
+-- move.
+pub record IsMended (old new : PlainScript) (cut : Cut) (from : ℕ) (os : List (List Line)) (stop : ℕ) : Type 0 where
+  pub same_front : take from new.blocks ≡ take from old.blocks
+  pub same_answers : take from (outputs new) ≡ take from (outputs old)
+  pub answers_on : take from (outputs new) ++ os ≡ take (from + length os) (outputs new)
+  pub same_rest : drop (from + length os) new.blocks ≡ drop stop old.blocks
+  pub same_end : drop (from + length os) (outputs new) ≡ drop stop (outputs old)
+  pub moved : from + length os ≡ stop - cut.old_rest + cut.new_rest
+  pub in_rest : cut.old_rest ≤ stop
+  pub order : from ≤ stop
+  pub old_within : stop ≤ length old.blocks
+  pub new_within : from + length os ≤ length new.blocks
+
+-- What stands ready for a change: with what of the old stays it makes up the new.
+pub record IsReady {M : Type 0} (meaning : M → Cluster) (c : Change) (kept : List Cluster) (r : Ready M) : Type 0 where
+  pub meeting : Option ℕ
+  pub is_first : IsFirstMeeting c meeting
+  pub from_is : r.course.from ≡ start c
+  pub at_is : r.course.at ≡ stop c meeting
+  pub spacing_is : r.course.spacing ≡ c.spacing
+  pub places_are : r.places.items ≡ places_before c meeting
+  pub mismatches_are : r.mismatches.items ≡ mismatches c.new
+  pub outputs_are : take r.course.from (outputs c.old) ++ (r.course.outputs.items ++ drop r.seam.old_stop (outputs c.old)) ≡ outputs c.new
+  pub states_are : take r.seam.front kept ++ (map meaning r.course.kept.items ++ drop r.seam.rest kept) ≡ map (state c.new) r.places.items
+  pub order : r.course.from ≤ r.seam.old_stop
+  pub old_within : r.seam.old_stop ≤ length c.old.blocks
+  pub front_first : r.seam.front ≤ r.seam.rest
+  pub rest_within : r.seam.rest ≤ length c.places

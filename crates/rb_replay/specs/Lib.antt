@@ -1,0 +1,9 @@
+pub mod Run
+pub mod Report
+pub mod Places
+pub mod Held
+pub mod Reuse
+pub mod After
+pub mod Start
+pub mod Course
+pub mod Cuts

@@ -1,0 +1,129 @@
+-- What an edit uses again of the run before it. (This project's.)
+use Rattle.std.specs.Prelude.{◌≡◌, ℕ, ◌+◌, ◌-◌, ◌*◌, ◌/◌, ◌<◌, ◌≤◌, ◌⊎◌, min, nat_le, nat_lt, List, ◌++◌, length, take, drop, filter, map, Contains, Option, Some, None}
+use Rattle.rb_script.specs.Script.{PlainScript}
+use Rattle.rb_script.specs.declared.edit.Edit.{Edit}
+use Rattle.rb_script.specs.declared.edit.Edit.TheVariants.{Insert, Replace, Remove, Expect, Accept}
+use Rattle.rb_replay.specs.Run.{state}
+use Rattle.rb_replay.specs.Places.{last_up_to, every, thin, AreKept}
+use Rattle.rb_replay.specs.Held.{Held}
+
+-- Two scripts and what they share: the first `front` blocks, and those after old place `old_rest`, which
+-- stand after new place `new_rest`. Clusters of the old script are kept at `places`, `spacing` directives
+-- apart.
+pub record Change : Type 0 where
+  pub old : PlainScript
+  pub new : PlainScript
+  pub front : ℕ
+  pub old_rest : ℕ
+  pub new_rest : ℕ
+  pub spacing : ℕ
+  pub places : List ℕ
+
+abbrev pub change : Held → PlainScript → ℕ → ℕ → ℕ → Change
+change h new front old_rest new_rest =
+    record { old = h.script; new = new; front = front; old_rest = old_rest; new_rest = new_rest; spacing = h.spacing; places = h.places }
+
+-- the change that an edit makes of a session, where it may change a cluster
+abbrev pub change_of : Held → PlainScript → Edit → Option Change
+change_of h new (Insert k block) = Some (change h new (k - 1) (k - 1) k)
+change_of h new (Replace k block) = Some (change h new (k - 1) k k)
+change_of h new (Remove k) = Some (change h new (k - 1) k (k - 1))
+change_of h new (Expect k lines) = None
+change_of h new Accept = None
+
+-- the place to run on from
+abbrev pub start : Change → ℕ
+start c = last_up_to c.front c.places
+
+-- the old place of a new place in the rest, and the new place of an old one
+abbrev pub old_place : Change → ℕ → ℕ
+old_place c s = s - c.new_rest + c.old_rest
+
+abbrev pub new_place : Change → ℕ → ℕ
+new_place c p = p - c.old_rest + c.new_rest
+
+-- At this new place the new cluster is the one that is kept for the old place.
+pub record Meets (c : Change) (s : ℕ) : Type 0 where
+  pub from_start : start c ≤ s
+  pub in_rest : c.new_rest ≤ s
+  pub is_kept : Contains c.places (old_place c s)
+  pub same : state c.new s ≡ state c.old (old_place c s)
+
+-- the least place where they meet, or none
+abbrev pub IsFirstMeeting : Change → Option ℕ → Type 0
+IsFirstMeeting c (Some s) = Meets c s × ((t : ℕ) → t < s → Meets c t → ⊥)
+IsFirstMeeting c None = (t : ℕ) → Meets c t → ⊥
+
+-- where running stops
+abbrev pub stop : Change → Option ℕ → ℕ
+stop c (Some s) = s
+stop c None = length c.new.blocks
+
+-- the places on the way: start + K, start + 2 * K and so on, before a meeting or up to the end
+abbrev pub fresh_places : Change → Option ℕ → List ℕ
+fresh_places c None = every c.spacing (start c) ((length c.new.blocks - start c) / c.spacing)
+fresh_places c (Some s) = every c.spacing (start c) ((s - 1 - start c) / c.spacing)
+
+-- The places before thinning: up to the start, those on the way, and from a meeting on those of the old
+-- script.
+abbrev pub places_before : Change → Option ℕ → List ℕ
+places_before c None = filter (λ p. nat_lt p (start c + 1)) c.places ++ fresh_places c None
+places_before c (Some s) =
+    filter (λ p. nat_lt p (min (start c + 1) s)) c.places ++ (fresh_places c (Some s) ++ map (new_place c) (filter (λ p. nat_le (old_place c s) p) c.places))
+
+abbrev pub places_after : Change → Option ℕ → List ℕ
+places_after c meeting = thin c.spacing (places_before c meeting)
+
+-- which places stand in that list
+abbrev pub IsOldPlace : Change → Option ℕ → ℕ → Type 0
+IsOldPlace c None p = ⊥
+IsOldPlace c (Some s) p = (s ≤ p) × Contains c.places (old_place c p)
+
+abbrev pub IsPlaceBefore : Change → Option ℕ → ℕ → Type 0
+IsPlaceBefore c meeting p =
+    (Contains c.places p × (p ≤ start c))
+    ⊎ ((j : ℕ) × (1 ≤ j) × (p ≡ start c + j * c.spacing) × (p ≤ stop c meeting))
+    ⊎ IsOldPlace c meeting p
+
+-- what the change of an edit is like
+pub record IsChange (c : Change) : Type 0 where
+  pub same_front : take c.front c.new.blocks ≡ take c.front c.old.blocks
+  pub same_rest : drop c.new_rest c.new.blocks ≡ drop c.old_rest c.old.blocks
+  pub old_from : c.front ≤ c.old_rest
+  pub old_to : c.old_rest ≤ c.front + 1
+  pub new_from : c.front ≤ c.new_rest
+  pub new_to : c.new_rest ≤ c.front + 1
+  pub old_within : c.old_rest ≤ length c.old.blocks
+  pub new_within : c.new_rest ≤ length c.new.blocks
+  pub lengths : length c.new.blocks + c.old_rest ≡ length c.old.blocks + c.new_rest
+  pub spaced : 1 ≤ c.spacing
+  pub kept : AreKept c.spacing (length c.old.blocks) c.places
+
+-- how many directives are executed
+pub record IsCost (c : Change) (executed : ℕ) : Type 0 where
+  pub meeting : Option ℕ
+  pub is_first : IsFirstMeeting c meeting
+  pub is_cost : executed ≡ stop c meeting - start c
+
+-- What is used again, exactly: where running stops, how much was executed, and which places are kept then.
+pub record Reuses (c : Change) (executed : ℕ) (places : List ℕ) : Type 0 where
+  pub meeting : Option ℕ
+  pub is_first : IsFirstMeeting c meeting
+  pub is_cost : executed ≡ stop c meeting - start c
+  pub are_places : places ≡ places_after c meeting
+
+-- the same of an edit: one that changes no cluster executes nothing and leaves the places
+abbrev pub ReusesIf : Option Change → List ℕ → ℕ → List ℕ → Type 0
+ReusesIf (Some c) old_places executed places = Reuses c executed places
+ReusesIf None old_places executed places = (executed ≡ 0) × (places ≡ old_places)
+
+abbrev pub ReusesFor : Held → Edit → PlainScript → ℕ → List ℕ → Type 0
+ReusesFor h edit new executed places = ReusesIf (change_of h new edit) h.places executed places
+
+abbrev pub IsCostIf : Option Change → ℕ → Type 0
+IsCostIf (Some c) executed = IsCost c executed
+IsCostIf None executed = executed ≡ 0
+
+-- how many directives an edit of a session executes, where it makes this script
+abbrev pub IsCostFor : Held → Edit → PlainScript → ℕ → Type 0
+IsCostFor h edit new executed = IsCostIf (change_of h new edit) executed

@@ -1,0 +1,30 @@
+-- One run of a script from the empty cluster: its clusters, and its outputs. (This project's.)
+use Rattle.std.specs.Prelude.{ℕ, List, [], ◌∷◌, map, take}
+use Rattle.rb_script.specs.Lines.{Line}
+use Rattle.rb_script.specs.Script.{PlainScript}
+use Rattle.rb_script.specs.Directive.{PlainDirective}
+use Rattle.rb_script.specs.Reading.{directive_of}
+use Rattle.rb_cluster.specs.Cluster.{Cluster, empty}
+use Rattle.rb_cluster.specs.Outcome.{outcome}
+
+-- the directives of a script, in order
+abbrev pub directives : PlainScript → List PlainDirective
+directives s = map directive_of s.blocks
+
+-- the cluster that directives lead to
+abbrev pub led : Cluster → List PlainDirective → Cluster
+led c [] = c
+led c (d ∷ ds) = led (outcome c d).cluster ds
+
+-- what they answer on the way
+abbrev pub answers : Cluster → List PlainDirective → List (List Line)
+answers c [] = []
+answers c (d ∷ ds) = (outcome c d).output ∷ answers (outcome c d).cluster ds
+
+-- the cluster at place i of a script, after its first i directives
+abbrev pub state : PlainScript → ℕ → Cluster
+state s i = led empty (take i (directives s))
+
+-- the output of each directive
+abbrev pub outputs : PlainScript → List (List Line)
+outputs s = answers empty (directives s)

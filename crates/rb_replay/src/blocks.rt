@@ -1,0 +1,15 @@
+//! The blocks of a script by their index.
+
+ghost use Rattle.std.specs.Prelude.{◌≡◌, ◌<◌, ◌≤◌, Some, length, slice_get};
+ghost use Rattle.rb_script.specs.declared.limits.TheConstants.{MAX_DIRECTIVES};
+
+use rb_script::{Block, Script};
+
+/// The block at an index, which counts from 0.
+pub(crate) fn block_at(script: &Script, index: usize) -> &Block
+    requires few { length script.now.blocks ≤ MAX_DIRECTIVES }
+    requires within { index < length script.now.blocks }
+    ensures { slice_get script.now.blocks index ≡ Some result.now }
+{
+    script.block(index + 1).unwrap()
+}

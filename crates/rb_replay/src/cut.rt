@@ -1,0 +1,48 @@
+//! What an edit changes.
+
+ghost use Rattle.std.specs.Prelude.{◌≡◌};
+ghost use Rattle.rb_replay.specs.Cuts.{effect_of};
+
+use rb_script::Edit;
+
+/// Where the common front of two scripts ends, and where their common rest begins in either.
+#[derive(Clone, Copy)]
+pub(crate) struct Cut {
+    pub(crate) front: usize,
+    pub(crate) old_rest: usize,
+    pub(crate) new_rest: usize,
+}
+
+/// What an edit changes of a run.
+#[derive(Clone, Copy)]
+pub(crate) enum Effect {
+    /// Other directives are run between a front and a rest that stay.
+    Splice(Cut),
+    /// The directive at this place expects other lines.
+    Expect(usize),
+    /// Each directive expects its output.
+    Accept,
+}
+
+/// What the edit changes.
+pub(crate) fn effect_of(edit: &Edit) -> Effect
+    ensures { result ≡ effect_of edit.now }
+{
+    match edit {
+        Edit::Insert(place, _) => splice(place.saturating_sub(1), place.saturating_sub(1), *place),
+        Edit::Replace(place, _) => splice(place.saturating_sub(1), *place, *place),
+        Edit::Remove(place) => splice(place.saturating_sub(1), *place, place.saturating_sub(1)),
+        Edit::Expect(place, _) => Effect::Expect(*place),
+        Edit::Accept => Effect::Accept,
+    }
+}
+
+fn splice(front: usize, old_rest: usize, new_rest: usize) -> Effect
+    ensures { result ≡ Effect.Splice (record { front = front; old_rest = old_rest; new_rest = new_rest }) }
+{
+    Effect::Splice(Cut {
+        front,
+        old_rest,
+        new_rest,
+    })
+}

@@ -1,0 +1,82 @@
+//! Edits of a session.
+
+use crate::cut::{Cut, Effect, effect_of};
+use crate::ready::{make_room, take_over};
+use crate::session::{Changed, Session};
+use rb_cluster::{Count, Machine};
+use rb_script::{Edit, EditFault, Script};
+use std::alloc::AllocError;
+
+impl<M: Machine> Session<M> {
+    ghost use Rattle.std.specs.Prelude.{◌≡◌, ◌≢◌, ◌+◌, ◌≤◌, ◌^◌, ℕ, length, IfOk, IfErr, OnOk, OnErr, Ok, Err};
+    ghost use Rattle.rb_script.specs.declared.limits.TheConstants.{MAX_DIRECTIVES};
+    ghost use Rattle.rb_script.specs.Script.{PlainScript};
+    ghost use Rattle.rb_script.specs.Edits.{edited, EditFails};
+    ghost use Rattle.rb_replay.specs.Run.{outputs};
+    ghost use Rattle.rb_replay.specs.Held.{Held, IsFresh};
+    ghost use Rattle.rb_replay.specs.Reuse.{IsChange, IsCost, Reuses, IsCostFor};
+    ghost use Rattle.rb_replay.specs.After.{IsAnswer};
+    ghost use Rattle.rb_replay.specs.Cuts.{change_by};
+
+    /// Makes one edit, and runs what it changes. A refused edit changes nothing. Refusals come in the
+    /// order of [`EditFault`], and all but want of memory before anything runs.
+    pub fn edit(&mut self, edit: &Edit, meter: &mut M::Meter) -> Result<Changed, EditFault>
+        requires { M.Meter.count_of meter.old ≤ 2 ^ 62 }
+        // An accepted edit puts in the script that it makes, and answers as one run of it. A refused one
+        // changes nothing.
+        ensures answer { IsAnswer self.old edit.now result self.new }
+        // Which fault it is.
+        ensures faults { IfErr result (λ fault. EditFails fault (edited self.old.script edit.now (outputs self.old.script))) }
+        // Those of the script are found whether or not there is memory.
+        ensures early { IfErr (edited self.old.script edit.now (outputs self.old.script)) (λ fault. result ≡ Err fault) }
+        // It executes as many directives as it says, and a refused one none, or for want of memory at
+        // most those.
+        ensures counted { IfOk result (λ changed. M.Meter.count_of meter.new ≡ M.Meter.count_of meter.old + changed.executed) }
+        ensures not_run { IfErr result (λ fault. fault ≢ EditFault.OutOfMemory → M.Meter.count_of meter.new ≡ M.Meter.count_of meter.old) }
+        ensures refused { OnErr result ((new : PlainScript) → edited self.old.script edit.now (outputs self.old.script) ≡ Ok new → (n : ℕ) → IsCostFor self.old edit.now new n → M.Meter.count_of meter.new ≤ M.Meter.count_of meter.old + n) }
+        // All that is held is what one run of the script gives, whatever the answer.
+        ensures fresh { IsFresh self.new }
+    {
+        let new = self.script.edited(edit, &self.outputs)?;
+        match effect_of(edit) {
+            Effect::Splice(cut) => Ok(self.replay(new, cut, meter)?),
+            Effect::Expect(place) => Ok(self.expect(new, place)?),
+            Effect::Accept => Ok(self.accept(new)),
+        }
+    }
+
+    /// Puts the new script in, and runs what has to be run.
+    fn replay(&mut self, new: Script, cut: Cut, meter: &mut M::Meter) -> Result<Changed, AllocError>
+        requires change { IsChange (change_by self.old new cut) }
+        requires few { length new.blocks ≤ MAX_DIRECTIVES }
+        requires meter { M.Meter.count_of meter.old ≤ 2 ^ 62 }
+        ensures script { OnOk result (self.new.script ≡ new) }
+        ensures spacing { self.new.spacing ≡ self.old.spacing }
+        ensures reuse { IfOk result (λ changed. Reuses (change_by self.old new cut) changed.executed self.new.places) }
+        ensures counted { IfOk result (λ changed. M.Meter.count_of meter.new ≡ M.Meter.count_of meter.old + changed.executed) }
+        ensures mismatches { IfOk result (λ changed. changed.mismatches ≡ length self.new.mismatches) }
+        ensures fresh { IsFresh self.new }
+        ensures err { OnErr result (self.new ≡ self.old) }
+        ensures refused { OnErr result ((n : ℕ) → IsCost (change_by self.old new cut) n → M.Meter.count_of meter.new ≤ M.Meter.count_of meter.old + n) }
+    {
+        let ready = self.prepare(&new, cut, meter)?;
+        make_room(&ready.course, &mut self.outputs, &mut self.kept)?;
+        // From here on nothing can fail.
+        let executed = (ready.course.at - ready.course.from) as u64;
+        let mismatches = ready.mismatches.len();
+        self.places = ready.places;
+        self.mismatches = ready.mismatches;
+        self.script = new;
+        take_over(
+            ready.course,
+            ready.seam,
+            &mut self.outputs,
+            &mut self.places,
+            &mut self.kept,
+        );
+        Ok(Changed {
+            executed,
+            mismatches,
+        })
+    }
+}

@@ -1,0 +1,63 @@
+//! Edits that change expectations alone.
+
+use crate::cut::Cut;
+use crate::session::{Changed, Session};
+use rb_cluster::Machine;
+use rb_script::Script;
+use std::alloc::AllocError;
+
+impl<M: Machine> Session<M> {
+    ghost use Rattle.std.specs.Prelude.{◌≡◌, ◌-◌, ◌≤◌, [], length, take, drop, IfOk, OnOk, OnErr};
+    ghost use Rattle.rb_script.specs.declared.limits.TheConstants.{MAX_DIRECTIVES};
+    ghost use Rattle.rb_replay.specs.Run.{directives, outputs};
+    ghost use Rattle.rb_replay.specs.Report.{mismatches};
+    ghost use Rattle.rb_replay.specs.Held.{Held, IsFresh};
+    ghost use Rattle.rb_replay.specs.Cuts.{IsMended, no_cut};
+
+    /// Puts in a script whose directive at the place expects other lines.
+    pub(crate) fn expect(&mut self, new: Script, place: usize) -> Result<Changed, AllocError>
+        requires same { directives new ≡ directives self.old.script }
+        requires first { 1 ≤ place }
+        requires within { place ≤ length self.old.script.blocks }
+        requires mended { IsMended self.old.script new no_cut (place - 1) (take 1 (drop (place - 1) (outputs self.old.script))) place }
+        ensures script { OnOk result (self.new.script ≡ new) }
+        ensures spacing { self.new.spacing ≡ self.old.spacing }
+        ensures places { self.new.places ≡ self.old.places }
+        ensures executed { IfOk result (λ changed. changed.executed ≡ 0) }
+        ensures mismatches { IfOk result (λ changed. changed.mismatches ≡ length self.new.mismatches) }
+        ensures fresh { IsFresh self.new }
+        ensures err { OnErr result (self.new ≡ self.old) }
+    {
+        let cut = Cut {
+            front: 0,
+            old_rest: 0,
+            new_rest: 0,
+        };
+        let mismatches = self.mended(&new, cut, place - 1, &self.outputs[place - 1..place], place)?;
+        self.mismatches = mismatches;
+        self.script = new;
+        Ok(Changed {
+            executed: 0,
+            mismatches: self.mismatches.len(),
+        })
+    }
+
+    /// Puts in a script whose directives expect their outputs.
+    pub(crate) fn accept(&mut self, new: Script) -> Changed
+        requires same { directives new ≡ directives self.old.script }
+        requires none { mismatches new ≡ [] }
+        ensures script { self.new.script ≡ new }
+        ensures spacing { self.new.spacing ≡ self.old.spacing }
+        ensures places { self.new.places ≡ self.old.places }
+        ensures executed { result.executed ≡ 0 }
+        ensures mismatches { result.mismatches ≡ length self.new.mismatches }
+        ensures fresh { IsFresh self.new }
+    {
+        self.mismatches.clear();
+        self.script = new;
+        Changed {
+            executed: 0,
+            mismatches: 0,
+        }
+    }
+}

@@ -1,0 +1,30 @@
+//! Why no session starts.
+
+ghost use Rattle.std.specs.Prelude.{◌≡◌};
+ghost use Rattle.rb_replay.specs.declared.fault.StartFault.TheVariants.{OutOfMemory as StartOutOfMemory};
+
+use rb_script::ScriptFault;
+use std::alloc::AllocError;
+use thiserror::Error;
+
+/// Why no session starts.
+#[derive(Clone, Copy, Debug, PartialEq, Eq, Error)]
+pub enum StartFault {
+    /// The bytes are no script.
+    #[error("{0}")]
+    Script(ScriptFault),
+    /// Clusters are kept 1 to 64 directives apart.
+    #[error("clusters are kept 1 to 64 directives apart")]
+    BadSpacing,
+    /// Memory was refused.
+    #[error("out of memory")]
+    OutOfMemory,
+}
+
+impl From<AllocError> for StartFault {
+    ghost from_gives = { λ _ e. e ≡ StartOutOfMemory };
+
+    fn from(_e: AllocError) -> StartFault {
+        StartFault::OutOfMemory
+    }
+}

@@ -1,0 +1,34 @@
+//! A session keeps a script's outputs while the script is edited.
+//!
+//! [`Session::start`] reads a script and runs it whole on a [`Machine`](rb_cluster::Machine). An edit
+//! then runs only what it has to: from the last cluster that was kept before the change, up to where the
+//! old clusters are met again. What a session answers is always what one run of its script from the empty
+//! cluster gives.
+#![tactic(auto)]
+
+mod blocks;
+mod course;
+mod cut;
+mod differing;
+mod edit;
+mod expectations;
+mod fault;
+mod laws;
+mod places;
+mod prepare;
+mod ready;
+mod report;
+mod rerun;
+mod seam;
+mod session;
+mod start;
+
+pub use fault::StartFault;
+pub use laws::{
+    cost_is_bounded, cost_is_one, cost_is_small, edits_answer_as_one_run, edits_are_changes,
+    places_are_few, places_are_members, places_are_near,
+};
+pub use session::{Changed, Session};
+
+#[cfg(test)]
+mod tests;

@@ -1,0 +1,128 @@
+//! The texts of a session.
+
+ghost use Rattle.std.specs.Prelude.{◌≡◌, ◌++◌, ◌≤◌, ◌∷◌, [], IsOk, codes, decimal, length};
+ghost use Rattle.rb_script.specs.Lines.{text_of, line_text};
+ghost use Rattle.rb_script.specs.Writes.{Writes};
+ghost use Rattle.rb_replay.specs.Report.{marked, mismatch_line, total_line};
+
+use crate::blocks::block_at;
+use crate::session::Session;
+use itoa::Buffer;
+use rb_cluster::Machine;
+use rb_script::{Lines, Sink, WriteFault};
+
+/// Writes a number in decimal digits.
+fn put_number<S: Sink>(sink: &mut S, n: usize) -> Result<(), WriteFault>
+    ensures wrote { Writes result (S.held sink.old) (S.held sink.new) (decimal n) }
+    ensures all { S.takes_all sink.old → IsOk result × S.takes_all sink.new }
+{
+    let mut digits = Buffer::new();
+    sink.put(digits.format(n).as_bytes())
+}
+
+/// Writes a line after a mark.
+fn put_line<S: Sink>(sink: &mut S, mark: &[u8], line: &[u8]) -> Result<(), WriteFault>
+    ensures wrote { Writes result (S.held sink.old) (S.held sink.new) (line_text (mark.now ++ line.now)) }
+    ensures all { S.takes_all sink.old → IsOk result × S.takes_all sink.new }
+{
+    sink.put(mark)?;
+    sink.put(line)?;
+    sink.put(b"\n")
+}
+
+/// Writes each line after a mark.
+fn put_marked<S: Sink>(sink: &mut S, mark: &[u8], lines: &Lines) -> Result<(), WriteFault>
+    ensures wrote { Writes result (S.held sink.old) (S.held sink.new) (text_of (marked mark.now lines.now)) }
+    ensures all { S.takes_all sink.old → IsOk result × S.takes_all sink.new }
+{
+    for i in 0..lines.len() {
+        put_line(sink, mark, lines.line(i))?;
+    }
+    Ok(())
+}
+
+/// Writes where a mismatch is.
+fn put_place<S: Sink>(sink: &mut S, place: usize) -> Result<(), WriteFault>
+    ensures wrote { Writes result (S.held sink.old) (S.held sink.new) (line_text (mismatch_line place)) }
+    ensures all { S.takes_all sink.old → IsOk result × S.takes_all sink.new }
+{
+    sink.put(b"mismatch ")?;
+    put_number(sink, place)?;
+    sink.put(b"\n")
+}
+
+/// Writes a mismatch: where it is, what was expected, and the output.
+fn put_mismatch<S: Sink>(
+    sink: &mut S,
+    place: usize,
+    expected: &Lines,
+    output: &Lines,
+) -> Result<(), WriteFault>
+    ensures wrote { Writes result (S.held sink.old) (S.held sink.new) (text_of (mismatch_line place ∷ (marked (codes "- ") expected.now ++ marked (codes "+ ") output.now))) }
+    ensures all { S.takes_all sink.old → IsOk result × S.takes_all sink.new }
+{
+    put_place(sink, place)?;
+    put_marked(sink, b"- ", expected)?;
+    put_marked(sink, b"+ ", output)
+}
+
+/// Writes how many directives and mismatches there are.
+fn put_total<S: Sink>(sink: &mut S, directives: usize, mismatches: usize) -> Result<(), WriteFault>
+    ensures wrote { Writes result (S.held sink.old) (S.held sink.new) (line_text (total_line directives mismatches)) }
+    ensures all { S.takes_all sink.old → IsOk result × S.takes_all sink.new }
+{
+    put_number(sink, directives)?;
+    sink.put(b" directives, ")?;
+    put_number(sink, mismatches)?;
+    sink.put(b" mismatches\n")
+}
+
+impl<M: Machine> Session<M> {
+    ghost use Rattle.std.specs.Prelude.{◌≡◌, ◌≤◌, IsOk, length};
+    ghost use Rattle.rb_script.specs.Lines.{text_of};
+    ghost use Rattle.rb_script.specs.Script.{text};
+    ghost use Rattle.rb_script.specs.Writes.{Writes};
+    ghost use Rattle.rb_replay.specs.Run.{outputs};
+    ghost use Rattle.rb_replay.specs.Report.{report, rewritten, mismatch_lines};
+    ghost use Rattle.rb_replay.specs.Held.{Held};
+
+    /// Writes each mismatch, and how many directives and mismatches there are. Takes no memory. On a
+    /// failure what went out is a beginning of the text.
+    pub fn write_report<S: Sink>(&self, sink: &mut S) -> Result<(), WriteFault>
+        ensures wrote { Writes result (S.held sink.old) (S.held sink.new) (report self.now.script) }
+        ensures all { S.takes_all sink.old → IsOk result × S.takes_all sink.new }
+    {
+        for place in &self.mismatches {
+            self.put_mismatch_at(sink, *place)?;
+        }
+        put_total(sink, self.script.len(), self.mismatches.len())
+    }
+
+    /// Writes the script. Takes no memory. On a failure what went out is a beginning of the text.
+    pub fn write_script<S: Sink>(&self, sink: &mut S) -> Result<(), WriteFault>
+        ensures wrote { Writes result (S.held sink.old) (S.held sink.new) (text self.now.script) }
+        ensures all { S.takes_all sink.old → IsOk result × S.takes_all sink.new }
+    {
+        self.script.write_to(sink)
+    }
+
+    /// Writes the script with its outputs in place of its expectations. Takes no memory. On a failure
+    /// what went out is a beginning of the text.
+    pub fn write_rewritten<S: Sink>(&self, sink: &mut S) -> Result<(), WriteFault>
+        ensures wrote { Writes result (S.held sink.old) (S.held sink.new) (rewritten self.now.script) }
+        ensures all { S.takes_all sink.old → IsOk result × S.takes_all sink.new }
+    {
+        self.script.write_with(&self.outputs, sink)
+    }
+
+    /// Writes the mismatch at a place.
+    fn put_mismatch_at<S: Sink>(&self, sink: &mut S, place: usize) -> Result<(), WriteFault>
+        requires first { 1 ≤ place }
+        requires within { place ≤ length self.now.script.blocks }
+        ensures wrote { Writes result (S.held sink.old) (S.held sink.new) (text_of (mismatch_lines self.now.script.blocks (outputs self.now.script) place)) }
+        ensures all { S.takes_all sink.old → IsOk result × S.takes_all sink.new }
+    {
+        let block = block_at(&self.script, place - 1);
+        put_mismatch(sink, place, block.expected(), &self.outputs[place - 1])
+    }
+}

@@ -1,0 +1,124 @@
+//! Running an edited script on from a kept cluster.
+
+ghost use Rattle.std.specs.Prelude.{◌≡◌, ◌+◌, ◌-◌, ◌<◌, ◌≤◌, ◌^◌, ℕ, length, map, IsTrue, false, Contains, slice_index};
+ghost use Rattle.rb_cluster.specs.Cluster.{Cluster};
+ghost use Rattle.rb_replay.specs.Places.{IsRising};
+ghost use Rattle.rb_replay.specs.Cuts.{IsNext};
+
+use crate::course::Course;
+use crate::cut::Cut;
+use crate::places::{count_below, find_start};
+use crate::session::Session;
+use rb_cluster::{Count, Machine};
+use rb_script::Script;
+use std::alloc::AllocError;
+
+/// What was run, and where the old clusters were met, if they were.
+#[derive(Drop)]
+pub(crate) struct Rerun<M> {
+    pub(crate) course: Course<M>,
+    pub(crate) met: Option<usize>,
+}
+
+/// Whether something is kept at the place. The index is that of the place, or of the next one that is kept.
+fn is_kept(places: &[usize], index: usize, place: usize) -> bool
+    requires rising { IsRising 0 places.now }
+    requires next { IsNext places.now place index }
+    ensures kept { IsTrue result → (index < length places.now) × (slice_index places.now index ≡ place) × Contains places.now place }
+    ensures none { result ≡ false → (Contains places.now place → ⊥) × IsNext places.now (place + 1) index }
+{
+    match places.get(index) {
+        Some(kept) => *kept == place,
+        None => false,
+    }
+}
+
+/// Whether the machine's cluster is the one that is kept for this place of the new script. Where it is
+/// not, the index moves on to the next place.
+fn meets<M: Machine>(
+    cut: Cut,
+    places: &[usize],
+    kept: &[M],
+    index: &mut usize,
+    machine: &M,
+    at: usize,
+) -> bool
+    requires paired { length kept.now ≡ length places.now }
+    requires rising { IsRising 0 places.now }
+    requires small { at + cut.old_rest < 2 ^ 63 }
+    requires next { IsNext places.now (at - cut.new_rest + cut.old_rest) index.old }
+    ensures met { (f : ℕ → Cluster) → map M.meaning kept.now ≡ map f places.now → IsTrue result → (cut.new_rest ≤ at) × Contains places.now (at - cut.new_rest + cut.old_rest) × (M.meaning machine.now ≡ f (at - cut.new_rest + cut.old_rest)) }
+    ensures unmet { (f : ℕ → Cluster) → map M.meaning kept.now ≡ map f places.now → result ≡ false → cut.new_rest ≤ at → Contains places.now (at - cut.new_rest + cut.old_rest) → M.meaning machine.now ≡ f (at - cut.new_rest + cut.old_rest) → ⊥ }
+    ensures next { result ≡ false → IsNext places.now (at + 1 - cut.new_rest + cut.old_rest) index.new }
+{
+    if at < cut.new_rest {
+        return false;
+    }
+    let here = *index;
+    if !is_kept(places, here, at - cut.new_rest + cut.old_rest) {
+        return false;
+    }
+    *index = here + 1;
+    machine.same(&kept[here])
+}
+
+impl<M: Machine> Session<M> {
+    ghost use Rattle.std.specs.Prelude.{◌≡◌, ◌+◌, ◌-◌, ◌≤◌, ◌^◌, ℕ, length, IfOk, OnErr};
+    ghost use Rattle.rb_script.specs.declared.limits.TheConstants.{MAX_DIRECTIVES};
+    ghost use Rattle.rb_replay.specs.Run.{state};
+    ghost use Rattle.rb_replay.specs.Places.{last_up_to};
+    ghost use Rattle.rb_replay.specs.Held.{Held};
+    ghost use Rattle.rb_replay.specs.Reuse.{IsChange, IsCost};
+    ghost use Rattle.rb_replay.specs.Cuts.{change_by, IsRerun};
+
+    /// The last kept cluster before the change, and its place.
+    fn last_kept(&self, front: usize) -> Result<(usize, M), AllocError>
+        requires { front ≤ MAX_DIRECTIVES }
+        ensures place { IfOk result (λ found. found.0 ≡ last_up_to front self.now.places) }
+        ensures machine { IfOk result (λ found. M.meaning found.1 ≡ state self.now.script found.0) }
+    {
+        let index = find_start(&self.places, front);
+        let machine = self.kept[index].try_copy()?;
+        Ok((self.places[index], machine))
+    }
+
+    /// Runs the new script on from the last kept cluster, up to where the old ones are met or to its end.
+    pub(crate) fn run_on(
+        &self,
+        new: &Script,
+        cut: Cut,
+        meter: &mut M::Meter,
+    ) -> Result<Rerun<M>, AllocError>
+        requires change { IsChange (change_by self.now new.now cut) }
+        requires few { length new.now.blocks ≤ MAX_DIRECTIVES }
+        requires meter { M.Meter.count_of meter.old ≤ 2 ^ 62 }
+        ensures run { IfOk result (IsRerun M.meaning (change_by self.now new.now cut)) }
+        ensures counted { IfOk result (λ run. M.Meter.count_of meter.new ≡ M.Meter.count_of meter.old + (run.course.at - run.course.from)) }
+        ensures refused { OnErr result ((n : ℕ) → IsCost (change_by self.now new.now cut) n → M.Meter.count_of meter.new ≤ M.Meter.count_of meter.old + n) }
+    {
+        let (from, mut machine) = self.last_kept(cut.front)?;
+        let mut course = Course::new(self.alloc, self.spacing, from);
+        let mut index = count_below(&self.places, cut.old_rest);
+        'steps: while !meets(
+            cut,
+            &self.places,
+            &self.kept,
+            &mut index,
+            &machine,
+            course.at,
+        ) {
+            course.keep_due(&machine)?;
+            if course.at == new.len() {
+                return Ok(Rerun { course, met: None });
+            }
+            machine = course.step(machine, new, meter)?;
+        }
+        let at = course.at;
+        course.kept.push(machine)?;
+        course.places.push(at)?;
+        Ok(Rerun {
+            course,
+            met: Some(at),
+        })
+    }
+}

@@ -1,0 +1,56 @@
+//! Where the old run goes on in the new one.
+
+use crate::cut::Cut;
+use crate::places::count_below;
+use crate::rerun::Rerun;
+use crate::session::Session;
+use rb_cluster::Machine;
+use rb_script::Script;
+
+/// Up to where the old run stays, and from where on it is used again.
+#[derive(Clone, Copy)]
+pub(crate) struct Seam {
+    // the old place from which on outputs are used again
+    pub(crate) old_stop: usize,
+    // how many of the old places stay, and the index of the first that is used again
+    pub(crate) front: usize,
+    pub(crate) rest: usize,
+}
+
+impl<M: Machine> Session<M> {
+    ghost use Rattle.std.specs.Prelude.{◌≡◌, ◌≤◌, length};
+    ghost use Rattle.rb_script.specs.declared.limits.TheConstants.{MAX_DIRECTIVES};
+    ghost use Rattle.rb_replay.specs.Held.{Held};
+    ghost use Rattle.rb_replay.specs.Reuse.{IsChange};
+    ghost use Rattle.rb_replay.specs.Cuts.{change_by, old_stop, front_bound, IsRerun, IsSeam};
+
+    /// The old place from which on the old run is used again, and the bound below which old places stay.
+    fn bounds(&self, new: &Script, cut: Cut, run: &Rerun<M>) -> (usize, usize)
+        requires change { IsChange (change_by self.now new.now cut) }
+        requires few { length new.now.blocks ≤ MAX_DIRECTIVES }
+        requires run { IsRerun M.meaning (change_by self.now new.now cut) run.now }
+        ensures old_stop { result.0 ≡ old_stop (change_by self.now new.now cut) run.now.met }
+        ensures front { result.1 ≡ front_bound (change_by self.now new.now cut) run.now.met }
+    {
+        let after = run.course.from + 1;
+        match run.met {
+            None => (self.script.len(), after),
+            Some(at) => (at - cut.new_rest + cut.old_rest, after.min(at)),
+        }
+    }
+
+    /// Where the old run goes on.
+    pub(crate) fn seam(&self, new: &Script, cut: Cut, run: &Rerun<M>) -> Seam
+        requires change { IsChange (change_by self.now new.now cut) }
+        requires few { length new.now.blocks ≤ MAX_DIRECTIVES }
+        requires run { IsRerun M.meaning (change_by self.now new.now cut) run.now }
+        ensures { IsSeam (change_by self.now new.now cut) run.now.met result }
+    {
+        let (old_stop, bound) = self.bounds(new, cut, run);
+        Seam {
+            old_stop,
+            front: count_below(&self.places, bound),
+            rest: count_below(&self.places, old_stop + 1),
+        }
+    }
+}

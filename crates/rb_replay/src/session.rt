@@ -1,0 +1,93 @@
+//! A session, and what can be read of it.
+
+use rb_cluster::Machine;
+use rb_script::{Block, Lines, Script};
+use std::alloc::Global;
+use std::marker::Model;
+
+/// A script with what one run of it gives, and clusters of that run.
+#[derive(Drop)]
+pub struct Session<M: Machine> {
+    pub(crate) alloc: Global,
+    pub(crate) script: Script,
+    pub(crate) spacing: usize,
+    pub(crate) outputs: Vec<Lines>,
+    pub(crate) mismatches: Vec<usize>,
+    // where clusters are kept, and those clusters
+    pub(crate) places: Vec<usize>,
+    pub(crate) kept: Vec<M>,
+}
+
+impl<M: Machine> Model for Session<M> {
+    ghost use Rattle.std.specs.Prelude.{map};
+    ghost use Rattle.rb_replay.specs.Held.{Held, IsFresh};
+
+    ghost Value = { Held };
+
+    ghost view = { λ s. record { script = s.script; spacing = s.spacing; outputs = s.outputs.items; mismatches = s.mismatches.items; places = s.places.items; kept = map M.meaning s.kept.items } };
+
+    ghost invariant = { λ s. IsFresh (record { script = s.script; spacing = s.spacing; outputs = s.outputs.items; mismatches = s.mismatches.items; places = s.places.items; kept = map M.meaning s.kept.items }) };
+}
+
+/// What an edit came to.
+#[derive(Clone, Copy, Debug, PartialEq, Eq)]
+pub struct Changed {
+    /// How many directives were executed.
+    pub executed: u64,
+    /// How many mismatches there are now.
+    pub mismatches: usize,
+}
+
+impl<M: Machine> Session<M> {
+    ghost use Rattle.std.specs.Prelude.{◌≡◌, ◌-◌, ◌==◌, length, slice_get, None, option_copied, if◌then◌else◌};
+    ghost use Rattle.rb_replay.specs.Held.{Held, IsFresh};
+    ghost use Rattle.rb_replay.specs.Run.{outputs};
+    ghost use Rattle.rb_replay.specs.Report.{mismatches};
+
+    /// How many directives the script has.
+    pub fn len(&self) -> usize
+        ensures len { result ≡ length self.now.script.blocks }
+        // All that the session holds is what one run of its script gives.
+        ensures fresh { IsFresh self.now }
+    {
+        self.script.len()
+    }
+
+    pub fn is_empty(&self) -> bool
+        ensures { result ≡ (length self.now.script.blocks == 0) }
+    {
+        self.script.is_empty()
+    }
+
+    /// The block at a place, which counts from 1.
+    pub fn block(&self, place: usize) -> Option<&Block>
+        ensures { option_copied result ≡ (if place == 0 then None else slice_get self.now.script.blocks (place - 1)) }
+    {
+        self.script.block(place)
+    }
+
+    /// The output of the directive at a place, which counts from 1.
+    pub fn output(&self, place: usize) -> Option<&Lines>
+        ensures { option_copied result ≡ (if place == 0 then None else slice_get (outputs self.now.script) (place - 1)) }
+    {
+        match place {
+            0 => None,
+            _ => self.outputs.get(place - 1),
+        }
+    }
+
+    /// The places where the expectation is not the output, in order.
+    pub fn mismatches(&self) -> &[usize]
+        ensures { result.now ≡ mismatches self.now.script }
+    {
+        self.mismatches.as_slice()
+    }
+
+    /// The places at which clusters are kept, in order. Place `i` is the one after the first `i`
+    /// directives.
+    pub fn checkpoints(&self) -> &[usize]
+        ensures { result.now ≡ self.now.places }
+    {
+        self.places.as_slice()
+    }
+}

@@ -1,0 +1,147 @@
+//! Starting a session.
+
+ghost use Rattle.std.specs.Prelude.{◌≡◌, ◌≢◌, ◌+◌, ◌/◌, ◌≤◌, ◌^◌, ◌∷◌, length, map, IfOk, IfErr, IfSome, OnOk, OnErr, Ok, Err};
+ghost use Rattle.rb_script.specs.declared.limits.TheConstants.{MAX_DIRECTIVES};
+ghost use Rattle.rb_script.specs.Script.{PlainScript};
+ghost use Rattle.rb_script.specs.Reads.{Reads};
+ghost use Rattle.rb_script.specs.Reading.{read_of, early_fault};
+ghost use Rattle.rb_replay.specs.Run.{state, outputs};
+ghost use Rattle.rb_replay.specs.Places.{multiples};
+ghost use Rattle.rb_replay.specs.Start.{IsRefused, refusal};
+
+use crate::course::Course;
+use crate::differing::list_differing;
+use crate::fault::StartFault;
+use crate::session::Session;
+use rb_cluster::{Count, Machine};
+use rb_script::{Script, ScriptFault};
+use std::alloc::{AllocError, Global};
+
+/// The fault of a start for one of reading. Want of memory is the start's own.
+fn refusal(fault: ScriptFault) -> StartFault
+    ensures { result ≡ refusal fault }
+{
+    match fault {
+        ScriptFault::OutOfMemory => StartFault::OutOfMemory,
+        _ => StartFault::Script(fault),
+    }
+}
+
+/// The script of the bytes.
+fn read(alloc: Global, bytes: &[u8]) -> Result<Script, StartFault>
+    ensures found { IfOk result (λ s. Reads bytes.now s) }
+    ensures only { (s : PlainScript) → Reads bytes.now s → IfErr result (λ fault. fault ≡ StartFault.OutOfMemory) }
+    ensures refused { IfErr result (λ fault. IsRefused fault (read_of bytes.now)) }
+    ensures spaced { result ≢ Err StartFault.BadSpacing }
+    ensures early { IfSome (early_fault bytes.now) (λ fault. result ≡ Err (StartFault.Script fault)) }
+{
+    match Script::read(alloc, bytes) {
+        Ok(script) => Ok(script),
+        Err(fault) => Err(refusal(fault)),
+    }
+}
+
+impl<M: Machine> Session<M> {
+    ghost use Rattle.std.specs.Prelude.{◌≡◌, ◌≢◌, ◌+◌, ◌/◌, ◌≤◌, ◌^◌, ◌∷◌, ℕ, true, false, length, IfOk, IfErr, IfSome, OnOk, OnErr, Ok, Err};
+    ghost use Rattle.rb_script.specs.declared.limits.TheConstants.{MAX_DIRECTIVES};
+    ghost use Rattle.rb_script.specs.Script.{PlainScript};
+    ghost use Rattle.rb_script.specs.Reads.{Reads};
+    ghost use Rattle.rb_script.specs.Reading.{read_of, early_fault};
+    ghost use Rattle.rb_replay.specs.Places.{multiples};
+    ghost use Rattle.rb_replay.specs.Held.{Held, IsFresh};
+    ghost use Rattle.rb_replay.specs.Start.{is_spacing, IsRefused, RisesFor};
+
+    /// Reads the script of the bytes and runs it whole. Clusters are kept every so many directives: each
+    /// 1 to 64, which is looked at first.
+    pub fn start(
+        alloc: Global,
+        bytes: &[u8],
+        every: u64,
+        meter: &mut M::Meter,
+    ) -> Result<Session<M>, StartFault>
+        requires { M.Meter.count_of meter.old ≤ 2 ^ 62 }
+        // The script is the one of the bytes, and what is held is what one run of it gives.
+        ensures script { IfOk result (λ s. Reads bytes.now s.script) }
+        ensures fresh { IfOk result IsFresh }
+        ensures spacing { IfOk result (λ s. s.spacing ≡ every) }
+        // Clusters are kept at 0, `every`, twice `every` and so on, up to the end.
+        ensures places { IfOk result (λ s. s.places ≡ 0 ∷ multiples every (length s.script.blocks / every)) }
+        // Each directive is executed once.
+        ensures counted { IfOk result (λ s. M.Meter.count_of meter.new ≡ M.Meter.count_of meter.old + length s.script.blocks) }
+        // The spacing is looked at before anything else.
+        ensures bad_spacing { is_spacing every ≡ false → result ≡ Err StartFault.BadSpacing }
+        ensures spaced { result ≡ Err StartFault.BadSpacing → is_spacing every ≡ false }
+        // What is the script of the bytes is started, unless memory runs out.
+        ensures only { (s : PlainScript) → Reads bytes.now s → is_spacing every ≡ true → IfErr result (λ fault. fault ≡ StartFault.OutOfMemory) }
+        // Which fault of reading it is; these are found whether or not there is memory.
+        ensures refused { IfErr result (λ fault. IsRefused fault (read_of bytes.now)) }
+        ensures early { is_spacing every ≡ true → IfSome (early_fault bytes.now) (λ fault. result ≡ Err (StartFault.Script fault)) }
+        // A refused start has executed nothing, or for want of memory at most the directives of the script.
+        ensures risen { IfErr result (λ fault. RisesFor fault bytes.now (M.Meter.count_of meter.old) (M.Meter.count_of meter.new)) }
+    {
+        if every < 1 || every > 64 {
+            return Err(StartFault::BadSpacing);
+        }
+        let script = read(alloc, bytes)?;
+        Ok(Session::started(alloc, script, every as usize, meter)?)
+    }
+
+    /// Runs the script whole.
+    fn started(
+        alloc: Global,
+        script: Script,
+        spacing: usize,
+        meter: &mut M::Meter,
+    ) -> Result<Session<M>, AllocError>
+        requires least { 1 ≤ spacing }
+        requires most { spacing ≤ 64 }
+        requires few { length script.blocks ≤ MAX_DIRECTIVES }
+        requires meter { M.Meter.count_of meter.old ≤ 2 ^ 62 }
+        ensures script { IfOk result (λ s. s.script ≡ script) }
+        ensures spacing { IfOk result (λ s. s.spacing ≡ spacing) }
+        ensures places { IfOk result (λ s. s.places ≡ 0 ∷ multiples spacing (length script.blocks / spacing)) }
+        ensures fresh { IfOk result IsFresh }
+        ensures counted { OnOk result (M.Meter.count_of meter.new ≡ M.Meter.count_of meter.old + length script.blocks) }
+        ensures refused { OnErr result (M.Meter.count_of meter.new ≤ M.Meter.count_of meter.old + length script.blocks) }
+    {
+        let course = run_whole(alloc, &script, spacing, meter)?;
+        let mismatches = list_differing(alloc, &script, 0, &course.outputs)?;
+        Ok(Session {
+            alloc,
+            script,
+            spacing,
+            outputs: course.outputs,
+            mismatches,
+            places: course.places,
+            kept: course.kept,
+        })
+    }
+}
+
+/// Runs the script from the empty cluster to its end. That is kept at place 0.
+fn run_whole<M: Machine>(
+    alloc: Global,
+    script: &Script,
+    spacing: usize,
+    meter: &mut M::Meter,
+) -> Result<Course<M>, AllocError>
+    requires least { 1 ≤ spacing }
+    requires few { length script.now.blocks ≤ MAX_DIRECTIVES }
+    requires meter { M.Meter.count_of meter.old ≤ 2 ^ 62 }
+    ensures outputs { IfOk result (λ c. c.outputs.items ≡ outputs script.now) }
+    ensures places { IfOk result (λ c. c.places.items ≡ 0 ∷ multiples spacing (length script.now.blocks / spacing)) }
+    ensures states { IfOk result (λ c. map M.meaning c.kept.items ≡ map (state script.now) c.places.items) }
+    ensures counted { OnOk result (M.Meter.count_of meter.new ≡ M.Meter.count_of meter.old + length script.now.blocks) }
+    ensures refused { OnErr result (M.Meter.count_of meter.new ≤ M.Meter.count_of meter.old + length script.now.blocks) }
+{
+    let mut machine = M::empty(alloc)?;
+    let first = machine.try_copy()?;
+    let mut course = Course::new(alloc, spacing, 0);
+    while course.at < script.len() {
+        machine = course.step(machine, script, meter)?;
+        course.keep_due(&machine)?;
+    }
+    course.kept.insert(0, first)?;
+    course.places.insert(0, 0)?;
+    Ok(course)
+}
