@@ -77,3 +77,40 @@ fn the_meter_counts_each_directive(rt: HostRuntime) -> Result<(), Fail> {
     assert_eq!(rt; meter.count(), 2);
     Ok(())
 }
+
+const REFUSED: &str = "refused";
+
+// A directive is counted also where memory is refused to it.
+#[test]
+fn runs_under_refusals(rt: HostRuntime) -> Result<(), Fail> {
+    let (Ok(block), Ok(cluster)) = (Block::read(rt.alloc(), NODES), Cluster::empty(rt.alloc()))
+    else {
+        println!(rt; "{REFUSED}")?;
+        return Ok(());
+    };
+    let mut meter = Meter::new();
+    match cluster.run(block.directive(), &mut meter) {
+        Ok((_cluster, output)) => assert_eq!(rt; output.len(), 2),
+        Err(_) => println!(rt; "{REFUSED}")?,
+    }
+    assert_eq!(rt; meter.count(), 1);
+    Ok(())
+}
+
+#[test]
+fn copies_under_refusals(rt: HostRuntime) -> Result<(), Fail> {
+    let (Ok(block), Ok(cluster)) = (Block::read(rt.alloc(), NODES), Cluster::empty(rt.alloc()))
+    else {
+        println!(rt; "{REFUSED}")?;
+        return Ok(());
+    };
+    let Ok((cluster, _output)) = cluster.run(block.directive(), &mut Meter::new()) else {
+        println!(rt; "{REFUSED}")?;
+        return Ok(());
+    };
+    match cluster.try_copy() {
+        Ok(copy) => assert!(rt; copy.same(&cluster)),
+        Err(_) => println!(rt; "{REFUSED}")?,
+    }
+    Ok(())
+}
