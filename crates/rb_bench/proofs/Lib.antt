@@ -4,3 +4,4 @@ pub mod EditLaws
 pub mod TurnLaws
 pub mod HearLaws
 pub mod ServeLaws
+pub mod TalkLaws

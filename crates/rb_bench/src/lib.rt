@@ -8,6 +8,7 @@ mod fault;
 mod gather;
 mod given;
 mod hear;
+mod laws;
 mod names;
 mod reading;
 mod reply;
@@ -17,6 +18,7 @@ mod send;
 mod session;
 
 pub use fault::BenchFault;
+pub use laws::conversations_answer_as_one_run;
 pub use names::{edit_fault_name, script_fault_line, script_fault_name};
 pub use reading::{ReadFault, read_up_to};
 pub use running::{Mode, run_over};

@@ -1,10 +1,9 @@
 //! A session over a reader and a writer.
 
-ghost use Rattle.std.specs.Prelude.{◌≡◌, ◌≢◌, ◌↔◌, ◌⊎◌, ℕ, List, Option, Some, Err, true, false, IfOk, IfErr, IfSome};
+ghost use Rattle.std.specs.Prelude.{◌≡◌, ◌≢◌, ◌↔◌, ◌⊎◌, Err, true, false, IfErr, IfSome};
 ghost use Rattle.rb_script.specs.Script.{PlainScript};
 ghost use Rattle.rb_script.specs.Reads.{Reads};
 ghost use Rattle.rb_script.specs.Reading.{read_of, early_fault};
-ghost use Rattle.rb_replay.specs.Held.{Held};
 ghost use Rattle.rb_replay.specs.Start.{is_spacing};
 ghost use Rattle.rb_line.specs.Left.{left_of};
 ghost use Rattle.rb_bench.specs.Turns.{TurnsOut, TalksOut};
