@@ -1,16 +1,19 @@
 //! The number behind `--every`.
 
+ghost use Rattle.std.specs.Prelude.{◌≡◌, MatchOption, Some};
+ghost use Rattle.rb_number.specs.Numbers.{number_of};
+
+use rb_number::number_of;
+
 /// How many directives stand from one checkpoint to the next, where nothing is said.
 const USUAL: u64 = 16;
 
-/// The number that the word says: one to ten digits. It may still be outside what a session takes.
-pub(crate) fn spacing(word: Option<&str>) -> Option<u64> {
-    let Some(word) = word else {
-        return Some(USUAL);
-    };
-    let digits = word.as_bytes();
-    if digits.len() > 10 || !digits.iter().all(|b| b.is_ascii_digit()) {
-        return None;
+/// The number that the word says. It may still be outside what a session takes.
+pub(crate) fn spacing(word: Option<&str>) -> Option<u64>
+    ensures { MatchOption word.entry (result ≡ Some USUAL) (λ word. result ≡ number_of word.now) }
+{
+    match word {
+        Some(word) => number_of(word.as_bytes()),
+        None => Some(USUAL),
     }
-    word.parse::<u64>().ok()
 }

@@ -4,7 +4,6 @@ use Rattle.std.specs.Prelude.{IfSome, IfOk}
 use Rattle.std.specs.List.{list_any}
 use Rattle.std.specs.Io.KnownBytes.{IsAtEnd}
 use Rattle.std.proofs.lemmas.Bool.Decides.{nat_tests}
-use Rattle.std.proofs.lemmas.List.{take_all}
 use Rattle.rb_script.specs.declared.limits.TheConstants.{MAX_LINE}
 use Rattle.rb_script.specs.Lines.{Line, lines, cut}
 use Rattle.rb_command.specs.declared.command.Command.{Command}
@@ -14,8 +13,9 @@ use Rattle.rb_line.specs.Given.{LosesLine, LosesLong, IsFirstLong}
 use Rattle.rb_bench.specs.declared.given.Given.{Given}
 use Rattle.rb_bench.specs.declared.hear.Heard.{Heard}
 use Rattle.rb_bench.specs.declared.hear.Heard.TheVariants as heards
-use Rattle.rb_bench.specs.Talk.{is_long, given_count, asked, IsCut}
-use Rattle.rb_bench.specs.Hearing.{IsGiven, HasTaken, Takes, GathersLines, Gathers, Hears, HearsOf}
+use Rattle.rb_bench.specs.Talk.{is_long, given_count, asked, HasLong, IsCut}
+use Rattle.rb_bench.specs.Hearing.{IsGiven, HasTaken, Gathers, GathersOf, Hears, HearsOf}
+use Rattle.rb_bench.specs.Known.{IfKnown}
 
 -- ---- long lines
 
@@ -52,6 +52,10 @@ long_among (l ∷ ls) line rest (suc count) lt h =
 
 -- ---- taking lines
 
+-- so many lines were taken, of bytes that may not be known
+abbrev pub Takes : Option (List ℕ) → Option (List ℕ) → ℕ → Given → Type 0
+Takes before after count given = IfKnown before after (λ ls rest. HasTaken ls rest count given)
+
 pub takes_none : (left : Option (List ℕ)) (given : Given) → IsGiven given [] → Takes left left 0 given
 takes_none None given h = tt
 takes_none (Some bytes) given h = record { ls = []; lines_are = refl; count_is = refl; short = refl; is_given = h }
@@ -80,14 +84,14 @@ long_first ls all count n (line ∷ rest) e c lt h =
     ap (λ (l : List Line). list_any is_long (take count l)) e ∙ long_among ls line rest count (omega arith) (long_line line h)
 
 pub gathers_long : (before mid after : Option (List ℕ)) (count : ℕ) (given : Given) (command : Command) → Takes before mid count given → count < given_count command → IfSome mid (λ all. IsFirstLong (lines all)) → LosesLong mid after
-    → Gathers before after command heards.LineTooLong
+    → GathersOf before after command heards.LineTooLong
 gathers_long None mid after count given command t lt h lost = tt
 gathers_long (Some bytes) None after count given command t lt h lost = absurd t
 gathers_long (Some bytes) (Some more) None count given command t lt h lost = absurd lost.2
 gathers_long (Some bytes) (Some more) (Some rest) count given command t lt h lost =
     long_first t.ls (lines bytes) (given_count command) count (lines more) t.lines_are t.count_is lt h
 
-pub gathers_cut : (before mid after : Option (List ℕ)) (count : ℕ) (given : Given) (command : Command) → Takes before mid count given → count < given_count command → IsAtEnd mid → after ≡ Some [] → Gathers before after command heards.CutOff
+pub gathers_cut : (before mid after : Option (List ℕ)) (count : ℕ) (given : Given) (command : Command) → Takes before mid count given → count < given_count command → IsAtEnd mid → after ≡ Some [] → GathersOf before after command heards.CutOff
 gathers_cut None mid after count given command t lt h e = tt
 gathers_cut (Some bytes) None after count given command t lt h e = absurd t
 gathers_cut (Some bytes) (Some more) None count given command t lt h e = absurd cc
@@ -95,10 +99,10 @@ gathers_cut (Some bytes) (Some more) (Some rest) count given command t lt h e =
     let all : lines bytes ≡ t.ls = t.lines_are ∙ ap (λ (l : List Line). t.ls ++ l) (lines_of_none more h) ∙ append-nil t.ls in
     (ap (list_any is_long) all ∙ t.short, omega (arith, ap length all, t.count_is))
 
-pub gathers_all : (before after : Option (List ℕ)) (count : ℕ) (given : Given) (command : Command) → Takes before after count given → count ≡ given_count command → Gathers before after command (heards.Command command given)
+pub gathers_all : (before after : Option (List ℕ)) (count : ℕ) (given : Given) (command : Command) → Takes before after count given → count ≡ given_count command → GathersOf before after command (heards.Command command given)
 gathers_all None after count given command t e = tt
 gathers_all (Some bytes) None count given command t e = absurd t
-gathers_all (Some bytes) (Some rest) count given command t e = (refl, subst (λ (n : ℕ). HasTaken bytes rest n given) e t)
+gathers_all (Some bytes) (Some rest) count given command t e = (refl, subst (λ (n : ℕ). HasTaken (lines bytes) (lines rest) n given) e t)
 
 -- ---- hearing a command
 
@@ -108,50 +112,46 @@ take_next n line ls = let e : 1 + n ≡ suc n = omega arith in ap (λ (m : ℕ).
 asked_next : (line : Line) (ls : List Line) → list_any is_long (asked (line ∷ ls)) ≡ (is_long line || list_any is_long (take (given_count (command_of line)) ls))
 asked_next line ls = ap (list_any is_long) (take_next (given_count (command_of line)) line ls)
 
-asked_long : (line : Line) (ls all : List Line) → all ≡ line ∷ ls → list_any is_long (take (given_count (command_of line)) ls) ≡ true → list_any is_long (asked all) ≡ true
+asked_long : (line : Line) (ls all : List Line) → all ≡ line ∷ ls → list_any is_long (take (given_count (command_of line)) ls) ≡ true → HasLong all
 asked_long line ls all e h =
     ap (λ (l : List Line). list_any is_long (asked l)) e ∙ asked_next line ls ∙ ap (λ t. is_long line || t) h ∙ or_true (is_long line)
 
-asked_cut : (line : Line) (ls all : List Line) → all ≡ line ∷ ls → is_long line ≡ false → list_any is_long ls ≡ false → length ls < given_count (command_of line) → (list_any is_long (asked all) ≡ false) × IsCut all
-asked_cut line ls all e short h lt =
-    let rest : take (given_count (command_of line)) ls ≡ ls = take_all (given_count (command_of line)) ls (omega arith) in (
-      ap (λ (l : List Line). list_any is_long (asked l)) e ∙ asked_next line ls ∙ ap (λ t. t || list_any is_long (take (given_count (command_of line)) ls)) short ∙ ap (list_any is_long) rest ∙ h,
-      subst (λ (l : List Line). IsCut l) (sym e) (omega arith),
-    )
+cut_after : (line : Line) (ls all : List Line) → all ≡ line ∷ ls → is_long line ≡ false → list_any is_long ls ≡ false → length ls < given_count (command_of line) → IsCut all
+cut_after line ls all e short h lt = subst (λ (l : List Line). IsCut l) (sym e) (ap (λ t. t || list_any is_long ls) short ∙ h, omega arith)
 
-hears_lines : (heard : Heard) (line : Line) (bytes more rest : List ℕ) → lines bytes ≡ line ∷ lines more → is_long line ≡ false → GathersLines (command_of line) heard more rest → Hears heard (lines bytes) (lines rest)
-hears_lines (heards.Command command given) line bytes more rest e short (command_is, t) = record {
+hears_lines : (heard : Heard) (line : Line) (ls more rest : List Line) → ls ≡ line ∷ more → is_long line ≡ false → Gathers (command_of line) heard more rest → Hears heard ls rest
+hears_lines (heards.Command command given) line ls more rest e short (command_is, t) = record {
   line = line;
-  gave = t.ls;
+  given_lines = t.ls;
   command_is = command_is;
   lines_are = e ∙ ap (λ (l : List Line). line ∷ l) t.lines_are;
   whole = omega (arith, t.count_is);
   short = ap (λ b. b || list_any is_long t.ls) short ∙ t.short;
   is_given = t.is_given;
 }
-hears_lines heards.End line bytes more rest e short h = absurd h
-hears_lines heards.LineTooLong line bytes more rest e short h = asked_long line (lines more) (lines bytes) e h
-hears_lines heards.CutOff line bytes more rest e short (h, lt) = asked_cut line (lines more) (lines bytes) e short h lt
+hears_lines heards.End line ls more rest e short h = absurd h
+hears_lines heards.LineTooLong line ls more rest e short h = asked_long line more ls e h
+hears_lines heards.CutOff line ls more rest e short (h, lt) = cut_after line more ls e short h lt
 
-hears_known : (before mid after : Option (List ℕ)) (heard : Heard) (line : Line) → LosesLine before mid line → length line ≤ MAX_LINE → Gathers mid after (command_of line) heard → HearsOf before after heard
+hears_known : (before mid after : Option (List ℕ)) (heard : Heard) (line : Line) → LosesLine before mid line → length line ≤ MAX_LINE → GathersOf mid after (command_of line) heard → HearsOf before after heard
 hears_known None mid after heard line l le h = tt
 hears_known (Some bytes) None after heard line l le h = absurd l
 hears_known (Some bytes) (Some more) None heard line l le h = absurd h
-hears_known (Some bytes) (Some more) (Some rest) heard line l le h = hears_lines heard line bytes more rest l (short_line line le) h
+hears_known (Some bytes) (Some more) (Some rest) heard line l le h = hears_lines heard line (lines bytes) (lines more) (lines rest) l (short_line line le) h
 
 -- after a line came what was gathered for it
 pub hears_after : (before mid after : Option (List ℕ)) (r : Result Heard InputFault) (command : Command) (held line : Line) → LosesLine before mid line → length line ≤ MAX_LINE → command ≡ command_of held → held ≡ line
-    → IfOk r (λ heard. Gathers mid after command heard) → IfOk r (λ heard. HearsOf before after heard)
+    → IfOk r (λ heard. GathersOf mid after command heard) → IfOk r (λ heard. HearsOf before after heard)
 hears_after before mid after (Err fault) command held line l le c e h = tt
 hears_after before mid after (Ok heard) command held line l le c e h =
-    hears_known before mid after heard line l le (subst (λ (m : Command). Gathers mid after m heard) (c ∙ ap command_of e) h)
+    hears_known before mid after heard line l le (subst (λ (m : Command). GathersOf mid after m heard) (c ∙ ap command_of e) h)
 
 pub hears_end : (before after : Option (List ℕ)) → IsAtEnd before → after ≡ Some [] → HearsOf before after heards.End
 hears_end None after h e = tt
 hears_end (Some bytes) None h e = absurd cc
 hears_end (Some bytes) (Some rest) h e = lines_of_none bytes h
 
-first_asked : (ls : List Line) → IsFirstLong ls → list_any is_long (asked ls) ≡ true
+first_asked : (ls : List Line) → IsFirstLong ls → HasLong ls
 first_asked [] h = absurd h
 first_asked (line ∷ ls) h = asked_next line ls ∙ ap (λ t. t || list_any is_long (take (given_count (command_of line)) ls)) (long_line line h)
 

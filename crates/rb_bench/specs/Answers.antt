@@ -1,12 +1,10 @@
 -- What is written for a script, and the status. (This project's.)
-use Rattle.std.specs.Prelude.{◌≡◌, ◌≢◌, ℕ, ◌+◌, nat_lt, if◌then◌else◌, List, length, take, Option, Result, Ok, Err}
+use Rattle.std.specs.Prelude.{◌≡◌, ℕ, ◌+◌, nat_lt, if◌then◌else◌, List, length, take, Option, Result, Ok, Err}
 use Rattle.std.specs.Io.KnownBytes.{Appends, Keeps}
 use Rattle.rb_script.specs.declared.limits.TheConstants.{MAX_SCRIPT}
-use Rattle.rb_script.specs.declared.fault.ScriptFault.{ScriptFault}
-use Rattle.rb_script.specs.declared.fault.ScriptFault.TheVariants as scripts
 use Rattle.rb_script.specs.Script.{PlainScript}
 use Rattle.rb_script.specs.Reads.{Reads}
-use Rattle.rb_script.specs.Reading.{read_of}
+use Rattle.rb_script.specs.Reading.{read_of, Refuses}
 use Rattle.rb_script.specs.Writes.{AppendsFront}
 use Rattle.rb_replay.specs.Report.{mismatches, report, rewritten}
 use Rattle.rb_bench.specs.declared.running.Mode.{Mode}
@@ -19,7 +17,7 @@ abbrev pub text_for : Mode → PlainScript → List ℕ
 text_for modes.Run s = report s
 text_for modes.Rewrite s = rewritten s
 
--- whether the list has a member, as a status
+-- the status by which mismatches are told
 abbrev pub status_of : List ℕ → ℕ
 status_of places = if nat_lt 0 (length places) then 1 else 0
 
@@ -28,34 +26,25 @@ abbrev pub status_for : Mode → PlainScript → ℕ
 status_for modes.Run s = status_of (mismatches s)
 status_for modes.Rewrite s = 0
 
--- what is read of all that a reader has: one byte more than a script may have
+-- What is read of all that a reader has: one byte more than a script may have, so that a longer one is found.
 abbrev pub read_part : List ℕ → List ℕ
 read_part all = take (MAX_SCRIPT + 1) all
 
+-- no script fits
 abbrev pub IsNoScript : List ℕ → Type 0
 IsNoScript bytes = (s : PlainScript) → Reads bytes s → ⊥
 
--- a fault in place of the script of bytes: that of reading, or want of memory
-abbrev pub IsUnread : BenchFault → Result PlainScript ScriptFault → Type 0
-IsUnread faults.Spacing read = ⊥
-IsUnread (faults.Script fault) read = (read ≡ Err fault) × (fault ≢ scripts.OutOfMemory)
-IsUnread faults.Io read = ⊥
-IsUnread faults.OutOfMemory read = Unit {0}
-
--- the text went out and this is the status, or a beginning of it did
+-- the text went out and this is the status, or writing failed and a beginning of it did
 abbrev pub IsWritten : Mode → PlainScript → Result ℕ BenchFault → Option (List ℕ) → Option (List ℕ) → Type 0
 IsWritten mode s (Ok status) old new = (status ≡ status_for mode s) × Appends old new (text_for mode s)
 IsWritten mode s (Err fault) old new = (fault ≡ faults.Io) × AppendsFront old new (text_for mode s)
 
--- The answer to bytes: the text of their script, or a fault. What went out of a text that failed is a beginning of it.
-abbrev pub Fails : Mode → List ℕ → BenchFault → Option (List ℕ) → Option (List ℕ) → Type 0
-Fails mode bytes faults.Spacing old new = ⊥
-Fails mode bytes (faults.Script fault) old new =
-    IsNoScript bytes × (read_of bytes ≡ Err fault) × (fault ≢ scripts.OutOfMemory) × Keeps old new
-Fails mode bytes faults.Io old new =
-    ((s : PlainScript) → Reads bytes s → AppendsFront old new (text_for mode s)) × (IsNoScript bytes → Keeps old new)
-Fails mode bytes faults.OutOfMemory old new = Keeps old new
-
+-- The answer to bytes: the text of their script and the status, or a fault. What went out of a text that failed is a
+-- beginning of it.
 abbrev pub Answers : Mode → List ℕ → Result ℕ BenchFault → Option (List ℕ) → Option (List ℕ) → Type 0
-Answers mode bytes (Ok status) old new = (s : PlainScript) × Reads bytes s × (status ≡ status_for mode s) × Appends old new (text_for mode s)
-Answers mode bytes (Err fault) old new = Fails mode bytes fault old new
+Answers mode bytes (Ok status) old new = (s : PlainScript) × Reads bytes s × IsWritten mode s (Ok status) old new
+Answers mode bytes (Err faults.Spacing) old new = ⊥
+Answers mode bytes (Err (faults.Script fault)) old new = IsNoScript bytes × Refuses (read_of bytes) fault × Keeps old new
+Answers mode bytes (Err faults.Io) old new =
+    ((s : PlainScript) → Reads bytes s → AppendsFront old new (text_for mode s)) × (IsNoScript bytes → Keeps old new)
+Answers mode bytes (Err faults.OutOfMemory) old new = Keeps old new

@@ -23,17 +23,20 @@ use Rattle.rb_bench.specs.Names.{script_name, script_line, edit_name}
 
 -- ---- texts
 
+-- the line of a fault, if it tells one
 abbrev pub at_line : Option ℕ → List ℕ
 at_line None = []
 at_line (Some n) = codes " at line " ++ decimal n
 
--- the name of a fault of a block, with its line if it tells one
+-- a fault of a block
 abbrev pub fault_text : ScriptFault → List ℕ
 fault_text fault = script_name fault ++ at_line (script_line fault)
 
+-- why a command is refused
 abbrev pub refused : List ℕ → List ℕ
 refused name = line_text (codes "refused " ++ name)
 
+-- what an edit came to
 abbrev pub done : Changed → List ℕ
 done changed = line_text (codes "done executed=" ++ decimal changed.executed ++ codes " mismatches=" ++ decimal changed.mismatches)
 
@@ -41,6 +44,7 @@ done changed = line_text (codes "done executed=" ++ decimal changed.executed ++ 
 abbrev pub output_text : List Line → List ℕ
 output_text ls = line_text (codes "output " ++ decimal (length ls)) ++ text_of ls
 
+-- the output at a place, or that there is no such place
 abbrev pub shown : Option (List Line) → List ℕ
 shown None = refused (edit_name NoSuchPlace)
 shown (Some ls) = output_text ls
@@ -51,6 +55,7 @@ output_at s place = if place == 0 then None else slice_get (outputs s) (place - 
 
 -- ---- edits
 
+-- the edit with the block that was read
 abbrev pub block_edit : (PlainBlock → Edit) → Result PlainBlock ScriptFault → Result Edit ScriptFault
 block_edit f (Ok b) = Ok (f b)
 block_edit f (Err fault) = Err fault

@@ -1,4 +1,8 @@
--- What the faults of the parts are to the program. (This project's.)
+-- Why a script is not run to its end. (This project's.)
+use Rattle.std.specs.Prelude.{Result, ⊤}
+use Rattle.rb_script.specs.declared.fault.ScriptFault.{ScriptFault}
+use Rattle.rb_script.specs.Script.{PlainScript}
+use Rattle.rb_script.specs.Reading.{Refuses}
 use Rattle.rb_bench.specs.declared.reading.ReadFault.{ReadFault}
 use Rattle.rb_bench.specs.declared.reading.ReadFault.TheVariants as reads
 use Rattle.rb_replay.specs.declared.fault.StartFault.{StartFault}
@@ -6,6 +10,7 @@ use Rattle.rb_replay.specs.declared.fault.StartFault.TheVariants as starts
 use Rattle.rb_bench.specs.declared.fault.BenchFault.{BenchFault}
 use Rattle.rb_bench.specs.declared.fault.BenchFault.TheVariants as faults
 
+-- what the faults of the parts are to the program
 abbrev pub of_reading : ReadFault → BenchFault
 of_reading reads.Io = faults.Io
 of_reading reads.OutOfMemory = faults.OutOfMemory
@@ -14,3 +19,8 @@ abbrev pub of_starting : StartFault → BenchFault
 of_starting (starts.Script fault) = faults.Script fault
 of_starting starts.BadSpacing = faults.Spacing
 of_starting starts.OutOfMemory = faults.OutOfMemory
+
+-- why no script was taken: what is told of the script is the fault of reading it, and never want of memory
+abbrev pub IsRefused : BenchFault → Result PlainScript ScriptFault → Type 0
+IsRefused (faults.Script fault) read = Refuses read fault
+IsRefused fault read = ⊤

@@ -1,9 +1,11 @@
 pub mod Faults
 pub mod Names
+pub mod Reading
 pub mod Answers
 pub mod Commands
 pub mod Talk
 pub mod Serves
 pub mod Replies
+pub mod Known
 pub mod Hearing
 pub mod Turns

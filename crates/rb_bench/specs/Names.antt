@@ -5,6 +5,7 @@ use Rattle.rb_script.specs.declared.fault.ScriptFault.TheVariants as scripts
 use Rattle.rb_script.specs.declared.fault.EditFault.{EditFault}
 use Rattle.rb_script.specs.declared.fault.EditFault.TheVariants as edits
 
+-- a fault of a script or a block
 abbrev pub script_name : ScriptFault → List ℕ
 script_name scripts.TooLong = codes "TooLong"
 script_name (scripts.LineTooLong line) = codes "LineTooLong"
@@ -16,6 +17,7 @@ script_name scripts.NotOneBlock = codes "NotOneBlock"
 script_name (scripts.TooManyArguments line) = codes "TooManyArguments"
 script_name scripts.OutOfMemory = codes "OutOfMemory"
 
+-- the line of such a fault, which counts from 1
 abbrev pub script_line : ScriptFault → Option ℕ
 script_line scripts.TooLong = None
 script_line (scripts.LineTooLong line) = Some line
@@ -27,6 +29,7 @@ script_line scripts.NotOneBlock = None
 script_line (scripts.TooManyArguments line) = Some line
 script_line scripts.OutOfMemory = None
 
+-- a refusal of an edit
 abbrev pub edit_name : EditFault → List ℕ
 edit_name edits.NoSuchPlace = codes "NoSuchPlace"
 edit_name edits.BadExpectation = codes "BadExpectation"

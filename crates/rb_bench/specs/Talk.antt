@@ -20,6 +20,7 @@ pub record Exchange : Type 0 where
   pub answer : List ℕ
   pub after : Held
 
+-- more bytes than a line may have
 abbrev pub is_long : Line → Bool
 is_long line = nat_lt MAX_LINE (length line)
 
@@ -50,43 +51,42 @@ abbrev pub Converses : Held → List Exchange → Held → Type 0
 Converses h [] last = last ≡ h
 Converses h (x ∷ xs) last = Responds h x × Converses x.after xs last
 
--- the lines that a line asks for, with itself, as far as there are lines
+-- the lines that the first asks for, with itself, as far as there are lines
 abbrev pub asked : List Line → List Line
 asked [] = []
 asked (line ∷ ls) = take (wanted line) (line ∷ ls)
 
--- there are fewer lines than are asked for
+-- one of them is too long
+abbrev pub HasLong : List Line → Type 0
+HasLong ls = list_any is_long (asked ls) ≡ true
+
+-- there are fewer lines than are asked for, and none of them is too long
 abbrev pub IsCut : List Line → Type 0
 IsCut [] = ⊥
-IsCut (line ∷ ls) = length (line ∷ ls) < wanted line
+IsCut (line ∷ ls) = (list_any is_long (line ∷ ls) ≡ false) × (length (line ∷ ls) < wanted line)
 
 -- Too long a line, or an end before all lines were given, ends the session.
 abbrev pub BreaksOff : List Line → List ℕ → Type 0
-BreaksOff ls text =
-    ((list_any is_long (asked ls) ≡ true) × (text ≡ refused (codes "LineTooLong")))
-    ⊎ ((list_any is_long (asked ls) ≡ false) × IsCut ls × (text ≡ refused (codes "CutOff")))
+BreaksOff ls text = (HasLong ls × (text ≡ refused (codes "LineTooLong"))) ⊎ (IsCut ls × (text ≡ refused (codes "CutOff")))
 
 -- How a session ends with these lines left: what is still written, and the status.
 abbrev pub Ends : Held → List Line → List ℕ → ℕ → Type 0
 Ends h [] text status = (text ≡ []) × (status ≡ status_of (mismatches h.script))
 Ends h (line ∷ ls) text status = BreaksOff (line ∷ ls) text × (status ≡ 4)
 
--- The conversation over lines: it begins with this session, and this is written.
-pub record Talks (h : Held) (ls : List Line) (text : List ℕ) (status : ℕ) : Type 0 where
+-- A conversation begins with these exchanges: what they answer, the lines that are left, and the session after them.
+pub record Begins (first : Held) (ls rest : List Line) (text : List ℕ) (last : Held) : Type 0 where
   pub exchanges : List Exchange
-  pub last : Held
-  pub rest : List Line
-  pub ending : List ℕ
   pub lines_are : ls ≡ flat_map taken exchanges ++ rest
-  pub converses : Converses h exchanges last
-  pub ends : Ends last rest ending status
-  pub text_is : text ≡ flat_map answer_of exchanges ++ ending
-
--- The answers to the first commands of a conversation.
-pub record Begins (h : Held) (ls : List Line) (text : List ℕ) : Type 0 where
-  pub exchanges : List Exchange
-  pub last : Held
-  pub rest : List Line
-  pub lines_are : ls ≡ flat_map taken exchanges ++ rest
-  pub converses : Converses h exchanges last
+  pub converses : Converses first exchanges last
   pub text_is : text ≡ flat_map answer_of exchanges
+
+-- The whole conversation over lines: what is written, and the status.
+pub record Talks (first : Held) (ls : List Line) (text : List ℕ) (status : ℕ) : Type 0 where
+  pub rest : List Line
+  pub last : Held
+  pub answers : List ℕ
+  pub ending : List ℕ
+  pub begins : Begins first ls rest answers last
+  pub ends : Ends last rest ending status
+  pub text_is : text ≡ answers ++ ending

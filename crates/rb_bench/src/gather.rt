@@ -3,7 +3,7 @@
 ghost use Rattle.std.specs.Prelude.{◌≡◌, ◌<◌, IfOk, IfErr, Option, List, ℕ};
 ghost use Rattle.rb_line.specs.Left.{left_of};
 ghost use Rattle.rb_bench.specs.Talk.{given_count};
-ghost use Rattle.rb_bench.specs.Hearing.{Gathers};
+ghost use Rattle.rb_bench.specs.Hearing.{GathersOf};
 
 use crate::given::Given;
 use crate::hear::Heard;
@@ -29,7 +29,7 @@ pub(crate) fn gather<R: Read>(
     input: &mut LineReader,
     reader: &mut R,
 ) -> Result<Heard, InputFault>
-    ensures { IfOk result (λ heard. Gathers (left_of input.old (R.remaining reader.old)) (left_of input.new (R.remaining reader.new)) command heard) }
+    ensures { IfOk result (λ heard. GathersOf (left_of input.old (R.remaining reader.old)) (left_of input.new (R.remaining reader.new)) command heard) }
 {
     let mut given = Given::new(alloc);
     let count = given_count(command);

@@ -2,6 +2,7 @@
 
 ghost use Rattle.std.specs.Prelude.{◌≡◌, ◌++◌, ◌+◌, ◌≤◌, ◌<◌, ℕ, List, length, take, IfOk, IfErr, IfSome, vec_len};
 ghost use Rattle.std.specs.Io.KnownBytes.{Consumes, IsAtEnd};
+ghost use Rattle.rb_bench.specs.Reading.{Loses};
 
 use std::alloc::Global;
 use std::io::Read;
@@ -48,7 +49,7 @@ fn read_some<R: Read>(reader: &mut R, bytes: &mut Vec<u8>, most: usize) -> Resul
     ensures consumed { IfOk result (λ n. (more : List ℕ) × (bytes.new.items ≡ bytes.old.items ++ more)
         × Consumes (R.remaining reader.old) (R.remaining reader.new) more) }
     ensures end { IfOk result (λ n. n ≡ 0 → IsAtEnd (R.remaining reader.new)) }
-    ensures failed { IfErr result (λ _. (lost : List ℕ) × (vec_len bytes.old + length lost ≤ most)
+    ensures failed { IfErr result (λ fault. (lost : List ℕ) × Loses fault lost × (vec_len bytes.old + length lost ≤ most)
         × Consumes (R.remaining reader.old) (R.remaining reader.new) lost) }
 {
     let mut chunk = [0u8; CHUNK];
@@ -56,6 +57,9 @@ fn read_some<R: Read>(reader: &mut R, bytes: &mut Vec<u8>, most: usize) -> Resul
     let Ok(n) = reader.read(&mut chunk[..room]) else {
         return Err(ReadFault::Io);
     };
+    if n == 0 {
+        return Ok(0);
+    }
     match bytes.extend_from_slice(&chunk[..n]) {
         Ok(()) => Ok(n),
         Err(_) => Err(ReadFault::OutOfMemory),

@@ -1,11 +1,12 @@
 //! One run of a script, from bytes to bytes.
 
-ghost use Rattle.std.specs.Prelude.{◌≡◌, ◌⊎◌, ◌↔◌, ◌<◌, ◌≤◌, IsErrOf, IfOk, IfSome, IfErr};
+ghost use Rattle.std.specs.Prelude.{◌≡◌, ◌≢◌, ◌⊎◌, ◌↔◌, ◌<◌, ◌≤◌, IsErrOf, IsOk, IfOk, IfSome, IfErr};
 ghost use Rattle.std.specs.Io.KnownBytes.{Keeps};
 ghost use Rattle.rb_script.specs.Reads.{Reads};
 ghost use Rattle.rb_script.specs.Reading.{read_of};
 ghost use Rattle.rb_script.specs.Writes.{Writes};
-ghost use Rattle.rb_bench.specs.Answers.{Answers, IsUnread, IsWritten, text_for, status_for, read_part};
+ghost use Rattle.rb_bench.specs.Faults.{IsRefused};
+ghost use Rattle.rb_bench.specs.Answers.{Answers, IsWritten, text_for, status_for, read_part};
 
 use crate::fault::BenchFault;
 use crate::reading::{ReadFault, read_up_to};
@@ -81,7 +82,9 @@ pub(crate) fn started(
     requires least { 1 ≤ every }
     requires most { every ≤ 64 }
     ensures script { IfOk result (λ s. Reads bytes.now s.script) }
-    ensures fault { IfErr result (λ fault. IsUnread fault (read_of bytes.now)) }
+    ensures refused { IfErr result (λ fault. IsRefused fault (read_of bytes.now)) }
+    // The spacing is a good one, and nothing else is read or written.
+    ensures own { IfErr result (λ fault. (fault ≢ BenchFault.Spacing) × (fault ≢ BenchFault.Io)) }
 {
     let mut meter = Meter::new();
     match Session::start(alloc, bytes, every, &mut meter) {
@@ -106,7 +109,8 @@ fn write_out<W: Write>(
 
 // Writes what the mode asks for.
 fn put_text<S: Sink>(session: &Session<Cluster>, sink: &mut S, mode: Mode) -> Result<(), WriteFault>
-    ensures { Writes result (S.held sink.old) (S.held sink.new) (text_for mode session.now.script) }
+    ensures wrote { Writes result (S.held sink.old) (S.held sink.new) (text_for mode session.now.script) }
+    ensures all { S.takes_all sink.old → IsOk result × S.takes_all sink.new }
 {
     match mode {
         Mode::Run => session.write_report(sink),

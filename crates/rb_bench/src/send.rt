@@ -1,6 +1,6 @@
 //! Writing what a session answers.
 
-ghost use Rattle.std.specs.Prelude.{◌≡◌, decimal};
+ghost use Rattle.std.specs.Prelude.{IsOk};
 ghost use Rattle.rb_script.specs.Writes.{Writes};
 ghost use Rattle.rb_bench.specs.Commands.{at_line, fault_text, refused, done, output_text, shown, output_at};
 ghost use Rattle.rb_bench.specs.Replies.{reply_text};
@@ -8,23 +8,16 @@ ghost use Rattle.rb_bench.specs.Replies.{reply_text};
 use crate::names::{edit_fault_name, script_fault_line, script_fault_name};
 use crate::reply::Reply;
 use crate::running::flush;
-use itoa::Buffer;
 use rb_cluster::Cluster;
+use rb_number::put_number;
 use rb_replay::{Changed, Session};
 use rb_script::{Lines, ScriptFault, Sink, Through, WriteFault};
 use std::io::Write;
 
-/// Writes a number in decimal digits.
-fn put_number<S: Sink>(sink: &mut S, n: u64) -> Result<(), WriteFault>
-    ensures { Writes result (S.held sink.old) (S.held sink.new) (decimal n) }
-{
-    let mut digits = Buffer::new();
-    sink.put(digits.format(n).as_bytes())
-}
-
 // Writes at which line it is, where there is one.
 fn put_line_number<S: Sink>(sink: &mut S, line: Option<usize>) -> Result<(), WriteFault>
-    ensures { Writes result (S.held sink.old) (S.held sink.new) (at_line line) }
+    ensures wrote { Writes result (S.held sink.old) (S.held sink.new) (at_line line) }
+    ensures all { S.takes_all sink.old → IsOk result × S.takes_all sink.new }
 {
     let Some(line) = line else {
         return Ok(());
@@ -35,14 +28,16 @@ fn put_line_number<S: Sink>(sink: &mut S, line: Option<usize>) -> Result<(), Wri
 
 // Writes the name of a fault, and the line that it tells.
 fn put_fault<S: Sink>(sink: &mut S, fault: ScriptFault) -> Result<(), WriteFault>
-    ensures { Writes result (S.held sink.old) (S.held sink.new) (fault_text fault) }
+    ensures wrote { Writes result (S.held sink.old) (S.held sink.new) (fault_text fault) }
+    ensures all { S.takes_all sink.old → IsOk result × S.takes_all sink.new }
 {
     sink.put(script_fault_name(fault).as_bytes())?;
     put_line_number(sink, script_fault_line(fault))
 }
 
 fn put_refused<S: Sink>(sink: &mut S, name: &[u8]) -> Result<(), WriteFault>
-    ensures { Writes result (S.held sink.old) (S.held sink.new) (refused name.now) }
+    ensures wrote { Writes result (S.held sink.old) (S.held sink.new) (refused name.now) }
+    ensures all { S.takes_all sink.old → IsOk result × S.takes_all sink.new }
 {
     sink.put(b"refused ")?;
     sink.put(name)?;
@@ -50,7 +45,8 @@ fn put_refused<S: Sink>(sink: &mut S, name: &[u8]) -> Result<(), WriteFault>
 }
 
 fn put_bad_block<S: Sink>(sink: &mut S, fault: ScriptFault) -> Result<(), WriteFault>
-    ensures { Writes result (S.held sink.old) (S.held sink.new) (refused (fault_text fault)) }
+    ensures wrote { Writes result (S.held sink.old) (S.held sink.new) (refused (fault_text fault)) }
+    ensures all { S.takes_all sink.old → IsOk result × S.takes_all sink.new }
 {
     sink.put(b"refused ")?;
     put_fault(sink, fault)?;
@@ -58,7 +54,8 @@ fn put_bad_block<S: Sink>(sink: &mut S, fault: ScriptFault) -> Result<(), WriteF
 }
 
 fn put_done<S: Sink>(sink: &mut S, changed: Changed) -> Result<(), WriteFault>
-    ensures { Writes result (S.held sink.old) (S.held sink.new) (done changed) }
+    ensures wrote { Writes result (S.held sink.old) (S.held sink.new) (done changed) }
+    ensures all { S.takes_all sink.old → IsOk result × S.takes_all sink.new }
 {
     sink.put(b"done executed=")?;
     put_number(sink, changed.executed)?;
@@ -68,7 +65,8 @@ fn put_done<S: Sink>(sink: &mut S, changed: Changed) -> Result<(), WriteFault>
 }
 
 fn put_output<S: Sink>(sink: &mut S, output: &Lines) -> Result<(), WriteFault>
-    ensures { Writes result (S.held sink.old) (S.held sink.new) (output_text output.now) }
+    ensures wrote { Writes result (S.held sink.old) (S.held sink.new) (output_text output.now) }
+    ensures all { S.takes_all sink.old → IsOk result × S.takes_all sink.new }
 {
     sink.put(b"output ")?;
     put_number(sink, output.len() as u64)?;
@@ -82,7 +80,8 @@ fn put_shown<S: Sink>(
     session: &Session<Cluster>,
     place: usize,
 ) -> Result<(), WriteFault>
-    ensures { Writes result (S.held sink.old) (S.held sink.new) (shown (output_at session.now.script place)) }
+    ensures wrote { Writes result (S.held sink.old) (S.held sink.new) (shown (output_at session.now.script place)) }
+    ensures all { S.takes_all sink.old → IsOk result × S.takes_all sink.new }
 {
     match session.output(place) {
         Some(output) => put_output(sink, output),
@@ -95,7 +94,8 @@ fn put_reply<S: Sink>(
     session: &Session<Cluster>,
     reply: Reply,
 ) -> Result<(), WriteFault>
-    ensures { Writes result (S.held sink.old) (S.held sink.new) (reply_text session.now reply) }
+    ensures wrote { Writes result (S.held sink.old) (S.held sink.new) (reply_text session.now reply) }
+    ensures all { S.takes_all sink.old → IsOk result × S.takes_all sink.new }
 {
     match reply {
         Reply::Nothing => Ok(()),

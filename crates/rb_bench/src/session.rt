@@ -6,8 +6,9 @@ ghost use Rattle.rb_script.specs.Reads.{Reads};
 ghost use Rattle.rb_script.specs.Reading.{read_of, early_fault};
 ghost use Rattle.rb_replay.specs.Start.{is_spacing};
 ghost use Rattle.rb_line.specs.Left.{left_of};
-ghost use Rattle.rb_bench.specs.Turns.{TurnsOut, TalksOut};
-ghost use Rattle.rb_bench.specs.Serves.{ServesOut, IsRefused};
+ghost use Rattle.rb_bench.specs.Turns.{TurnsOut};
+ghost use Rattle.rb_bench.specs.Faults.{IsRefused};
+ghost use Rattle.rb_bench.specs.Serves.{TalksOut, ServesOut};
 
 use crate::fault::BenchFault;
 use crate::hear::hear;

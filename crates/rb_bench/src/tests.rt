@@ -2,4 +2,5 @@ mod fakes;
 mod reading;
 mod refusals;
 mod running;
+mod scripts;
 mod session;

@@ -3,7 +3,8 @@ use Rattle.std.specs.Prelude.{ℕ, Bool, ◌&&◌, if◌then◌else◌, List, []
 use Rattle.std.specs.List.{list_any, filter, range_with_len}
 use Rattle.std.specs.Str.{bytes_eq}
 use Rattle.rb_script.specs.Directive.{PlainArgument}
-use Rattle.rb_cluster.specs.Numbers.{number_of, is_just}
+use Rattle.rb_number.specs.Numbers.{number_of}
+use Rattle.rb_cluster.specs.Ranges.{is_just}
 
 abbrev pub Word : Type 0
 Word = List ℕ

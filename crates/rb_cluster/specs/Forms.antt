@@ -4,7 +4,8 @@ use Rattle.std.specs.List.{list_all}
 use Rattle.rb_cluster.specs.declared.form.Form.{Form}
 use Rattle.rb_cluster.specs.declared.form.Form.TheVariants as forms
 use Rattle.rb_texts.specs.Levels.{level_of}
-use Rattle.rb_cluster.specs.Numbers.{number_of, is_from_to}
+use Rattle.rb_number.specs.Numbers.{number_of}
+use Rattle.rb_cluster.specs.Ranges.{is_from_to}
 use Rattle.rb_cluster.specs.Arguments.{Word, MAX_ID}
 
 abbrev pub MAX_NODES : ℕ

@@ -5,8 +5,9 @@ pub use Rattle.rb_texts.specs.Items
 pub use Rattle.rb_texts.specs.Levels
 pub use Rattle.rb_texts.specs.Texts
 pub use Rattle.rb_texts.specs.Shapes
+pub use Rattle.rb_number.specs.Numbers
 pub mod Cluster
-pub mod Numbers
+pub mod Ranges
 pub mod Arguments
 pub mod Forms
 pub mod Checks

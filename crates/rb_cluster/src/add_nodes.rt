@@ -8,8 +8,8 @@ ghost use Rattle.rb_cluster.specs.AddNodes.{count, index, config, content, needs
 use crate::arguments::Arguments;
 use crate::config::Config;
 use crate::node::Node;
-use crate::numbers::number_of;
 use crate::shared::{Content, IdSet};
+use rb_number::number_of;
 use std::alloc::{AllocError, Global};
 
 /// How many nodes are asked for.

@@ -1,6 +1,6 @@
 //! The arguments of a directive, as its checks and its effect read them.
 
-use crate::numbers::is_just;
+use crate::ranges::is_just;
 use rb_script::DirectiveRef;
 use std::alloc::AllocError;
 use std::marker::Model;

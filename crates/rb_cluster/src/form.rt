@@ -6,7 +6,7 @@ ghost use Rattle.rb_cluster.specs.Forms.{fits_word, is_list, fit, is_one};
 ghost use Rattle.std.specs.List.{list_all};
 
 use crate::arguments::{Argument, MAX_ID};
-use crate::numbers::is_from_to;
+use crate::ranges::is_from_to;
 use rb_texts::level_of;
 
 /// The form of a positional word, or of an option's values.

@@ -14,8 +14,8 @@ mod levels;
 mod machine;
 mod meter;
 mod node;
-mod numbers;
 mod printing;
+mod ranges;
 mod shared;
 
 pub use cluster::{Cluster, nodes_are_numbered, outputs_have_lines};

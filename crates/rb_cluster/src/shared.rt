@@ -1,97 +1,62 @@
 //! Lists that are shared and never change: a copy is a pointer.
 
+ghost use Rattle.std.specs.Prelude.{◌≡◌, ◌↔◌, IsTrue, IfOk};
+ghost use Rattle.std.specs.Bool.{Decides};
+
 use std::alloc::AllocError;
 use std::marker::Model;
 use std::rc::RcSlice;
 
-/// The bytes of a content.
+/// A list, which its copies share.
 #[derive(Drop)]
-pub(crate) struct Content {
-    bytes: RcSlice<u8>,
+pub(crate) struct Shared<T> {
+    items: RcSlice<T>,
 }
 
-impl Model for Content {
-    ghost use Rattle.std.specs.Prelude.{List, ℕ};
-    ghost use Rattle.std.specs.Rc.{rc_slice_items};
-
-    ghost Value = { List ℕ };
-
-    ghost view = { λ c. rc_slice_items c.bytes };
-}
-
-impl Content {
-    ghost use Rattle.std.specs.Prelude.{◌≡◌, ◌↔◌, IsTrue, IfOk};
-
-    pub(crate) fn new(bytes: Vec<u8>) -> Result<Content, AllocError>
-        ensures { IfOk result (λ c. c ≡ bytes.items) }
-    {
-        Ok(Content {
-            bytes: RcSlice::from_vec(bytes)?,
-        })
-    }
-
-    pub(crate) fn as_slice(&self) -> &[u8]
-        ensures { result.now ≡ self.now }
-    {
-        self.bytes.as_slice()
-    }
-
-    pub(crate) fn try_copy(&self) -> Result<Content, AllocError>
-        ensures { IfOk result (λ copy. copy ≡ self.now) }
-    {
-        Ok(Content {
-            bytes: self.bytes.clone()?,
-        })
-    }
-
-    pub(crate) fn same(&self, other: &Content) -> bool
-        ensures { IsTrue result ↔ (self.now ≡ other.now) }
-    {
-        self.as_slice() == other.as_slice()
-    }
-}
+/// The bytes of a content.
+pub(crate) type Content = Shared<u8>;
 
 /// Ids, ascending.
-#[derive(Drop)]
-pub(crate) struct IdSet {
-    ids: RcSlice<u64>,
-}
+pub(crate) type IdSet = Shared<u64>;
 
-impl Model for IdSet {
-    ghost use Rattle.std.specs.Prelude.{List, ℕ};
+impl<T> Model for Shared<T> {
+    ghost use Rattle.std.specs.Prelude.{List};
     ghost use Rattle.std.specs.Rc.{rc_slice_items};
 
-    ghost Value = { List ℕ };
+    ghost Value = { List T };
 
-    ghost view = { λ s. rc_slice_items s.ids };
+    ghost view = { λ s. rc_slice_items s.items };
 }
 
-impl IdSet {
-    ghost use Rattle.std.specs.Prelude.{◌≡◌, ◌↔◌, IsTrue, IfOk};
-
-    pub(crate) fn new(ids: Vec<u64>) -> Result<IdSet, AllocError>
-        ensures { IfOk result (λ s. s ≡ ids.items) }
+impl<T: Drop> Shared<T> {
+    pub(crate) fn new(items: Vec<T>) -> Result<Shared<T>, AllocError>
+        ensures { IfOk result (λ s. s ≡ items.items) }
     {
-        Ok(IdSet {
-            ids: RcSlice::from_vec(ids)?,
+        Ok(Shared {
+            items: RcSlice::from_vec(items)?,
         })
     }
 
-    pub(crate) fn as_slice(&self) -> &[u64]
+    pub(crate) fn as_slice(&self) -> &[T]
         ensures { result.now ≡ self.now }
     {
-        self.ids.as_slice()
+        self.items.as_slice()
     }
 
-    pub(crate) fn try_copy(&self) -> Result<IdSet, AllocError>
+    pub(crate) fn try_copy(&self) -> Result<Shared<T>, AllocError>
         ensures { IfOk result (λ copy. copy ≡ self.now) }
     {
-        Ok(IdSet {
-            ids: self.ids.clone()?,
+        Ok(Shared {
+            items: self.items.clone()?,
         })
     }
 
-    pub(crate) fn same(&self, other: &IdSet) -> bool
+    /// Whether both are the same list.
+    pub(crate) fn same(&self, other: &Shared<T>) -> bool
+    where
+        T: PartialEq,
+        // Items are equal where they are the same, as numbers are.
+        requires { (x y : T) → Decides (T.eq x y) (x ≡ y) }
         ensures { IsTrue result ↔ (self.now ≡ other.now) }
     {
         self.as_slice() == other.as_slice()

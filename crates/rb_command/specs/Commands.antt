@@ -8,7 +8,7 @@ use Rattle.rb_command.specs.declared.command.Command.TheVariants.{Blank, Bad, Gi
 use Rattle.rb_command.specs.declared.command.Kind.{Kind}
 use Rattle.rb_command.specs.declared.command.Kind.TheVariants.{Insert, Replace, Expect}
 use Rattle.rb_command.specs.Words.{words}
-use Rattle.rb_command.specs.Numbers.{number_of}
+use Rattle.rb_number.specs.Numbers.{number_of}
 
 -- a command of one word
 abbrev pub alone : Line → Command

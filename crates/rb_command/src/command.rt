@@ -2,13 +2,14 @@
 
 ghost use Rattle.std.specs.Prelude.{◌≡◌, ◌≢◌};
 ghost use Rattle.std.specs.Str.{bytes_eq};
+ghost use Rattle.rb_number.specs.Numbers.{number_of};
 ghost use Rattle.rb_command.specs.Words.{words};
 ghost use Rattle.rb_command.specs.Spelling.{Spells};
 ghost use Rattle.rb_command.specs.declared.command.Command.{Command};
 ghost use Rattle.rb_command.specs.Commands.{command_of, alone, placed, given, kind_of};
 
-use crate::numbers::number_of;
 use crate::words::first_word;
+use rb_number::number_of;
 
 /// How many lines a command may take after its own.
 pub const MAX_GIVEN: usize = 65_536;
@@ -69,12 +70,19 @@ fn spelled(line: &[u8]) -> Command
         return alone(name);
     };
     let Some((count, rest)) = first_word(rest) else {
-        return placed(name, number_of(place));
+        return placed(name, number(place));
     };
     if first_word(rest).is_some() {
         return Command::Bad;
     }
-    given(kind_of(name), number_of(place), number_of(count))
+    given(kind_of(name), number(place), number(count))
+}
+
+/// The number that a word is, as a place or a count.
+fn number(word: &[u8]) -> Option<usize>
+    ensures { result ≡ number_of word.now }
+{
+    number_of(word).map(|found| found as usize)
 }
 
 /// Whether the word is this one.

@@ -5,7 +5,6 @@
 #![tactic(auto)]
 
 mod command;
-mod numbers;
 mod words;
 
 pub use command::{Command, Kind, MAX_GIVEN, command_of};

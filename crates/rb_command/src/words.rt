@@ -2,29 +2,9 @@
 
 ghost use Rattle.std.specs.Prelude.{◌≡◌, ◌∷◌, [], ◌<◌, ℕ, true, false, length, slice_index, IfSome, IfNone, MatchOption};
 ghost use Rattle.rb_script.specs.Marks.{is_space};
-ghost use Rattle.rb_script.specs.Reading.{begins_space};
 ghost use Rattle.rb_command.specs.Words.{words};
 
-fn is_space(b: u8) -> bool
-    ensures { result ≡ is_space b }
-{
-    b == b' ' || b == b'\t'
-}
-
-/// The line from its first byte on that is no blank.
-fn without_front(line: &[u8]) -> &[u8]
-    ensures words { words result.now ≡ words line.now }
-    ensures first { begins_space result.now ≡ false }
-{
-    let mut rest = line;
-    while let Some((first, after)) = rest.split_first() {
-        if !is_space(*first) {
-            break;
-        }
-        rest = after;
-    }
-    rest
-}
+use rb_script::{is_space, without_front};
 
 /// Where the first blank stands.
 fn first_space(bytes: &[u8]) -> Option<usize>

@@ -5,7 +5,7 @@ ghost use Rattle.rb_script.specs.Lines.{without_returns};
 ghost use Rattle.rb_line.specs.Begun.{Holds};
 ghost use Rattle.rb_line.specs.Feeding.{Feeds};
 
-use rb_script::MAX_LINE;
+use rb_script::{MAX_LINE, without_returns};
 use std::alloc::{AllocError, Global};
 use std::marker::Model;
 
@@ -74,7 +74,7 @@ impl LineBuffer {
         ensures value { result.now ≡ without_returns self.now }
         ensures begun { (begun : List ℕ) → Holds begun self.now → result.now ≡ without_returns begun }
     {
-        trimmed(self.bytes.as_slice())
+        without_returns(self.bytes.as_slice())
     }
 
     /// Whether no byte of the line has come.
@@ -91,18 +91,4 @@ impl LineBuffer {
     {
         self.bytes.clear();
     }
-}
-
-// The line without the carriage returns at its end.
-fn trimmed(line: &[u8]) -> &[u8]
-    ensures { result.now ≡ without_returns line.now }
-{
-    let mut front = line;
-    while let Some((last, shorter)) = front.split_last() {
-        if *last != b'\r' {
-            break;
-        }
-        front = shorter;
-    }
-    front
 }

@@ -225,18 +225,3 @@ accept-edit s new (Replace k b) is e = absurd cc
 accept-edit s new (Remove k) is e = absurd cc
 accept-edit s new (Expect k lines) is e = absurd cc
 accept-edit s new Accept is e = (accept-directives s new e, accept-none s new e)
-
--- these change no cluster
-pub expect-none : (h : Held) (new : PlainScript) (edit : Edit) (place : ℕ) → effect_of edit ≡ effects.Expect place → change_of h new edit ≡ None
-expect-none h new (Insert k b) place is = absurd cc
-expect-none h new (Replace k b) place is = absurd cc
-expect-none h new (Remove k) place is = absurd cc
-expect-none h new (Expect k lines) place is = refl
-expect-none h new Accept place is = absurd cc
-
-pub accept-none-changed : (h : Held) (new : PlainScript) (edit : Edit) → effect_of edit ≡ effects.Accept → change_of h new edit ≡ None
-accept-none-changed h new (Insert k b) is = absurd cc
-accept-none-changed h new (Replace k b) is = absurd cc
-accept-none-changed h new (Remove k) is = absurd cc
-accept-none-changed h new (Expect k lines) is = absurd cc
-accept-none-changed h new Accept is = refl

@@ -52,9 +52,6 @@ next-none ps p i rising next differs (k, lt, is) =
       ]
     ]
 
-pub next-here : (ps : List ℕ) (p i : ℕ) → i < length ps → get_or ps i 0 ≡ p → Contains ps p
-next-here ps p i lt is = (i, lt, let same : get_or ps i p ≡ get_or ps i 0 = get_or_default ps i p 0 lt in omega arith)
-
 -- a lesser place stands no later
 pub next-order : (ps : List ℕ) (p q i j : ℕ) → p ≤ q → IsNext ps p i → IsNext ps q j → i ≤ j
 next-order ps p q i j le one two =

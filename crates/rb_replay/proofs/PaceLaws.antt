@@ -21,12 +21,6 @@ paced_push K from at due ps one none p =
       most = omega arith;
     }
 
-pub paced_stay : (K from at due : ℕ) (ps : List ℕ) → 0 < due → IsPaced K from at due ps → IsPacedOn K from at due ps
-paced_stay K from at due ps some p = record { so_far = p.so_far; next = p.next; least = some; most = p.most }
-
-pub paced_step : (K from at due : ℕ) (ps : List ℕ) → IsPacedOn K from at due ps → IsPaced K from (at + 1) (due - 1) ps
-paced_step K from at due ps p = record { so_far = p.so_far; next = omega (arith, p.next, p.least); most = omega (arith, p.most); fresh = λ e. absurd (omega (arith, p.most, p.least)) }
-
 few : (j K s from due : ℕ) → due < K → from ≤ s → s + due ≡ from + (j + 1) * K → from < s
 few j K s from due lt le next = omega (arith, next)
 

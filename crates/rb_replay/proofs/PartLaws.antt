@@ -47,11 +47,6 @@ turns {A} x f from to r a b j d le all turned cut joined back =
 abbrev pub thinned_from : ℕ → ℕ → List ℕ → List ℕ
 thinned_from K i ps = take i ps ++ thin_after K (get_or ps (i - 1) 0) (get_or ps i 0) (drop (i + 1) ps)
 
-pub thinned_start : (K : ℕ) (ps : List ℕ) → 2 ≤ length ps → thin K ps ≡ thinned_from K 1 ps
-thinned_start K [] h = absurd (omega arith)
-thinned_start K (p ∷ []) h = absurd (omega arith)
-thinned_start K (p ∷ q ∷ ps) h = refl
-
 thinned_next : (K i : ℕ) (ps : List ℕ) → i + 1 < length ps → thinned_from K i ps ≡ take i ps ++ thin_after K (get_or ps (i - 1) 0) (get_or ps i 0) (get_or ps (i + 1) 0 ∷ drop (i + 1 + 1) ps)
 thinned_next K i ps lt = ap (λ (t : List ℕ). take i ps ++ thin_after K (get_or ps (i - 1) 0) (get_or ps i 0) t) (drop_more ps (i + 1) 0 lt)
 
@@ -74,17 +69,6 @@ thinned_drop K i ps one lt near =
     drop_removed : (i : ℕ) (ps : List ℕ) → length (take i ps) ≡ i → drop (i + 1) (remove ps i) ≡ drop (i + 1 + 1) ps
     drop_removed i ps long =
         sym (drop-drop 1 i (remove ps i)) ∙ ap (drop 1) (drop_at (take i ps) (drop (suc i) ps) i long) ∙ drop-drop 1 (suc i) ps ∙ ap (λ (n : ℕ). drop n ps) (omega arith)
-
--- a place that stays
-pub thinned_keep : (K i : ℕ) (ps : List ℕ) → 1 ≤ i → i + 1 < length ps → K < get_or ps (i + 1) 0 - get_or ps (i - 1) 0 → thinned_from K i ps ≡ thinned_from K (i + 1) ps
-thinned_keep K i ps one lt far =
-    let within : i < length ps = omega arith in
-    let no : nat_le (get_or ps (i + 1) 0 - get_or ps (i - 1) 0) K ≡ false = grind (arith, nat_tests) in
-    let more : take (i + 1) ps ≡ take i ps ++ get_or ps i 0 ∷ [] = take_more ps i 0 within in
-    let back : i + 1 - 1 ≡ i = omega arith in
-    let stays : take i ps ++ thin_after K (get_or ps (i - 1) 0) (get_or ps i 0) (get_or ps (i + 1) 0 ∷ drop (i + 1 + 1) ps) ≡ take i ps ++ (get_or ps i 0 ∷ thin_after K (get_or ps i 0) (get_or ps (i + 1) 0) (drop (i + 1 + 1) ps)) = rw no refl in
-    let same : thinned_from K (i + 1) ps ≡ (take i ps ++ get_or ps i 0 ∷ []) ++ thin_after K (get_or ps i 0) (get_or ps (i + 1) 0) (drop (i + 1 + 1) ps) = rw (more, back) refl in
-    thinned_next K i ps lt ∙ stays ∙ sym (same ∙ append_assoc (take i ps) (get_or ps i 0 ∷ []) (thin_after K (get_or ps i 0) (get_or ps (i + 1) 0) (drop (i + 1 + 1) ps)))
 
 -- no place is left to look at
 pub thinned_end : (K i : ℕ) (ps : List ℕ) → i + 1 ≡ length ps → thinned_from K i ps ≡ ps

@@ -26,14 +26,6 @@ pub kept-rising : (K n : ℕ) (ps : List ℕ) → AreKept K n ps → IsRising 0 
 kept-rising K n [] kept = absurd kept
 kept-rising K n (p ∷ ps) kept = (omega arith, near-rising K n p ps kept.1)
 
-pub kept-some : (K n : ℕ) (ps : List ℕ) → AreKept K n ps → 0 < length ps
-kept-some K n [] kept = absurd kept
-kept-some K n (p ∷ ps) kept = omega arith
-
-pub kept-zero : (K n : ℕ) (ps : List ℕ) → AreKept K n ps → get_or ps 0 0 ≡ 0
-kept-zero K n [] kept = refl
-kept-zero K n (p ∷ ps) kept = kept.0
-
 -- clusters at the places below a bound
 pub same-below : (f h : ℕ → Cluster) (b : ℕ) (ps : List ℕ) → ((p : ℕ) → p < b → f p ≡ h p) → map f (filter (λ p. nat_lt p b) ps) ≡ map h (filter (λ p. nat_lt p b) ps)
 same-below f h b [] same = refl

@@ -1,9 +1,10 @@
 -- What a refused start says. (This project's.)
-use Rattle.std.specs.Prelude.{◌≡◌, ◌≢◌, ℕ, ◌≤◌, ◌+◌, Bool, ◌&&◌, nat_le, List, length, Result, Err}
+use Rattle.std.specs.Prelude.{◌≡◌, ℕ, ◌≤◌, ◌+◌, Bool, ◌&&◌, nat_le, List, length, Result}
 use Rattle.rb_script.specs.declared.fault.ScriptFault.{ScriptFault}
 use Rattle.rb_script.specs.declared.fault.ScriptFault.TheVariants.{TooLong, LineTooLong, BadLine, NoSeparator, NotClosed, TooManyDirectives, NotOneBlock, TooManyArguments, OutOfMemory as ScriptOutOfMemory}
 use Rattle.rb_script.specs.Script.{PlainScript}
 use Rattle.rb_script.specs.Reads.{Reads}
+use Rattle.rb_script.specs.Reading.{Refuses}
 use Rattle.rb_replay.specs.declared.fault.StartFault.{StartFault}
 use Rattle.rb_replay.specs.declared.fault.StartFault.TheVariants.{Script, BadSpacing, OutOfMemory}
 
@@ -13,7 +14,7 @@ is_spacing every = nat_le 1 every && nat_le every 64
 
 -- why no script was read: its fault is that of reading, and never want of memory
 abbrev pub IsRefused : StartFault → Result PlainScript ScriptFault → Type 0
-IsRefused (Script fault) read = (read ≡ Err fault) × (fault ≢ ScriptOutOfMemory)
+IsRefused (Script fault) read = Refuses read fault
 IsRefused BadSpacing read = Unit {0}
 IsRefused OutOfMemory read = Unit {0}
 

@@ -1,24 +1,15 @@
 //! The texts of a session.
 
-ghost use Rattle.std.specs.Prelude.{◌≡◌, ◌++◌, ◌≤◌, ◌∷◌, [], IsOk, codes, decimal, length};
+ghost use Rattle.std.specs.Prelude.{◌≡◌, ◌++◌, ◌≤◌, ◌∷◌, [], IsOk, codes, length};
 ghost use Rattle.rb_script.specs.Lines.{text_of, line_text};
 ghost use Rattle.rb_script.specs.Writes.{Writes};
 ghost use Rattle.rb_replay.specs.Report.{marked, mismatch_line, total_line};
 
 use crate::blocks::block_at;
 use crate::session::Session;
-use itoa::Buffer;
 use rb_cluster::Machine;
+use rb_number::put_number;
 use rb_script::{Lines, Sink, WriteFault};
-
-/// Writes a number in decimal digits.
-fn put_number<S: Sink>(sink: &mut S, n: usize) -> Result<(), WriteFault>
-    ensures wrote { Writes result (S.held sink.old) (S.held sink.new) (decimal n) }
-    ensures all { S.takes_all sink.old → IsOk result × S.takes_all sink.new }
-{
-    let mut digits = Buffer::new();
-    sink.put(digits.format(n).as_bytes())
-}
 
 /// Writes a line after a mark.
 fn put_line<S: Sink>(sink: &mut S, mark: &[u8], line: &[u8]) -> Result<(), WriteFault>
@@ -47,7 +38,7 @@ fn put_place<S: Sink>(sink: &mut S, place: usize) -> Result<(), WriteFault>
     ensures all { S.takes_all sink.old → IsOk result × S.takes_all sink.new }
 {
     sink.put(b"mismatch ")?;
-    put_number(sink, place)?;
+    put_number(sink, place as u64)?;
     sink.put(b"\n")
 }
 
@@ -71,9 +62,9 @@ fn put_total<S: Sink>(sink: &mut S, directives: usize, mismatches: usize) -> Res
     ensures wrote { Writes result (S.held sink.old) (S.held sink.new) (line_text (total_line directives mismatches)) }
     ensures all { S.takes_all sink.old → IsOk result × S.takes_all sink.new }
 {
-    put_number(sink, directives)?;
+    put_number(sink, directives as u64)?;
     sink.put(b" directives, ")?;
-    put_number(sink, mismatches)?;
+    put_number(sink, mismatches as u64)?;
     sink.put(b" mismatches\n")
 }
 

@@ -21,9 +21,9 @@ use Rattle.rb_script.specs.Lines.{Line}
 use Rattle.rb_script.specs.Marks.{is_space, is_blank}
 use Rattle.rb_script.specs.Joined.{while_of, after_while}
 use Rattle.rb_script.specs.Tokens.{SpannedDirective, token, argument_of, plain, line_at, IsPart}
-use Rattle.rb_script.specs.Parsed.{spanned, AreParts, ValuesThere, values_at, KeepsValues, with_one, ParsesList, ParsesArgument, ParsesArguments, ParsesHead}
+use Rattle.rb_script.specs.Parsed.{spanned, AreParts, KeepsValues, with_one, ParsesValues, ParsesArgument, ParsesArguments, ParsesHead}
 use Rattle.rb_script.specs.Told.{IsSpanned}
-use Rattle.rb_script.specs.Reading.{with_inputs, directive_of, head_at, begins, begins_space, ArgumentThere, list_at, value_at, behind_key, argument_at, ArgumentsThere, before, then_arguments, arguments_at, HeadThere, named, word_head, few_or}
+use Rattle.rb_script.specs.Reading.{with_inputs, directive_of, head_at, begins, begins_space, ValuesThere, ArgumentThere, list_at, values_at, with_key, behind_key, argument_at, ArgumentsThere, before, then_arguments, arguments_at, HeadThere, named, word_head, few_or}
 use Rattle.rb_script.specs.Fronts.{block_of_front, HasTokens}
 use Rattle.rb_script.proofs.TokenLaws.{begins_by, run_parts, run_all, after_stops, while_one, after_one, while_over, after_over, all_wider, some_run, after_len, after_shorter, begins_at, begins_nowhere, front_cons}
 
@@ -120,8 +120,8 @@ with_values front None = None
 with_values front (Some found) = Some (front ++ found.0, found.1)
 
 -- a gap at the front adds no value
-gap_value : (b : ℕ) (bytes : List ℕ) → is_gap b ≡ true → values_at bytes ≡ values_at (b ∷ bytes)
-unfolding values_at
+gap_value : (b : ℕ) (bytes : List ℕ) → is_gap b ≡ true → list_at bytes ≡ list_at (b ∷ bytes)
+unfolding list_at
 gap_value b bytes h =
     let inside = gap_inside b h in
     let rest = after_while is_inside bytes in
@@ -129,11 +129,11 @@ gap_value b bytes h =
     ∙ ap (λ vs. cond (begins 41 rest) (Some (vs, drop 1 rest)) None) (pieces_gap b (while_of is_inside bytes) h))
 
 -- gaps add no value
-gaps_skipped : (bytes : List ℕ) → values_at (after_while is_gap bytes) ≡ values_at bytes
+gaps_skipped : (bytes : List ℕ) → list_at (after_while is_gap bytes) ≡ list_at bytes
 unfolding after_while
 gaps_skipped [] = refl
 gaps_skipped (b ∷ bytes) =
-    elim (is_gap b) as (λ t. is_gap b ≡ t → values_at (cond t (after_while is_gap bytes) (b ∷ bytes)) ≡ values_at (b ∷ bytes)) [
+    elim (is_gap b) as (λ t. is_gap b ≡ t → list_at (cond t (after_while is_gap bytes) (b ∷ bytes)) ≡ list_at (b ∷ bytes)) [
       | true ↦ λ h. gaps_skipped bytes ∙ gap_value b bytes h
       | false ↦ λ h. refl
     ] refl
@@ -155,15 +155,15 @@ one_more piece inside after e =
     ∙ elim (begins 41 after) as (λ t. cond t (Some (piece ∷ pieces inside, drop 1 after)) None ≡ with_values (piece ∷ []) (cond t (Some (pieces inside, drop 1 after)) None)) [ true ↦ refl | false ↦ refl ]
 
 -- a piece at the front is the first value
-first_value : (bytes : List ℕ) → begins_by is_piece bytes ≡ true → values_at bytes ≡ with_values (while_of is_piece bytes ∷ []) (values_at (after_while is_piece bytes))
-unfolding values_at
+first_value : (bytes : List ℕ) → begins_by is_piece bytes ≡ true → list_at bytes ≡ with_values (while_of is_piece bytes ∷ []) (list_at (after_while is_piece bytes))
+unfolding list_at
 first_value bytes begins =
     let piece = while_of is_piece bytes in
     let rest = after_while is_piece bytes in
     let all : list_all is_inside piece ≡ true = all_wider is_piece is_inside piece_inside piece (run_all is_piece bytes) in
     let stops = after_piece rest (after_stops is_piece bytes) in
     let whole = sym (run_parts is_piece bytes) in
-    ap values_at whole ∙ ap (λ l. values_by l (after_while is_inside (piece ++ rest))) (while_over is_inside piece rest all)
+    ap list_at whole ∙ ap (λ l. values_by l (after_while is_inside (piece ++ rest))) (while_over is_inside piece rest all)
     ∙ ap (values_by (piece ++ while_of is_inside rest)) (after_over is_inside piece rest all)
     ∙ one_more piece (while_of is_inside rest) (after_while is_inside rest) (pieces_first piece (while_of is_inside rest) (run_all is_piece bytes) (some_run is_piece bytes ∙ begins) stops)
 
@@ -175,40 +175,40 @@ values_moved front value None = refl
 values_moved front value (Some found) = ap (λ vs. Some (vs, found.1)) (sym (append_assoc front (value ∷ []) found.0))
 
 -- at the closing parenthesis
-values_closed : (bytes : List ℕ) → values_at (41 ∷ bytes) ≡ Some ([], bytes)
-unfolding values_at while_of after_while fields without_empty
+values_closed : (bytes : List ℕ) → list_at (41 ∷ bytes) ≡ Some ([], bytes)
+unfolding list_at while_of after_while fields without_empty
 values_closed bytes = refl
 
 -- no parenthesis may open within others
-values_opened : (bytes : List ℕ) → values_at (40 ∷ bytes) ≡ None
-unfolding values_at after_while
+values_opened : (bytes : List ℕ) → list_at (40 ∷ bytes) ≡ None
+unfolding list_at after_while
 values_opened bytes = refl
 
 -- without a closing parenthesis there are no values
-values_ended : values_at [] ≡ None
-unfolding values_at after_while
+values_ended : list_at [] ≡ None
+unfolding list_at after_while
 values_ended = refl
 
-module _ (so_far : List (List ℕ)) (left skipped : List ℕ) (total : ValuesThere) (gap : skipped ≡ after_while is_gap left) (so : with_values so_far (values_at left) ≡ total) where
+module _ (so_far : List (List ℕ)) (left skipped : List ℕ) (total : ValuesThere) (gap : skipped ≡ after_while is_gap left) (so : with_values so_far (list_at left) ≡ total) where
   -- the same after the gaps
-  over_gaps : with_values so_far (values_at skipped) ≡ total
-  over_gaps = ap (λ l. with_values so_far (values_at l)) gap ∙ ap (with_values so_far) (gaps_skipped left) ∙ so
+  over_gaps : with_values so_far (list_at skipped) ≡ total
+  over_gaps = ap (λ l. with_values so_far (list_at l)) gap ∙ ap (with_values so_far) (gaps_skipped left) ∙ so
 
   -- at the closing parenthesis all values were found
   pub values_found : (b : ℕ) (next : List ℕ) → Some b ≡ slice_get skipped 0 → b ≡ 41 → next ≡ drop 1 skipped → total ≡ Some (so_far, next)
   values_found b next front at41 is =
       let e : skipped ≡ 41 ∷ next = front_cons skipped b next front is ∙ ap (λ (x : ℕ). x ∷ next) at41 in
-      sym over_gaps ∙ ap (λ l. with_values so_far (values_at l)) e ∙ ap (with_values so_far) (values_closed next) ∙ ap (λ vs. Some (vs, next)) (append-nil so_far)
+      sym over_gaps ∙ ap (λ l. with_values so_far (list_at l)) e ∙ ap (with_values so_far) (values_closed next) ∙ ap (λ vs. Some (vs, next)) (append-nil so_far)
 
   -- at an opening one there are none
   pub values_bad : (b : ℕ) → Some b ≡ slice_get skipped 0 → b ≡ 40 → total ≡ None
   values_bad b front at40 =
       let e : skipped ≡ 40 ∷ drop 1 skipped = front_cons skipped b (drop 1 skipped) front refl ∙ ap (λ (x : ℕ). x ∷ drop 1 skipped) at40 in
-      sym over_gaps ∙ ap (λ l. with_values so_far (values_at l)) e ∙ ap (with_values so_far) (values_opened (drop 1 skipped))
+      sym over_gaps ∙ ap (λ l. with_values so_far (list_at l)) e ∙ ap (with_values so_far) (values_opened (drop 1 skipped))
 
   -- at the end there are none
   pub values_none : None ≡ slice_get skipped 0 → total ≡ None
-  values_none front = sym over_gaps ∙ ap (λ l. with_values so_far (values_at l)) (begins_nowhere skipped front) ∙ ap (with_values so_far) values_ended
+  values_none front = sym over_gaps ∙ ap (λ l. with_values so_far (list_at l)) (begins_nowhere skipped front) ∙ ap (with_values so_far) values_ended
 
   -- at any other byte a piece begins
   pub values_piece : (b : ℕ) → Some b ≡ slice_get skipped 0 → b ≢ 40 → b ≢ 41 → begins_by is_piece skipped ≡ true
@@ -217,11 +217,11 @@ module _ (so_far : List (List ℕ)) (left skipped : List ℕ) (total : ValuesThe
       begins_at is_piece skipped b front ∙ piece_from b no not40 not41
 
   -- the piece is one value more
-  pub values_more : (b : ℕ) (value next : List ℕ) → Some b ≡ slice_get skipped 0 → b ≢ 40 → b ≢ 41 → value ≡ while_of is_piece skipped → next ≡ after_while is_piece skipped → with_values (so_far ++ value ∷ []) (values_at next) ≡ total
+  pub values_more : (b : ℕ) (value next : List ℕ) → Some b ≡ slice_get skipped 0 → b ≢ 40 → b ≢ 41 → value ≡ while_of is_piece skipped → next ≡ after_while is_piece skipped → with_values (so_far ++ value ∷ []) (list_at next) ≡ total
   values_more b value next front not40 not41 v n =
       let first = first_value skipped (values_piece b front not40 not41) in
-      ap (λ w. with_values (so_far ++ w ∷ []) (values_at next)) v ∙ ap (λ l. with_values (so_far ++ while_of is_piece skipped ∷ []) (values_at l)) n
-      ∙ sym (values_moved so_far (while_of is_piece skipped) (values_at (after_while is_piece skipped))) ∙ ap (with_values so_far) (sym first) ∙ over_gaps
+      ap (λ w. with_values (so_far ++ w ∷ []) (list_at next)) v ∙ ap (λ l. with_values (so_far ++ while_of is_piece skipped ∷ []) (list_at l)) n
+      ∙ sym (values_moved so_far (while_of is_piece skipped) (list_at (after_while is_piece skipped))) ∙ ap (with_values so_far) (sym first) ∙ over_gaps
 
   -- and less is left
   pub values_shorter : (b : ℕ) (next : List ℕ) → Some b ≡ slice_get skipped 0 → b ≢ 40 → b ≢ 41 → next ≡ after_while is_piece skipped → length next < length left
@@ -258,42 +258,14 @@ pub keeps_token : (head before : List Line) (found next : Option (Vec Span Globa
 keeps_token head before found next so_far item value same keeps is part one =
     keeps_value head found next so_far item value keeps (rw same at is) (rw same at part) one
 
--- ---- the argument with a list
+-- ---- the argument with values
 
--- what the values make of a key
-list_of : List ℕ → ValuesThere → ArgumentThere
-list_of key None = None
-list_of key (Some found) = Some (record { key = key; has_equals = true; values = found.0 }, found.1)
-
--- an argument with a list by its values
-list_is : (key bytes : List ℕ) → list_at key bytes ≡ list_of key (values_at bytes)
-unfolding list_at list_of values_at
-list_is key bytes =
-    let inside = while_of is_inside bytes in
-    let after = after_while is_inside bytes in
-    elim (begins 41 after) as (λ t. cond t (Some (record { key = key; has_equals = true; values = pieces inside }, drop 1 after)) None ≡ list_of key (cond t (Some (pieces inside, drop 1 after)) None)) [ true ↦ refl | false ↦ refl ]
-
-module _ (head : List Line) (key : Span) (left bytes : List ℕ) where
-  -- a fault of the values is one of the argument
-  pub list_fails : (e : HeadFault) → ParsesList head (Err e) left bytes → ParsesArgument head (Err e) left (list_at (token head key) bytes)
-  unfolding list_of
-  list_fails head_faults.Bad gives = list_is (token head key) bytes ∙ ap (list_of (token head key)) gives
-  list_fails head_faults.OutOfMemory gives = tt
-
-  -- the kept values make the argument
-  pub list_kept : (kept : Vec Span Global) → IsPart head key → ParsesList head (Ok (Some kept)) left bytes → ParsesArgument head (Ok (Some (record { key = key; has_equals = true; values = kept }))) left (list_at (token head key) bytes)
-  unfolding list_of
-  list_kept kept part gives = (
-    record { key = token head key; has_equals = true; values = gives.0 },
-    list_is (token head key) bytes ∙ ap (list_of (token head key)) gives.1,
-    (ap (λ vs. record { key = token head key; has_equals = true; values = vs }) gives.2.0, gives.2.1, (part, gives.2.2)),
-  )
-
-  -- with too many values there is no argument to keep
-  pub list_too_long : ParsesList head (Ok None) left bytes → ParsesArgument head (Ok None) left (list_at (token head key) bytes)
-  unfolding list_of
-  list_too_long gives =
-      (record { key = token head key; has_equals = true; values = gives.0 }, list_is (token head key) bytes ∙ ap (list_of (token head key)) gives.1, gives.2)
+-- with too many values behind a key and its sign there is no argument to keep
+pub values_too_many : (head : List Line) (key : Span) (left bytes next : List ℕ) (b : ℕ) → Some b ≡ slice_get bytes 0 → b ≡ 61 → next ≡ drop 1 bytes → ParsesValues head (Ok None) left (values_at next) → ParsesArgument head (Ok None) left (behind_key (token head key) bytes)
+unfolding behind_key
+values_too_many head key left bytes next b front at61 after gives =
+    let e : bytes ≡ 61 ∷ next = front_cons bytes b next front after ∙ ap (λ (x : ℕ). x ∷ next) at61 in
+    (record { key = token head key; has_equals = true; values = gives.0 }, ap (behind_key (token head key)) e ∙ ap (with_key (token head key)) gives.1, gives.2)
 
 -- ---- what follows an argument is no longer than what it stands in
 
@@ -308,21 +280,21 @@ leaves_more n m None le leaves = tt
 leaves_more n m (Some found) le leaves = omega arith
 
 -- so it is with a list
-leaves_list : (key bytes : List ℕ) → LeavesAtMost (length bytes) (list_at key bytes)
+leaves_list : (key bytes : List ℕ) → LeavesAtMost (length bytes) (with_key key (list_at bytes))
 unfolding list_at
 leaves_list key bytes =
     let after = after_while is_inside bytes in
-    elim (begins 41 after) as (λ t. LeavesAtMost (length bytes) (cond t (Some (record { key = key; has_equals = true; values = pieces (while_of is_inside bytes) }, drop 1 after)) None)) [
+    elim (begins 41 after) as (λ t. LeavesAtMost (length bytes) (with_key key (cond t (Some (pieces (while_of is_inside bytes), drop 1 after)) None))) [
       | true ↦ omega (arith, length-drop 1 after, after_len is_inside bytes)
       | false ↦ tt
     ]
 
 -- with what follows the sign
-leaves_value : (key bytes : List ℕ) → LeavesAtMost (length bytes) (value_at key bytes)
-unfolding value_at
-leaves_value key bytes =
-    elim (begins_open bytes) as (λ t. LeavesAtMost (length bytes) (cond t (list_at key (drop 1 bytes)) (Some (record { key = key; has_equals = true; values = while_of is_value bytes ∷ [] }, after_while is_value bytes)))) [
-      | true ↦ leaves_more (length (drop 1 bytes)) (length bytes) (list_at key (drop 1 bytes)) (omega (arith, length-drop 1 bytes)) (leaves_list key (drop 1 bytes))
+leaves_values : (key bytes : List ℕ) → LeavesAtMost (length bytes) (with_key key (values_at bytes))
+unfolding values_at
+leaves_values key bytes =
+    elim (begins_open bytes) as (λ t. LeavesAtMost (length bytes) (with_key key (cond t (list_at (drop 1 bytes)) (Some (while_of is_value bytes ∷ [], after_while is_value bytes))))) [
+      | true ↦ leaves_more (length (drop 1 bytes)) (length bytes) (with_key key (list_at (drop 1 bytes))) (omega (arith, length-drop 1 bytes)) (leaves_list key (drop 1 bytes))
       | false ↦ after_len is_value bytes
     ]
 
@@ -330,8 +302,8 @@ leaves_value key bytes =
 leaves_behind : (key bytes : List ℕ) → LeavesAtMost (length bytes) (behind_key key bytes)
 unfolding behind_key
 leaves_behind key bytes =
-    elim (begins 61 bytes) as (λ t. LeavesAtMost (length bytes) (cond t (value_at key (drop 1 bytes)) (Some (record { key = key; has_equals = false; values = [] }, bytes)))) [
-      | true ↦ leaves_more (length (drop 1 bytes)) (length bytes) (value_at key (drop 1 bytes)) (omega (arith, length-drop 1 bytes)) (leaves_value key (drop 1 bytes))
+    elim (begins 61 bytes) as (λ t. LeavesAtMost (length bytes) (cond t (with_key key (values_at (drop 1 bytes))) (Some (record { key = key; has_equals = false; values = [] }, bytes)))) [
+      | true ↦ leaves_more (length (drop 1 bytes)) (length bytes) (with_key key (values_at (drop 1 bytes))) (omega (arith, length-drop 1 bytes)) (leaves_values key (drop 1 bytes))
       | false ↦ omega arith
     ]
 

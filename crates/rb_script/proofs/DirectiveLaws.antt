@@ -1,12 +1,11 @@
 -- Arguments by their place.
 use Rattle.std.proofs.Common.{◌≡◌, ℕ, ◌<◌, List, [], ◌∷◌, length, map, get_or, zero, suc, refl, ap, sym, subst, ◌∙◌, arith}
-use Rattle.std.specs.Prelude.{slice_index_or}
 use Rattle.std.specs.List.{AllByRecursion}
 use Rattle.std.proofs.lemmas.List.{length-map}
 use Rattle.rb_script.specs.declared.argument.Argument.{Argument}
 use Rattle.rb_script.specs.Lines.{Line}
 use Rattle.rb_script.specs.Directive.{no_argument}
-use Rattle.rb_script.specs.Tokens.{SpannedArgument, SpannedDirective, argument_of, plain}
+use Rattle.rb_script.specs.Tokens.{SpannedArgument, argument_of}
 use Rattle.rb_script.specs.Parsed.{spanned, AreParts}
 use Rattle.rb_script.specs.Told.{no_spans}
 

@@ -155,19 +155,19 @@ pushed {T} into next p v e is = ap values e ∙ map-append (λ (q : Rc T Global)
 
 -- ---- each block with its output
 
-module _ (bs : List PlainBlock) (outputs : List (List Line)) (i : ℕ) (b : PlainBlock) (output : List Line) (split : drop i bs ≡ b ∷ drop (i + 1) bs) (lt : i < length outputs) (is : output ≡ get_or outputs i output) where
+module _ (ps : List (Rc PlainBlock Global)) (outputs : List (List Line)) (i : ℕ) (p : Rc PlainBlock Global) (output : List Line) (lt : i < length ps) (p_is : p ≡ get_or ps i p) (some : i < length outputs) (output_is : output ≡ get_or outputs i output) where
   -- the block at a place with its output, and those after it
-  pub expecting_split : all_expecting (drop i bs) (drop i outputs) ≡ expecting b output ∷ all_expecting (drop (i + 1) bs) (drop (i + 1) outputs)
+  pub expecting_split : all_expecting (drop i (values ps)) (drop i outputs) ≡ expecting p.value output ∷ all_expecting (drop (i + 1) (values ps)) (drop (i + 1) outputs)
   unfolding all_expecting
   expecting_split =
-      ap (λ (l : List PlainBlock). all_expecting l (drop i outputs)) split
-      ∙ ap (all_expecting (b ∷ drop (i + 1) bs)) (drop_more outputs i output lt ∙ ap (λ (o : List Line). o ∷ drop (i + 1) outputs) (sym is))
+      ap (λ (l : List PlainBlock). all_expecting l (drop i outputs)) (values_split ps i p lt p_is)
+      ∙ ap (all_expecting (p.value ∷ drop (i + 1) (values ps))) (drop_more outputs i output some ∙ ap (λ (o : List Line). o ∷ drop (i + 1) outputs) (sym output_is))
 
   -- one more block with its output was made
-  pub expecting_more : (all : List PlainBlock) (made next : List (Rc PlainBlock Global)) (r : Rc PlainBlock Global) → next ≡ made ++ r ∷ [] → r.value ≡ expecting b output
-      → values made ++ all_expecting (drop i bs) (drop i outputs) ≡ all → values next ++ all_expecting (drop (i + 1) bs) (drop (i + 1) outputs) ≡ all
+  pub expecting_more : (all : List PlainBlock) (made next : List (Rc PlainBlock Global)) (r : Rc PlainBlock Global) → next ≡ made ++ r ∷ [] → r.value ≡ expecting p.value output
+      → values made ++ all_expecting (drop i (values ps)) (drop i outputs) ≡ all → values next ++ all_expecting (drop (i + 1) (values ps)) (drop (i + 1) outputs) ≡ all
   expecting_more all made next r e same so_far =
-      let rest = all_expecting (drop (i + 1) bs) (drop (i + 1) outputs) in
+      let rest = all_expecting (drop (i + 1) (values ps)) (drop (i + 1) outputs) in
       ap (λ (l : List (Rc PlainBlock Global)). values l ++ rest) e ∙ ap (λ (l : List PlainBlock). l ++ rest) (map-append (λ (q : Rc PlainBlock Global). q.value) made (r ∷ [])) ∙ append_assoc (values made) (r.value ∷ []) rest
       ∙ ap (λ (v : PlainBlock). values made ++ v ∷ rest) same ∙ ap (λ (l : List PlainBlock). values made ++ l) (sym expecting_split) ∙ so_far
 

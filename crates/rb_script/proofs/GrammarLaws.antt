@@ -8,7 +8,7 @@ use Rattle.std.proofs.lemmas.Option.{same_Some, some_pair_parts}
 use Rattle.rb_script.specs.Marks.{is_space, is_blank}
 use Rattle.rb_script.specs.Joined.{while_of, after_while}
 use Rattle.rb_script.specs.Directive.{PlainArgument, is_word, is_value, is_inside, is_some_piece, pieces, begins_open, IsRun, IsArgument, AreArguments, Derives}
-use Rattle.rb_script.specs.Reading.{ArgumentThere, ArgumentsThere, HeadThere, begins, begins_space, list_at, value_at, behind_key, argument_at, before, then_arguments, arguments_at, named, word_head, head_at}
+use Rattle.rb_script.specs.Reading.{ArgumentThere, ArgumentsThere, HeadThere, begins, begins_space, ValuesThere, list_at, values_at, with_key, behind_key, argument_at, before, then_arguments, arguments_at, named, word_head, head_at}
 use Rattle.rb_script.proofs.TokenLaws.{begins_by, run_parts, run_all, run_of, after_run, some_run, begins_wider}
 use Rattle.rb_script.proofs.ArgumentLaws.{begins_is, blank_is, arguments_of, arguments_blank, arguments_spaced}
 
@@ -63,13 +63,12 @@ Stands bytes None = Unit {0}
 Stands bytes (Some found) = (text : List ℕ) × (bytes ≡ text ++ found.1) × IsArgument text found.0
 
 -- after a key and a parenthesis stands a list
-stands_list : (key bytes : List ℕ) → IsRun is_word key → Stands (key ++ 61 ∷ 40 ∷ bytes) (list_at key bytes)
+stands_list : (key bytes : List ℕ) → IsRun is_word key → Stands (key ++ 61 ∷ 40 ∷ bytes) (with_key key (list_at bytes))
 unfolding list_at
 stands_list key bytes word =
     let inside = while_of is_inside bytes in
     let after = after_while is_inside bytes in
-    let a : PlainArgument = record { key = key; has_equals = true; values = pieces inside } in
-    elim (begins 41 after) as (λ t. begins 41 after ≡ t → Stands (key ++ 61 ∷ 40 ∷ bytes) (cond t (Some (a, drop 1 after)) None)) [
+    elim (begins 41 after) as (λ t. begins 41 after ≡ t → Stands (key ++ 61 ∷ 40 ∷ bytes) (with_key key (cond t (Some (pieces inside, drop 1 after)) None))) [
       | true ↦ λ h.
           let whole : bytes ≡ inside ++ 41 ∷ drop 1 after = sym (run_parts is_inside bytes) ∙ ap (λ (l : List ℕ). inside ++ l) (begins_cons 41 after h) in (
             key ++ 61 ∷ 40 ∷ inside ++ 41 ∷ [],
@@ -86,16 +85,15 @@ unopened_value [] h = refl
 unopened_value (b ∷ bytes) h = elim (is_value b) as (λ t. begins_open (cond t (b ∷ while_of is_value bytes) []) ≡ false) [ true ↦ h | false ↦ refl ]
 
 -- after a key and its sign stands a value or a list
-stands_value : (key bytes : List ℕ) → IsRun is_word key → Stands (key ++ 61 ∷ bytes) (value_at key bytes)
-unfolding value_at
-stands_value key bytes word =
+stands_values : (key bytes : List ℕ) → IsRun is_word key → Stands (key ++ 61 ∷ bytes) (with_key key (values_at bytes))
+unfolding values_at
+stands_values key bytes word =
     let value = while_of is_value bytes in
     let after = after_while is_value bytes in
-    let a : PlainArgument = record { key = key; has_equals = true; values = value ∷ [] } in
-    elim (begins_open bytes) as (λ t. begins_open bytes ≡ t → Stands (key ++ 61 ∷ bytes) (cond t (list_at key (drop 1 bytes)) (Some (a, after)))) [
+    elim (begins_open bytes) as (λ t. begins_open bytes ≡ t → Stands (key ++ 61 ∷ bytes) (with_key key (cond t (list_at (drop 1 bytes)) (Some (value ∷ [], after))))) [
       | true ↦ λ h.
           let whole : bytes ≡ 40 ∷ drop 1 bytes = begins_cons 40 bytes (sym (open_is bytes) ∙ h) in
-          subst (λ (l : List ℕ). Stands (key ++ 61 ∷ l) (list_at key (drop 1 bytes))) (sym whole) (stands_list key (drop 1 bytes) word)
+          subst (λ (l : List ℕ). Stands (key ++ 61 ∷ l) (with_key key (list_at (drop 1 bytes)))) (sym whole) (stands_list key (drop 1 bytes) word)
       | false ↦ λ h. (
         key ++ 61 ∷ value,
         ap (λ (l : List ℕ). key ++ 61 ∷ l) (sym (run_parts is_value bytes)) ∙ sym (value_text key value after),
@@ -108,10 +106,10 @@ stands_behind : (key bytes : List ℕ) → IsRun is_word key → Stands (key ++ 
 unfolding behind_key
 stands_behind key bytes word =
     let a : PlainArgument = record { key = key; has_equals = false; values = [] } in
-    elim (begins 61 bytes) as (λ t. begins 61 bytes ≡ t → Stands (key ++ bytes) (cond t (value_at key (drop 1 bytes)) (Some (a, bytes)))) [
+    elim (begins 61 bytes) as (λ t. begins 61 bytes ≡ t → Stands (key ++ bytes) (cond t (with_key key (values_at (drop 1 bytes))) (Some (a, bytes)))) [
       | true ↦ λ h.
           let whole : bytes ≡ 61 ∷ drop 1 bytes = begins_cons 61 bytes h in
-          subst (λ (l : List ℕ). Stands (key ++ l) (value_at key (drop 1 bytes))) (sym whole) (stands_value key (drop 1 bytes) word)
+          subst (λ (l : List ℕ). Stands (key ++ l) (with_key key (values_at (drop 1 bytes)))) (sym whole) (stands_values key (drop 1 bytes) word)
       | false ↦ λ h. (key, refl, (word, inl (record { parts = refl; equals = refl; values = refl })))
     ] refl
 
@@ -224,7 +222,7 @@ key_read key rest word ends =
 alone_read : (key rest : List ℕ) → begins_by is_value rest ≡ false → behind_key key rest ≡ Some (record { key = key; has_equals = false; values = [] }, rest)
 unfolding behind_key
 alone_read key rest ends =
-    ap (λ t. cond t (value_at key (drop 1 rest)) (Some (record { key = key; has_equals = false; values = [] }, rest))) (begins_no 61 rest refl ends)
+    ap (λ t. cond t (with_key key (values_at (drop 1 rest))) (Some (record { key = key; has_equals = false; values = [] }, rest))) (begins_no 61 rest refl ends)
 
 -- the value doesn't begin by a parenthesis, and what follows it doesn't either
 unopened_before : (value rest : List ℕ) → begins_open value ≡ false → begins_by is_value rest ≡ false → begins_open (value ++ rest) ≡ false
@@ -233,20 +231,20 @@ unopened_before (b ∷ value) rest unopened ends = unopened
 
 -- a value is read up to its end
 value_read : (key value rest : List ℕ) → list_all is_value value ≡ true → begins_open value ≡ false → begins_by is_value rest ≡ false → behind_key key (61 ∷ (value ++ rest)) ≡ Some (record { key = key; has_equals = true; values = value ∷ [] }, rest)
-unfolding behind_key value_at
+unfolding behind_key values_at
 value_read key value rest bare unopened ends =
     let bytes = value ++ rest in
-    let read : List ℕ → List ℕ → ArgumentThere = λ v after. Some (record { key = key; has_equals = true; values = v ∷ [] }, after) in
-    ap (λ t. cond t (list_at key (drop 1 bytes)) (read (while_of is_value bytes) (after_while is_value bytes))) (unopened_before value rest unopened ends)
-    ∙ ap (λ v. read v (after_while is_value bytes)) (run_of is_value value rest bare ends) ∙ ap (read value) (after_run is_value value rest bare ends)
+    let read : List ℕ → List ℕ → ValuesThere = λ v after. Some (v ∷ [], after) in
+    ap (λ t. with_key key (cond t (list_at (drop 1 bytes)) (read (while_of is_value bytes) (after_while is_value bytes)))) (unopened_before value rest unopened ends)
+    ∙ ap (λ v. with_key key (read v (after_while is_value bytes))) (run_of is_value value rest bare ends) ∙ ap (λ after. with_key key (read value after)) (after_run is_value value rest bare ends)
 
 -- a list is read up to its parenthesis
 list_read : (key inside rest : List ℕ) → list_all is_inside inside ≡ true → behind_key key (61 ∷ 40 ∷ (inside ++ 41 ∷ rest)) ≡ Some (record { key = key; has_equals = true; values = pieces inside }, rest)
-unfolding behind_key value_at list_at
+unfolding behind_key values_at list_at
 list_read key inside rest flat =
     let bytes = inside ++ 41 ∷ rest in
-    let read : List ℕ → List ℕ → ArgumentThere = λ vs after. cond (begins 41 after) (Some (record { key = key; has_equals = true; values = pieces vs }, drop 1 after)) None in
-    ap (λ v. read v (after_while is_inside bytes)) (run_of is_inside inside (41 ∷ rest) flat refl) ∙ ap (read inside) (after_run is_inside inside (41 ∷ rest) flat refl)
+    let read : List ℕ → List ℕ → ValuesThere = λ vs after. cond (begins 41 after) (Some (pieces vs, drop 1 after)) None in
+    ap (λ v. with_key key (read v (after_while is_inside bytes))) (run_of is_inside inside (41 ∷ rest) flat refl) ∙ ap (λ after. with_key key (read inside after)) (after_run is_inside inside (41 ∷ rest) flat refl)
 
 -- an argument is its fields
 argument_by : (a : PlainArgument) (equals : Bool) (values : List (List ℕ)) → a.has_equals ≡ equals → a.values ≡ values → record { key = a.key; has_equals = equals; values = values } ≡ a
@@ -311,7 +309,3 @@ head_complete bytes name args d =
     let read : List ℕ → List ℕ → HeadThere = λ word rest. cond (is_some_piece word) (named word (arguments_of rest)) None in
     ap word_head skipped ∙ ap (λ word. read word (after_while is_word text)) (run_of is_word name d.rest d.word.all ends) ∙ ap (read name) (after_run is_word name d.rest d.word.all ends)
     ∙ ap (λ t. cond t (named name (arguments_of d.rest)) None) (run_some is_word name d.word) ∙ ap (named name) (arguments_complete d.rest args d.arguments)
-
--- so a head has one name and one list of arguments
-pub derives_once : (bytes n1 n2 : List ℕ) (a1 a2 : List PlainArgument) → Derives bytes n1 a1 → Derives bytes n2 a2 → (n1 ≡ n2) × (a1 ≡ a2)
-derives_once bytes n1 n2 a1 a2 d e = some_pair_parts n1 n2 a1 a2 (sym (head_complete bytes n1 a1 d) ∙ head_complete bytes n2 a2 e)

@@ -22,14 +22,6 @@ shown-length e true n h is =
     ap (λ t. length (text_of (cond t (rule ∷ e ++ rule ∷ rule ∷ []) e))) (sym h) ∙ line-text-length rule (e ++ rule ∷ rule ∷ []) ∙ ap (λ (k : ℕ). 5 + k) (text-append-length e (rule ∷ rule ∷ [])) ∙ omega arith
 shown-length e false n h is = ap (λ t. length (text_of (cond t (rule ∷ e ++ rule ∷ rule ∷ []) e))) (sym h) ∙ omega arith
 
--- the text of a block, part by part
-pub block-text-length : (b : PlainBlock) → length (block_text b) ≡ length (text_of b.lead) + length (text_of b.head) + length (text_of b.input) + 6 + length (text_of (shown b.expected))
-block-text-length b =
-    let last = shown b.expected ++ [] ∷ [] in
-    text-append-length b.lead (b.head ++ (b.input ++ rule ∷ last)) ∙ ap (λ (n : ℕ). length (text_of b.lead) + n) (text-append-length b.head (b.input ++ rule ∷ last)
-    ∙ ap (λ (n : ℕ). length (text_of b.head) + n) (text-append-length b.input (rule ∷ last) ∙ ap (λ (n : ℕ). length (text_of b.input) + n) (line-text-length rule last ∙ ap (λ (n : ℕ). 5 + n) (text-append-length (shown b.expected) ([] ∷ [])))))
-    ∙ omega arith
-
 -- the text of a list of blocks
 abbrev pub blocks_len : List PlainBlock → ℕ
 blocks_len bs = length (text_of (flat_map block_lines bs))

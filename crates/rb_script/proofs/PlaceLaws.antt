@@ -66,15 +66,28 @@ nowhere k n (inr lt) = elim (k == 0) as (λ t. (t || nat_lt n k) ≡ true) [ tru
 somewhere : (k n : ℕ) → k ≢ 0 → k ≤ n → is_no_place k n ≡ false
 somewhere k n some le = or_from (k == 0) (nat_lt n k) (ne_eqb k 0 some) (le-ltb n k le)
 
--- an edit whose script has a text of a length that was counted
-module _ (made : Result PlainScript EditFault) (s : PlainScript) (n : ℕ) (is : made ≡ fitting s) (counted : n ≡ capped (length (text s))) where
-  -- its text is too long
-  pub too_long : MAX_SCRIPT < n → Settles (Err TooLong) made
-  too_long lt = refused TooLong made (is ∙ unless_true (nat_lt MAX_SCRIPT (length (text s))) TooLong (Ok s) (lt-ltb MAX_SCRIPT (length (text s)) (omega arith)))
+-- ---- edits whose text may be too long
 
-  -- its text fits
-  pub text_fits : n ≤ MAX_SCRIPT → made ≡ Ok s
-  text_fits le = is ∙ unless_false (nat_lt MAX_SCRIPT (length (text s))) TooLong (Ok s) (le-ltb MAX_SCRIPT (length (text s)) (omega arith))
+-- the edit makes the script if that fits, and n is the length of its text
+pub record Counts (made : Result PlainScript EditFault) (s : PlainScript) (n : ℕ) : Type 0 where
+  pub is : made ≡ fitting s
+  pub counted : n ≡ capped (length (text s))
+
+-- the text is too long
+pub too_long : {made : Result PlainScript EditFault} {s : PlainScript} {n : ℕ} → Counts made s n → MAX_SCRIPT < n → Settles (Err TooLong) made
+too_long {made} {s} {n} h lt = refused TooLong made (h.is ∙ unless_true (nat_lt MAX_SCRIPT (length (text s))) TooLong (Ok s) (lt-ltb MAX_SCRIPT (length (text s)) (omega arith)))
+
+-- the text fits
+text_fits : {made : Result PlainScript EditFault} {s : PlainScript} {n : ℕ} → Counts made s n → n ≤ MAX_SCRIPT → made ≡ Ok s
+text_fits {made} {s} {n} h le = h.is ∙ unless_false (nat_lt MAX_SCRIPT (length (text s))) TooLong (Ok s) (le-ltb MAX_SCRIPT (length (text s)) (omega arith))
+
+-- where it fits the edit has no fault
+pub fits_early : {made : Result PlainScript EditFault} {s : PlainScript} {n : ℕ} (P : EditFault → Type 0) → Counts made s n → n ≤ MAX_SCRIPT → IfErr made P
+fits_early {made} {s} P h le = no_fault made s P (text_fits h le)
+
+-- where it fits the script was made, as one that is equal, unless memory ran out
+pub fits_grown : {made : Result PlainScript EditFault} {s : PlainScript} {n : ℕ} (r : Result PlainScript EditFault) (t : PlainScript) → Counts made s n → n ≤ MAX_SCRIPT → t ≡ s → IfOk r (λ x. x ≡ t) → IfErr r (λ e. e ≡ OutOfMemory) → Settles r made
+fits_grown {made} r t h le same ok err = grown r made t (text_fits h le ∙ ap (λ (x : PlainScript). Ok x) (sym same)) ok err
 
 -- ---- a part of the blocks is replaced
 
@@ -109,12 +122,19 @@ part_held s from to new n h all few counted le = record {
   len = omega arith;
 }
 
+-- the scripts that edits at place k make: with a block put in, with another block there, and with none there
+abbrev pub with_inserted : PlainScript → ℕ → PlainBlock → PlainScript
+with_inserted s k b = with_blocks s (part s.blocks (k - 1) (b ∷ []) (k - 1))
+
+abbrev pub with_replaced : PlainScript → ℕ → PlainBlock → PlainScript
+with_replaced s k b = with_blocks s (part s.blocks (k - 1) (b ∷ []) k)
+
+abbrev pub with_removed : PlainScript → ℕ → PlainScript
+with_removed s k = with_blocks s (part s.blocks (k - 1) [] k)
+
 -- ---- a block is put in
 
 module _ (s : PlainScript) (k : ℕ) (b : PlainBlock) where
-  abbrev pub with_inserted : PlainScript
-  with_inserted = with_blocks s (part s.blocks (k - 1) (b ∷ []) (k - 1))
-
   -- there is no such place
   pub insert_nowhere : (k ≡ 0) ⊎ (length s.blocks < k - 1) → edited s (Insert k b) [] ≡ Err NoSuchPlace
   unfolding edited
@@ -129,25 +149,27 @@ module _ (s : PlainScript) (k : ℕ) (b : PlainBlock) where
     unfolding edited
     insert_full full = unless_false (is_no_place k (length s.blocks + 1)) NoSuchPlace _ place_so ∙ unless_true (nat_le MAX_DIRECTIVES (length s.blocks)) TooManyDirectives _ (le-leb MAX_DIRECTIVES (length s.blocks) full)
 
-    -- there is room
-    pub insert_fitting : length s.blocks < MAX_DIRECTIVES → edited s (Insert k b) [] ≡ fitting with_inserted
-    unfolding edited
-    insert_fitting lt =
-        unless_false (is_no_place k (length s.blocks + 1)) NoSuchPlace _ place_so
-        ∙ unless_false (nat_le MAX_DIRECTIVES (length s.blocks)) TooManyDirectives _ (false_from_ne_true (nat_le MAX_DIRECTIVES (length s.blocks)) (λ e. omega (arith, leb-true MAX_DIRECTIVES (length s.blocks) e)))
+    module _ (lt : length s.blocks < MAX_DIRECTIVES) where
+      insert_fitting : edited s (Insert k b) [] ≡ fitting (with_inserted s k b)
+      unfolding edited
+      insert_fitting =
+          unless_false (is_no_place k (length s.blocks + 1)) NoSuchPlace _ place_so
+          ∙ unless_false (nat_le MAX_DIRECTIVES (length s.blocks)) TooManyDirectives _ (false_from_ne_true (nat_le MAX_DIRECTIVES (length s.blocks)) (λ e. omega (arith, leb-true MAX_DIRECTIVES (length s.blocks) e)))
 
-    pub insert_held : (n : ℕ) → IsScript s → IsBlock b → length s.blocks < MAX_DIRECTIVES → n ≡ capped (length (text with_inserted)) → n ≤ MAX_SCRIPT → IsHeldScript with_inserted n
-    insert_held n h block lt counted short = part_held s (k - 1) (k - 1) (b ∷ []) n h (block, tt) (omega arith) counted short
+      -- there is room, and the text is longer by that of the block
+      pub insert_counts : (n old_len new_len : ℕ) → n ≡ min (old_len + new_len) 18446744073709551615 → old_len ≡ length (text s) → new_len ≡ capped (length (block_text b)) → Counts (edited s (Insert k b) []) (with_inserted s k b) n
+      insert_counts n old_len new_len is old_is new_is =
+          let old = text-length s in
+          let new = text-length (with_inserted s k b) in
+          let parts = part-length s.blocks (b ∷ []) (k - 1) (k - 1) in
+          let split = split-length s.blocks (k - 1) in
+          let one = blocks-cons-length b [] in
+          record { is = insert_fitting; counted = omega arith }
 
-  -- the text is longer by that of the block
-  pub insert_counted : (n old_len new_len : ℕ) → n ≡ min (old_len + new_len) 18446744073709551615 → old_len ≡ length (text s) → new_len ≡ capped (length (block_text b)) → n ≡ capped (length (text with_inserted))
-  insert_counted n old_len new_len is old_is new_is =
-      let old = text-length s in
-      let new = text-length with_inserted in
-      let parts = part-length s.blocks (b ∷ []) (k - 1) (k - 1) in
-      let split = split-length s.blocks (k - 1) in
-      let one = blocks-cons-length b [] in
-      omega arith
+      -- with a copy of the block put in the script can be held
+      pub insert_held : {made : Result PlainScript EditFault} {n : ℕ} (x : PlainBlock) → x ≡ b → IsScript s → IsBlock b → Counts made (with_inserted s k b) n → n ≤ MAX_SCRIPT → IsHeldScript (with_inserted s k x) n
+      insert_held {n = n} x same h block counts short =
+          subst (λ (y : PlainBlock). IsHeldScript (with_inserted s k y) n) (sym same) (part_held s (k - 1) (k - 1) (b ∷ []) n h (block, tt) (omega arith) counts.counted short)
 
 -- ---- the block at a place
 
@@ -202,44 +224,41 @@ module _ (s : PlainScript) (k : ℕ) (old : PlainBlock) (there : Some old ≡ at
   -- ---- another block in its place
 
   module _ (b : PlainBlock) where
-    abbrev pub with_replaced : PlainScript
-    with_replaced = with_blocks s (part s.blocks (k - 1) (b ∷ []) k)
-
     set_is : slice_set s.blocks (k - 1) b ≡ part s.blocks (k - 1) (b ∷ []) k
     set_is = set_split s.blocks (k - 1) b within ∙ ap (λ (n : ℕ). take (k - 1) s.blocks ++ b ∷ drop n s.blocks) next
 
-    pub replace_fitting : edited s (Replace k b) [] ≡ fitting with_replaced
+    pub replace_fitting : edited s (Replace k b) [] ≡ fitting (with_replaced s k b)
     unfolding edited
     replace_fitting = unless_false (is_no_place k (length s.blocks)) NoSuchPlace _ place_there ∙ ap (λ (l : List PlainBlock). fitting (with_blocks s l)) set_is
 
-    pub replace_held : (n : ℕ) → IsScript s → IsBlock b → n ≡ capped (length (text with_replaced)) → n ≤ MAX_SCRIPT → IsHeldScript with_replaced n
-    replace_held n h block counted short = part_held s (k - 1) k (b ∷ []) n h (block, tt) (let few = h.few in omega (arith, within, few, next)) counted short
-
     -- the text has that of the block in place of that of the old one
-    pub replace_counted : (n m new_len total : ℕ) → IsScript s → n ≡ length (text s) → m ≡ capped (length (block_text old)) → new_len ≡ capped (length (block_text b)) → total ≡ min (n - m + new_len) 18446744073709551615 → total ≡ capped (length (text with_replaced))
-    replace_counted n m new_len total h n_is m_is new_is total_is =
+    pub replace_counts : {made : Result PlainScript EditFault} → made ≡ fitting (with_replaced s k b) → (n m new_len total : ℕ) → IsScript s → n ≡ length (text s) → m ≡ capped (length (block_text old)) → new_len ≡ capped (length (block_text b))
+        → total ≡ min (n - m + new_len) 18446744073709551615 → Counts made (with_replaced s k b) total
+    replace_counts is n m new_len total h n_is m_is new_is total_is =
         let short = h.short_text in
         let whole = whole-length in
-        let new = text-length with_replaced in
+        let new = text-length (with_replaced s k b) in
         let parts = part-length s.blocks (b ∷ []) (k - 1) k in
         let one = blocks-cons-length b [] in
-        omega arith
+        record { is = is; counted = omega arith }
+
+    -- with a copy of the block there the script can be held
+    pub replace_held : {made : Result PlainScript EditFault} {n : ℕ} (x : PlainBlock) → x ≡ b → IsScript s → IsBlock b → Counts made (with_replaced s k b) n → n ≤ MAX_SCRIPT → IsHeldScript (with_replaced s k x) n
+    replace_held {n = n} x same h block counts short =
+        subst (λ (y : PlainBlock). IsHeldScript (with_replaced s k y) n) (sym same) (part_held s (k - 1) k (b ∷ []) n h (block, tt) (let few = h.few in omega (arith, within, few, next)) counts.counted short)
 
   -- ---- no block in its place
 
-  abbrev pub with_removed : PlainScript
-  with_removed = with_blocks s (part s.blocks (k - 1) [] k)
-
-  pub remove_made : edited s (Remove k) [] ≡ Ok with_removed
+  pub remove_made : edited s (Remove k) [] ≡ Ok (with_removed s k)
   unfolding edited
   remove_made = unless_false (is_no_place k (length s.blocks)) NoSuchPlace _ place_there ∙ ap (λ (n : ℕ). answer (Ok (with_blocks s (take (k - 1) s.blocks ++ drop n s.blocks)))) next
 
-  pub remove_held : (n m : ℕ) → IsScript s → n ≡ length (text s) → m ≡ capped (length (block_text old)) → IsHeldScript with_removed (n - m)
+  pub remove_held : (n m : ℕ) → IsScript s → n ≡ length (text s) → m ≡ capped (length (block_text old)) → IsHeldScript (with_removed s k) (n - m)
   remove_held n m h n_is m_is =
       let short = h.short_text in
       let few = h.few in
       let whole = whole-length in
-      let new = text-length with_removed in
+      let new = text-length (with_removed s k) in
       let parts = part-length s.blocks [] (k - 1) k in
       part_held s (k - 1) k [] (n - m) h tt (omega (arith, within, next)) (omega arith) (omega arith)
 
@@ -249,7 +268,7 @@ module _ (s : PlainScript) (k : ℕ) (old : PlainBlock) (there : Some old ≡ at
   unfolding edited
   expect_bad lines bad = unless_false (is_no_place k (length s.blocks)) NoSuchPlace _ place_there ∙ unless_true (not (is_expectation lines)) BadExpectation _ (ap not bad)
 
-  pub expect_fitting : (lines : List Line) → is_expectation lines ≡ true → edited s (Expect k lines) [] ≡ fitting (with_replaced (expecting old lines))
+  pub expect_fitting : (lines : List Line) → is_expectation lines ≡ true → edited s (Expect k lines) [] ≡ fitting (with_replaced s k (expecting old lines))
   unfolding edited
   expect_fitting lines good =
       unless_false (is_no_place k (length s.blocks)) NoSuchPlace _ place_there ∙ unless_false (not (is_expectation lines)) BadExpectation _ (ap not good)

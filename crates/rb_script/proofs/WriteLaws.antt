@@ -38,10 +38,6 @@ pub sent_all : {old new : Option (List ℕ)} {text rest : List ℕ} → length r
 sent_all {old} {new} {rest = []} e s = subst (λ (l : List ℕ). Appends old new l) (sym (s.parts ∙ append-nil s.front)) s.appended
 sent_all {rest = x ∷ rest} e s = absurd (omega arith)
 
--- a write failed
-pub sent_front : {old new : Option (List ℕ)} {text : List ℕ} (rest : List ℕ) → Sent old new text rest → AppendsFront old new text
-sent_front rest s = record { front = s.front; rest = rest; parts = s.parts; appended = s.appended }
-
 -- ---- lines
 
 -- these lines of all went out, and the rest are still to go
@@ -98,13 +94,13 @@ double_found ls i line total found h so_far =
 pub double_shown : (e : List Line) → needs_double e ≡ true → shown e ≡ rule ∷ e ++ rule ∷ rule ∷ []
 double_shown e h = ap (λ t. cond t (rule ∷ e ++ rule ∷ rule ∷ []) e) h
 
--- the lines as they are
-pub plain_shown : (e : List Line) → needs_double e ≡ false → shown e ≡ e
-plain_shown e h = ap (λ t. cond t (rule ∷ e ++ rule ∷ rule ∷ []) e) h
+-- the lines above an expectation, with the separator
+abbrev pub front_lines : List Line → List Line → List Line → List Line
+front_lines lead head input = lead ++ (head ++ (input ++ rule ∷ []))
 
--- what stands above an expectation, and then the rest of the block
-pub block_parts : (lead head input rest : List Line) → lead ++ (head ++ (input ++ rule ∷ rest)) ≡ (lead ++ (head ++ (input ++ rule ∷ []))) ++ rest
-block_parts lead head input rest =
+-- a block is the lines above its expectation, and the rest
+pub front-append : (lead head input rest : List Line) → lead ++ (head ++ (input ++ rule ∷ rest)) ≡ front_lines lead head input ++ rest
+front-append lead head input rest =
     sym (append_assoc lead (head ++ (input ++ rule ∷ [])) rest ∙ ap (λ (l : List Line). lead ++ l) (append_assoc head (input ++ rule ∷ []) rest ∙ ap (λ (l : List Line). head ++ l) (append_assoc input (rule ∷ []) rest)))
 
 -- ---- blocks one after another

@@ -1,6 +1,5 @@
 -- What a block is made of.
-use Rattle.std.specs.Prelude.{◌≡◌, ℕ, ◌+◌, List, length, map, Some}
-use Rattle.std.specs.List.{AllByRecursion}
+use Rattle.std.specs.Prelude.{◌≡◌, ℕ, ◌+◌, List, length, Some}
 use Rattle.rb_script.specs.declared.block.Front.{Front}
 use Rattle.rb_script.specs.declared.tokens.Tokens.{Tokens}
 use Rattle.rb_script.specs.Lines.{Line, text_of}

@@ -3,7 +3,7 @@ use Rattle.std.specs.Prelude.{◌≡◌, ℕ, Bool, false, ◌||◌, ◌==◌, n
 use Rattle.rb_script.specs.declared.head_cursor.Kind.{Kind}
 use Rattle.rb_script.specs.declared.head_cursor.Kind.TheVariants.{Space, Gap, Word, Value, Piece}
 use Rattle.rb_script.specs.Marks.{is_space}
-use Rattle.rb_script.specs.Directive.{is_word, is_value, is_gap, is_inside}
+use Rattle.rb_script.specs.Directive.{is_word, is_value, is_gap}
 
 -- what a value within parentheses is made of
 abbrev pub is_piece : ℕ → Bool

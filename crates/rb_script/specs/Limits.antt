@@ -1,5 +1,5 @@
 -- The limits of scripts, under the names of the constants.
-use Rattle.std.specs.Prelude.{ℕ, Bool, ◌&&◌, nat_le, List, length}
+use Rattle.std.specs.Prelude.{Bool, ◌&&◌, nat_le, List, length}
 use Rattle.std.specs.List.{list_all}
 use Rattle.rb_script.specs.declared.limits.TheConstants.{MAX_ARGUMENTS, MAX_VALUES}
 use Rattle.rb_script.specs.Directive.{PlainArgument}

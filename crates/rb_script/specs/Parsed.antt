@@ -1,21 +1,20 @@
 -- What parsing a head answers, against what stands there.
-use Rattle.std.specs.Prelude.{◌≡◌, ℕ, Bool, true, false, nat_le, if◌then◌else◌, List, [], ◌∷◌, ◌++◌, length, drop, map, Option, Some, None, Result, Ok, Err}
-use Rattle.std.specs.List.{list_all, AllByRecursion}
+use Rattle.std.specs.Prelude.{◌≡◌, ℕ, true, false, nat_le, if◌then◌else◌, List, [], ◌∷◌, ◌++◌, length, map, Option, Some, None, Result, Ok, Err}
+use Rattle.std.specs.List.{AllByRecursion}
 use Rattle.rb_script.specs.declared.span.Span.{Span}
 use Rattle.rb_script.specs.declared.argument.Argument.{Argument}
 use Rattle.rb_script.specs.declared.tokens.Tokens.{Tokens}
 use Rattle.rb_script.specs.declared.tokens.HeadFault.{HeadFault}
 use Rattle.rb_script.specs.declared.tokens.HeadFault.TheVariants as head_faults
 use Rattle.rb_script.specs.declared.fault.ScriptFault.{ScriptFault}
-use Rattle.rb_script.specs.declared.limits.TheConstants.{MAX_ARGUMENTS, MAX_VALUES}
+use Rattle.rb_script.specs.declared.limits.TheConstants.{MAX_VALUES}
 use Rattle.std.specs.Prelude.{Vec}
 use Rattle.std.specs.declared.alloc.Global.{Global}
 use Rattle.rb_script.specs.Lines.{Line}
-use Rattle.rb_script.specs.Joined.{while_of, after_while}
-use Rattle.rb_script.specs.Directive.{PlainArgument, is_inside, pieces}
+use Rattle.rb_script.specs.Directive.{PlainArgument}
 use Rattle.rb_script.specs.Tokens.{SpannedArgument, token, argument_of, IsPart}
 use Rattle.rb_script.specs.Limits.{has_few_values, are_few}
-use Rattle.rb_script.specs.Reading.{ArgumentThere, ArgumentsThere, begins, Fails}
+use Rattle.rb_script.specs.Reading.{ValuesThere, ArgumentThere, ArgumentsThere, Fails}
 
 -- an item more, or nothing where there are enough
 abbrev pub with_one : {T : Type 0} → ℕ → Option (List T) → T → Option (List T)
@@ -29,17 +28,10 @@ abbrev pub KeepsValues : List Line → Option (Vec Span Global) → List (List �
 KeepsValues head None values = nat_le (length values) MAX_VALUES ≡ false
 KeepsValues head (Some kept) values = (map (token head) kept.items ≡ values) × (nat_le (length values) MAX_VALUES ≡ true) × AllByRecursion (IsPart head) kept.items
 
--- the values up to the closing parenthesis, and what follows it
-abbrev pub ValuesThere : Type 0
-ValuesThere = Option (List (List ℕ) × List ℕ)
-
-unfoldable pub values_at : List ℕ → ValuesThere
-values_at bytes = if begins 41 (after_while is_inside bytes) then Some (pieces (while_of is_inside bytes), drop 1 (after_while is_inside bytes)) else None
-
-abbrev pub ParsesList : List Line → Result (Option (Vec Span Global)) HeadFault → List ℕ → List ℕ → Type 0
-ParsesList head (Ok kept) left bytes = (values : List (List ℕ)) × (values_at bytes ≡ Some (values, left)) × KeepsValues head kept values
-ParsesList head (Err head_faults.Bad) left bytes = values_at bytes ≡ None
-ParsesList head (Err head_faults.OutOfMemory) left bytes = Unit {0}
+abbrev pub ParsesValues : List Line → Result (Option (Vec Span Global)) HeadFault → List ℕ → ValuesThere → Type 0
+ParsesValues head (Ok kept) left there = (values : List (List ℕ)) × (there ≡ Some (values, left)) × KeepsValues head kept values
+ParsesValues head (Err head_faults.Bad) left there = there ≡ None
+ParsesValues head (Err head_faults.OutOfMemory) left there = Unit {0}
 
 -- ---- arguments
 

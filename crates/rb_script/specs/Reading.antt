@@ -1,6 +1,5 @@
 -- Reading from the first line on, with the first fault that is met. (This project's order of faults.)
-use Rattle.std.specs.Prelude.{◌≡◌, ℕ, min, option_map, zero, suc, ◌+◌, ◌-◌, Bool, true, false, ◌&&◌, ◌==◌, nat_lt, if◌then◌else◌, List, [], ◌∷◌, ◌++◌, length, drop, Option, Some, None, Result, Ok, Err}
-use Rattle.std.specs.List.{list_all}
+use Rattle.std.specs.Prelude.{◌≡◌, ◌≢◌, ℕ, min, option_map, zero, suc, ◌+◌, ◌-◌, Bool, true, false, ◌&&◌, ◌==◌, nat_lt, if◌then◌else◌, List, [], ◌∷◌, ◌++◌, length, drop, Option, Some, None, Result, Ok, Err}
 use Rattle.rb_script.specs.declared.fault.ScriptFault.{ScriptFault}
 use Rattle.rb_script.specs.declared.fault.ScriptFault.TheVariants.{TooLong, LineTooLong, BadLine, NoSeparator, NotClosed, TooManyDirectives, NotOneBlock, TooManyArguments, OutOfMemory}
 use Rattle.rb_script.specs.declared.limits.TheConstants.{MAX_SCRIPT, MAX_LINE, MAX_DIRECTIVES}
@@ -27,6 +26,10 @@ abbrev pub Gives : {X Y : Type 0} → (X → Y) → Result X ScriptFault → Res
 Gives view (Ok x) read = read ≡ Ok (view x)
 Gives view (Err e) read = Fails e read
 
+-- what is read is refused for this fault, and not for want of memory
+abbrev pub Refuses : {Y : Type 0} → Result Y ScriptFault → ScriptFault → Type 0
+Refuses read fault = (read ≡ Err fault) × (fault ≢ OutOfMemory)
+
 -- ---- runs of lines
 
 -- the lines before the first that passes, and those from it on
@@ -49,6 +52,10 @@ after_head (line ∷ ls) = if continues line then after_head ls else ls
 
 -- ---- heads
 
+-- values and the bytes after them, if they stand there
+abbrev pub ValuesThere : Type 0
+ValuesThere = Option (List (List ℕ) × List ℕ)
+
 -- an argument and the bytes after it, if one stands there
 abbrev pub ArgumentThere : Type 0
 ArgumentThere = Option (PlainArgument × List ℕ)
@@ -61,18 +68,20 @@ abbrev pub begins_space : List ℕ → Bool
 begins_space [] = false
 begins_space (b ∷ bytes) = is_space b
 
-unfoldable pub list_at : List ℕ → List ℕ → ArgumentThere
-list_at key bytes =
-    if begins 41 (after_while is_inside bytes) then Some (record { key = key; has_equals = true; values = pieces (while_of is_inside bytes) }, drop 1 (after_while is_inside bytes)) else None
+-- the values up to the closing parenthesis
+unfoldable pub list_at : List ℕ → ValuesThere
+list_at bytes = if begins 41 (after_while is_inside bytes) then Some (pieces (while_of is_inside bytes), drop 1 (after_while is_inside bytes)) else None
 
-unfoldable pub value_at : List ℕ → List ℕ → ArgumentThere
-value_at key bytes =
-    if begins_open bytes then list_at key (drop 1 bytes)
-    else Some (record { key = key; has_equals = true; values = while_of is_value bytes ∷ [] }, after_while is_value bytes)
+-- the values behind a `=`: those within parentheses, or the one that stands there
+unfoldable pub values_at : List ℕ → ValuesThere
+values_at bytes = if begins_open bytes then list_at (drop 1 bytes) else Some (while_of is_value bytes ∷ [], after_while is_value bytes)
+
+abbrev pub with_key : List ℕ → ValuesThere → ArgumentThere
+with_key key None = None
+with_key key (Some found) = Some (record { key = key; has_equals = true; values = found.0 }, found.1)
 
 unfoldable pub behind_key : List ℕ → List ℕ → ArgumentThere
-behind_key key bytes =
-    if begins 61 bytes then value_at key (drop 1 bytes) else Some (record { key = key; has_equals = false; values = [] }, bytes)
+behind_key key bytes = if begins 61 bytes then with_key key (values_at (drop 1 bytes)) else Some (record { key = key; has_equals = false; values = [] }, bytes)
 
 unfoldable pub argument_at : List ℕ → ArgumentThere
 argument_at bytes = if is_some_piece (while_of is_word bytes) then behind_key (while_of is_word bytes) (after_while is_word bytes) else None

@@ -1,5 +1,5 @@
 -- The tokens of a head as places in its lines.
-use Rattle.std.specs.Prelude.{◌≡◌, ℕ, Bool, ◌-◌, ◌<◌, ◌≤◌, List, [], ◌∷◌, length, take, drop, map, slice_index_or}
+use Rattle.std.specs.Prelude.{ℕ, Bool, ◌-◌, ◌<◌, ◌≤◌, List, [], length, take, drop, map, slice_index_or}
 use Rattle.rb_script.specs.declared.span.Span.{Span}
 use Rattle.rb_script.specs.Lines.{Line}
 use Rattle.rb_script.specs.Directive.{PlainArgument, PlainDirective}

@@ -1,5 +1,5 @@
 -- A directive by the places of its tokens.
-use Rattle.std.specs.Prelude.{◌≡◌, ℕ, List, [], false, slice_index_or}
+use Rattle.std.specs.Prelude.{ℕ, [], false, slice_index_or}
 use Rattle.std.specs.List.{AllByRecursion}
 use Rattle.rb_script.specs.declared.span.Span.{Span}
 use Rattle.rb_script.specs.Tokens.{SpannedArgument, SpannedDirective, IsPart}

@@ -159,8 +159,8 @@ fn line_of<'a>(text: &'a [u8], ends: &[usize], i: usize) -> &'a [u8]
     &text[start..end]
 }
 
-/// The line without the carriage returns at its end.
-fn trimmed(line: &[u8]) -> &[u8]
+/// The line without the carriage returns at its end, which belong to the end.
+pub fn without_returns(line: &[u8]) -> &[u8]
     ensures value { result.now ≡ without_returns line.now }
     ensures shorter { length result.now ≤ length line.now }
 {
@@ -192,7 +192,7 @@ pub(crate) fn next_line(bytes: &[u8]) -> Option<(&[u8], &[u8])>
         return None;
     }
     match line_feed(bytes) {
-        Some(end) => Some((trimmed(&bytes[..end]), &bytes[end + 1..])),
-        None => Some((trimmed(bytes), &[])),
+        Some(end) => Some((without_returns(&bytes[..end]), &bytes[end + 1..])),
+        None => Some((without_returns(bytes), &[])),
     }
 }

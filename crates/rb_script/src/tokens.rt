@@ -4,8 +4,8 @@ ghost use Rattle.std.specs.Prelude.{◌≡◌, ◌<◌, ◌++◌, ◌∷◌, ℕ
 ghost use Rattle.rb_script.specs.Lines.{Line};
 ghost use Rattle.rb_script.specs.Joined.{joined};
 ghost use Rattle.rb_script.specs.Directive.{PlainArgument};
-ghost use Rattle.rb_script.specs.Reading.{list_at, value_at, behind_key, argument_at, arguments_at, few_or, head_at};
-ghost use Rattle.rb_script.specs.Parsed.{with_one, KeepsArgument, KeepsArguments, ParsesList, ParsesArgument, ParsesArguments, ParsesHead};
+ghost use Rattle.rb_script.specs.Reading.{list_at, values_at, behind_key, argument_at, arguments_at, few_or, head_at};
+ghost use Rattle.rb_script.specs.Parsed.{with_one, KeepsArgument, KeepsArguments, ParsesValues, ParsesArgument, ParsesArguments, ParsesHead};
 ghost use Rattle.rb_script.specs.Tokens.{token, IsPart};
 ghost use Rattle.rb_script.specs.declared.tokens.HeadFault.TheVariants.{OutOfMemory};
 
@@ -69,7 +69,7 @@ fn with_item<T: Drop>(
 
 // The values up to the closing parenthesis, which is taken, or nothing where they are too many.
 fn list(alloc: Global, at: &mut HeadCursor<'_>) -> Result<Option<Vec<Span>>, HeadFault>
-    ensures gives { ParsesList at.old.head result at.new.left at.old.left }
+    ensures gives { ParsesValues at.old.head result at.new.left (list_at at.old.left) }
     ensures head { at.new.head ≡ at.old.head }
 {
     let mut found = Some(Vec::new(alloc));
@@ -90,52 +90,19 @@ fn list(alloc: Global, at: &mut HeadCursor<'_>) -> Result<Option<Vec<Span>>, Hea
     }
 }
 
-// The argument whose key and opening parenthesis were read.
-#[tactic(auto, unfolding(crate::specs::Reading::list_at))]
-fn list_argument(
-    alloc: Global,
-    key: Span,
-    at: &mut HeadCursor<'_>,
-) -> Result<Option<Argument>, HeadFault>
-    requires { IsPart at.old.head key }
-    ensures gives { ParsesArgument at.old.head result at.new.left (list_at (token at.old.head key) at.old.left) }
-    ensures head { at.new.head ≡ at.old.head }
-{
-    match list(alloc, at)? {
-        Some(mut values) => {
-            values.shrink_to_fit();
-            Ok(Some(Argument {
-                key,
-                has_equals: true,
-                values,
-            }))
-        }
-        None => Ok(None),
-    }
-}
-
-// The argument whose key and `=` were read.
-#[tactic(auto, unfolding(crate::specs::Reading::value_at))]
-fn value_argument(
-    alloc: Global,
-    key: Span,
-    at: &mut HeadCursor<'_>,
-) -> Result<Option<Argument>, HeadFault>
-    requires { IsPart at.old.head key }
-    ensures gives { ParsesArgument at.old.head result at.new.left (value_at (token at.old.head key) at.old.left) }
+// The values behind an `=`, or nothing where they are too many: those within parentheses, or the one that stands there.
+#[tactic(auto, unfolding(crate::specs::Reading::values_at))]
+fn values(alloc: Global, at: &mut HeadCursor<'_>) -> Result<Option<Vec<Span>>, HeadFault>
+    ensures gives { ParsesValues at.old.head result at.new.left (values_at at.old.left) }
     ensures head { at.new.head ≡ at.old.head }
 {
     if let Some(b'(') = at.peek() {
         at.advance();
-        return list_argument(alloc, key, at);
+        return list(alloc, at);
     }
-    let mut values = Vec::with_capacity(alloc, 1)?;
-    values.push(at.take(Kind::Value))?;
-    Ok(Some(Argument {
-        key,
-        has_equals: true,
-        values,
-    }))
+    let mut found = Vec::with_capacity(alloc, 1)?;
+    found.push(at.take(Kind::Value))?;
+    Ok(Some(found))
 }
 
 // The argument whose key was read.
@@ -149,15 +116,25 @@ fn argument_of_key(
     ensures gives { ParsesArgument at.old.head result at.new.left (behind_key (token at.old.head key) at.old.left) }
     ensures head { at.new.head ≡ at.old.head }
 {
-    if let Some(b'=') = at.peek() {
-        at.advance();
-        return value_argument(alloc, key, at);
+    let Some(b'=') = at.peek() else {
+        return Ok(Some(Argument {
+            key,
+            has_equals: false,
+            values: Vec::new(alloc),
+        }));
+    };
+    at.advance();
+    match values(alloc, at)? {
+        Some(mut values) => {
+            values.shrink_to_fit();
+            Ok(Some(Argument {
+                key,
+                has_equals: true,
+                values,
+            }))
+        }
+        None => Ok(None),
     }
-    Ok(Some(Argument {
-        key,
-        has_equals: false,
-        values: Vec::new(alloc),
-    }))
 }
 
 // The argument at the front, or nothing where its values are too many.

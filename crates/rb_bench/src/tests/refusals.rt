@@ -1,28 +1,12 @@
 //! Each allocation refused in turn, over a whole conversation.
 use super::fakes::Room;
+use super::scripts::one_node;
 use crate::{BenchFault, serve};
 use rb_script::Through;
 use std::alloc::Global;
 use std::io::Write;
 use std::process::Abort;
 use std::test::Fail;
-
-const SCRIPT: &[u8] = b"add-nodes 1 voters=(1) index=10
-----
-INFO 1 started at 1/10 with voters=(1)
-
-log-level debug
-----
-ok
-
-log-level debug
-----
-ok
-
-raft-state
-----
-ok
-";
 
 // Each is an edit with its lines; what follows them shows the script as it was made.
 const EDITS: [&[u8]; 7] = [
@@ -102,10 +86,12 @@ fn is_the_rest(text: &[u8], rest: &[u8]) -> bool {
 
 // A conversation in which the session alone takes memory.
 fn talk(alloc: Global, left_out: &[bool; 7]) -> Result<(Result<u8, BenchFault>, Room), Fail> {
+    let mut script = one_node(2)?;
+    script.write_all(b"raft-state\n----\nok\n")?;
     let commands = commands(left_out)?;
     let mut reader = commands.taken();
     let mut out = Through(Room::new());
-    let answer = serve(alloc, SCRIPT, 2, &mut reader, &mut out);
+    let answer = serve(alloc, script.taken(), 2, &mut reader, &mut out);
     let Through(text) = out;
     Ok((answer, text))
 }

@@ -1,5 +1,6 @@
 //! Conversations, from outside: each answer is the one that docs/SESSION.md states.
 use super::fakes::{FailingReader, FailingWriter};
+use super::scripts::one_node;
 use crate::{BenchFault, serve};
 use rb_script::{ScriptFault, Through};
 use std::alloc::Global;
@@ -48,6 +49,17 @@ fn goes<R: Abort>(
     Ok(())
 }
 
+/// The same of one directive, whose output is expected.
+fn answers<R: Abort>(
+    rt: &R,
+    alloc: Global,
+    input: &[u8],
+    text: &[u8],
+    status: u8,
+) -> Result<(), Fail> {
+    goes(rt, alloc, ONE, 16, input, text, status)
+}
+
 #[test]
 fn an_empty_script_takes_edits(rt: HostRuntime) -> Result<(), Fail> {
     let input = b"insert 1 3\nlog-level info\n----\nok\nremove 1\nscript\n";
@@ -57,16 +69,9 @@ fn an_empty_script_takes_edits(rt: HostRuntime) -> Result<(), Fail> {
 
 #[test]
 fn the_status_tells_mismatches(rt: HostRuntime) -> Result<(), Fail> {
-    goes(&rt, rt.alloc(), ONE, 16, b"", b"", 0)?;
-    goes(
-        &rt,
-        rt.alloc(),
-        b"log-level info\n----\nno\n",
-        16,
-        b"",
-        b"",
-        1,
-    )
+    answers(&rt, rt.alloc(), b"", b"", 0)?;
+    let other = b"log-level info\n----\nno\n";
+    goes(&rt, rt.alloc(), other, 16, b"", b"", 1)
 }
 
 #[test]
@@ -112,20 +117,12 @@ ok
 done executed=0 mismatches=0
 2 directives, 0 mismatches
 ";
-    goes(&rt, rt.alloc(), ONE, 16, input, text, 0)
+    answers(&rt, rt.alloc(), input, text, 0)
 }
 
 // The conversation of docs/SESSION.md.
 #[test]
 fn a_recorded_conversation(rt: HostRuntime) -> Result<(), Fail> {
-    let script = b"add-nodes 1 voters=(1) index=10
-----
-INFO 1 started at 1/10 with voters=(1)
-
-log-level debug
-----
-ok
-";
     let input = b"report
 insert 2 2
 raft-state
@@ -165,58 +162,9 @@ raft-state
 1 follower term=0 vote=0 lead=0 commit=10 applied=10 content=0:\"\"
 
 ";
-    goes(&rt, rt.alloc(), script, 16, input, text, 0)
+    let script = one_node(1)?;
+    goes(&rt, rt.alloc(), script.taken(), 16, input, text, 0)
 }
-
-// Twelve directives, of which the last eleven change nothing.
-const TWELVE: &[u8] = b"add-nodes 1 voters=(1) index=10
-----
-INFO 1 started at 1/10 with voters=(1)
-
-log-level debug
-----
-ok
-
-log-level debug
-----
-ok
-
-log-level debug
-----
-ok
-
-log-level debug
-----
-ok
-
-log-level debug
-----
-ok
-
-log-level debug
-----
-ok
-
-log-level debug
-----
-ok
-
-log-level debug
-----
-ok
-
-log-level debug
-----
-ok
-
-log-level debug
-----
-ok
-
-log-level debug
-----
-ok
-";
 
 #[test]
 fn an_edit_stops_where_the_old_states_are_met(rt: HostRuntime) -> Result<(), Fail> {
@@ -241,7 +189,8 @@ done executed=0 mismatches=0
 done executed=13 mismatches=1
 done executed=3 mismatches=0
 ";
-    goes(&rt, rt.alloc(), TWELVE, 4, input, text, 0)
+    let script = one_node(11)?;
+    goes(&rt, rt.alloc(), script.taken(), 4, input, text, 0)
 }
 
 #[test]
@@ -252,7 +201,7 @@ refused BadExpectation
 1 directives, 0 mismatches
 refused CutOff
 ";
-    goes(&rt, rt.alloc(), ONE, 16, REFUSED, text, 4)
+    answers(&rt, rt.alloc(), REFUSED, text, 4)
 }
 
 // The same conversation, cut after each byte: a cut line is a line.
@@ -297,7 +246,7 @@ refused BadExpectation
         }
         let mut text = want.0.to_vec(rt.alloc())?;
         text.extend_from_slice(want.1)?;
-        goes(&rt, rt.alloc(), ONE, 16, &REFUSED[..length], &text, want.2)?;
+        answers(&rt, rt.alloc(), &REFUSED[..length], &text, want.2)?;
     }
     Ok(())
 }
@@ -310,7 +259,7 @@ done executed=0 mismatches=0
 refused BadCommand
 refused BadCommand
 ";
-    goes(&rt, rt.alloc(), ONE, 16, input, text, 0)
+    answers(&rt, rt.alloc(), input, text, 0)
 }
 
 #[test]
@@ -328,7 +277,7 @@ refused BadLine at line 1
 refused NotOneBlock
 done executed=0 mismatches=1
 ";
-    goes(&rt, rt.alloc(), ONE, 16, input, text, 1)
+    answers(&rt, rt.alloc(), input, text, 1)
 }
 
 // The text, the byte so many times, and a line's end.
@@ -348,7 +297,7 @@ fn the_longest_line_is_taken(rt: HostRuntime) -> Result<(), Fail> {
     add_line(&mut input, b"report", b'\r', 200_000)?;
     add_line(&mut input, b"expect 1 1\n", b'x', 65_536)?;
     let text = b"refused BadCommand\n1 directives, 0 mismatches\ndone executed=0 mismatches=1\n";
-    goes(&rt, rt.alloc(), ONE, 16, &input, text, 1)
+    answers(&rt, rt.alloc(), &input, text, 1)
 }
 
 #[test]
@@ -357,26 +306,26 @@ fn a_longer_line_ends_the_session(rt: HostRuntime) -> Result<(), Fail> {
     add_line(&mut input, b"report\n", b'x', 65_537)?;
     input.extend_from_slice(b"report\n")?;
     let text = b"1 directives, 0 mismatches\nrefused LineTooLong\n";
-    goes(&rt, rt.alloc(), ONE, 16, &input, text, 4)?;
+    answers(&rt, rt.alloc(), &input, text, 4)?;
     // among the lines of a command, before it is known that some are missing
     let mut input = Vec::new(rt.alloc());
     add_line(&mut input, b"expect 1 3\na\n", b' ', 65_537)?;
-    goes(
-        &rt,
-        rt.alloc(),
-        ONE,
-        16,
-        &input,
-        b"refused LineTooLong\n",
-        4,
-    )
+    answers(&rt, rt.alloc(), &input, b"refused LineTooLong\n", 4)
+}
+
+#[test]
+fn many_commands_are_taken(rt: HostRuntime) -> Result<(), Fail> {
+    let mut input = Vec::new(rt.alloc());
+    add_line(&mut input, b"", b'\n', 70_000)?;
+    input.extend_from_slice(b"report\n")?;
+    answers(&rt, rt.alloc(), &input, b"1 directives, 0 mismatches\n", 0)
 }
 
 #[test]
 fn too_many_lines_are_not_taken(rt: HostRuntime) -> Result<(), Fail> {
     let input = b"expect 1 65537\nreport\n";
     let text = b"refused BadCommand\n1 directives, 0 mismatches\n";
-    goes(&rt, rt.alloc(), ONE, 16, input, text, 0)
+    answers(&rt, rt.alloc(), input, text, 0)
 }
 
 // 63 lines of 65,536 bytes and one that makes them 4,194,304 bytes or one more, each with one LF.
@@ -395,7 +344,7 @@ fn long_text(alloc: Global, command: &[u8], last: usize) -> Result<Vec<u8>, Fail
 fn the_longest_text_is_taken(rt: HostRuntime) -> Result<(), Fail> {
     let input = long_text(rt.alloc(), b"insert 1 64\n", 65_471)?;
     let text = b"refused NotOneBlock\n1 directives, 0 mismatches\n";
-    goes(&rt, rt.alloc(), ONE, 16, &input, text, 0)
+    answers(&rt, rt.alloc(), &input, text, 0)
 }
 
 #[test]
@@ -403,7 +352,7 @@ fn a_longer_text_is_refused_first(rt: HostRuntime) -> Result<(), Fail> {
     let text = b"refused TooLong\n1 directives, 0 mismatches\n";
     for command in [b"insert 1 64\n".as_slice(), b"expect 99 64\n"] {
         let input = long_text(rt.alloc(), command, 65_472)?;
-        goes(&rt, rt.alloc(), ONE, 16, &input, text, 0)?;
+        answers(&rt, rt.alloc(), &input, text, 0)?;
     }
     Ok(())
 }

@@ -1,7 +1,7 @@
 -- So many lines were taken.
 use Rattle.std.proofs.Common.{◌-◌, ◌≤◌}
 use Rattle.rb_line.specs.Left.{left_of}
-use Rattle.rb_bench.specs.Hearing.{Takes}
+use Rattle.rb_bench.proofs.HearLaws.{Takes}
 use Rattle.rb_bench.proofs.gather.gather.Given as goal
 
 abbrev pub invariant-loop-taken : goal.invariant-loop-taken

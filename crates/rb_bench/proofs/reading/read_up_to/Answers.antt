@@ -6,7 +6,7 @@ use Rattle.rb_bench.proofs.reading.read_up_to.Goals as goal
 pub returns-in_err-read_some-clause-failed : goal.returns-in_err-read_some-clause-failed
 returns-in_err-read_some-clause-failed g c =
     let p = err_from_is_err_and c.from_residual.result c.from_residual.ensures.1 in
-    let (lost, most, consumed) = c.in_err-read_some.ensures.failed in
+    let (lost, _, most, consumed) = c.in_err-read_some.ensures.failed in
     let read = c.loop-reader.bytes.items in
     rw p.1 (
       read ++ lost,

@@ -4,23 +4,23 @@ use Rattle.rb_bench.specs.Commands.{refused}
 use Rattle.rb_bench.proofs.PieceLaws.{sent_none, sent_piece, piece_exit, piece_last}
 use Rattle.rb_bench.proofs.send.put_refused.Goals as goal
 
-pub returns-in_err-put : goal.returns-in_err-put
-returns-in_err-put g c =
+pub returns-in_err-put-clause-wrote : goal.returns-in_err-put-clause-wrote
+returns-in_err-put-clause-wrote g c =
     let held = g.S.Sink.held in
     let name = c.args.name.now in
     let s0 = sent_none (held c.args.sink.now) (refused name) (codes "refused " ++ (name ++ 10 ∷ [])) refl in
     piece_exit c.from_residual.result (held c.put.new.self) (codes "refused ") (name ++ 10 ∷ []) c.from_residual.ensures.0 s0 c.in_err-put.ensures.wrote
 
-pub returns-in_err-put-2 : goal.returns-in_err-put-2
-returns-in_err-put-2 g c =
+pub returns-in_err-put-2-clause-wrote : goal.returns-in_err-put-2-clause-wrote
+returns-in_err-put-2-clause-wrote g c =
     let held = g.S.Sink.held in
     let name = c.args.name.now in
     let s0 = sent_none (held c.args.sink.now) (refused name) (codes "refused " ++ (name ++ 10 ∷ [])) refl in
     let s1 = sent_piece (held c.put.new.self) (codes "refused ") (name ++ 10 ∷ []) s0 c.in_ok-put.ensures.wrote in
     piece_exit c.from_residual-in_err-put-2.result (held c.put-2.new.self) name (10 ∷ []) c.from_residual-in_err-put-2.ensures.0 s1 c.in_err-put-2.ensures.wrote
 
-pub returns : goal.returns
-returns g c =
+pub returns-clause-wrote : goal.returns-clause-wrote
+returns-clause-wrote g c =
     let held = g.S.Sink.held in
     let name = c.args.name.now in
     let s0 = sent_none (held c.args.sink.now) (refused name) (codes "refused " ++ (name ++ 10 ∷ [])) refl in

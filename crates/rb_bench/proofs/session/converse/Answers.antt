@@ -1,4 +1,5 @@
 use Rattle.rb_line.specs.Left.{left_of}
+use Rattle.rb_bench.specs.declared.fault.BenchFault.TheVariants.{Io}
 use Rattle.rb_bench.proofs.TurnLaws.{gone_none, gone_more, gone_closed, gone_failed, gone_out}
 use Rattle.rb_bench.proofs.session.converse.Goals as goal
 
@@ -36,4 +37,4 @@ loop-turn-preserved g c =
     gone_more all left rest c.args.session.now c.loop-turn.session c.turn.new.session old mid new c.loop-turn.invariant (rw c.in-Ok-None.field-0-is at c.in-Ok-None.ensures.out)
 
 pub returns-clause-out : goal.returns-clause-out
-returns-clause-out g c = gone_out _ _ c.args.session.now c.loop-turn.session _ _ _ c.loop-turn.invariant
+returns-clause-out g c = gone_out _ _ c.args.session.now c.loop-turn.session Io _ _ c.loop-turn.invariant

@@ -1,6 +1,6 @@
 -- So many turns went out.
 use Rattle.rb_line.specs.Left.{left_of}
-use Rattle.rb_bench.specs.Turns.{HasGone}
+use Rattle.rb_bench.proofs.TurnLaws.{HasGone}
 use Rattle.rb_bench.proofs.session.converse.Given as goal
 
 abbrev pub invariant-loop-turn : goal.invariant-loop-turn

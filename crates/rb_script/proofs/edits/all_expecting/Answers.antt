@@ -1,20 +1,16 @@
 use Rattle.std.proofs.Common.{arith}
 use Rattle.rb_script.specs.Script.{all_expecting}
 use Rattle.rb_script.specs.Shared.{values}
-use Rattle.rb_script.proofs.EditLaws.{values_split, expecting_more, expecting_all}
+use Rattle.rb_script.proofs.EditLaws.{expecting_more, expecting_all}
 use Rattle.rb_script.proofs.edits.all_expecting.Goals as goal
 
 pub loop-i-preserved : goal.loop-i-preserved
 loop-i-preserved c =
-    let bs = values c.args.blocks.now in
-    let outputs = c.args.outputs.now in
-    let i = c.loop-i.i in
-    let block = c.index-blocks-i.result in
-    let output = c.index-outputs-i.result in
-    expecting_more bs outputs i block.value output (values_split c.args.blocks.now i block c.loop-i-test.true c.index-blocks-i.is) (omega arith) c.index-outputs-i.is
-    (all_expecting bs outputs) c.loop-i.made.items c.push.new.self.items c.in_ok-expecting.field-0 c.in_ok-push.ensures.items c.in_ok-expecting.ensures c.loop-i.invariant
+    expecting_more c.args.blocks.now c.args.outputs.now c.loop-i.i c.index-blocks-i.result c.index-outputs-i.result c.loop-i-test.true c.index-blocks-i.is (omega arith) c.index-outputs-i.is
+    _ c.loop-i.made.items c.push.new.self.items c.in_ok-expecting.field-0 c.in_ok-push.ensures.items c.in_ok-expecting.ensures c.loop-i.invariant
 
 pub returns : goal.returns
 returns c =
-    let bs = values c.args.blocks.now in
-    expecting_all c.args.blocks.now c.args.outputs.now c.loop-i.i (values c.loop-i.made.items) (all_expecting bs c.args.outputs.now) c.loop-i-test.false c.loop-i.invariant
+    let blocks = c.args.blocks.now in
+    let outputs = c.args.outputs.now in
+    expecting_all blocks outputs c.loop-i.i (values c.loop-i.made.items) (all_expecting (values blocks) outputs) c.loop-i-test.false c.loop-i.invariant

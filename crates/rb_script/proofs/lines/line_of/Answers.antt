@@ -1,6 +1,5 @@
-use Rattle.std.proofs.Common.{◌≡◌, ◌-◌, Some, take, drop, get_or, ap, ◌∙◌, arith}
-use Rattle.rb_script.specs.Flat.{line_start}
-use Rattle.rb_script.proofs.FlatLaws.{LineAt, flat_line, slice_is}
+use Rattle.std.proofs.Common.{arith}
+use Rattle.rb_script.proofs.FlatLaws.{flat_line, slice_is}
 use Rattle.rb_script.proofs.lines.line_of.Goals as goal
 
 pub overflow_sub-end : goal.overflow_sub-end

@@ -5,5 +5,5 @@ use Rattle.rb_line.proofs.line_buffer.LineBuffer.line.Goals as goal
 
 pub returns-clause-begun : goal.returns-clause-begun
 returns-clause-begun c = λ begun holds.
-    let value : c.trimmed.result.now ≡ without_returns c.args.self.now = search rules in
+    let value : c.without_returns.result.now ≡ without_returns c.args.self.now = search rules in
     value ∙ line_of_kept begun _ holds

@@ -1,6 +1,3 @@
-use Rattle.std.proofs.Common.{◌<◌, ◌∙◌, length, map, ap}
-use Rattle.rb_script.specs.Tokens.{argument_of}
-use Rattle.rb_script.specs.Parsed.{spanned}
 use Rattle.rb_script.proofs.DirectiveLaws.{parts_at, spanned_at, plain_spanned, within}
 use Rattle.rb_script.proofs.directive.DirectiveRef.argument.Goals as goal
 

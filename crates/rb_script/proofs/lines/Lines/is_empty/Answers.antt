@@ -1,5 +1,4 @@
-use Rattle.std.proofs.Common.{arith}
-use Rattle.rb_script.proofs.FlatLaws.{parted_len, empty_is}
+use Rattle.rb_script.proofs.FlatLaws.{empty_is}
 use Rattle.rb_script.proofs.lines.Lines.is_empty.Goals as goal
 
 pub returns : goal.returns

@@ -1,4 +1,4 @@
-use Rattle.std.proofs.Common.{◌<◌, length, arith, ap, sym, subst, ◌∙◌}
+use Rattle.std.proofs.Common.{length, arith, ap}
 use Rattle.rb_script.proofs.FlatLaws.{parted_len}
 use Rattle.rb_script.proofs.lines.Lines.line.Goals as goal
 

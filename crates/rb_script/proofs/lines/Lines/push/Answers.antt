@@ -1,4 +1,3 @@
-use Rattle.std.proofs.Common.{◌∷◌, []}
 use Rattle.rb_script.proofs.FlatLaws.{flat_pushed, parted_pushed}
 use Rattle.rb_script.proofs.lines.Lines.push.Goals as goal
 

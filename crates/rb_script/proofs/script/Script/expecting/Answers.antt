@@ -1,9 +1,26 @@
-use Rattle.std.proofs.Common.{Ok, sym, ap, subst, ◌∙◌}
-use Rattle.rb_script.specs.Script.{PlainBlock, expecting}
-use Rattle.rb_script.specs.Shared.{IsHeldScript}
+use Rattle.std.proofs.Common.{◌≡◌, [], ℕ, ◌+◌, ◌-◌, min, true, sym, ap, ◌∙◌}
+use Rattle.rb_script.specs.declared.edit.Edit.TheVariants.{Expect}
+use Rattle.rb_script.specs.Script.{expecting}
+use Rattle.rb_script.specs.Edits.{edited, is_expectation}
 use Rattle.rb_script.proofs.EditLaws.{expecting_held}
-use Rattle.rb_script.proofs.PlaceLaws.{refused, no_fault, grown, too_long, text_fits, with_replaced, old_fits, there_within, expect_nowhere, expect_bad, expect_fitting, replace_counted, replace_held}
+use Rattle.rb_script.proofs.PlaceLaws.{refused, Counts, too_long, fits_early, fits_grown, with_replaced, old_fits, there_within, expect_nowhere, expect_bad, expect_fitting, replace_counts, replace_held}
 use Rattle.rb_script.proofs.script.Script.expecting.Goals as goal
+use Rattle.rb_script.proofs.script.Script.expecting.Goals.{After-text_len_with}
+
+-- the lines can be an expectation
+good : (c : After-text_len_with) → is_expectation c.args.lines.now ≡ true
+good c = sym c.is_expectation.ensures ∙ c.if-not-is_expectation.false
+
+-- what was counted is the length of the text with these lines in place of the old expectation
+counts : (c : After-text_len_with) (n : ℕ) → n ≡ min (c.text_len.result - c.text_len-2.result + c.text_len_with.result) 18446744073709551615
+    → Counts (edited c.args.self.now (Expect c.args.place c.args.lines.now) []) (with_replaced c.args.self.now c.args.place (expecting c.in-Some.old.now c.args.lines.now)) n
+counts c n is =
+    let s = c.args.self.now in
+    let k = c.args.place in
+    let old = c.in-Some.old.now in
+    let there = c.in-Some.ensures in
+    let lines = c.args.lines.now in
+    replace_counts s k old there (expecting old lines) (expect_fitting s k old there lines (good c)) c.text_len.result c.text_len-2.result c.text_len_with.result n c.text_len.ensures.held c.text_len.ensures.len c.text_len-2.ensures.len c.text_len_with.ensures is
 
 pub returns-in_default : goal.returns-in_default
 returns-in_default c =
@@ -20,62 +37,33 @@ overflow_sub-rest c = old_fits c.args.self.now c.args.place c.in-Some.old.now c.
 
 pub returns-then-text_len-gt-MAX_SCRIPT : goal.returns-then-text_len-gt-MAX_SCRIPT
 returns-then-text_len-gt-MAX_SCRIPT c =
-    let s = c.args.self.now in
-    let k = c.args.place in
-    let old = c.in-Some.old.now in
-    let there = c.in-Some.ensures in
-    let lines = c.args.lines.now in
-    let b = expecting old lines in
-    let n = c.saturating_add-text_len.result in
-    let good = sym c.is_expectation.ensures ∙ c.if-not-is_expectation.false in
-    let counted = replace_counted s k old there b c.text_len.result c.text_len-2.result c.text_len_with.result n c.text_len.ensures.held c.text_len.ensures.len c.text_len-2.ensures.len c.text_len_with.ensures c.saturating_add-text_len.ensures in
-    let settled = too_long _ (with_replaced s k old there b) n (expect_fitting s k old there lines good) counted c.if-text_len-gt-MAX_SCRIPT.true in
+    let counted = counts (goal.at.returns-then-text_len-gt-MAX_SCRIPT c).After-text_len_with _ c.saturating_add-text_len.ensures in
+    let settled = too_long counted c.if-text_len-gt-MAX_SCRIPT.true in
     record { exact = settled.exact; early = settled.early }
 
 pub returns-in_err-block-clause-early : goal.returns-in_err-block-clause-early
 returns-in_err-block-clause-early c =
-    let s = c.args.self.now in
-    let k = c.args.place in
-    let old = c.in-Some.old.now in
-    let there = c.in-Some.ensures in
-    let lines = c.args.lines.now in
-    let b = expecting old lines in
-    let n = c.saturating_add-text_len.result in
-    let good = sym c.is_expectation.ensures ∙ c.if-not-is_expectation.false in
-    let counted = replace_counted s k old there b c.text_len.result c.text_len-2.result c.text_len_with.result n c.text_len.ensures.held c.text_len.ensures.len c.text_len-2.ensures.len c.text_len_with.ensures c.saturating_add-text_len.ensures in
-    no_fault _ (with_replaced s k old there b) _ (text_fits _ (with_replaced s k old there b) n (expect_fitting s k old there lines good) counted c.if-text_len-gt-MAX_SCRIPT.false)
+    let counted = counts (goal.at.returns-in_err-block-clause-early c).After-text_len_with _ c.saturating_add-text_len.ensures in
+    fits_early _ counted c.if-text_len-gt-MAX_SCRIPT.false
 
 pub with_part-requires : goal.with_part-requires
 with_part-requires c =
-    let s = c.args.self.now in
-    let k = c.args.place in
     let old = c.in-Some.old.now in
     let there = c.in-Some.ensures in
     let lines = c.args.lines.now in
-    let b = expecting old lines in
-    let n = c.saturating_add-text_len.result in
-    let good = sym c.is_expectation.ensures ∙ c.if-not-is_expectation.false in
-    let counted = replace_counted s k old there b c.text_len.result c.text_len-2.result c.text_len_with.result n c.text_len.ensures.held c.text_len.ensures.len c.text_len-2.ensures.len c.text_len_with.ensures c.saturating_add-text_len.ensures in
-    let inside = there_within s k old there in
-    let block = expecting_held old lines c.text_len-2.ensures.held good in
+    let at = (goal.at.with_part-requires c).After-text_len_with in
+    let inside = there_within c.args.self.now c.args.place old there in
+    let counted = counts at _ c.saturating_add-text_len.ensures in
+    let block = expecting_held old lines c.text_len-2.ensures.held (good at) in
     record {
       from = inside.0;
       to = inside.1;
-      held = subst (λ (x : PlainBlock). IsHeldScript (with_replaced s k old there x) n) (sym c.in_ok-block.ensures) (replace_held s k old there b n c.text_len.ensures.held block counted c.if-text_len-gt-MAX_SCRIPT.false);
+      held = replace_held c.args.self.now c.args.place old there (expecting old lines) c.in_ok-block.block c.in_ok-block.ensures c.text_len.ensures.held block counted c.if-text_len-gt-MAX_SCRIPT.false;
     }
 
 pub returns : goal.returns
 returns c =
-    let s = c.args.self.now in
-    let k = c.args.place in
-    let old = c.in-Some.old.now in
-    let there = c.in-Some.ensures in
-    let lines = c.args.lines.now in
-    let b = expecting old lines in
-    let n = c.saturating_add-text_len.result in
-    let good = sym c.is_expectation.ensures ∙ c.if-not-is_expectation.false in
-    let counted = replace_counted s k old there b c.text_len.result c.text_len-2.result c.text_len_with.result n c.text_len.ensures.held c.text_len.ensures.len c.text_len-2.ensures.len c.text_len_with.ensures c.saturating_add-text_len.ensures in
-    let made = text_fits _ (with_replaced s k old there b) n (expect_fitting s k old there lines good) counted c.if-text_len-gt-MAX_SCRIPT.false in
-    let same = ap (λ (x : PlainBlock). Ok (with_replaced s k old there x)) (sym c.in_ok-block.ensures) in
-    let settled = grown c.with_part.result _ (with_replaced s k old there c.in_ok-block.block) (made ∙ same) c.with_part.ensures.ok c.with_part.ensures.err in
+    let counted = counts (goal.at.returns c).After-text_len_with _ c.saturating_add-text_len.ensures in
+    let same = ap (with_replaced c.args.self.now c.args.place) c.in_ok-block.ensures in
+    let settled = fits_grown c.with_part.result _ counted c.if-text_len-gt-MAX_SCRIPT.false same c.with_part.ensures.ok c.with_part.ensures.err in
     record { exact = settled.exact; early = settled.early }

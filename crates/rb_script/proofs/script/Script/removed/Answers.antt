@@ -22,7 +22,5 @@ pub returns : goal.returns
 returns c =
     let s = c.args.self.now in
     let k = c.args.place in
-    let old = c.in-Some.old.now in
-    let there = c.in-Some.ensures in
-    let settled = grown c.with_part.result _ (with_removed s k old there) (remove_made s k old there) c.with_part.ensures.ok c.with_part.ensures.err in
+    let settled = grown c.with_part.result _ (with_removed s k) (remove_made s k c.in-Some.old.now c.in-Some.ensures) c.with_part.ensures.ok c.with_part.ensures.err in
     record { exact = settled.exact; early = settled.early }

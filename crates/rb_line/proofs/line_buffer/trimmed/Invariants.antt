@@ -1,9 +1,0 @@
-use Rattle.std.proofs.Common.{◌≡◌, length}
-use Rattle.rb_script.specs.Lines.{without_returns}
-use Rattle.rb_line.proofs.line_buffer.trimmed.Given as goal
-
-abbrev pub invariant-loop-last : goal.invariant-loop-last
-invariant-loop-last l = without_returns l.front ≡ without_returns l.line
-
-abbrev pub decreases-loop-last : goal.decreases-loop-last
-decreases-loop-last l = length l.front
