@@ -11,6 +11,7 @@ use crate::{Changed, Session, StartFault};
 use rb_cluster::{Cluster, Meter};
 use rb_script::{Block, Edit, EditFault, Lines, Through};
 use std::alloc::Global;
+use std::process::Abort;
 use std::test::Fail;
 
 /// A session on the script of the text.
@@ -58,4 +59,15 @@ fn shown(alloc: Global, session: &Session<Cluster>) -> Result<Texts, Fail> {
         script,
         rewritten,
     })
+}
+
+/// The session's report is this.
+fn reports<R: Abort>(
+    rt: &R,
+    alloc: Global,
+    session: &Session<Cluster>,
+    report: &[u8],
+) -> Result<(), Fail> {
+    assert_eq!(rt; shown(alloc, session)?.report.as_slice(), report);
+    Ok(())
 }
