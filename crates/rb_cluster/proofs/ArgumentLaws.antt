@@ -1,8 +1,8 @@
 -- Options among the arguments that are left.
-use Rattle.std.proofs.Common.{◌≡◌, ℕ, zero, suc, ◌-◌, ◌<◌, Bool, true, false, ◌||◌, cond, List, [], ◌∷◌, Some, refl, ap, arith}
-use Rattle.std.specs.Prelude.{slice_get, is_some}
+use Rattle.std.proofs.Common.{◌≡◌, Bool, true, false, ◌||◌, cond, List, [], ◌∷◌, Some, refl}
+use Rattle.std.specs.Prelude.{is_some}
 use Rattle.rb_script.specs.Directive.{PlainArgument}
-use Rattle.rb_cluster.specs.Arguments.{Word, words, given, is_given, is_option}
+use Rattle.rb_cluster.specs.Arguments.{Word, given, is_given, is_option}
 
 given_is_by : (key : Word) (a : PlainArgument) (args : List PlainArgument) (b : Bool) → is_given key args ≡ is_some (given key args) → (b || is_given key args) ≡ is_some (cond b (Some a.values) (given key args))
 given_is_by key a args true h = refl

@@ -1,13 +1,14 @@
 -- The faults of the arguments that are left.
 use Rattle.std.proofs.Common.{◌≡◌, ℕ, ◌+◌, ◌<◌, Bool, true, false, List, [], ◌∷◌, ◌++◌, length, get_or, take, drop, Option, Some, None, refl, ap, sym, ◌∙◌, length-append, arith}
 use Rattle.std.specs.Prelude.{is_some, if◌then◌else◌}
+use Rattle.std.specs.Option.{option_or}
 use Rattle.std.proofs.lemmas.List.{take_more}
 use Rattle.rb_script.specs.Directive.{PlainArgument, no_argument}
 use Rattle.rb_texts.specs.declared.item.DirectiveError.{DirectiveError}
 use Rattle.rb_texts.specs.Items.{PlainError}
 use Rattle.rb_cluster.specs.declared.kind.Kind.{Kind}
 use Rattle.rb_cluster.specs.Arguments.{words}
-use Rattle.rb_cluster.specs.Checks.{or_else, plain_fault, fault_after, first_fault}
+use Rattle.rb_cluster.specs.Checks.{plain_fault, fault_after, first_fault}
 use Rattle.rb_cluster.proofs.ListLaws.{left_more}
 
 -- no fault was found where none was told
@@ -19,7 +20,7 @@ no_fault (Some fault) f e same = absurd (cc)
 pub fault_left : (kind : Kind) (args : List PlainArgument) (place : ℕ) → place < length args → fault_after kind (take place args) (get_or args place no_argument) ≡ None → first_fault kind (take place args) (drop place args) ≡ first_fault kind (take (place + 1) args) (drop (place + 1) args)
 fault_left kind args place h none =
     ap (first_fault kind (take place args)) (left_more args place no_argument h)
-    ∙ ap (λ f. or_else f (first_fault kind (take place args ++ get_or args place no_argument ∷ []) (drop (place + 1) args))) none
+    ∙ ap (λ f. option_or f (first_fault kind (take place args ++ get_or args place no_argument ∷ []) (drop (place + 1) args))) none
     ∙ ap (λ (b : List PlainArgument). first_fault kind b (drop (place + 1) args)) (sym (take_more args place no_argument h))
 
 words_joined : (b : Bool) (a : PlainArgument) (xs ys : List PlainArgument) → words (xs ++ ys) ≡ words xs ++ words ys → (if b then words (xs ++ ys) else a.key ∷ words (xs ++ ys)) ≡ (if b then words xs else a.key ∷ words xs) ++ words ys

@@ -2,6 +2,7 @@
 use Rattle.std.proofs.Common.{◌≡◌, ℕ, zero, suc, map, length-append, ◌+◌, ◌≤◌, Bool, true, false, List, [], ◌∷◌, ◌++◌, length, Option, Some, None, refl, ap, sym, ◌∙◌, arith}
 use Rattle.std.specs.Prelude.{if◌then◌else◌, nat_lt}
 use Rattle.std.specs.List.{list_all, flat_map, range_with_len}
+use Rattle.std.specs.Option.{option_or}
 use Rattle.std.proofs.lemmas.List.{map-append}
 use Rattle.std.proofs.lemmas.List.FromFn.{length-map-range_with_len}
 use Rattle.std.proofs.lemmas.Bool.{and_from}
@@ -14,17 +15,18 @@ use Rattle.rb_texts.specs.Items.{PlainConfig, PlainItem, nothing_else, error, Pl
 use Rattle.rb_texts.specs.Shapes.{is_solid}
 use Rattle.rb_texts.specs.Texts.{line_of}
 use Rattle.rb_texts.proofs.ShownLaws.{all_solid}
+use Rattle.rb_cluster.specs.declared.limits.TheConstants.{MAX_NODES}
 use Rattle.rb_cluster.specs.declared.kind.Kind.{Kind}
 use Rattle.rb_cluster.specs.declared.kind.Kind.TheVariants as kinds
 use Rattle.rb_cluster.specs.Cluster.{Node, Cluster, empty, IsNumbered}
-use Rattle.rb_cluster.specs.Checks.{or_else, argument_fault, missing, kind_of}
+use Rattle.rb_cluster.specs.Checks.{argument_fault, missing, kind_of}
 use Rattle.rb_cluster.specs.AddNodes.{count, add_nodes_fault, is_low, index, config, content, new_node, new_nodes, nodes_added}
 use Rattle.rb_cluster.specs.LogLevel.{shown_level, level_set}
 use Rattle.rb_cluster.specs.Outcome.{own_fault, fault, cluster_after, items, or_ok, printed, unless_refused, outcome_of, outcome, is_output}
 
 -- ---- where no check holds
 
-else_none : (first second : Option PlainError) → or_else first second ≡ None → second ≡ None
+else_none : (first second : Option PlainError) → option_or first second ≡ None → second ≡ None
 else_none None second h = h
 else_none (Some e) second h = absurd (cc)
 
@@ -37,10 +39,10 @@ not_too_many true low h = absurd (cc)
 not_too_many false low h = refl
 
 -- the nodes that are asked for have room
-pub has_room : (c : Cluster) (args : List PlainArgument) → add_nodes_fault c args ≡ None → length c.nodes + count args ≤ 16
+pub has_room : (c : Cluster) (args : List PlainArgument) → add_nodes_fault c args ≡ None → length c.nodes + count args ≤ MAX_NODES
 unfolding add_nodes_fault
 has_room c args h =
-    let few = not_too_many (nat_lt 16 (length c.nodes + count args)) (is_low (index args) args) h in
+    let few = not_too_many (nat_lt MAX_NODES (length c.nodes + count args)) (is_low (index args) args) h in
     grind (arith, nat_tests)
 
 -- ---- what is printed

@@ -2,30 +2,24 @@
 -- directive; this project's form.)
 use Rattle.std.specs.Prelude.{ℕ, Bool, false, ◌+◌, ◌||◌, nat_lt, if◌then◌else◌, codes, List, [], length, map, Option, Some, None, ◌++◌}
 use Rattle.std.specs.List.{range_with_len}
+use Rattle.std.specs.Option.{unwrap_or, option_and_then}
+use Rattle.rb_number.specs.Numbers.{number_of}
 use Rattle.rb_script.specs.Directive.{PlainArgument}
 use Rattle.rb_texts.specs.declared.item.Role.TheVariants as roles
 use Rattle.rb_texts.specs.Items.{PlainConfig, PlainItem, event, started, PlainError, too_many_nodes, index_too_low}
 use Rattle.rb_cluster.specs.Cluster.{Node, Cluster}
-use Rattle.rb_cluster.specs.Arguments.{Word, word, is_given, values_given, value_given, number_in, id_set}
-use Rattle.rb_cluster.specs.Forms.{MAX_NODES}
+use Rattle.rb_cluster.specs.Arguments.{word, is_given, values_given, value_given, id_set}
+use Rattle.rb_cluster.specs.declared.limits.TheConstants.{MAX_NODES}
 
 -- ---- what is asked for
 
-abbrev pub or_zero : Option ℕ → ℕ
-or_zero None = 0
-or_zero (Some n) = n
-
-abbrev pub or_nothing : Option Word → Word
-or_nothing None = []
-or_nothing (Some w) = w
-
 -- how many nodes
 unfoldable pub count : List PlainArgument → ℕ
-count args = or_zero (number_in (word 0 args))
+count args = unwrap_or (option_and_then number_of (word 0 args)) 0
 
 -- the index of the base, if it is given
 unfoldable pub index : List PlainArgument → Option ℕ
-index args = number_in (value_given (codes "index") args)
+index args = option_and_then number_of (value_given (codes "index") args)
 
 unfoldable pub config : List PlainArgument → PlainConfig
 config args = record {
@@ -37,7 +31,7 @@ config args = record {
 }
 
 unfoldable pub content : List PlainArgument → List ℕ
-content args = or_nothing (value_given (codes "content") args)
+content args = unwrap_or (value_given (codes "content") args) []
 
 -- ---- the checks
 
@@ -82,7 +76,7 @@ unfoldable pub new_nodes : List Node → List PlainArgument → List Node
 new_nodes nodes args = map (new_node (index args) (config args) (content args)) (range_with_len (length nodes + 1) (count args))
 
 unfoldable pub nodes_added : Cluster → List PlainArgument → Cluster
-nodes_added c args = record { nodes = c.nodes ++ new_nodes c.nodes args; level = c.level }
+nodes_added c args = record c { nodes = c.nodes ++ new_nodes c.nodes args }
 
 -- what is printed of a new node
 abbrev pub started_item : Node → PlainItem

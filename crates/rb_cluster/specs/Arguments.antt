@@ -1,9 +1,11 @@
 -- The arguments of a directive: options, which have an `=`, and positional words, which have none. (This project's.)
 use Rattle.std.specs.Prelude.{ℕ, Bool, ◌&&◌, if◌then◌else◌, List, [], ◌∷◌, Option, Some, None, slice_get}
 use Rattle.std.specs.List.{list_any, filter, range_with_len}
+use Rattle.std.specs.Option.{unwrap_or}
 use Rattle.std.specs.Str.{bytes_eq}
 use Rattle.rb_script.specs.Directive.{PlainArgument}
 use Rattle.rb_number.specs.Numbers.{number_of}
+use Rattle.rb_cluster.specs.declared.limits.TheConstants.{MAX_ID}
 use Rattle.rb_cluster.specs.Ranges.{is_just}
 
 abbrev pub Word : Type 0
@@ -32,13 +34,9 @@ given key (a ∷ args) = if is_option key a then Some a.values else given key ar
 abbrev pub is_given : Word → List PlainArgument → Bool
 is_given key args = list_any (is_option key) args
 
-abbrev pub values_of : Option (List Word) → List Word
-values_of None = []
-values_of (Some values) = values
-
 -- the values of the option; none where it isn't given
 abbrev pub values_given : Word → List PlainArgument → List Word
-values_given key args = values_of (given key args)
+values_given key args = unwrap_or (given key args) []
 
 abbrev pub first_of_values : List Word → Option Word
 first_of_values [] = None
@@ -48,15 +46,7 @@ first_of_values (value ∷ values) = Some value
 abbrev pub value_given : Word → List PlainArgument → Option Word
 value_given key args = first_of_values (values_given key args)
 
--- the number that a word is, where there is a word
-abbrev pub number_in : Option Word → Option ℕ
-number_in None = None
-number_in (Some w) = number_of w
-
 -- ---- ids
-
-abbrev pub MAX_ID : ℕ
-MAX_ID = 16
 
 abbrev pub ids : List ℕ
 ids = range_with_len 1 MAX_ID

@@ -1,5 +1,6 @@
 -- The checks of a directive's arguments, from left to right. (This project's.)
 use Rattle.std.specs.Prelude.{ℕ, zero, suc, Bool, false, ◌||◌, not, if◌then◌else◌, codes, List, [], ◌∷◌, ◌++◌, length, Option, Some, None}
+use Rattle.std.specs.Option.{option_or}
 use Rattle.std.specs.Str.{bytes_eq}
 use Rattle.rb_script.specs.Directive.{PlainArgument}
 use Rattle.rb_texts.specs.declared.item.DirectiveError.{DirectiveError}
@@ -56,11 +57,6 @@ rival_of key =
 
 -- ---- an argument
 
--- the first that is an error, or else the second
-abbrev pub or_else : Option PlainError → Option PlainError → Option PlainError
-or_else None other = other
-or_else (Some e) other = Some e
-
 abbrev pub bad_if : Bool → Word → Option PlainError
 bad_if bad w = if bad then Some (bad_argument w) else None
 
@@ -90,7 +86,7 @@ fault_after kind before a =
 -- the fault of the first argument, from the left, that has one
 abbrev pub first_fault : Kind → List PlainArgument → List PlainArgument → Option PlainError
 first_fault kind before [] = None
-first_fault kind before (a ∷ args) = or_else (fault_after kind before a) (first_fault kind (before ++ a ∷ []) args)
+first_fault kind before (a ∷ args) = option_or (fault_after kind before a) (first_fault kind (before ++ a ∷ []) args)
 
 abbrev pub argument_fault : Kind → List PlainArgument → Option PlainError
 argument_fault kind args = first_fault kind [] args

@@ -5,6 +5,7 @@ use Rattle.rb_texts.specs.declared.item.Role.{Role}
 use Rattle.rb_texts.specs.declared.level.Level.{Level}
 use Rattle.rb_texts.specs.declared.level.Level.TheVariants as levels
 use Rattle.rb_texts.specs.Items.{PlainConfig}
+use Rattle.rb_cluster.specs.declared.limits.TheConstants.{MAX_NODES}
 
 -- a node; its log begins after the entry of its base, and vote and lead are 0 where there is none
 pub record Node : Type 0 where
@@ -28,7 +29,7 @@ pub record Cluster : Type 0 where
 unfoldable pub empty : Cluster
 empty = record { nodes = []; level = levels.Debug }
 
--- the nodes have the ids from 1 on, in their order, and are 16 at the most
+-- the nodes have the ids from 1 on, in their order, and are no more than a cluster may have
 pub record IsNumbered (c : Cluster) : Type 0 where
   pub ids : map (λ n. n.id) c.nodes ≡ range_with_len 1 (length c.nodes)
-  pub few : length c.nodes ≤ 16
+  pub few : length c.nodes ≤ MAX_NODES

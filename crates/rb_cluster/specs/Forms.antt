@@ -1,21 +1,13 @@
 -- What a word of a directive has to be. (This project's.)
-use Rattle.std.specs.Prelude.{ℕ, Bool, true, false, nat_le, if◌then◌else◌, List, [], ◌∷◌, length, is_some}
+use Rattle.std.specs.Prelude.{Bool, true, false, nat_le, if◌then◌else◌, List, [], ◌∷◌, length, is_some}
 use Rattle.std.specs.List.{list_all}
+use Rattle.rb_cluster.specs.declared.limits.TheConstants.{MAX_ID, MAX_NODES, MAX_INDEX, MAX_CONTENT}
 use Rattle.rb_cluster.specs.declared.form.Form.{Form}
 use Rattle.rb_cluster.specs.declared.form.Form.TheVariants as forms
 use Rattle.rb_texts.specs.Levels.{level_of}
 use Rattle.rb_number.specs.Numbers.{number_of}
 use Rattle.rb_cluster.specs.Ranges.{is_from_to}
-use Rattle.rb_cluster.specs.Arguments.{Word, MAX_ID}
-
-abbrev pub MAX_NODES : ℕ
-MAX_NODES = 16
-
-abbrev pub MAX_INDEX : ℕ
-MAX_INDEX = 1000000000
-
-abbrev pub MAX_CONTENT : ℕ
-MAX_CONTENT = 1024
+use Rattle.rb_cluster.specs.Arguments.{Word}
 
 -- a word of this form
 abbrev pub fits_word : Form → Word → Bool

@@ -1,6 +1,7 @@
 -- What a directive does. (This project's.)
 use Rattle.std.specs.Prelude.{Bool, false, List, [], ◌∷◌, map, Option, Some, None}
 use Rattle.std.specs.List.{list_all, flat_map}
+use Rattle.std.specs.Option.{option_or}
 use Rattle.rb_script.specs.Lines.{Line}
 use Rattle.rb_script.specs.Directive.{PlainArgument, PlainDirective}
 use Rattle.rb_texts.specs.declared.level.Level.{Level}
@@ -10,7 +11,7 @@ use Rattle.rb_texts.specs.Texts.{line_of}
 use Rattle.rb_cluster.specs.declared.kind.Kind.{Kind}
 use Rattle.rb_cluster.specs.declared.kind.Kind.TheVariants as kinds
 use Rattle.rb_cluster.specs.Cluster.{Cluster}
-use Rattle.rb_cluster.specs.Checks.{kind_of, or_else, argument_fault, missing}
+use Rattle.rb_cluster.specs.Checks.{kind_of, argument_fault, missing}
 use Rattle.rb_cluster.specs.AddNodes.{add_nodes_fault, new_nodes, nodes_added, started_item}
 use Rattle.rb_cluster.specs.LogLevel.{shown_level, level_set}
 use Rattle.rb_cluster.specs.RaftState.{state_item}
@@ -42,7 +43,7 @@ items kinds.RaftState c args = map state_item c.nodes
 
 -- the first check that holds: a bad argument, a missing one, what may not be done
 unfoldable pub fault : Kind → Cluster → List PlainArgument → Option PlainError
-fault kind c args = or_else (argument_fault kind args) (or_else (missing kind args) (own_fault kind c args))
+fault kind c args = option_or (argument_fault kind args) (option_or (missing kind args) (own_fault kind c args))
 
 -- `ok` where no line is left
 abbrev pub or_ok : Level → List Line → List Line
@@ -69,7 +70,7 @@ outcome_of (Some kind) c d = unless_refused kind c d.args (fault kind c d.args)
 unfoldable pub outcome : Cluster → PlainDirective → Outcome
 outcome c d = outcome_of (kind_of d.name) c d
 
--- at least one line, and none that is blank or ---- or holds a control byte
+-- at least one line, and none that is blank or ---- or holds a byte outside 32 to 126
 unfoldable pub is_output : List Line → Bool
 is_output [] = false
 is_output (line ∷ lines) = list_all is_solid (line ∷ lines)

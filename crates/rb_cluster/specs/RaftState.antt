@@ -1,12 +1,10 @@
 -- `raft-state`: a line for each node. (etcd raft's interaction tests have the directive; this project's form.)
 use Rattle.std.specs.Prelude.{ℕ, ◌-◌, List, length, drop}
 use Rattle.rb_texts.specs.Items.{PlainItem, PlainNode, raft_state}
+use Rattle.rb_cluster.specs.declared.limits.TheConstants.{CONTENT_SHOWN}
 use Rattle.rb_cluster.specs.Cluster.{Node}
 
--- how many bytes of a content are shown, the last ones
-abbrev pub CONTENT_SHOWN : ℕ
-CONTENT_SHOWN = 32
-
+-- the last bytes of a content, which are shown of it
 abbrev pub end_of : List ℕ → List ℕ
 end_of content = drop (length content - CONTENT_SHOWN) content
 

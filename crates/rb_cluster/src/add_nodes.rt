@@ -2,6 +2,7 @@
 
 ghost use Rattle.std.specs.Prelude.{◌≡◌, ◌+◌, ◌-◌, ◌<◌, ◌≤◌, ◌++◌, ℕ, OnOk, IfOk, MatchOption, Some, None, length, map};
 ghost use Rattle.std.specs.List.{range_with_len};
+ghost use Rattle.rb_cluster.specs.declared.limits.TheConstants.{MAX_NODES};
 ghost use Rattle.rb_cluster.specs.Arguments.{id_set, values_given};
 ghost use Rattle.rb_cluster.specs.AddNodes.{count, index, config, content, needs_index, is_low, new_node, new_nodes};
 
@@ -122,7 +123,7 @@ pub(crate) fn add_nodes(
     args: &Arguments<'_>,
     nodes: &mut Vec<Node>,
 ) -> Result<(), AllocError>
-    requires { length nodes.old.items + count args.now ≤ 16 }
+    requires { length nodes.old.items + count args.now ≤ MAX_NODES }
     ensures { OnOk result (nodes.new.items ≡ nodes.old.items ++ new_nodes nodes.old.items args.now) }
 {
     let config = config(alloc, args)?;

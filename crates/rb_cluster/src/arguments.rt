@@ -1,5 +1,6 @@
 //! The arguments of a directive, as its checks and its effect read them.
 
+use crate::limits::MAX_ID;
 use crate::ranges::is_just;
 use rb_script::DirectiveRef;
 use std::alloc::AllocError;
@@ -129,9 +130,6 @@ impl<'d> Argument<'d> {
         Ok(())
     }
 }
-
-/// The greatest id.
-pub(crate) const MAX_ID: u64 = 16;
 
 impl<'d> Arguments<'d> {
     ghost use Rattle.std.specs.Prelude.{◌≡◌, ◌<◌, ◌≤◌, ℕ, Some, None, length, take, slice_index_or, MatchOption, OnOk, ◌++◌};

@@ -13,9 +13,9 @@ ghost use Rattle.rb_cluster.specs.Outcome.{own_fault, fault, cluster_after, item
 use crate::add_nodes::{add_nodes, count, is_index_low};
 use crate::arguments::Arguments;
 use crate::checks::{argument_fault, missing};
-use crate::form::MAX_NODES;
 use crate::kind::{Kind, kind_of};
 use crate::levels::{named_level, shown_level};
+use crate::limits::MAX_NODES;
 use crate::machine::Machine;
 use crate::meter::Meter;
 use crate::node::Node;
@@ -81,12 +81,12 @@ impl Machine for Cluster {
     }
 }
 
-/// What a directive prints has at least one line, and none that is blank or `----`.
+/// What a directive prints has at least one line, and none that is blank or `----` or holds a byte outside 32 to 126.
 pub fn outputs_have_lines()
     ensures { (c : Cluster) (d : PlainDirective) → is_output (outcome c d).output ≡ true }
 {}
 
-/// In each cluster that directives lead to, the nodes have the ids from 1 on, and are 16 at the most.
+/// In each cluster that directives lead to, the nodes have the ids from 1 on, and are no more than it may have.
 pub fn nodes_are_numbered()
     ensures first { IsNumbered empty }
     ensures next { (c : Cluster) (d : PlainDirective) → IsNumbered c → IsNumbered (outcome c d).cluster }

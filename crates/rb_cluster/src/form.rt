@@ -5,7 +5,8 @@ ghost use Rattle.rb_script.specs.Directive.{PlainArgument};
 ghost use Rattle.rb_cluster.specs.Forms.{fits_word, is_list, fit, is_one};
 ghost use Rattle.std.specs.List.{list_all};
 
-use crate::arguments::{Argument, MAX_ID};
+use crate::arguments::Argument;
+use crate::limits::{MAX_CONTENT, MAX_ID, MAX_INDEX, MAX_NODES};
 use crate::ranges::is_from_to;
 use rb_texts::level_of;
 
@@ -23,13 +24,6 @@ pub(crate) enum Form {
     /// The name of a level.
     Level,
 }
-
-/// The most nodes of a cluster.
-pub(crate) const MAX_NODES: u64 = 16;
-
-const MAX_INDEX: u64 = 1_000_000_000;
-
-const MAX_CONTENT: usize = 1_024;
 
 impl Form {
     /// Whether a word has this form.

@@ -11,6 +11,7 @@ mod config;
 mod form;
 mod kind;
 mod levels;
+mod limits;
 mod machine;
 mod meter;
 mod node;
@@ -19,6 +20,7 @@ mod ranges;
 mod shared;
 
 pub use cluster::{Cluster, nodes_are_numbered, outputs_have_lines};
+pub use limits::limits_are;
 pub use machine::{Count, Machine};
 pub use meter::Meter;
 

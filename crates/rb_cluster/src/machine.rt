@@ -19,6 +19,7 @@ pub trait Count {
 
 /// A machine that runs directives. Its meaning is a cluster.
 pub trait Machine: Drop {
+    /// What counts the directives that it runs.
     type Meter: Count;
 
     ghost meaning: { Self → Cluster };
@@ -36,7 +37,7 @@ pub trait Machine: Drop {
         requires { Self.Meter.count_of meter.old < 2 ^ 63 }
         ensures cluster { IfOk result (λ done. meaning done.0 ≡ (outcome (meaning self) (plain directive.entry)).cluster) }
         ensures output { IfOk result (λ done. done.1 ≡ (outcome (meaning self) (plain directive.entry)).output) }
-        // At least one line, and none that is blank or `----`.
+        // At least one line, and none that is blank or `----` or holds a byte outside 32 to 126.
         ensures shape { IfOk result (λ done. is_output done.1 ≡ true) }
         ensures counted { Self.Meter.count_of meter.new ≡ Self.Meter.count_of meter.old + 1 };
 

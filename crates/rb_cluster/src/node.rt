@@ -1,6 +1,7 @@
 //! A node of a cluster.
 
 use crate::config::Config;
+use crate::limits::CONTENT_SHOWN;
 use crate::shared::Content;
 use rb_texts::{Event, NodeLine, Role};
 use std::alloc::AllocError;
@@ -24,9 +25,6 @@ impl Model for Node {
 
     ghost view = { λ n. node_at n.base_index n.base_term n.config n.content n.id };
 }
-
-// How many bytes of a content are shown, the last ones.
-const CONTENT_SHOWN: usize = 32;
 
 impl Node {
     ghost use Rattle.std.specs.Prelude.{◌≡◌, ◌↔◌, IsTrue, IfOk};

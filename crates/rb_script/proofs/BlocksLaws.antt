@@ -156,7 +156,7 @@ blocks_sound (suc room) end ls s e =
           let x = bind_ok (block_at end (lead_of ls) (from_head ls)) (one_more room end) s (sym (ap (λ b. cond b (done (tail_only ls)) (block_at end (lead_of ls) (from_head ls) >>= one_more room end)) f) ∙ e) in
           let y = bind_ok (blocks_at room end x.0.1) (λ more. Ok (behind (x.0.0 ∷ []) more)) s x.2 in
           let later = blocks_sound room end x.0.1 y.0 y.1 in
-          subst (λ (z : PlainScript). Sound (suc room) ls z) (ok_is (behind (x.0.0 ∷ []) y.0) s y.2) ((x.0.1, next_sound end ls x.0.1 x.0.0 f x.1, later.0), omega arith)
+          subst (λ (z : PlainScript). Sound (suc room) ls z) (ok_is (behind (x.0.0 ∷ []) y.0) s y.2) (((x.0.1, next_sound end ls x.0.1 x.0.0 f x.1, later.0.0), later.0.1), omega arith)
     ]
 
 -- the blocks and the tail in the relation are read
@@ -166,5 +166,5 @@ blocks_complete room end ls [] tail r few =
     step_done room end ls (ap is_empty (ap (onward (stops Head)) r.0 ∙ run.1)) ∙ ap (λ (l : List Line). Ok (record { blocks = []; tail = l })) (ap (upto (stops Head)) r.0 ∙ run.0)
 blocks_complete zero end ls (b ∷ bs) tail r few = absurd (omega arith)
 blocks_complete (suc room) end ls (b ∷ bs) tail r few =
-    let block = block_complete end ls r.0 b r.1 in
-    step_ok room end ls b r.0 block.0 block.1 ∙ ap (λ (later : Result PlainScript ScriptFault). later >>= λ others. Ok (behind (b ∷ []) others)) (blocks_complete room end r.0 bs tail r.2 (omega arith))
+    let block = block_complete end ls r.0.0 b r.0.1 in
+    step_ok room end ls b r.0.0 block.0 block.1 ∙ ap (λ (later : Result PlainScript ScriptFault). later >>= λ others. Ok (behind (b ∷ []) others)) (blocks_complete room end r.0.0 bs tail (r.0.2, r.1) (omega arith))

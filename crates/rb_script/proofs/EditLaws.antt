@@ -1,11 +1,11 @@
 -- Edits of lists of blocks.
-use Rattle.std.proofs.Common.{◌≡◌, ℕ, ◌+◌, ◌-◌, ◌≤◌, ◌<◌, Bool, true, false, cond, not, ◌&&◌, List, [], ◌∷◌, ◌++◌, length, take, drop, get_or, Some, zero, suc, refl, ap, sym, subst, ◌∙◌, append_assoc, append-nil, arith}
+use Rattle.std.proofs.Common.{◌≡◌, ℕ, ◌+◌, ◌-◌, ◌≤◌, ◌<◌, Bool, true, false, cond, not, ◌&&◌, List, [], ◌∷◌, ◌++◌, length, take, drop, get_or, Some, zero, suc, refl, ap, sym, subst, ◌∙◌, inl, inr, append_assoc, append-nil, arith}
 use Rattle.std.specs.Prelude.{◌==◌, nat_le, slice_get}
 use Rattle.std.proofs.lemmas.Option.{slice_get_within, same_Some}
 use Rattle.std.specs.declared.rc.Rc.{Rc}
 use Rattle.std.specs.declared.alloc.Global.{Global}
 use Rattle.std.specs.List.{list_all, AllByRecursion}
-use Rattle.std.proofs.lemmas.Bool.{and_parts, not-true, leb-true}
+use Rattle.std.proofs.lemmas.Bool.{cases_Bool, and_parts, and_from, not-true, leb-true, le-leb}
 use Rattle.std.proofs.lemmas.List.{take-append-drop, drop_all, drop_more, take_more, take_all, take_rest, take-map, drop-map, map-append, length-map}
 use Rattle.std.proofs.Math.ListN.{get_or-map}
 use Rattle.rb_script.specs.declared.limits.TheConstants.{MAX_LINE}
@@ -54,7 +54,29 @@ last_is (x ∷ y ∷ line) (suc n) b e found = last_is (y ∷ line) n b (omega a
 pub last_return : (line : Line) (b : ℕ) → slice_get line (length line - 1) ≡ Some b → (b == 13) ≡ ends_in_return line
 last_return line b found = let within = slice_get_within line (length line - 1) b found in last_is line (length line - 1) b (omega arith) found
 
-text_line : (line : Line) → is_text_line line ≡ true → IsLine line
+-- nor does a line that has none to lose end in one
+put_ends : (b : ℕ) (line : Line) → ends_in_return line ≡ false → ends_in_return (put_before b line) ≡ false
+put_ends b [] h =
+    elim (cases_Bool (b == 13)) [
+      | inl t ↦ ap (λ x. ends_in_return (cond x [] (b ∷ []))) t
+      | inr f ↦ ap (λ x. ends_in_return (cond x [] (b ∷ []))) f ∙ f
+    ]
+put_ends b (c ∷ line) h = h
+
+trimmed_ends : (line : Line) → ends_in_return (without_returns line) ≡ false
+unfolding without_returns
+trimmed_ends [] = refl
+trimmed_ends (b ∷ line) = put_ends b (without_returns line) (trimmed_ends line)
+
+-- a line that reads as itself passes the test
+pub line_text_is : (line : Line) → IsLine line → is_text_line line ≡ true
+line_text_is line is =
+    let ends : ends_in_return line ≡ false = sym (ap ends_in_return is.no_return) ∙ trimmed_ends line in
+    and_from (list_all (λ b. not (b == 10)) line) (not (ends_in_return line) && nat_le (length line) MAX_LINE) is.no_end
+    (and_from (not (ends_in_return line)) (nat_le (length line) MAX_LINE) (ap not ends) (le-leb (length line) MAX_LINE is.short))
+
+-- and the other way round
+pub text_line : (line : Line) → is_text_line line ≡ true → IsLine line
 text_line line h =
     let p = and_parts (list_all (λ b. not (b == 10)) line) (not (ends_in_return line) && nat_le (length line) MAX_LINE) h in
     let q = and_parts (not (ends_in_return line)) (nat_le (length line) MAX_LINE) p.1 in

@@ -13,9 +13,9 @@ use Rattle.rb_script.specs.Script.{PlainBlock, PlainScript, text}
 use Rattle.rb_script.specs.Joined.{joined}
 use Rattle.rb_script.specs.Directive.{PlainArgument}
 use Rattle.rb_script.specs.Limits.{are_few}
-use Rattle.rb_script.specs.Reads.{IsDirective}
+use Rattle.rb_script.specs.Reads.{IsDirective, ReadsSome}
 use Rattle.rb_script.specs.Reading.{◌>>=◌, upto, onward, head_of, after_head, HeadThere, head_at, few_or, Expectation, expectation_at, closed_or, after_separator, number_of, lead_of, from_head, is_empty, block_at, blocks_at, behind, tail_only, long_line, no_long_line, parts_of, fits_text, read_of, only_block, block_of}
-use Rattle.rb_script.specs.Faults.{ReadsSome, IsHeadFault, StopsAt, IsFault}
+use Rattle.rb_script.specs.Faults.{IsHeadFault, StopsAt, IsFault}
 use Rattle.rb_script.proofs.GrammarLaws.{head_sound, head_complete}
 use Rattle.rb_script.proofs.ResultLaws.{done, same_fault, bind_err, guard_err}
 use Rattle.rb_script.proofs.RunLaws.{none_of, upto-append-onward, none-upto, onward-first}

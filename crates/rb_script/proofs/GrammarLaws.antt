@@ -6,9 +6,12 @@ use Rattle.std.proofs.lemmas.Bool.{and_parts, both_ways, not-true, not_from_true
 use Rattle.std.proofs.lemmas.Bool.Decides.{nat_tests}
 use Rattle.std.proofs.lemmas.Option.{same_Some, some_pair_parts}
 use Rattle.rb_script.specs.Marks.{is_space, is_blank}
-use Rattle.rb_script.specs.Joined.{while_of, after_while}
-use Rattle.rb_script.specs.Directive.{PlainArgument, is_word, is_value, is_inside, is_some_piece, pieces, begins_open, IsRun, IsArgument, AreArguments, Derives}
-use Rattle.rb_script.specs.Reading.{ArgumentThere, ArgumentsThere, HeadThere, begins, begins_space, ValuesThere, list_at, values_at, with_key, behind_key, argument_at, before, then_arguments, arguments_at, named, word_head, head_at}
+use Rattle.rb_script.specs.Lines.{Line}
+use Rattle.rb_script.specs.Script.{PlainBlock}
+use Rattle.rb_script.specs.Joined.{joined, while_of, after_while}
+use Rattle.rb_script.specs.Directive.{PlainArgument, PlainDirective, is_word, is_value, is_inside, is_some_piece, pieces, begins, IsRun, IsArgument, AreArguments, Derives}
+use Rattle.rb_script.specs.Reading.{ArgumentThere, ArgumentsThere, HeadThere, begins_space, ValuesThere, list_at, values_at, with_key, behind_key, argument_at, before, then_arguments, arguments_at, named, word_head, head_at, with_inputs, directive_of}
+use Rattle.rb_script.specs.Held.{IsBlock}
 use Rattle.rb_script.proofs.TokenLaws.{begins_by, run_parts, run_all, run_of, after_run, some_run, begins_wider}
 use Rattle.rb_script.proofs.ArgumentLaws.{begins_is, blank_is, arguments_of, arguments_blank, arguments_spaced}
 
@@ -22,11 +25,6 @@ word_is_value b h = grind (arith, nat_tests)
 begins_cons : (x : ℕ) (bytes : List ℕ) → begins x bytes ≡ true → bytes ≡ x ∷ drop 1 bytes
 begins_cons x [] h = absurd cc
 begins_cons x (b ∷ bytes) h = ap (λ (c : ℕ). c ∷ bytes) (eqb-true b x h)
-
--- two names for the same test
-open_is : (bytes : List ℕ) → begins_open bytes ≡ begins 40 bytes
-open_is [] = refl
-open_is (b ∷ bytes) = refl
 
 -- the bytes of the kind at the front are a run, if there are any
 run_is : (p : ℕ → Bool) (bytes : List ℕ) → begins_by p bytes ≡ true → IsRun p (while_of p bytes)
@@ -79,10 +77,10 @@ stands_list key bytes word =
     ] refl
 
 -- a value doesn't begin by a parenthesis where the text doesn't
-unopened_value : (bytes : List ℕ) → begins_open bytes ≡ false → begins_open (while_of is_value bytes) ≡ false
+unopened_value : (bytes : List ℕ) → begins 40 bytes ≡ false → begins 40 (while_of is_value bytes) ≡ false
 unfolding while_of
 unopened_value [] h = refl
-unopened_value (b ∷ bytes) h = elim (is_value b) as (λ t. begins_open (cond t (b ∷ while_of is_value bytes) []) ≡ false) [ true ↦ h | false ↦ refl ]
+unopened_value (b ∷ bytes) h = elim (is_value b) as (λ t. begins 40 (cond t (b ∷ while_of is_value bytes) []) ≡ false) [ true ↦ h | false ↦ refl ]
 
 -- after a key and its sign stands a value or a list
 stands_values : (key bytes : List ℕ) → IsRun is_word key → Stands (key ++ 61 ∷ bytes) (with_key key (values_at bytes))
@@ -90,9 +88,9 @@ unfolding values_at
 stands_values key bytes word =
     let value = while_of is_value bytes in
     let after = after_while is_value bytes in
-    elim (begins_open bytes) as (λ t. begins_open bytes ≡ t → Stands (key ++ 61 ∷ bytes) (with_key key (cond t (list_at (drop 1 bytes)) (Some (value ∷ [], after))))) [
+    elim (begins 40 bytes) as (λ t. begins 40 bytes ≡ t → Stands (key ++ 61 ∷ bytes) (with_key key (cond t (list_at (drop 1 bytes)) (Some (value ∷ [], after))))) [
       | true ↦ λ h.
-          let whole : bytes ≡ 40 ∷ drop 1 bytes = begins_cons 40 bytes (sym (open_is bytes) ∙ h) in
+          let whole : bytes ≡ 40 ∷ drop 1 bytes = begins_cons 40 bytes h in
           subst (λ (l : List ℕ). Stands (key ++ 61 ∷ l) (with_key key (list_at (drop 1 bytes)))) (sym whole) (stands_list key (drop 1 bytes) word)
       | false ↦ λ h. (
         key ++ 61 ∷ value,
@@ -225,12 +223,12 @@ alone_read key rest ends =
     ap (λ t. cond t (with_key key (values_at (drop 1 rest))) (Some (record { key = key; has_equals = false; values = [] }, rest))) (begins_no 61 rest refl ends)
 
 -- the value doesn't begin by a parenthesis, and what follows it doesn't either
-unopened_before : (value rest : List ℕ) → begins_open value ≡ false → begins_by is_value rest ≡ false → begins_open (value ++ rest) ≡ false
-unopened_before [] rest unopened ends = open_is rest ∙ begins_no 40 rest refl ends
+unopened_before : (value rest : List ℕ) → begins 40 value ≡ false → begins_by is_value rest ≡ false → begins 40 (value ++ rest) ≡ false
+unopened_before [] rest unopened ends = begins_no 40 rest refl ends
 unopened_before (b ∷ value) rest unopened ends = unopened
 
 -- a value is read up to its end
-value_read : (key value rest : List ℕ) → list_all is_value value ≡ true → begins_open value ≡ false → begins_by is_value rest ≡ false → behind_key key (61 ∷ (value ++ rest)) ≡ Some (record { key = key; has_equals = true; values = value ∷ [] }, rest)
+value_read : (key value rest : List ℕ) → list_all is_value value ≡ true → begins 40 value ≡ false → begins_by is_value rest ≡ false → behind_key key (61 ∷ (value ++ rest)) ≡ Some (record { key = key; has_equals = true; values = value ∷ [] }, rest)
 unfolding behind_key values_at
 value_read key value rest bare unopened ends =
     let bytes = value ++ rest in
@@ -309,3 +307,31 @@ head_complete bytes name args d =
     let read : List ℕ → List ℕ → HeadThere = λ word rest. cond (is_some_piece word) (named word (arguments_of rest)) None in
     ap word_head skipped ∙ ap (λ word. read word (after_while is_word text)) (run_of is_word name d.rest d.word.all ends) ∙ ap (read name) (after_run is_word name d.rest d.word.all ends)
     ∙ ap (λ t. cond t (named name (arguments_of d.rest)) None) (run_some is_word name d.word) ∙ ap (named name) (arguments_complete d.rest args d.arguments)
+
+-- ---- the directive of a block
+
+-- it is what the grammar derives from the head
+directive_read : (b : PlainBlock) (name : List ℕ) (args : List PlainArgument) → Derives (joined b.head) name args → directive_of b ≡ record { name = name; args = args; inputs = b.input }
+unfolding directive_of
+directive_read b name args d = ap (with_inputs b.input) (head_complete (joined b.head) name args d)
+
+-- where the block can be held, the grammar derives it
+pub held_derived : (b : PlainBlock) → IsBlock b → Derives (joined b.head) (directive_of b).name (directive_of b).args
+held_derived b held =
+    let d = held.directive in
+    subst (λ (x : PlainDirective). Derives (joined b.head) x.name x.args) (sym (directive_read b d.name d.args d.derives)) d.derives
+
+-- whatever the grammar derives is the same
+pub only_derived : (b : PlainBlock) (name : List ℕ) (args : List PlainArgument) → Derives (joined b.head) name args → (name ≡ (directive_of b).name) × (args ≡ (directive_of b).args)
+only_derived b name args d =
+    let read = directive_read b name args d in
+    (sym (ap (λ (x : PlainDirective). x.name) read), sym (ap (λ (x : PlainDirective). x.args) read))
+
+-- the input is kept, whatever is read
+inputs_kept : (inputs : List Line) (there : HeadThere) → (with_inputs inputs there).inputs ≡ inputs
+inputs_kept inputs None = refl
+inputs_kept inputs (Some head) = refl
+
+pub inputs_are : (b : PlainBlock) → (directive_of b).inputs ≡ b.input
+unfolding directive_of
+inputs_are b = inputs_kept b.input (head_at (joined b.head))

@@ -156,8 +156,8 @@ pub record AreHeld (bs : List PlainBlock) (tail : List Line) : Type 0 where
 blocks_held : (bs : List PlainBlock) (ls tail : List Line) → AllByRecursion IsLine ls → ReadsBlocks ls bs tail → AreHeld bs tail
 blocks_held [] ls tail h r = record { blocks = tt; tail_leads = r.1; tail_lines = along ls tail r.0 h }
 blocks_held (b ∷ bs) ls tail h r =
-    let first = block_held ls r.0 b h r.1 in
-    let later = blocks_held bs r.0 tail first.1 r.2 in
+    let first = block_held ls r.0.0 b h r.0.1 in
+    let later = blocks_held bs r.0.0 tail first.1 (r.0.2, r.1) in
     record { blocks = (first.0, later.blocks); tail_leads = later.tail_leads; tail_lines = later.tail_lines }
 
 -- the parts that are read can be held

@@ -88,7 +88,8 @@ blocks_read : (bs : List PlainBlock) (tail : List Line) → AllByRecursion IsBlo
 blocks_read [] tail all h = (refl, h)
 blocks_read (b ∷ bs) tail all h =
     let more = flat_map block_lines bs ++ tail in
-    (more, subst (λ (l : List Line). ReadsBlock l b more) (sym (append_assoc (block_lines b) (flat_map block_lines bs) tail)) (block_reads b more all.0), blocks_read bs tail all.1 h)
+    let later = blocks_read bs tail all.1 h in
+    ((more, subst (λ (l : List Line). ReadsBlock l b more) (sym (append_assoc (block_lines b) (flat_map block_lines bs) tail)) (block_reads b more all.0), later.0), later.1)
 
 -- lines and lines are lines
 pub all-append : (a b : List Line) → AllByRecursion IsLine a → AllByRecursion IsLine b → AllByRecursion IsLine (a ++ b)

@@ -1,4 +1,4 @@
--- A place in the lines.
+-- A place in the lines. (This project's.)
 use Rattle.std.specs.Prelude.{ℕ, ◌+◌, List, length, Option, Some, None}
 use Rattle.rb_script.specs.declared.cursor.Cursor.{Cursor}
 use Rattle.rb_script.specs.Lines.{Line, lines}

@@ -2,6 +2,7 @@
 -- format; datadriven's README has `key`, `key=value` and `key=(value, value)`.)
 use Rattle.std.specs.Prelude.{◌≡◌, ◌≢◌, ℕ, ◌⊎◌, Bool, true, false, ◌||◌, ◌==◌, not, if◌then◌else◌, List, [], ◌∷◌, ◌++◌, slice_index_or}
 use Rattle.std.specs.List.{list_all}
+use Rattle.rb_script.specs.Bytes.{opening, closing, comma, equals_sign}
 use Rattle.rb_script.specs.Lines.{Line}
 use Rattle.rb_script.specs.Marks.{is_space}
 
@@ -17,7 +18,7 @@ pub record PlainDirective : Type 0 where
 
 -- the bytes of a name or a key
 abbrev pub is_word : ℕ → Bool
-is_word b = not (is_space b || b == 61 || b == 40 || b == 41)
+is_word b = not (is_space b || b == equals_sign || b == opening || b == closing)
 
 -- the bytes of a value without parentheses
 abbrev pub is_value : ℕ → Bool
@@ -25,11 +26,11 @@ is_value b = not (is_space b)
 
 -- what parts the values within parentheses
 abbrev pub is_gap : ℕ → Bool
-is_gap b = is_space b || b == 44
+is_gap b = is_space b || b == comma
 
 -- what may stand within parentheses
 abbrev pub is_inside : ℕ → Bool
-is_inside b = not (b == 40 || b == 41)
+is_inside b = not (b == opening || b == closing)
 
 -- the byte joins the piece that begins there, if one does
 abbrev pub in_piece : ℕ → List (List ℕ) → List (List ℕ)
@@ -53,9 +54,9 @@ without_empty (piece ∷ pieces) = if is_some_piece piece then piece ∷ without
 abbrev pub pieces : List ℕ → List (List ℕ)
 pieces inside = without_empty (fields inside)
 
-abbrev pub begins_open : List ℕ → Bool
-begins_open [] = false
-begins_open (b ∷ bytes) = b == 40
+abbrev pub begins : ℕ → List ℕ → Bool
+begins x [] = false
+begins x (b ∷ bytes) = b == x
 
 -- one byte or more, all of the kind
 pub record IsRun (p : ℕ → Bool) (bytes : List ℕ) : Type 0 where
@@ -71,16 +72,16 @@ pub record IsKeyAlone (text : List ℕ) (a : PlainArgument) : Type 0 where
 -- `key=value`, where the value doesn't begin with a parenthesis
 pub record IsKeyValue (text : List ℕ) (a : PlainArgument) : Type 0 where
   pub value : List ℕ
-  pub parts : text ≡ a.key ++ 61 ∷ value
+  pub parts : text ≡ a.key ++ equals_sign ∷ value
   pub equals : a.has_equals ≡ true
   pub values : a.values ≡ value ∷ []
   pub bare : list_all is_value value ≡ true
-  pub unopened : begins_open value ≡ false
+  pub unopened : begins opening value ≡ false
 
 -- `key=(values)`
 pub record IsKeyList (text : List ℕ) (a : PlainArgument) : Type 0 where
   pub inside : List ℕ
-  pub parts : text ≡ a.key ++ 61 ∷ 40 ∷ inside ++ 41 ∷ []
+  pub parts : text ≡ a.key ++ equals_sign ∷ opening ∷ inside ++ closing ∷ []
   pub equals : a.has_equals ≡ true
   pub values : a.values ≡ pieces inside
   pub flat : list_all is_inside inside ≡ true

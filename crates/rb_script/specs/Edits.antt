@@ -6,24 +6,25 @@ use Rattle.rb_script.specs.declared.fault.EditFault.TheVariants.{NoSuchPlace, Ba
 use Rattle.rb_script.specs.declared.edit.Edit.{Edit}
 use Rattle.rb_script.specs.declared.edit.Edit.TheVariants.{Insert, Replace, Remove, Expect, Accept}
 use Rattle.rb_script.specs.declared.limits.TheConstants.{MAX_SCRIPT, MAX_LINE, MAX_DIRECTIVES}
+use Rattle.rb_script.specs.Bytes.{line_feed, carriage_return}
 use Rattle.rb_script.specs.Lines.{Line}
 use Rattle.rb_script.specs.Script.{PlainBlock, PlainScript, text, expecting, with_outputs}
 use Rattle.rb_script.specs.Reads.{is_readable}
 
 abbrev pub ends_in_return : Line → Bool
 ends_in_return [] = false
-ends_in_return (b ∷ []) = b == 13
+ends_in_return (b ∷ []) = b == carriage_return
 ends_in_return (b ∷ c ∷ line) = ends_in_return (c ∷ line)
 
--- a line that can stand in a script
+-- a line that can stand in a script: the test of Held.IsLine
 abbrev pub is_text_line : Line → Bool
-is_text_line line = list_all (λ b. not (b == 10)) line && (not (ends_in_return line) && nat_le (length line) MAX_LINE)
+is_text_line line = list_all (λ b. not (b == line_feed)) line && (not (ends_in_return line) && nat_le (length line) MAX_LINE)
 
 -- lines that can be an expectation
 abbrev pub is_expectation : List Line → Bool
 is_expectation ls = is_readable ls && list_all is_text_line ls
 
--- the script is answered if the test passes, and else the fault
+-- the fault if the test passes, and else what is made
 abbrev pub unless : Bool → EditFault → Result PlainScript EditFault → Result PlainScript EditFault
 unless test fault made = if test then Err fault else made
 
@@ -52,11 +53,12 @@ edited s (Expect k lines) outputs =
     (unless (not (is_expectation lines)) BadExpectation (fitting (with_blocks s (slice_set s.blocks (k - 1) (expecting (block_at_place s.blocks k) lines)))))
 edited s Accept outputs = unless (not (list_all is_expectation outputs)) BadExpectation (fitting (with_outputs s outputs))
 
--- what a function answered is what the edit makes, unless memory ran out
+-- the edit is refused for this fault, or memory ran out
 abbrev pub EditFails : EditFault → Result PlainScript EditFault → Type 0
 EditFails OutOfMemory made = Unit {0}
 EditFails fault made = made ≡ Err fault
 
+-- what a function answered is what the edit makes, unless memory ran out
 abbrev pub Makes : Result PlainScript EditFault → Result PlainScript EditFault → Type 0
 Makes (Ok s) made = made ≡ Ok s
 Makes (Err e) made = EditFails e made

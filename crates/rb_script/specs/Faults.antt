@@ -1,5 +1,5 @@
 -- What each fault says of the bytes. (This project's.)
-use Rattle.std.specs.Prelude.{◌≡◌, ℕ, ◌+◌, ◌≤◌, ◌<◌, ◌⊎◌, true, false, not, List, [], ◌∷◌, ◌++◌, length}
+use Rattle.std.specs.Prelude.{◌≡◌, ℕ, ◌+◌, ◌≤◌, ◌<◌, ◌⊎◌, true, false, not, List, ◌∷◌, ◌++◌, length}
 use Rattle.std.specs.List.{list_all, AllByRecursion}
 use Rattle.rb_script.specs.declared.fault.ScriptFault.{ScriptFault}
 use Rattle.rb_script.specs.declared.fault.ScriptFault.TheVariants.{TooLong, LineTooLong, BadLine, NoSeparator, NotClosed, TooManyDirectives, NotOneBlock, TooManyArguments, OutOfMemory}
@@ -10,13 +10,8 @@ use Rattle.rb_script.specs.Script.{PlainBlock, PlainScript, text}
 use Rattle.rb_script.specs.Joined.{joined}
 use Rattle.rb_script.specs.Directive.{PlainArgument, Derives}
 use Rattle.rb_script.specs.Limits.{are_few}
-use Rattle.rb_script.specs.Reads.{begins_lead, is_readable, IsDirective, ReadsPlain, ReadsDouble, ReadsBlock, ReadsBlocks, alone}
+use Rattle.rb_script.specs.Reads.{begins_lead, is_readable, IsDirective, ReadsPlain, ReadsDouble, ReadsSome, ReadsBlocks, alone}
 use Rattle.rb_script.specs.Reading.{head_of, after_head, number_of}
-
--- the lines begin with these blocks, and the rest follows
-abbrev pub ReadsSome : List Line → List PlainBlock → List Line → Type 0
-ReadsSome ls [] rest = ls ≡ rest
-ReadsSome ls (b ∷ bs) rest = (after : List Line) × ReadsBlock ls b after × ReadsSome after bs rest
 
 -- The head at the front is no name and arguments.
 pub record IsBadLine (end : ℕ) (from : List Line) (n : ℕ) : Type 0 where

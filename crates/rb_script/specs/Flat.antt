@@ -1,4 +1,4 @@
--- Lines in one buffer: each with its LF, and where each ends.
+-- Lines in one buffer: each with its LF, and where each ends. (This project's.)
 use Rattle.std.specs.Prelude.{◌≡◌, ℕ, ◌+◌, ◌-◌, zero, suc, List, [], ◌∷◌, length, take, drop, slice_index}
 use Rattle.rb_script.specs.Lines.{Line, text_of}
 

@@ -1,4 +1,4 @@
--- What a block is made of.
+-- What a block is made of. (This project's.)
 use Rattle.std.specs.Prelude.{◌≡◌, ℕ, ◌+◌, List, length, Some}
 use Rattle.rb_script.specs.declared.block.Front.{Front}
 use Rattle.rb_script.specs.declared.tokens.Tokens.{Tokens}

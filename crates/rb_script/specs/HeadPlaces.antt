@@ -1,4 +1,4 @@
--- A place in a joined head.
+-- A place in a joined head. (This project's.)
 use Rattle.std.specs.Prelude.{◌≡◌, ℕ, ◌<◌, ◌≤◌, List, length, take}
 use Rattle.rb_script.specs.Lines.{Line}
 use Rattle.rb_script.specs.Tokens.{line_at}

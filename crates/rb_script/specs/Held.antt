@@ -1,7 +1,8 @@
--- What a line, a block and a script that are held are like.
+-- What a line, a block and a script that are held are like. (This project's.)
 use Rattle.std.specs.Prelude.{◌≡◌, ◌≤◌, ◌==◌, true, false, not, length}
 use Rattle.std.specs.List.{list_all, AllByRecursion}
 use Rattle.rb_script.specs.declared.limits.TheConstants.{MAX_SCRIPT, MAX_LINE, MAX_DIRECTIVES}
+use Rattle.rb_script.specs.Bytes.{line_feed}
 use Rattle.rb_script.specs.Lines.{Line, without_returns}
 use Rattle.rb_script.specs.Marks.{is_lead, is_separator}
 use Rattle.rb_script.specs.Script.{PlainBlock, PlainScript, block_lines, text}
@@ -9,7 +10,7 @@ use Rattle.rb_script.specs.Reads.{begins_lead, IsContinued, IsDirective, is_read
 
 -- a line that reads as itself
 pub record IsLine (line : Line) : Type 0 where
-  pub no_end : list_all (λ b. not (b == 10)) line ≡ true
+  pub no_end : list_all (λ b. not (b == line_feed)) line ≡ true
   pub no_return : without_returns line ≡ line
   pub short : length line ≤ MAX_LINE
 

@@ -1,5 +1,7 @@
--- The head of a block as one text.
+-- The head of a block as one text. (This project's profile of the datadriven format: a backslash at the end of a
+-- line asks for the next.)
 use Rattle.std.specs.Prelude.{ℕ, Bool, true, false, if◌then◌else◌, List, [], ◌∷◌, ◌++◌}
+use Rattle.rb_script.specs.Bytes.{space}
 use Rattle.rb_script.specs.Lines.{Line}
 use Rattle.rb_script.specs.Marks.{is_blank, continues}
 
@@ -11,11 +13,11 @@ body (b ∷ line) = if is_blank line then [] else b ∷ body line
 -- The lines of a head, joined by one blank each. A line that asks for a next one where there is none takes an empty one.
 unfoldable pub joined : List Line → List ℕ
 joined [] = []
-joined (line ∷ ls) = if continues line then body line ++ 32 ∷ joined ls else line
+joined (line ∷ ls) = if continues line then body line ++ space ∷ joined ls else line
 
 -- what is left of the joined head behind a line's part of it
 abbrev pub behind_piece : Bool → List Line → List ℕ
-behind_piece true ls = 32 ∷ joined ls
+behind_piece true ls = space ∷ joined ls
 behind_piece false ls = []
 
 -- the bytes before the first that isn't of the kind, and those from it on

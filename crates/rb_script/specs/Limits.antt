@@ -1,4 +1,4 @@
--- The limits of scripts, under the names of the constants.
+-- The limits of scripts, under the names of the constants. (This project's.)
 use Rattle.std.specs.Prelude.{Bool, ◌&&◌, nat_le, List, length}
 use Rattle.std.specs.List.{list_all}
 use Rattle.rb_script.specs.declared.limits.TheConstants.{MAX_ARGUMENTS, MAX_VALUES}

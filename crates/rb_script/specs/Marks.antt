@@ -4,11 +4,12 @@ use Rattle.std.specs.List.{list_all}
 use Rattle.std.specs.Str.{bytes_eq}
 use Rattle.rb_script.specs.declared.marks.Stop.{Stop}
 use Rattle.rb_script.specs.declared.marks.Stop.TheVariants.{Head, Separator, Blank}
+use Rattle.rb_script.specs.Bytes.{tab, space, number_sign, hyphen, backslash}
 use Rattle.rb_script.specs.Lines.{Line}
 
 -- a space or a tab
 abbrev pub is_space : ℕ → Bool
-is_space b = b == 32 || b == 9
+is_space b = b == space || b == tab
 
 abbrev pub is_blank : Line → Bool
 is_blank line = list_all is_space line
@@ -17,17 +18,16 @@ unfoldable pub without_front : Line → Line
 without_front [] = []
 without_front (b ∷ line) = if is_space b then without_front line else b ∷ line
 
--- nothing, or a comment
-abbrev pub is_comment : Line → Bool
-is_comment [] = true
-is_comment (b ∷ line) = b == 35
+abbrev pub is_empty_or_comment : Line → Bool
+is_empty_or_comment [] = true
+is_empty_or_comment (b ∷ line) = b == number_sign
 
 unfoldable pub is_lead : Line → Bool
-is_lead line = is_comment (without_front line)
+is_lead line = is_empty_or_comment (without_front line)
 
 -- the line ----
 abbrev pub rule : Line
-rule = 45 ∷ 45 ∷ 45 ∷ 45 ∷ []
+rule = hyphen ∷ hyphen ∷ hyphen ∷ hyphen ∷ []
 
 unfoldable pub is_rule : Line → Bool
 is_rule line = bytes_eq line rule
@@ -39,7 +39,7 @@ is_separator line = is_rule (take 4 (without_front line)) && is_blank (drop 4 (w
 -- the last byte that isn't blank is a backslash
 unfoldable pub continues : Line → Bool
 continues [] = false
-continues (b ∷ line) = if is_blank line then b == 92 else continues line
+continues (b ∷ line) = if is_blank line then b == backslash else continues line
 
 -- the line at which a run of lines stops
 abbrev pub stops : Stop → Line → Bool

@@ -1,4 +1,4 @@
--- What parsing a head answers, against what stands there.
+-- What parsing a head answers, against what stands there. (This project's.)
 use Rattle.std.specs.Prelude.{◌≡◌, ℕ, true, false, nat_le, if◌then◌else◌, List, [], ◌∷◌, ◌++◌, length, map, Option, Some, None, Result, Ok, Err}
 use Rattle.std.specs.List.{AllByRecursion}
 use Rattle.rb_script.specs.declared.span.Span.{Span}

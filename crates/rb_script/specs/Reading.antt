@@ -1,14 +1,15 @@
 -- Reading from the first line on, with the first fault that is met. (This project's order of faults.)
-use Rattle.std.specs.Prelude.{◌≡◌, ◌≢◌, ℕ, min, option_map, zero, suc, ◌+◌, ◌-◌, Bool, true, false, ◌&&◌, ◌==◌, nat_lt, if◌then◌else◌, List, [], ◌∷◌, ◌++◌, length, drop, Option, Some, None, Result, Ok, Err}
+use Rattle.std.specs.Prelude.{◌≡◌, ◌≢◌, ℕ, min, option_map, zero, suc, ◌+◌, ◌-◌, Bool, true, false, ◌&&◌, nat_lt, if◌then◌else◌, List, [], ◌∷◌, ◌++◌, length, drop, Option, Some, None, Result, Ok, Err}
 use Rattle.rb_script.specs.declared.fault.ScriptFault.{ScriptFault}
 use Rattle.rb_script.specs.declared.fault.ScriptFault.TheVariants.{TooLong, LineTooLong, BadLine, NoSeparator, NotClosed, TooManyDirectives, NotOneBlock, TooManyArguments, OutOfMemory}
 use Rattle.rb_script.specs.declared.limits.TheConstants.{MAX_SCRIPT, MAX_LINE, MAX_DIRECTIVES}
+use Rattle.rb_script.specs.Bytes.{opening, closing, equals_sign}
 use Rattle.rb_script.specs.Lines.{Line, lines}
 use Rattle.rb_script.specs.Marks.{is_blank, is_rule, is_separator, is_space, continues, stops}
 use Rattle.rb_script.specs.declared.marks.Stop.TheVariants.{Head}
 use Rattle.rb_script.specs.Script.{PlainBlock, PlainScript, text}
 use Rattle.rb_script.specs.Joined.{joined, while_of, after_while}
-use Rattle.rb_script.specs.Directive.{PlainArgument, PlainDirective, is_word, is_value, is_inside, pieces, begins_open, is_some_piece}
+use Rattle.rb_script.specs.Directive.{PlainArgument, PlainDirective, is_word, is_value, is_inside, pieces, begins, is_some_piece}
 use Rattle.rb_script.specs.Limits.{are_few}
 use Rattle.rb_script.specs.Reads.{is_readable, begins_rule}
 
@@ -17,11 +18,12 @@ abbrev pub ◌>>=◌ : {A B : Type 0} → Result A ScriptFault → (A → Result
 (Ok x) >>= f = f x
 (Err e) >>= f = Err e
 
--- what a function answered, seen by view, is what reading gives, unless memory ran out
+-- reading gives this fault, or memory ran out
 abbrev pub Fails : {Y : Type 0} → ScriptFault → Result Y ScriptFault → Type 0
 Fails OutOfMemory read = Unit {0}
 Fails fault read = read ≡ Err fault
 
+-- what a function answered, seen by view, is what reading gives, unless memory ran out
 abbrev pub Gives : {X Y : Type 0} → (X → Y) → Result X ScriptFault → Result Y ScriptFault → Type 0
 Gives view (Ok x) read = read ≡ Ok (view x)
 Gives view (Err e) read = Fails e read
@@ -60,28 +62,24 @@ ValuesThere = Option (List (List ℕ) × List ℕ)
 abbrev pub ArgumentThere : Type 0
 ArgumentThere = Option (PlainArgument × List ℕ)
 
-abbrev pub begins : ℕ → List ℕ → Bool
-begins x [] = false
-begins x (b ∷ bytes) = b == x
-
 abbrev pub begins_space : List ℕ → Bool
 begins_space [] = false
 begins_space (b ∷ bytes) = is_space b
 
 -- the values up to the closing parenthesis
 unfoldable pub list_at : List ℕ → ValuesThere
-list_at bytes = if begins 41 (after_while is_inside bytes) then Some (pieces (while_of is_inside bytes), drop 1 (after_while is_inside bytes)) else None
+list_at bytes = if begins closing (after_while is_inside bytes) then Some (pieces (while_of is_inside bytes), drop 1 (after_while is_inside bytes)) else None
 
 -- the values behind a `=`: those within parentheses, or the one that stands there
 unfoldable pub values_at : List ℕ → ValuesThere
-values_at bytes = if begins_open bytes then list_at (drop 1 bytes) else Some (while_of is_value bytes ∷ [], after_while is_value bytes)
+values_at bytes = if begins opening bytes then list_at (drop 1 bytes) else Some (while_of is_value bytes ∷ [], after_while is_value bytes)
 
 abbrev pub with_key : List ℕ → ValuesThere → ArgumentThere
 with_key key None = None
 with_key key (Some found) = Some (record { key = key; has_equals = true; values = found.0 }, found.1)
 
 unfoldable pub behind_key : List ℕ → List ℕ → ArgumentThere
-behind_key key bytes = if begins 61 bytes then with_key key (values_at (drop 1 bytes)) else Some (record { key = key; has_equals = false; values = [] }, bytes)
+behind_key key bytes = if begins equals_sign bytes then with_key key (values_at (drop 1 bytes)) else Some (record { key = key; has_equals = false; values = [] }, bytes)
 
 unfoldable pub argument_at : List ℕ → ArgumentThere
 argument_at bytes = if is_some_piece (while_of is_word bytes) then behind_key (while_of is_word bytes) (after_while is_word bytes) else None
@@ -221,9 +219,13 @@ abbrev pub no_long_line : Option ℕ → Result (Unit {0}) ScriptFault
 no_long_line None = Ok tt
 no_long_line (Some n) = Err (LineTooLong n)
 
+-- the greatest value of a usize
+abbrev pub usize_max : ℕ
+usize_max = 18446744073709551615
+
 -- a length as a usize that stops at its greatest value
 abbrev pub capped : ℕ → ℕ
-capped n = min n 18446744073709551615
+capped n = min n usize_max
 
 -- the blocks and the tail of bytes and lines that are short enough
 unfoldable pub parts_of : List ℕ → Result PlainScript ScriptFault

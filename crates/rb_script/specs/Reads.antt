@@ -68,9 +68,14 @@ pub record ReadsBlock (ls : List Line) (b : PlainBlock) (rest : List Line) : Typ
   pub readable : is_readable b.expected ≡ true
   pub expected : ReadsPlain after b.expected rest ⊎ ReadsDouble after b.expected rest
 
+-- the lines begin with these blocks, and the rest follows
+abbrev pub ReadsSome : List Line → List PlainBlock → List Line → Type 0
+ReadsSome ls [] rest = ls ≡ rest
+ReadsSome ls (b ∷ bs) rest = (after : List Line) × ReadsBlock ls b after × ReadsSome after bs rest
+
+-- the lines are these blocks and this tail
 abbrev pub ReadsBlocks : List Line → List PlainBlock → List Line → Type 0
-ReadsBlocks ls [] tail = (ls ≡ tail) × (list_all is_lead tail ≡ true)
-ReadsBlocks ls (b ∷ bs) tail = (rest : List Line) × ReadsBlock ls b rest × ReadsBlocks rest bs tail
+ReadsBlocks ls bs tail = ReadsSome ls bs tail × (list_all is_lead tail ≡ true)
 
 -- the bytes are the script
 pub record Reads (bytes : List ℕ) (s : PlainScript) : Type 0 where

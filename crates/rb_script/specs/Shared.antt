@@ -1,4 +1,4 @@
--- Scripts whose blocks are shared.
+-- Scripts whose blocks are shared. (This project's.)
 use Rattle.std.specs.Prelude.{◌≡◌, ℕ, List, length, map}
 use Rattle.std.specs.declared.rc.Rc.{Rc}
 use Rattle.std.specs.declared.alloc.Global.{Global}

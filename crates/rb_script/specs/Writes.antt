@@ -1,4 +1,4 @@
--- What went out to a sink.
+-- What went out to a sink. (This project's.)
 use Rattle.std.specs.Prelude.{◌≡◌, ℕ, List, ◌++◌, Option, Result, Ok, Err}
 use Rattle.std.specs.Io.KnownBytes.{Appends}
 use Rattle.rb_script.specs.declared.sink.WriteFault.{WriteFault}

@@ -4,12 +4,16 @@ use crate::argument::Argument;
 use crate::directive::DirectiveRef;
 use crate::fault::ScriptFault;
 use crate::lines::Lines;
+use crate::marks::RULE_LINE;
 use crate::reading;
 use crate::span::Span;
 use crate::writing::shown_len;
 use std::alloc::{AllocError, Global};
 use std::marker::Model;
 use std::rc::Rc;
+
+/// How long a separator and the empty line after an expectation are.
+const AROUND_LEN: usize = RULE_LINE.len() + 1;
 
 /// What stands above an expectation. The copies of a block share it.
 #[derive(Drop)]
@@ -43,9 +47,11 @@ impl Model for Block {
 }
 
 impl Block {
-    ghost use Rattle.std.specs.Prelude.{◌≡◌, ◌≢◌, ◌+◌, IfOk, IfErr, IfSome, Ok, Err, true, length};
+    ghost use Rattle.std.specs.Prelude.{◌≡◌, ◌≢◌, ◌+◌, ℕ, List, IfOk, IfErr, IfSome, Ok, Err, true, length};
     ghost use Rattle.rb_script.specs.Script.{PlainBlock, block_text, expecting};
     ghost use Rattle.rb_script.specs.Reads.{Reads, alone};
+    ghost use Rattle.rb_script.specs.Joined.{joined};
+    ghost use Rattle.rb_script.specs.Directive.{PlainArgument, Derives};
     ghost use Rattle.rb_script.specs.Held.{IsBlock};
     ghost use Rattle.rb_script.specs.Edits.{is_expectation};
     ghost use Rattle.rb_script.specs.Fronts.{block_of_front, HasTokens};
@@ -67,6 +73,13 @@ impl Block {
     {
         reading::one_block(alloc, bytes)
     }
+
+    /// The directive of a block that can be held is the one that the grammar derives from its head, and no other is.
+    pub fn directive_is_derived()
+        ensures derived { (b : PlainBlock) → IsBlock b → Derives (joined b.head) (directive_of b).name (directive_of b).args }
+        ensures only { (b : PlainBlock) (name : List ℕ) (args : List PlainArgument) → Derives (joined b.head) name args → (name ≡ (directive_of b).name) × (args ≡ (directive_of b).args) }
+        ensures inputs { (b : PlainBlock) → (directive_of b).inputs ≡ b.input }
+    {}
 
     // The block of what stands above its expectation, and that.
     pub(crate) fn new(front: Rc<Front>, expected: Lines) -> Block
@@ -139,13 +152,6 @@ impl Block {
     {
         self.front.text_len().saturating_add(shown_len(lines))
     }
-
-    // What is held is a block.
-    pub(crate) fn is_held(&self)
-        ensures { IsBlock self.now }
-    {
-        let _expected = &self.expected;
-    }
 }
 
 impl Front {
@@ -162,6 +168,6 @@ impl Front {
             .len()
             .saturating_add(self.head.text().len())
             .saturating_add(self.input.text().len())
-            .saturating_add(6)
+            .saturating_add(AROUND_LEN)
     }
 }

@@ -22,7 +22,8 @@ pub enum ScriptFault {
     /// No line `----` follows the head that begins at this line.
     #[error("the directive at line {0} has no separator")]
     NoSeparator(usize),
-    /// The expectation below the line `----` at this line is not closed.
+    /// The expectation below the line `----` at this line is not closed, or a plain one could not be read back:
+    /// a line `----` is its last, or stands before another.
     #[error("the expectation after line {0} is not closed")]
     NotClosed(usize),
     /// There are more than [`crate::MAX_DIRECTIVES`] directives.

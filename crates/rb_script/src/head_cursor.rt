@@ -179,7 +179,8 @@ impl<'a> HeadCursor<'a> {
         }
     }
 
-    /// Goes past the bytes of the kind, and says where they stand. No blank is of the kind, so they stand in one line.
+    /// Goes past the bytes of the kind, and says where they stand. The space that joins two lines is not of the
+    /// kind, so they stand in one line.
     pub(crate) fn take(&mut self, kind: Kind) -> Span
         requires { IsToken kind }
         ensures token { token self.old.head result ≡ while_of (is_of kind) self.old.left }

@@ -28,11 +28,11 @@ pub use block::Block;
 pub use directive::DirectiveRef;
 pub use edit::Edit;
 pub use fault::{EditFault, ScriptFault};
-pub use limits::{MAX_ARGUMENTS, MAX_DIRECTIVES, MAX_LINE, MAX_SCRIPT, MAX_VALUES};
+pub use limits::{MAX_ARGUMENTS, MAX_DIRECTIVES, MAX_LINE, MAX_SCRIPT, MAX_VALUES, limits_are};
 pub use lines::{Lines, without_returns};
 pub use marks::{is_space, without_front};
 pub use script::Script;
-pub use sink::{Counting, Sink, Through, WriteFault};
+pub use sink::{Sink, Through, WriteFault};
 pub use span::Span;
 
 #[cfg(test)]

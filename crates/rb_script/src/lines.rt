@@ -62,6 +62,7 @@ impl Lines {
         self.ends.len()
     }
 
+    /// Whether there are no lines.
     pub fn is_empty(&self) -> bool
         ensures { IsTrue result ↔ (self.now ≡ []) }
     {

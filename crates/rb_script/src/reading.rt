@@ -1,6 +1,6 @@
 //! Reading blocks, from the first line on.
 
-ghost use Rattle.std.specs.Prelude.{◌≡◌, ◌+◌, ◌^◌, ◌<◌, [], ◌∷◌, true, false, length, drop, not, IfOk, IfSome, IfNone, MatchOption, Err};
+ghost use Rattle.std.specs.Prelude.{◌≡◌, ◌+◌, ◌^◌, ◌<◌, [], ◌∷◌, true, false, length, drop, not, IfOk, IfErr, IfSome, IfNone, MatchOption, Err};
 ghost use Rattle.std.specs.List.{list_all, AllByRecursion};
 ghost use Rattle.rb_script.specs.Lines.{lines};
 ghost use Rattle.rb_script.specs.Marks.{is_blank, is_lead, is_separator, stops};
@@ -259,18 +259,32 @@ pub(crate) fn script(alloc: Global, bytes: &[u8]) -> Result<Script, ScriptFault>
     })
 }
 
+/// The block behind the pointer, or a copy of it where others share it.
+fn unshared(block: Rc<Block>) -> Result<Block, ScriptFault>
+    ensures ok { IfOk result (λ b. b ≡ block.value) }
+    ensures err { IfErr result (λ fault. fault ≡ ScriptFault.OutOfMemory) }
+{
+    match Rc::try_unwrap(block) {
+        Ok(block) => Ok(block),
+        Err(shared) => Ok(shared.try_copy()?),
+    }
+}
+
 /// The one block of the bytes, or the first fault.
 #[tactic(auto, unfolding(crate::specs::Reading::block_of, crate::specs::Reading::fits_text))]
 pub(crate) fn one_block(alloc: Global, bytes: &[u8]) -> Result<Block, ScriptFault>
     ensures exact { Gives (λ b. b) result (block_of bytes.now) }
     ensures early { IfSome (early_fault bytes.now) (λ fault. result ≡ Err fault) }
 {
-    let parts = read_parts(alloc, bytes)?;
+    let mut parts = read_parts(alloc, bytes)?;
     if parts.blocks.len() != 1 || !parts.tail.is_empty() {
         return Err(ScriptFault::NotOneBlock);
     }
     if text_len(&parts) > MAX_SCRIPT {
         return Err(ScriptFault::TooLong);
     }
-    Ok(parts.blocks[0].try_copy()?)
+    match parts.blocks.pop() {
+        Some(block) => unshared(block),
+        None => Err(ScriptFault::NotOneBlock),
+    }
 }

@@ -33,10 +33,12 @@ impl Model for Script {
 }
 
 impl Script {
-    ghost use Rattle.std.specs.Prelude.{◌≡◌, ◌≢◌, ℕ, List, ◌-◌, ◌==◌, IfOk, IfErr, IfSome, Ok, Err, None, length, slice_get, option_copied, if◌then◌else◌};
+    ghost use Rattle.std.specs.Prelude.{◌≡◌, ◌≢◌, ◌↔◌, ℕ, List, ◌-◌, ◌==◌, true, IfOk, IfErr, IfSome, Ok, Err, None, length, slice_get, option_copied, if◌then◌else◌};
     ghost use Rattle.rb_script.specs.Script.{PlainScript, text};
     ghost use Rattle.rb_script.specs.Reads.{Reads};
-    ghost use Rattle.rb_script.specs.Held.{IsScript};
+    ghost use Rattle.rb_script.specs.Lines.{Line};
+    ghost use Rattle.rb_script.specs.Held.{IsLine, IsScript};
+    ghost use Rattle.rb_script.specs.Edits.{is_text_line};
     ghost use Rattle.rb_script.specs.Reading.{Gives, read_of, block_of, early_fault};
     ghost use Rattle.rb_script.specs.Faults.{IsFault};
 
@@ -63,6 +65,7 @@ impl Script {
         self.blocks.len()
     }
 
+    /// Whether there are no blocks.
     pub fn is_empty(&self) -> bool
         ensures { result ≡ (length self.now.blocks == 0) }
     {
@@ -82,13 +85,6 @@ impl Script {
         }
     }
 
-    // What is held is a script.
-    pub(crate) fn is_held(&self)
-        ensures held { IsScript self.now }
-    {
-        let _len = &self.text_len;
-    }
-
     /// Bytes are at most one script.
     pub fn reads_once()
         ensures { (bytes : List ℕ) (a b : PlainScript) → Reads bytes a → Reads bytes b → a ≡ b }
@@ -97,6 +93,11 @@ impl Script {
     /// What bytes read as can be held.
     pub fn read_is_held()
         ensures { (bytes : List ℕ) (s : PlainScript) → Reads bytes s → IsScript s }
+    {}
+
+    /// The lines that an edit may set are those that read as themselves.
+    pub fn text_lines_are_lines()
+        ensures { (line : Line) → (is_text_line line ≡ true) ↔ IsLine line }
     {}
 
     /// What a fault says of the bytes, where a script or one block was read.

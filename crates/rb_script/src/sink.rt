@@ -1,6 +1,6 @@
 //! Where text goes.
 
-ghost use Rattle.std.specs.Prelude.{ℕ, List, Option, None, IsOk, ◌+◌, ◌≡◌, min, length};
+ghost use Rattle.std.specs.Prelude.{ℕ, List, Option, IsOk};
 ghost use Rattle.rb_script.specs.Writes.{Writes};
 
 use std::io::Write;
@@ -52,26 +52,4 @@ fn put_whole<W: Write>(writer: &mut W, bytes: &[u8]) -> Result<(), WriteFault>
         }
     }
     Ok(())
-}
-
-/// Takes all text, and keeps its length alone.
-#[derive(Drop)]
-pub struct Counting {
-    /// How many bytes came; it stops at its greatest value.
-    pub count: usize,
-}
-
-impl Sink for Counting {
-    ghost held = { λ _. None };
-
-    ghost takes_all = { λ _. Unit {0} };
-
-    fn put(&mut self, bytes: &[u8]) -> Result<(), WriteFault>
-        ensures wrote { Writes result None None bytes.now }
-        ensures all { Unit {0} → IsOk result × Unit {0} }
-        ensures counted { self.new.count ≡ min (self.old.count + length bytes.now) usize.MAX }
-    {
-        self.count = self.count.saturating_add(bytes.len());
-        Ok(())
-    }
 }

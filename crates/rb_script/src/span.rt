@@ -4,7 +4,10 @@
 /// head.
 #[derive(Clone, Copy, Debug, PartialEq, Eq)]
 pub struct Span {
+    /// The line of the head.
     pub line: usize,
+    /// Where the token begins in the line.
     pub start: usize,
+    /// Where it ends: the place behind its last byte.
     pub end: usize,
 }

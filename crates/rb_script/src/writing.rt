@@ -8,9 +8,15 @@ ghost use Rattle.rb_script.specs.Writes.{Writes};
 
 use crate::block::Block;
 use crate::lines::Lines;
-use crate::marks::{is_blank, is_rule};
+use crate::marks::{RULE_LINE, is_blank, is_rule};
 use crate::script::Script;
 use crate::sink::{Sink, WriteFault};
+
+/// The two lines `----` that close the double form.
+const RULE_PAIR: &[u8] = b"----\n----\n";
+
+/// How long what shows the double form is.
+const DOUBLE_LEN: usize = RULE_LINE.len() + RULE_PAIR.len();
 
 /// Whether only the double form can show these lines.
 pub(crate) fn needs_double(expected: &Lines) -> bool
@@ -29,7 +35,11 @@ pub(crate) fn needs_double(expected: &Lines) -> bool
 pub(crate) fn shown_len(expected: &Lines) -> usize
     ensures { result ≡ capped (length (text_of (shown expected.now))) }
 {
-    let marks = if needs_double(expected) { 15 } else { 0 };
+    let marks = if needs_double(expected) {
+        DOUBLE_LEN
+    } else {
+        0
+    };
     expected.text().len().saturating_add(marks)
 }
 
@@ -41,9 +51,9 @@ fn put_expected<S: Sink>(sink: &mut S, expected: &Lines) -> Result<(), WriteFaul
     if !needs_double(expected) {
         return sink.put(expected.text());
     }
-    sink.put(b"----\n")?;
+    sink.put(RULE_LINE)?;
     sink.put(expected.text())?;
-    sink.put(b"----\n----\n")
+    sink.put(RULE_PAIR)
 }
 
 // Writes what stands above the expectation.
@@ -55,7 +65,7 @@ fn put_front<S: Sink>(sink: &mut S, block: &Block) -> Result<(), WriteFault>
     sink.put(front.lead.text())?;
     sink.put(front.head.text())?;
     sink.put(front.input.text())?;
-    sink.put(b"----\n")
+    sink.put(RULE_LINE)
 }
 
 // Writes a block with these expected lines in place of its own.

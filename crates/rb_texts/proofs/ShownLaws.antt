@@ -1,5 +1,5 @@
 -- No line of an item is blank or ----, and each is one line.
-use Rattle.std.proofs.Common.{◌≡◌, ℕ, ◌+◌, ◌%◌, ◌/◌, Bool, true, false, List, [], ◌∷◌, ◌++◌, zero, suc, take, decimal, codes, refl, ap, sym, ◌∙◌, inl, inr, arith}
+use Rattle.std.proofs.Common.{◌≡◌, ℕ, ◌+◌, ◌%◌, ◌/◌, ◌<◌, ◌≤◌, Bool, true, false, List, [], ◌∷◌, ◌++◌, zero, suc, take, decimal, codes, refl, ap, sym, ◌∙◌, inl, inr, arith}
 use Rattle.std.specs.Prelude.{not, ◌&&◌, ◌||◌, ◌==◌, nat_le, nat_lt, if◌then◌else◌}
 use Rattle.std.specs.List.{list_all, list_any, flat_map}
 use Rattle.std.specs.Fmt.{digits, digits_onto, digit_glyph}
@@ -10,7 +10,7 @@ use Rattle.std.proofs.lemmas.Slice.Eq.{bytes_eq-Decides}
 use Rattle.rb_texts.specs.declared.level.Level.{Level}
 use Rattle.rb_texts.specs.declared.item.Role.{Role}
 use Rattle.rb_texts.specs.declared.item.Role.TheVariants as roles
-use Rattle.rb_texts.specs.Quoted.{is_plain, numbered, escaped, quoted}
+use Rattle.rb_texts.specs.Quoted.{is_printable, is_plain, numbered, escaped, quoted}
 use Rattle.rb_texts.specs.Items.{PlainConfig, PlainNode, PlainEvent, started, PlainError, unknown_directive, unsupported_option, bad_argument, missing_argument, no_such_node, too_many_nodes, index_too_low, PlainItem, nothing_else, raft_state, event, error}
 use Rattle.rb_texts.specs.Texts.{ids_text, part_text, config_text, role_text, node_text, error_text, event_text, item_text, is_shown, line_of, WORD_SHOWN}
 use Rattle.rb_script.specs.Marks.{is_space, is_blank, rule, is_rule}
@@ -24,14 +24,18 @@ is_ink b = not (is_space b) && not (b == 45)
 both : (a b : Bool) → a ≡ true → b ≡ true → (a && b) ≡ true
 both a b p q = cc
 
--- the first of four tests that all pass
-first_of_four : (a b c d : Bool) → (a && b && c && d) ≡ true → a ≡ true
-first_of_four true b c d h = refl
-first_of_four false b c d h = h
+-- the first of three tests that all pass
+first_of_three : (a b c : Bool) → (a && b && c) ≡ true → a ≡ true
+first_of_three true b c h = refl
+first_of_three false b c h = h
+
+-- a byte from 32 to 126 is printable
+printable : (b : ℕ) → 32 ≤ b → b ≤ 126 → is_printable b ≡ true
+printable b low high = both (nat_le 32 b) (nat_le b 126) (le-leb 32 b low) (le-leb b 126 high)
 
 -- two texts in one line make one line
 joined : (a b : List ℕ) → is_one_line a ≡ true → is_one_line b ≡ true → is_one_line (a ++ b) ≡ true
-joined a b p q = list_all-append (nat_le 32) a b ∙ both (is_one_line a) (is_one_line b) p q
+joined a b p q = list_all-append is_printable a b ∙ both (is_one_line a) (is_one_line b) p q
 
 -- where the first byte is a space, the ink is in the rest
 no_ink : (s d r : Bool) → s ≡ true → (not s && not d || r) ≡ true → r ≡ true
@@ -63,15 +67,15 @@ solid line ink one =
 -- ---- numbers
 
 -- a digit, by the test that tells a figure from a letter
-digit_one_line : (t : Bool) (d : ℕ) → nat_le 32 (if t then 48 + d else (if false then 55 + d else 87 + d)) ≡ true
-digit_one_line true d = le-leb 32 (48 + d) (omega arith)
-digit_one_line false d = le-leb 32 (87 + d) (omega arith)
+digit_one_line : (t : Bool) (d : ℕ) → d < 16 → is_printable (if t then 48 + d else (if false then 55 + d else 87 + d)) ≡ true
+digit_one_line true d lt = printable (48 + d) (omega arith) (omega arith)
+digit_one_line false d lt = printable (87 + d) (omega arith) (omega arith)
 
 -- digits before a text in one line
 digits_one_line : (k n : ℕ) (acc : List ℕ) → is_one_line acc ≡ true → is_one_line (digits_onto k 10 false n acc) ≡ true
 digits_one_line zero n acc h = h
 digits_one_line (suc k) n acc h =
-    let more : is_one_line (digit_glyph false (n % 10) ∷ acc) ≡ true = both _ (is_one_line acc) (digit_one_line (nat_lt (n % 10) 10) (n % 10)) h in
+    let more : is_one_line (digit_glyph false (n % 10) ∷ acc) ≡ true = both _ (is_one_line acc) (digit_one_line (nat_lt (n % 10) 10) (n % 10) (omega arith)) h in
     elim (n / 10 == 0) as (λ t. is_one_line (if t then digit_glyph false (n % 10) ∷ acc else digits_onto k 10 false (n / 10) (digit_glyph false (n % 10) ∷ acc)) ≡ true)
     [ true ↦ more | false ↦ digits_one_line k (n / 10) (digit_glyph false (n % 10) ∷ acc) more ]
 
@@ -90,20 +94,20 @@ ids_one_line (id ∷ other ∷ ids) = joined (decimal id) (44 ∷ ids_text (othe
 -- ---- quoted bytes
 
 -- a hexadecimal digit, by the test that tells a figure from a letter
-hex_one_line : (t : Bool) (n : ℕ) → nat_le 32 (if t then n + 48 else n + 87) ≡ true
-hex_one_line true n = le-leb 32 (n + 48) (omega arith)
-hex_one_line false n = le-leb 32 (n + 87) (omega arith)
+hex_one_line : (t : Bool) (n : ℕ) → n < 16 → is_printable (if t then n + 48 else n + 87) ≡ true
+hex_one_line true n lt = printable (n + 48) (omega arith) (omega arith)
+hex_one_line false n lt = printable (n + 87) (omega arith) (omega arith)
 
 -- a byte between quotes, by the test whether it stands for itself
-escaped_one_line : (t : Bool) (b : ℕ) → (t ≡ true → nat_le 32 b ≡ true) → is_one_line (if t then b ∷ [] else numbered b) ≡ true
-escaped_one_line true b h = both (nat_le 32 b) true (h refl) refl
-escaped_one_line false b h = both _ _ (hex_one_line (nat_lt (b / 16) 10) (b / 16)) (both _ true (hex_one_line (nat_lt (b % 16) 10) (b % 16)) refl)
+escaped_one_line : (t : Bool) (b : ℕ) → (t ≡ true → is_printable b ≡ true) → is_one_line (if t then b ∷ [] else numbered b) ≡ true
+escaped_one_line true b h = both (is_printable b) true (h refl) refl
+escaped_one_line false b h = both _ _ (hex_one_line (nat_lt (b / 16 % 16) 10) (b / 16 % 16) (omega arith)) (both _ true (hex_one_line (nat_lt (b % 16) 10) (b % 16) (omega arith)) refl)
 
 -- all bytes between quotes are in one line
 all_escaped_one_line : (bytes : List ℕ) → is_one_line (flat_map escaped bytes) ≡ true
 all_escaped_one_line [] = refl
 all_escaped_one_line (b ∷ bytes) =
-    joined (escaped b) (flat_map escaped bytes) (escaped_one_line (is_plain b) b (first_of_four (nat_le 32 b) (nat_le b 126) (not (b == 34)) (not (b == 92)))) (all_escaped_one_line bytes)
+    joined (escaped b) (flat_map escaped bytes) (escaped_one_line (is_plain b) b (first_of_three (is_printable b) (not (b == 34)) (not (b == 92)))) (all_escaped_one_line bytes)
 
 -- so are they with their quotes
 quoted_one_line : (bytes : List ℕ) → is_one_line (quoted bytes) ≡ true

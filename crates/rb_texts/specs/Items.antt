@@ -1,4 +1,5 @@
--- What a line can show, as plain data.
+-- What a line can show, as plain data. (What a node has is after the etcd raft documentation; a configuration's lists are
+-- those of joint consensus, Ongaro's thesis, section 4.3; the events and errors are this project's.)
 use Rattle.std.specs.Prelude.{ℕ, Bool, List}
 use Rattle.rb_texts.specs.declared.item.Role.{Role}
 use Rattle.rb_texts.specs.declared.item.Item.{Item}

@@ -1,23 +1,18 @@
 -- How much is shown. (etcd raft's interaction tests have these levels; what each hides is this project's.)
-use Rattle.std.specs.Prelude.{ℕ, codes, List, map, Option, Some, None, if◌then◌else◌}
-use Rattle.std.specs.Str.{bytes_eq}
-use Rattle.std.specs.Char.{to_ascii_lowercase}
+use Rattle.std.specs.Prelude.{ℕ, codes, List, Option, Some, None, if◌then◌else◌}
+use Rattle.std.specs.Str.{bytes_eq, str_to_ascii_lowercase}
 use Rattle.rb_texts.specs.declared.level.Level.{Level}
 use Rattle.rb_texts.specs.declared.level.Level.TheVariants as levels
-
--- the word in lower case
-abbrev pub lowered : List ℕ → List ℕ
-lowered word = map to_ascii_lowercase word
 
 -- the level that a word names, in any letter case
 unfoldable pub level_of : List ℕ → Option Level
 level_of word =
-    if bytes_eq (lowered word) (codes "debug") then Some levels.Debug
-    else (if bytes_eq (lowered word) (codes "info") then Some levels.Info
-    else (if bytes_eq (lowered word) (codes "warn") then Some levels.Warn
-    else (if bytes_eq (lowered word) (codes "error") then Some levels.Error
-    else (if bytes_eq (lowered word) (codes "fatal") then Some levels.Fatal
-    else (if bytes_eq (lowered word) (codes "none") then Some levels.None
+    if bytes_eq (str_to_ascii_lowercase word) (codes "debug") then Some levels.Debug
+    else (if bytes_eq (str_to_ascii_lowercase word) (codes "info") then Some levels.Info
+    else (if bytes_eq (str_to_ascii_lowercase word) (codes "warn") then Some levels.Warn
+    else (if bytes_eq (str_to_ascii_lowercase word) (codes "error") then Some levels.Error
+    else (if bytes_eq (str_to_ascii_lowercase word) (codes "fatal") then Some levels.Fatal
+    else (if bytes_eq (str_to_ascii_lowercase word) (codes "none") then Some levels.None
     else None)))))
 
 -- the levels in their order

@@ -6,13 +6,17 @@ use Rattle.std.specs.List.{flat_map}
 abbrev pub hex_digit : ℕ → ℕ
 hex_digit n = if nat_lt n 10 then n + 48 else n + 87
 
+-- a byte that a terminal shows: from the space, 32, to the tilde, 126
+abbrev pub is_printable : ℕ → Bool
+is_printable b = nat_le 32 b && nat_le b 126
+
 -- a byte that stands for itself: a printable one that is neither `"` nor a backslash
 abbrev pub is_plain : ℕ → Bool
-is_plain b = nat_le 32 b && nat_le b 126 && not (b == 34) && not (b == 92)
+is_plain b = is_printable b && not (b == 34) && not (b == 92)
 
--- a byte as `\xNN`
+-- a byte as `\xNN`, by its two hexadecimal digits
 abbrev pub numbered : ℕ → List ℕ
-numbered b = 92 ∷ 120 ∷ hex_digit (b / 16) ∷ hex_digit (b % 16) ∷ []
+numbered b = 92 ∷ 120 ∷ hex_digit (b / 16 % 16) ∷ hex_digit (b % 16) ∷ []
 
 -- a byte as it stands between quotes
 abbrev pub escaped : ℕ → List ℕ

@@ -1,5 +1,6 @@
 -- The line of each item, and at which levels it is shown. (This project's texts.)
-use Rattle.std.specs.Prelude.{ℕ, Bool, true, nat_le, if◌then◌else◌, codes, decimal, List, [], ◌∷◌, ◌++◌, take}
+use Rattle.std.specs.Prelude.{ℕ, Bool, true, nat_le, if◌then◌else◌, codes, decimal, List, [], ◌∷◌, ◌++◌, take, map}
+use Rattle.std.specs.List.{join_with_byte}
 use Rattle.rb_texts.specs.declared.level.Level.{Level}
 use Rattle.rb_texts.specs.declared.level.Level.TheVariants as levels
 use Rattle.rb_texts.specs.declared.item.Role.{Role}
@@ -10,9 +11,7 @@ use Rattle.rb_texts.specs.Items.{PlainConfig, PlainNode, PlainEvent, started, Pl
 
 -- numbers with a comma between each two
 unfoldable pub ids_text : List ℕ → List ℕ
-ids_text [] = []
-ids_text (id ∷ []) = decimal id
-ids_text (id ∷ other ∷ ids) = decimal id ++ (44 ∷ ids_text (other ∷ ids))
+ids_text ids = join_with_byte 44 (map decimal ids)
 
 -- a part of a configuration that is shown only where it isn't empty
 abbrev pub part_text : List ℕ → List ℕ → List ℕ

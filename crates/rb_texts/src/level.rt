@@ -1,17 +1,23 @@
 //! How much is shown.
 
 ghost use Rattle.std.specs.Prelude.{◌≡◌};
-ghost use Rattle.std.specs.Str.{bytes_eq};
-ghost use Rattle.rb_texts.specs.Levels.{level_of, rank, lowered};
+ghost use Rattle.std.specs.Str.{bytes_eq, str_to_ascii_lowercase};
+ghost use Rattle.rb_texts.specs.Levels.{level_of, rank};
 
-/// The least level that is shown. `None` hides all but errors and `ok`.
+/// The least level that is shown. Errors of directives and `ok` are shown at each.
 #[derive(Clone, Copy, Debug, PartialEq, Eq)]
 pub enum Level {
+    /// Everything is shown.
     Debug,
+    /// Events of this level and those above it, and states.
     Info,
+    /// Events of this level and those above it, and states.
     Warn,
+    /// Events of this level and those above it, and states.
     Error,
+    /// Events of this level, and states.
     Fatal,
+    /// Neither events nor states.
     None,
 }
 
@@ -55,8 +61,8 @@ pub fn level_of(word: &[u8]) -> Option<Level>
 
 // Whether the word is this name, which is in lower case, in any letter case.
 fn is_word(word: &[u8], name: &[u8]) -> bool
-    requires { lowered name.now ≡ name.now }
-    ensures { result ≡ bytes_eq (lowered word.now) name.now }
+    requires { str_to_ascii_lowercase name.now ≡ name.now }
+    ensures { result ≡ bytes_eq (str_to_ascii_lowercase word.now) name.now }
 {
     word.eq_ignore_ascii_case(name)
 }

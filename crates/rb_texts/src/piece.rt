@@ -76,7 +76,7 @@ fn add_ids(lines: &mut Lines, ids: &[u64]) -> Result<(), AllocError>
 fn is_plain(b: u8) -> bool
     ensures { result ≡ is_plain b }
 {
-    32 <= b && b <= 126 && b != b'"' && b != b'\\'
+    b' ' <= b && b <= b'~' && b != b'"' && b != b'\\'
 }
 
 fn hex_digit(n: u8) -> u8

@@ -13,8 +13,8 @@ use crate::piece::{Piece, add_pieces};
 use rb_script::Lines;
 use std::alloc::AllocError;
 
-/// Adds the line of the item, or nothing where the level hides it. Where memory runs out, a part of the line may
-/// stand at the end.
+/// Adds the line of the item, or nothing where the level hides it. Where memory runs out, nothing is known of what
+/// `lines` holds then: it is only good for being dropped.
 pub fn put(lines: &mut Lines, level: Level, item: &Item<'_>) -> Result<(), AllocError>
     ensures { OnOk result (lines.new ≡ lines.old ++ line_of level (plain_item item.now)) }
 {
@@ -25,7 +25,7 @@ pub fn put(lines: &mut Lines, level: Level, item: &Item<'_>) -> Result<(), Alloc
     add_item(lines, item)
 }
 
-/// No line that [`put`] adds is blank or `----` or holds a control byte.
+/// No line that [`put`] adds is blank or `----`, and each of its bytes is from 32 to 126.
 pub fn lines_are_solid()
     ensures { (level : Level) (item : PlainItem) → list_all is_solid (line_of level item) ≡ true }
 {}

@@ -46,7 +46,7 @@ fn the_first_check_that_holds(rt: HostRuntime) -> Result<(), Fail> {
         ),
         (b"add-nodes 1 voters", b"error: bad argument \"voters\"\n"),
         (b"add-nodes voters 1", b"error: bad argument \"voters\"\n"),
-        // Options of others, and of days to come.
+        // Options of others, and options that it doesn't have.
         (
             b"raft-state index=5",
             b"error: unsupported option \"index\"\n",

@@ -1,6 +1,7 @@
 use super::play;
 use crate::{Cluster, Count, Machine, Meter};
 use rb_script::Block;
+use std::alloc::Global;
 use std::test::Fail;
 
 const NODES: &[u8] = b"add-nodes 2 voters=(1) learners=(2) index=5 content=ab\n----\n";
@@ -97,20 +98,26 @@ fn runs_under_refusals(rt: HostRuntime) -> Result<(), Fail> {
     Ok(())
 }
 
+// The cluster of `NODES`, unless memory is refused.
+fn nodes(alloc: Global) -> Option<Cluster> {
+    let block = Block::read(alloc, NODES).ok()?;
+    let cluster = Cluster::empty(alloc).ok()?;
+    let (cluster, _output) = cluster.run(block.directive(), &mut Meter::new()).ok()?;
+    Some(cluster)
+}
+
+// Whether a copy of it is the same, unless memory is refused.
+fn copy_is_same(alloc: Global) -> Option<bool> {
+    let cluster = nodes(alloc)?;
+    let copy = cluster.try_copy().ok()?;
+    Some(copy.same(&cluster))
+}
+
 #[test]
 fn copies_under_refusals(rt: HostRuntime) -> Result<(), Fail> {
-    let (Ok(block), Ok(cluster)) = (Block::read(rt.alloc(), NODES), Cluster::empty(rt.alloc()))
-    else {
-        println!(rt; "{REFUSED}")?;
-        return Ok(());
-    };
-    let Ok((cluster, _output)) = cluster.run(block.directive(), &mut Meter::new()) else {
-        println!(rt; "{REFUSED}")?;
-        return Ok(());
-    };
-    match cluster.try_copy() {
-        Ok(copy) => assert!(rt; copy.same(&cluster)),
-        Err(_) => println!(rt; "{REFUSED}")?,
+    match copy_is_same(rt.alloc()) {
+        Some(same) => assert!(rt; same),
+        None => println!(rt; "{REFUSED}")?,
     }
     Ok(())
 }

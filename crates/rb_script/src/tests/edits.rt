@@ -1,206 +1,213 @@
-use super::{block_of, lines_of, repeated};
-use crate::{Edit, EditFault, Lines, MAX_DIRECTIVES, MAX_SCRIPT, Script, Through};
+use super::{Asked, edit_of, is_same, lines_of, outputs_of, text_of};
+use crate::{Block, Edit, EditFault, Lines, MAX_DIRECTIVES, MAX_SCRIPT, Script};
 use std::alloc::Global;
+use std::process::Abort;
 use std::test::Fail;
 
 const SCRIPT: &[u8] = b"a\n----\n1\n\nb\n----\n2\n\nc\n----\n\n# tail\n";
 
+/// Three outputs: x, y and an empty line, and nothing.
+const OUTPUTS: &[&[&[u8]]] = &[&[b"x"], &[b"y", b""], &[]];
+
+const NO_LINES: &[&[u8]] = &[];
+
+/// Blocks to put in.
+const NEW: &[u8] = b"# new\nn\n----\n9\n";
+
+const EMPTY: &[u8] = b"n\n----\n";
+
 /// What the edit makes of the script with these outputs, or its fault.
 fn after(
     alloc: Global,
-    bytes: &[u8],
+    script: &Script,
     edit: &Edit,
     outputs: &[Lines],
 ) -> Result<Result<Vec<u8>, EditFault>, Fail> {
-    let script = Script::read(alloc, bytes)?;
     if outputs.len() != script.len() {
         return Err(Fail::from("one output a block"));
     }
     match script.edited(edit, outputs) {
         Err(fault) => Ok(Err(fault)),
-        Ok(made) => {
-            let mut text = Vec::new(alloc);
-            made.write_to(&mut Through(&mut text))?;
-            Ok(Ok(text))
-        }
+        Ok(made) => Ok(Ok(text_of(alloc, &made)?)),
     }
 }
 
-/// Three outputs: x, y and an empty line, and nothing.
-fn outputs(alloc: Global) -> Result<Vec<Lines>, Fail> {
-    let mut all = Vec::new(alloc);
-    for text in [b"x\n".as_slice(), b"y\n\n", b""] {
-        all.push(lines_of(alloc, text)?)?;
-    }
-    Ok(all)
+/// What the edit makes of the script above, or its fault.
+fn made(alloc: Global, edit: &Edit) -> Result<Result<Vec<u8>, EditFault>, Fail> {
+    let script = Script::read(alloc, SCRIPT)?;
+    let outputs = outputs_of(alloc, OUTPUTS).ok_or("no outputs")?;
+    after(alloc, &script, edit, outputs.as_slice())
+}
+
+/// What the edit that is asked makes of the script above, or its fault.
+fn answer(alloc: Global, asked: Asked) -> Result<Result<Vec<u8>, EditFault>, Fail> {
+    let edit = edit_of(alloc, asked).ok_or("no edit")?;
+    made(alloc, &edit)
+}
+
+/// The edit makes this text.
+fn makes<R: Abort>(rt: &R, alloc: Global, asked: Asked, want: &[u8]) -> Result<(), Fail> {
+    let made = answer(alloc, asked)??;
+    is_same(rt, made.as_slice(), want);
+    Ok(())
 }
 
 #[test]
 fn each_kind(rt: HostRuntime) -> Result<(), Fail> {
-    let alloc = rt.alloc();
-    let new = || block_of(alloc, b"# new\nn\n----\n9\n");
-    let cases: [(Edit, &[u8]); 9] = [
+    let cases: [(Asked, &[u8]); 9] = [
         (
-            Edit::Insert(1, new()?),
+            Asked::Insert(1, NEW),
             b"# new\nn\n----\n9\n\na\n----\n1\n\nb\n----\n2\n\nc\n----\n\n# tail\n",
         ),
         (
-            Edit::Insert(3, new()?),
+            Asked::Insert(3, NEW),
             b"a\n----\n1\n\nb\n----\n2\n\n# new\nn\n----\n9\n\nc\n----\n\n# tail\n",
         ),
         (
-            Edit::Insert(4, new()?),
+            Asked::Insert(4, NEW),
             b"a\n----\n1\n\nb\n----\n2\n\nc\n----\n\n# new\nn\n----\n9\n\n# tail\n",
         ),
         (
-            Edit::Replace(2, new()?),
+            Asked::Replace(2, NEW),
             b"a\n----\n1\n\n# new\nn\n----\n9\n\nc\n----\n\n# tail\n",
         ),
-        (Edit::Remove(1), b"b\n----\n2\n\nc\n----\n\n# tail\n"),
-        (Edit::Remove(3), b"a\n----\n1\n\nb\n----\n2\n\n# tail\n"),
+        (Asked::Remove(1), b"b\n----\n2\n\nc\n----\n\n# tail\n"),
+        (Asked::Remove(3), b"a\n----\n1\n\nb\n----\n2\n\n# tail\n"),
         (
-            Edit::Expect(1, lines_of(alloc, b"5\n\n6\n")?),
+            Asked::Expect(1, &[b"5", b"", b"6"]),
             b"a\n----\n----\n5\n\n6\n----\n----\n\nb\n----\n2\n\nc\n----\n\n# tail\n",
         ),
         (
-            Edit::Expect(2, Lines::new(alloc)),
+            Asked::Expect(2, &[]),
             b"a\n----\n1\n\nb\n----\n\nc\n----\n\n# tail\n",
         ),
         (
-            Edit::Accept,
+            Asked::Accept,
             b"a\n----\nx\n\nb\n----\n----\ny\n\n----\n----\n\nc\n----\n\n# tail\n",
         ),
     ];
-    let outputs = outputs(alloc)?;
-    for (edit, want) in &cases {
-        let made = after(alloc, SCRIPT, edit, outputs.as_slice())?;
-        assert!(rt;
-            matches!(&made, Ok(text) if text.as_slice() == *want),
-            "{want:?}"
-        );
+    for (asked, want) in cases {
+        makes(&rt, rt.alloc(), asked, want)?;
     }
+    Ok(())
+}
+
+/// The fault of an edit is this, or there is none.
+fn is_refused<R: Abort>(rt: &R, fault: Option<EditFault>, want: Option<EditFault>) {
+    assert_eq!(rt; fault, want);
+}
+
+/// The edit is refused for this fault.
+fn refuses<R: Abort>(rt: &R, alloc: Global, asked: Asked, want: EditFault) -> Result<(), Fail> {
+    is_refused(rt, answer(alloc, asked)?.err(), Some(want));
     Ok(())
 }
 
 #[test]
 fn refusals(rt: HostRuntime) -> Result<(), Fail> {
-    let alloc = rt.alloc();
-    let new = || block_of(alloc, b"n\n----\n");
-    let cases: [(Edit, EditFault); 11] = [
-        (Edit::Insert(0, new()?), EditFault::NoSuchPlace),
-        (Edit::Insert(5, new()?), EditFault::NoSuchPlace),
-        (Edit::Replace(0, new()?), EditFault::NoSuchPlace),
-        (Edit::Replace(4, new()?), EditFault::NoSuchPlace),
-        (Edit::Remove(0), EditFault::NoSuchPlace),
-        (Edit::Remove(4), EditFault::NoSuchPlace),
+    let cases: [(Asked, EditFault); 11] = [
+        (Asked::Insert(0, EMPTY), EditFault::NoSuchPlace),
+        (Asked::Insert(5, EMPTY), EditFault::NoSuchPlace),
+        (Asked::Replace(0, EMPTY), EditFault::NoSuchPlace),
+        (Asked::Replace(4, EMPTY), EditFault::NoSuchPlace),
+        (Asked::Remove(0), EditFault::NoSuchPlace),
+        (Asked::Remove(4), EditFault::NoSuchPlace),
         // the place comes before the expectation
+        (Asked::Expect(4, &[b"----"]), EditFault::NoSuchPlace),
         (
-            Edit::Expect(4, lines_of(alloc, b"----\n")?),
-            EditFault::NoSuchPlace,
-        ),
-        (
-            Edit::Expect(1, lines_of(alloc, b"a\n----\n")?),
+            Asked::Expect(1, &[b"a", b"----"]),
             EditFault::BadExpectation,
         ),
         (
-            Edit::Expect(1, lines_of(alloc, b"----\n----\na\n")?),
+            Asked::Expect(1, &[b"----", b"----", b"a"]),
             EditFault::BadExpectation,
         ),
-        (
-            Edit::Expect(1, lines_of(alloc, b"a\r\n")?),
-            EditFault::BadExpectation,
-        ),
-        (
-            Edit::Expect(1, one_line(alloc, b"a\nb")?),
-            EditFault::BadExpectation,
-        ),
+        (Asked::Expect(1, &[b"a\r"]), EditFault::BadExpectation),
+        (Asked::Expect(1, &[b"a\nb"]), EditFault::BadExpectation),
     ];
-    let outputs = outputs(alloc)?;
-    for (edit, want) in &cases {
-        let made = after(alloc, SCRIPT, edit, outputs.as_slice())?;
-        assert!(rt; matches!(&made, Err(fault) if fault == want), "{want:?}");
+    for (asked, want) in cases {
+        refuses(&rt, rt.alloc(), asked, want)?;
     }
     Ok(())
 }
 
-/// One line of any bytes.
-fn one_line(alloc: Global, line: &[u8]) -> Result<Lines, Fail> {
-    let mut lines = Lines::new(alloc);
-    lines.push(line)?;
-    Ok(lines)
+/// Why a line of so many bytes can't be expected, if it can't.
+fn fault_of_line(alloc: Global, len: usize) -> Result<Option<EditFault>, Fail> {
+    let line = b"x".repeat(alloc, len)?;
+    let lines = lines_of(alloc, &[line.as_slice()]).ok_or("no line")?;
+    Ok(made(alloc, &Edit::Expect(1, lines))?.err())
 }
 
 #[test]
 fn expectations_at_the_limits(rt: HostRuntime) -> Result<(), Fail> {
-    let alloc = rt.alloc();
-    let outputs = outputs(alloc)?;
-    let longest = Edit::Expect(
-        1,
-        one_line(alloc, repeated(alloc, b"x", 65_536)?.as_slice())?,
-    );
-    assert!(rt; after(alloc, SCRIPT, &longest, outputs.as_slice())?.is_ok());
-    let longer = Edit::Expect(
-        1,
-        one_line(alloc, repeated(alloc, b"x", 65_537)?.as_slice())?,
-    );
-    assert_eq!(rt;
-        after(alloc, SCRIPT, &longer, outputs.as_slice())?.err(),
-        Some(EditFault::BadExpectation)
-    );
+    let longest = fault_of_line(rt.alloc(), 65_536)?;
+    is_refused(&rt, longest, None);
+    let longer = fault_of_line(rt.alloc(), 65_537)?;
+    is_refused(&rt, longer, Some(EditFault::BadExpectation));
     Ok(())
 }
 
-#[test]
-fn too_many_and_too_long(rt: HostRuntime) -> Result<(), Fail> {
-    let alloc = rt.alloc();
-    let full = repeated(alloc, b"a\n----\n\n", MAX_DIRECTIVES)?;
-    let script = Script::read(alloc, full.as_slice())?;
-    let mut outputs = Vec::new(alloc);
-    for _ in 0..MAX_DIRECTIVES {
-        outputs.push(Lines::new(alloc))?;
-    }
-    assert!(rt; outputs.len() == script.len());
-    let edit = Edit::Insert(1, block_of(alloc, b"n\n----\n")?);
-    assert!(rt;
-        matches!(
-            script.edited(&edit, outputs.as_slice()),
-            Err(EditFault::TooManyDirectives)
-        )
-    );
+/// Why the edit of this script is refused, if it is. Each output is empty.
+fn fault_of_edit(alloc: Global, script: &Script, asked: Asked) -> Result<Option<EditFault>, Fail> {
+    let edit = edit_of(alloc, asked).ok_or("no edit")?;
+    let none = [NO_LINES].repeat(alloc, script.len())?;
+    let outputs = outputs_of(alloc, none.as_slice()).ok_or("no outputs")?;
+    Ok(after(alloc, script, &edit, outputs.as_slice())?.err())
+}
 
-    // one byte less than there may be
-    let mut text = repeated(alloc, b"\n", MAX_SCRIPT - 9)?;
+#[test]
+fn too_many(rt: HostRuntime) -> Result<(), Fail> {
+    let full = b"a\n----\n\n".repeat(rt.alloc(), MAX_DIRECTIVES)?;
+    let script = Script::read(rt.alloc(), full.as_slice())?;
+    let fault = fault_of_edit(rt.alloc(), &script, Asked::Insert(1, EMPTY))?;
+    is_refused(&rt, fault, Some(EditFault::TooManyDirectives));
+    Ok(())
+}
+
+/// A script whose text has one byte less than there may be.
+fn nearly_full(alloc: Global) -> Result<Script, Fail> {
+    let mut text = b"\n".repeat(alloc, MAX_SCRIPT - 9)?;
     text.extend_from_slice(b"a\n----\n\n")?;
-    let outputs = [Lines::new(alloc)];
-    let none = Edit::Expect(1, Lines::new(alloc));
-    assert!(rt; after(alloc, text.as_slice(), &none, &outputs)?.is_ok());
-    let one = Edit::Expect(1, one_line(alloc, b"x")?);
-    assert_eq!(rt;
-        after(alloc, text.as_slice(), &one, &outputs)?.err(),
-        Some(EditFault::TooLong)
-    );
-    let block = Edit::Insert(2, block_of(alloc, b"n\n----\n")?);
-    assert_eq!(rt;
-        after(alloc, text.as_slice(), &block, &outputs)?.err(),
-        Some(EditFault::TooLong)
-    );
+    Ok(Script::read(alloc, text.as_slice())?)
+}
+
+#[test]
+fn too_long(rt: HostRuntime) -> Result<(), Fail> {
+    let script = nearly_full(rt.alloc())?;
+    let cases = [
+        (Asked::Expect(1, &[]), None),
+        (Asked::Expect(1, &[b"x"]), Some(EditFault::TooLong)),
+        (Asked::Insert(2, EMPTY), Some(EditFault::TooLong)),
+    ];
+    for (asked, want) in cases {
+        let fault = fault_of_edit(rt.alloc(), &script, asked)?;
+        is_refused(&rt, fault, want);
+    }
+    Ok(())
+}
+
+/// A copy of the block expects the same.
+fn is_copied<R: Abort>(rt: &R, block: &Block) -> Result<(), Fail> {
+    let copy = block.try_copy()?;
+    assert!(rt; copy.expected().same(block.expected()));
+    Ok(())
+}
+
+/// The blocks stand at the places from 1 on, and at no others.
+fn has_blocks<R: Abort>(rt: &R, script: &Script, names: &[&[u8]]) -> Result<(), Fail> {
+    assert!(rt; script.block(0).is_none());
+    assert!(rt; script.block(names.len() + 1).is_none());
+    for (i, name) in names.iter().enumerate() {
+        let block = script.block(i + 1).ok_or("a block")?;
+        is_same(rt, block.directive().name(), name);
+        is_copied(rt, block)?;
+    }
     Ok(())
 }
 
 #[test]
 fn blocks_by_place(rt: HostRuntime) -> Result<(), Fail> {
     let script = Script::read(rt.alloc(), SCRIPT)?;
-    assert!(rt; script.block(0).is_none());
-    assert!(rt; script.block(4).is_none());
-    let names = [b"a".as_slice(), b"b", b"c"];
-    for (i, name) in names.iter().enumerate() {
-        let Some(block) = script.block(i + 1) else {
-            return Err(Fail::from("a block"));
-        };
-        assert_eq!(rt; block.directive().name(), *name);
-        let copy = block.try_copy()?;
-        assert!(rt; copy.expected().same(block.expected()));
-    }
     assert!(rt; !script.is_empty());
-    Ok(())
+    has_blocks(&rt, &script, &[b"a", b"b", b"c"])
 }

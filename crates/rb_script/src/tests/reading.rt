@@ -1,9 +1,18 @@
-use super::{block_of, fault_of, rewritten};
+use super::{are_lines, blocks_in, fault_of, fault_of_block, is_count, is_fault, is_same, text_of};
 use crate::{Block, DirectiveRef, Script, ScriptFault};
 use std::alloc::Global;
+use std::process::Abort;
 use std::test::Fail;
 
 const FIRST: &[u8] = b"# first\r\nlog-level \\\r\n  info\r\n----\r\nok";
+
+/// The bytes are a script of this text.
+fn is_written<R: Abort>(rt: &R, alloc: Global, bytes: &[u8], want: &[u8]) -> Result<(), Fail> {
+    let script = Script::read(alloc, bytes)?;
+    let text = text_of(alloc, &script)?;
+    is_same(rt, text.as_slice(), want);
+    Ok(())
+}
 
 #[test]
 fn canonical_texts(rt: HostRuntime) -> Result<(), Fail> {
@@ -35,32 +44,26 @@ fn canonical_texts(rt: HostRuntime) -> Result<(), Fail> {
         (b"a\n----\nx\ry\r\r\n", b"a\n----\nx\ry\n\n"),
     ];
     for (bytes, want) in cases {
-        let text = rewritten(rt.alloc(), bytes)?;
-        assert_eq!(rt; text.as_slice(), want);
-        let again = rewritten(rt.alloc(), want)?;
-        assert_eq!(rt; again.as_slice(), want);
+        is_written(&rt, rt.alloc(), bytes, want)?;
+        is_written(&rt, rt.alloc(), want, want)?;
     }
     Ok(())
 }
 
 #[test]
-fn first_example_cut_at_each_length(rt: HostRuntime) -> Result<(), Fail> {
-    assert_eq!(rt; FIRST.len(), 38);
+fn first_example_cut_at_each_length(rt: HostRuntime) {
+    is_count(&rt, FIRST.len(), 38);
     for len in 0..=FIRST.len() {
-        let bytes = &FIRST[..len];
-        if len <= 9 {
-            assert_eq!(rt; Script::read(rt.alloc(), bytes)?.len(), 0, "at {len}");
+        let want = if len <= 9 {
+            Ok(0)
         } else if len <= 33 {
-            assert_eq!(rt;
-                fault_of(rt.alloc(), bytes),
-                Some(ScriptFault::NoSeparator(2)),
-                "at {len}"
-            );
+            Err(ScriptFault::NoSeparator(2))
         } else {
-            assert_eq!(rt; Script::read(rt.alloc(), bytes)?.len(), 1, "at {len}");
-        }
+            Ok(1)
+        };
+        let found = blocks_in(rt.alloc(), &FIRST[..len]);
+        assert_eq!(rt; found, want, "at {len}");
     }
-    Ok(())
 }
 
 #[test]
@@ -91,18 +94,25 @@ fn faults_with_their_lines(rt: HostRuntime) {
         (b"a\n----\nb\n----\n\nc (\n", ScriptFault::NotClosed(2)),
     ];
     for (bytes, want) in cases {
-        assert_eq!(rt; fault_of(rt.alloc(), bytes), Some(want), "of {bytes:?}");
+        let fault = fault_of(rt.alloc(), bytes);
+        is_fault(&rt, bytes, fault, Some(want));
     }
 }
 
 #[test]
 fn a_block_alone(rt: HostRuntime) -> Result<(), Fail> {
-    let block = block_of(rt.alloc(), b"# lead\nlog-level info\n----\nok")?;
-    assert_eq!(rt; block.expected().len(), 1);
-    assert_eq!(rt; block.expected().line(0), b"ok".as_slice());
-    let two = b"log-level info\n----\nok\n\nlog-level info\n----\nok\n";
+    let block = Block::read(rt.alloc(), b"# lead\nlog-level info\n----\nok")?;
+    are_lines(&rt, block.expected(), &[b"ok"]);
+    Ok(())
+}
+
+#[test]
+fn not_a_block_alone(rt: HostRuntime) {
     let cases: [(&[u8], ScriptFault); 5] = [
-        (two, ScriptFault::NotOneBlock),
+        (
+            b"log-level info\n----\nok\n\nlog-level info\n----\nok\n",
+            ScriptFault::NotOneBlock,
+        ),
         (b"", ScriptFault::NotOneBlock),
         (b"# no block", ScriptFault::NotOneBlock),
         (b"a\n----\nok\n\n# tail", ScriptFault::NotOneBlock),
@@ -110,30 +120,43 @@ fn a_block_alone(rt: HostRuntime) -> Result<(), Fail> {
         (b"a\n----\nok\n\nb\n", ScriptFault::NoSeparator(5)),
     ];
     for (bytes, want) in cases {
-        match Block::read(rt.alloc(), bytes) {
-            Ok(_) => assert!(rt; false, "no fault of {bytes:?}"),
-            Err(fault) => assert_eq!(rt; fault, want, "of {bytes:?}"),
-        }
+        let fault = fault_of_block(rt.alloc(), bytes);
+        is_fault(&rt, bytes, fault, Some(want));
+    }
+}
+
+/// Adds argument `i`: its key, an `=` where it has one, and each value in brackets.
+fn describe(text: &mut Vec<u8>, d: &DirectiveRef<'_>, i: usize) -> Result<(), Fail> {
+    if i >= d.args() {
+        return Err(Fail::from("no argument"));
+    }
+    text.push(b' ')?;
+    text.extend_from_slice(d.key(i))?;
+    if d.has_equals(i) {
+        text.push(b'=')?;
+    }
+    for j in 0..d.values(i) {
+        text.push(b'[')?;
+        text.extend_from_slice(d.value(i, j))?;
+        text.push(b']')?;
     }
     Ok(())
 }
 
-/// The name and the arguments: each key, an `=` where it has one, and each value in brackets.
+/// The name and the arguments.
 fn described(alloc: Global, d: &DirectiveRef<'_>) -> Result<Vec<u8>, Fail> {
     let mut text = d.name().to_vec(alloc)?;
     for i in 0..d.args() {
-        text.push(b' ')?;
-        text.extend_from_slice(d.key(i))?;
-        if d.has_equals(i) {
-            text.push(b'=')?;
-        }
-        for j in 0..d.values(i) {
-            text.push(b'[')?;
-            text.extend_from_slice(d.value(i, j))?;
-            text.push(b']')?;
-        }
+        describe(&mut text, d, i)?;
     }
     Ok(text)
+}
+
+/// The directive of the block is described so.
+fn is_described<R: Abort>(rt: &R, alloc: Global, block: &Block, want: &[u8]) -> Result<(), Fail> {
+    let told = described(alloc, &block.directive())?;
+    is_same(rt, told.as_slice(), want);
+    Ok(())
 }
 
 #[test]
@@ -151,20 +174,23 @@ fn directives(rt: HostRuntime) -> Result<(), Fail> {
         (b"a\xff \x01=\xfe\n----\n", b"a\xff \x01=[\xfe]"),
     ];
     for (text, want) in cases {
-        let block = block_of(rt.alloc(), text)?;
-        let told = described(rt.alloc(), &block.directive())?;
-        assert_eq!(rt; told.as_slice(), want);
+        let block = Block::read(rt.alloc(), text)?;
+        is_described(&rt, rt.alloc(), &block, want)?;
     }
     Ok(())
 }
 
+/// The input lines are these.
+fn has_inputs<R: Abort>(rt: &R, d: &DirectiveRef<'_>, want: &[&[u8]]) {
+    is_count(rt, d.inputs(), want.len());
+    for (i, line) in want.iter().enumerate() {
+        is_same(rt, d.input(i), line);
+    }
+}
+
 #[test]
 fn input_lines(rt: HostRuntime) -> Result<(), Fail> {
-    let block = block_of(rt.alloc(), b"a\nin 1\n\n in 2 \n----\n")?;
-    let d = block.directive();
-    assert!(rt; d.inputs() == 3);
-    assert_eq!(rt; d.input(0), b"in 1".as_slice());
-    assert_eq!(rt; d.input(1), b"".as_slice());
-    assert_eq!(rt; d.input(2), b" in 2 ".as_slice());
+    let block = Block::read(rt.alloc(), b"a\nin 1\n\n in 2 \n----\n")?;
+    has_inputs(&rt, &block.directive(), &[b"in 1", b"", b" in 2 "]);
     Ok(())
 }
