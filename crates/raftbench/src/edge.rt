@@ -19,7 +19,12 @@ pub(crate) fn status<R: Files + Input + Print + Eprint + Env + AllocGlobal>(rt: 
 }
 
 fn words<R: Env + AllocGlobal>(rt: &R) -> Result<Vec<String>, Refusal> {
-    Ok(env::args(rt)?.collect(rt.alloc())?)
+    match env::args(rt) {
+        Ok(args) => Ok(args.collect(rt.alloc())?),
+        // words that are no text
+        Err(error) if error.kind() == io::ErrorKind::InvalidData => Err(Refusal::Usage),
+        Err(error) => Err(Refusal::from(error)),
+    }
 }
 
 fn answered<R: Files + Input + Print + Env + AllocGlobal>(rt: &R) -> Result<u8, Refusal> {

@@ -1,14 +1,9 @@
 -- A conversation that begins with a session that was just started.
-use Rattle.std.proofs.Common.{◌≡◌, ℕ, List, ◌∷◌, ◌/◌, Option, Result, Ok, Err, subst, length}
-use Rattle.rb_script.specs.Reads.{Reads}
-use Rattle.rb_replay.specs.Places.{multiples}
-use Rattle.rb_replay.specs.Held.{Held, IsFresh}
+use Rattle.std.proofs.Common.{◌≡◌, ℕ, List, Option, Result, Ok, Err, subst}
+use Rattle.rb_replay.specs.Held.{Held}
 use Rattle.rb_bench.specs.declared.fault.BenchFault.{BenchFault}
 use Rattle.rb_bench.specs.declared.fault.BenchFault.TheVariants.{Spacing, Script, Io, OutOfMemory}
 use Rattle.rb_bench.specs.Serves.{TalksOut, IsStarted, Serves, ServesOut}
-
-pub is_started : (script : List ℕ) (every : ℕ) (h : Held) → Reads script h.script → IsFresh h → h.spacing ≡ every → h.places ≡ 0 ∷ multiples every (length h.script.blocks / every) → IsStarted script every h
-is_started script every h reads fresh spacing places = record { reads = reads; fresh = fresh; spacing = spacing; places = places }
 
 served : (all : Option (List ℕ)) (r : Result ℕ BenchFault) (script : List ℕ) (every : ℕ) (old new : Option (List ℕ)) → Serves all r script every old new → ServesOut all r script every old new
 served all (Ok status) script every old new s = s

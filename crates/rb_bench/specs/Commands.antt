@@ -1,5 +1,5 @@
 -- What a session answers to a command, and the session after it. (This project's.)
-use Rattle.std.specs.Prelude.{◌≡◌, ℕ, ◌-◌, ◌==◌, nat_lt, Bool, false, MatchBool, if◌then◌else◌, List, [], ◌++◌, length, slice_get, Option, Some, None, Result, Ok, Err, codes, decimal}
+use Rattle.std.specs.Prelude.{◌≡◌, ℕ, nat_lt, Bool, false, MatchBool, List, [], ◌++◌, length, Option, Some, None, Result, Ok, Err, codes, decimal}
 use Rattle.rb_script.specs.declared.limits.TheConstants.{MAX_SCRIPT}
 use Rattle.rb_script.specs.declared.fault.ScriptFault.{ScriptFault}
 use Rattle.rb_script.specs.declared.fault.EditFault.{EditFault}
@@ -15,7 +15,7 @@ use Rattle.rb_command.specs.declared.command.Command.TheVariants as commands
 use Rattle.rb_command.specs.declared.command.Kind.{Kind}
 use Rattle.rb_command.specs.declared.command.Kind.TheVariants.{Insert, Replace, Expect}
 use Rattle.rb_replay.specs.declared.session.Changed.{Changed}
-use Rattle.rb_replay.specs.Run.{outputs}
+use Rattle.rb_replay.specs.Run.{outputs, output_at}
 use Rattle.rb_replay.specs.Report.{report, rewritten}
 use Rattle.rb_replay.specs.Held.{Held}
 use Rattle.rb_replay.specs.After.{IsEdited}
@@ -48,10 +48,6 @@ output_text ls = line_text (codes "output " ++ decimal (length ls)) ++ text_of l
 abbrev pub shown : Option (List Line) → List ℕ
 shown None = refused (edit_name NoSuchPlace)
 shown (Some ls) = output_text ls
-
--- the output at a place, which counts from 1
-abbrev pub output_at : PlainScript → ℕ → Option (List Line)
-output_at s place = if place == 0 then None else slice_get (outputs s) (place - 1)
 
 -- ---- edits
 

@@ -4,6 +4,7 @@ pub mod Reading
 pub mod Answers
 pub mod Commands
 pub mod Talk
+pub mod Made
 pub mod Serves
 pub mod Replies
 pub mod Known

@@ -1,10 +1,10 @@
 -- What serving a script comes to: its session, and the conversation that went out. (This project's.)
-use Rattle.std.specs.Prelude.{◌≡◌, ◌⊎◌, ℕ, ◌/◌, List, ◌∷◌, length, Option, Result, Ok, Err, IfSome, ⊤}
+use Rattle.std.specs.Prelude.{◌≡◌, ◌⊎◌, ℕ, List, length, Option, Result, Ok, Err, IfSome, ⊤}
 use Rattle.std.specs.Io.KnownBytes.{Appends}
 use Rattle.rb_script.specs.Lines.{Line, lines}
 use Rattle.rb_script.specs.Reads.{Reads}
 use Rattle.rb_script.specs.Writes.{AppendsFront}
-use Rattle.rb_replay.specs.Places.{multiples}
+use Rattle.rb_replay.specs.Places.{start_places}
 use Rattle.rb_replay.specs.Held.{Held, IsFresh}
 use Rattle.rb_bench.specs.declared.fault.BenchFault.{BenchFault}
 use Rattle.rb_bench.specs.declared.fault.BenchFault.TheVariants.{Io}
@@ -32,7 +32,7 @@ pub record IsStarted (script : List ℕ) (every : ℕ) (h : Held) : Type 0 where
   pub reads : Reads script h.script
   pub fresh : IsFresh h
   pub spacing : h.spacing ≡ every
-  pub places : h.places ≡ 0 ∷ multiples every (length h.script.blocks / every)
+  pub places : h.places ≡ start_places every (length h.script.blocks)
 
 -- a conversation that began with it
 pub record Serves (all : Option (List ℕ)) (result : Result ℕ BenchFault) (script : List ℕ) (every : ℕ) (old new : Option (List ℕ)) : Type 0 where

@@ -1,5 +1,5 @@
 -- A session's conversation: commands, each with its answer, up to the end of the input. (This project's.)
-use Rattle.std.specs.Prelude.{◌≡◌, ℕ, ◌+◌, ◌<◌, ◌⊎◌, Bool, false, true, nat_lt, List, [], ◌∷◌, ◌++◌, length, take, codes}
+use Rattle.std.specs.Prelude.{◌≡◌, ℕ, ◌+◌, ◌<◌, ◌⊎◌, Bool, false, true, nat_lt, List, [], ◌∷◌, ◌++◌, length, take, map, codes}
 use Rattle.std.specs.List.{list_any, flat_map}
 use Rattle.rb_script.specs.declared.limits.TheConstants.{MAX_LINE}
 use Rattle.rb_script.specs.Lines.{Line}
@@ -39,6 +39,10 @@ taken x = x.line ∷ x.given
 
 abbrev pub answer_of : Exchange → List ℕ
 answer_of x = x.answer
+
+-- which of the commands memory refused
+abbrev pub refusals : List Exchange → List Bool
+refusals xs = map (λ x. x.no_memory) xs
 
 -- A session is sent the lines, and answers.
 pub record Responds (h : Held) (x : Exchange) : Type 0 where

@@ -1,6 +1,6 @@
 //! What the program does, over any reader and writer.
 //!
-//! [`run_over`] runs a script once. [`serve`] holds a session: commands come in, one a line, and each is answered
+//! [`run_over`] runs a script once, and [`run_bytes`] one that was read. [`serve`] holds a session: commands come in, one a line, and each is answered
 //! before the next is read.
 #![tactic(auto)]
 
@@ -16,13 +16,11 @@ mod respond;
 mod running;
 mod send;
 mod session;
+mod starting;
 
 pub use fault::BenchFault;
-pub use laws::conversations_answer_as_one_run;
+pub use laws::{conversations_answer_as_one_run, conversations_are_one};
 pub use names::{edit_fault_name, script_fault_line, script_fault_name};
 pub use reading::{ReadFault, read_up_to};
-pub use running::{Mode, run_over};
+pub use running::{Mode, run_bytes, run_over};
 pub use session::serve;
-
-#[cfg(test)]
-mod tests;

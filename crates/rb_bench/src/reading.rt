@@ -2,7 +2,7 @@
 
 ghost use Rattle.std.specs.Prelude.{◌≡◌, ◌++◌, ◌+◌, ◌≤◌, ◌<◌, ℕ, List, length, take, IfOk, IfErr, IfSome, vec_len};
 ghost use Rattle.std.specs.Io.KnownBytes.{Consumes, IsAtEnd};
-ghost use Rattle.rb_bench.specs.Reading.{Loses};
+ghost use Rattle.rb_bench.specs.Reading.{Loses, StopsWithin};
 
 use std::alloc::Global;
 use std::io::Read;
@@ -29,7 +29,7 @@ pub fn read_up_to<R: Read>(alloc: Global, reader: &mut R, most: usize) -> Result
     ensures within { IfOk result (λ bytes. vec_len bytes ≤ most) }
     ensures consumed { IfOk result (λ bytes. Consumes (R.remaining reader.old) (R.remaining reader.new) bytes.items) }
     ensures whole { IfOk result (λ bytes. IfSome (R.remaining reader.old) (λ all. bytes.items ≡ take most all)) }
-    ensures failed { IfErr result (λ _. (lost : List ℕ) × (length lost ≤ most)
+    ensures failed { IfErr result (λ fault. (lost : List ℕ) × StopsWithin fault most lost
         × Consumes (R.remaining reader.old) (R.remaining reader.new) lost) }
 {
     let mut bytes = Vec::new(alloc);

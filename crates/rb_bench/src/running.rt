@@ -1,17 +1,17 @@
 //! One run of a script, from bytes to bytes.
 
-ghost use Rattle.std.specs.Prelude.{◌≡◌, ◌≢◌, ◌⊎◌, ◌↔◌, ◌<◌, ◌≤◌, IsErrOf, IsOk, IfOk, IfSome, IfErr};
-ghost use Rattle.std.specs.Io.KnownBytes.{Keeps};
-ghost use Rattle.rb_script.specs.Reads.{Reads};
-ghost use Rattle.rb_script.specs.Reading.{read_of};
+ghost use Rattle.std.specs.Prelude.{◌≡◌, ◌↔◌, ◌≤◌, true, false, ℕ, List, length, Err, IsErrOf, IsOk, IfSome};
+ghost use Rattle.std.specs.Io.KnownBytes.{Keeps, Consumes};
+ghost use Rattle.rb_script.specs.Reading.{early_fault};
 ghost use Rattle.rb_script.specs.Writes.{Writes};
-ghost use Rattle.rb_bench.specs.Faults.{IsRefused};
-ghost use Rattle.rb_bench.specs.Answers.{Answers, IsWritten, text_for, status_for, read_part};
+ghost use Rattle.rb_replay.specs.Start.{is_spacing};
+ghost use Rattle.rb_bench.specs.Answers.{Answers, RunsOver, IsWritten, text_for, status_for, most_read};
 
 use crate::fault::BenchFault;
-use crate::reading::{ReadFault, read_up_to};
-use rb_cluster::{Cluster, Meter};
-use rb_replay::Session;
+use crate::reading::read_up_to;
+use crate::starting::started;
+use rb_cluster::Cluster;
+use rb_replay::{Session, is_spacing};
 use rb_script::{MAX_SCRIPT, Sink, Through, WriteFault};
 use std::alloc::Global;
 use std::io::{Read, Write};
@@ -27,6 +27,11 @@ pub enum Mode {
 
 /// Reads a script, runs it and writes what `mode` asks for. `every` is how many directives stand from one checkpoint
 /// to the next, 1 to 64. The answer is the program's status: 0, or 1 where there are mismatches in a report.
+///
+/// # Errors
+///
+/// `Spacing` before anything is read. `Io` where a call of the reader failed, or of the writer, which is called only
+/// for a script. `OutOfMemory`, and `Script` where what was read is no script, as [`run_bytes`] answers.
 pub fn run_over<R: Read, W: Write>(
     alloc: Global,
     reader: &mut R,
@@ -35,19 +40,40 @@ pub fn run_over<R: Read, W: Write>(
     every: u64,
 ) -> Result<u8, BenchFault>
     // Found before anything is read.
-    ensures spacing { IsErrOf result BenchFault.Spacing ↔ ((every ≡ 0) ⊎ (64 < every)) }
+    ensures spacing { IsErrOf result BenchFault.Spacing ↔ (is_spacing every ≡ false) }
     ensures unread { IsErrOf result BenchFault.Spacing → (reader.new ≡ reader.old) × (writer.new ≡ writer.old) }
+    // No more is taken of the reader than is wanted, whatever comes of it.
+    ensures consumed { (taken : List ℕ) × (length taken ≤ most_read) × Consumes (R.remaining reader.old) (R.remaining reader.new) taken }
     // Where the reader's bytes are known.
-    ensures answered { 1 ≤ every → every ≤ 64 → IfSome (R.remaining reader.old) (λ all. Answers mode (read_part all) result (W.contents writer.old.0) (W.contents writer.new.0)) }
+    ensures answered { is_spacing every ≡ true → IfSome (R.remaining reader.old) (λ all. RunsOver mode all (R.remaining reader.new) result (W.contents writer.old.0) (W.contents writer.new.0)) }
 {
-    if every < 1 || every > 64 {
+    if !is_spacing(every) {
         return Err(BenchFault::Spacing);
     }
-    let bytes = read_script(alloc, reader)?;
-    let session = match started(alloc, &bytes, every) {
-        Ok(session) => session,
-        Err(fault) => return Err(fault),
-    };
+    let bytes = read_up_to(alloc, reader, MAX_SCRIPT + 1)?;
+    run_bytes(alloc, bytes, writer, mode, every)
+}
+
+/// Runs the script of the bytes and writes what `mode` asks for, as [`run_over`] does with what it has read.
+///
+/// # Errors
+///
+/// `Spacing`, then `Script` where the bytes are no script, `Io` where they are one and the writer failed, and `OutOfMemory`.
+pub fn run_bytes<W: Write>(
+    alloc: Global,
+    bytes: Vec<u8>,
+    writer: &mut Through<W>,
+    mode: Mode,
+    every: u64,
+) -> Result<u8, BenchFault>
+    // Found before anything else.
+    ensures spacing { IsErrOf result BenchFault.Spacing ↔ (is_spacing every ≡ false) }
+    ensures answered { is_spacing every ≡ true → Answers mode bytes.items result (W.contents writer.old.0) (W.contents writer.new.0) }
+    // What is too long is found whether or not there is memory.
+    ensures early { is_spacing every ≡ true → IfSome (early_fault bytes.items) (λ fault. result ≡ Err (BenchFault.Script fault)) }
+    ensures unwritten { IsErrOf result BenchFault.Spacing → (writer.new ≡ writer.old) }
+{
+    let session = started(alloc, &bytes, every)?;
     drop(bytes);
     answer(&session, writer, mode)
 }
@@ -60,37 +86,8 @@ fn answer<W: Write>(
 ) -> Result<u8, BenchFault>
     ensures { IsWritten mode session.now.script result (W.contents writer.old.0) (W.contents writer.new.0) }
 {
-    match write_out(session, writer, mode) {
-        Ok(()) => Ok(status(session, mode)),
-        Err(_) => Err(BenchFault::Io),
-    }
-}
-
-// What is read of a script.
-fn read_script<R: Read>(alloc: Global, reader: &mut R) -> Result<Vec<u8>, ReadFault>
-    ensures { IfOk result (λ bytes. IfSome (R.remaining reader.old) (λ all. bytes.items ≡ read_part all)) }
-{
-    read_up_to(alloc, reader, MAX_SCRIPT + 1)
-}
-
-// A session on the script of the bytes.
-pub(crate) fn started(
-    alloc: Global,
-    bytes: &[u8],
-    every: u64,
-) -> Result<Session<Cluster>, BenchFault>
-    requires least { 1 ≤ every }
-    requires most { every ≤ 64 }
-    ensures script { IfOk result (λ s. Reads bytes.now s.script) }
-    ensures refused { IfErr result (λ fault. IsRefused fault (read_of bytes.now)) }
-    // The spacing is a good one, and nothing else is read or written.
-    ensures own { IfErr result (λ fault. (fault ≢ BenchFault.Spacing) × (fault ≢ BenchFault.Io)) }
-{
-    let mut meter = Meter::new();
-    match Session::start(alloc, bytes, every, &mut meter) {
-        Ok(session) => Ok(session),
-        Err(fault) => Err(BenchFault::from(fault)),
-    }
+    write_out(session, writer, mode)?;
+    Ok(status(session, mode))
 }
 
 // Writes what the mode asks for, and hands it on.

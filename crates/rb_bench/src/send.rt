@@ -2,7 +2,8 @@
 
 ghost use Rattle.std.specs.Prelude.{IsOk};
 ghost use Rattle.rb_script.specs.Writes.{Writes};
-ghost use Rattle.rb_bench.specs.Commands.{at_line, fault_text, refused, done, output_text, shown, output_at};
+ghost use Rattle.rb_replay.specs.Run.{output_at};
+ghost use Rattle.rb_bench.specs.Commands.{at_line, fault_text, refused, done, output_text, shown};
 ghost use Rattle.rb_bench.specs.Replies.{reply_text};
 
 use crate::names::{edit_fault_name, script_fault_line, script_fault_name};

@@ -14,7 +14,8 @@ use crate::fault::BenchFault;
 use crate::hear::hear;
 use crate::respond::reply_to;
 use crate::send::send;
-use rb_cluster::{Cluster, Meter};
+use crate::starting::started;
+use rb_cluster::Cluster;
 use rb_line::LineReader;
 use rb_replay::Session;
 use rb_script::Through;
@@ -55,8 +56,7 @@ pub fn serve<R: Read, W: Write>(
     // But for a failed call, nothing was read or written.
     ensures untouched { IfErr result (λ fault. fault ≢ BenchFault.Io → (reader.new ≡ reader.old) × (writer.new ≡ writer.old)) }
 {
-    let mut meter = Meter::new();
-    let mut session = Session::<Cluster>::start(alloc, script, every, &mut meter)?;
+    let mut session = started(alloc, script, every)?;
     let Ok(mut input) = LineReader::new(alloc, MAX_READS) else {
         return Err(BenchFault::OutOfMemory);
     };
@@ -100,8 +100,6 @@ fn turn<R: Read, W: Write>(
         return Err(BenchFault::Io);
     };
     let (reply, status) = reply_to(alloc, session, heard);
-    match send(writer, session, reply) {
-        Ok(()) => Ok(status),
-        Err(_) => Err(BenchFault::Io),
-    }
+    send(writer, session, reply)?;
+    Ok(status)
 }

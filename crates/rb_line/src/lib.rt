@@ -12,6 +12,3 @@ mod line_reader;
 
 pub use line_buffer::{Fed, LineBuffer};
 pub use line_reader::{InputFault, LineReader, Next};
-
-#[cfg(test)]
-mod tests;

@@ -1,6 +1,6 @@
 -- What an edit changes.
 use Rattle.std.proofs.Common.{◌≡◌, ℕ, zero, suc, ◌+◌, ◌-◌, ◌≤◌, Bool, true, false, List, [], ◌∷◌, ◌++◌, length, take, drop, map, refl, ap, sym, subst, ◌∙◌, arith, get_or, append_assoc}
-use Rattle.std.specs.Prelude.{Result, Ok, Some, None, IfSome, insert, remove, slice_set, nat_lt, nat_le, not}
+use Rattle.std.specs.Prelude.{Result, Ok, Some, IfSome, insert, remove, slice_set, nat_lt, nat_le, not}
 use Rattle.std.specs.List.{list_all}
 use Rattle.std.proofs.lemmas.Bool.Decides.{nat_tests}
 use Rattle.std.proofs.lemmas.List.{take_at, drop_at, length-take-le, length-drop, length-append, set_split, take-set, drop-set-lt, length-set}
@@ -20,8 +20,9 @@ use Rattle.rb_replay.specs.declared.cut.Effect.TheVariants as effects
 use Rattle.rb_replay.specs.Run.{directives, outputs}
 use Rattle.rb_replay.specs.Report.{differing, mismatches}
 use Rattle.rb_replay.specs.Held.{Held, IsFresh}
-use Rattle.rb_replay.specs.Reuse.{change, change_of, IsChange}
-use Rattle.rb_replay.specs.Cuts.{change_by, effect_of, no_cut, IsMended}
+use Rattle.rb_replay.specs.Reuse.{change_by, effect_of, change, change_of, change_for, IsChange}
+use Rattle.rb_replay.specs.Cuts.{no_cut, IsMended}
+use Rattle.rb_replay.proofs.FreshLaws.{spacing-least}
 use Rattle.rb_replay.proofs.RunLaws.{both, outputs-same, length-outputs}
 use Rattle.rb_replay.proofs.DifferingLaws.{differing-accepted}
 
@@ -92,7 +93,7 @@ spliced-change h new f put r t fresh made fr rf rs few t_is =
       old_within = rs;
       new_within = omega arith;
       lengths = omega arith;
-      spaced = fresh.spaced.0;
+      spaced = spacing-least h.spacing fresh.spaced;
       kept = fresh.near;
     }
 
@@ -127,11 +128,7 @@ edit-change h Accept new fresh e = tt
 
 -- the change, by what the code calls it
 pub change-is : (h : Held) (new : PlainScript) (edit : Edit) (cut : Cut) → effect_of edit ≡ effects.Splice cut → change_of h new edit ≡ Some (change_by h new cut)
-change-is h new (Insert k b) cut e = let same : record { front = k - 1; old_rest = k - 1; new_rest = k } ≡ cut = cc in ap (λ (c : Cut). Some (change_by h new c)) same
-change-is h new (Replace k b) cut e = let same : record { front = k - 1; old_rest = k; new_rest = k } ≡ cut = cc in ap (λ (c : Cut). Some (change_by h new c)) same
-change-is h new (Remove k) cut e = let same : record { front = k - 1; old_rest = k; new_rest = k - 1 } ≡ cut = cc in ap (λ (c : Cut). Some (change_by h new c)) same
-change-is h new (Expect k lines) cut e = absurd cc
-change-is h new Accept cut e = absurd cc
+change-is h new edit cut e = ap (change_for h new) e
 
 pub cut-change : (h : Held) (edit : Edit) (new : PlainScript) (cut : Cut) → IsFresh h → edited h.script edit (outputs h.script) ≡ Ok new → effect_of edit ≡ effects.Splice cut → IsChange (change_by h new cut)
 cut-change h edit new cut fresh e is = rw (change-is h new edit cut is) at (edit-change h edit new fresh e)

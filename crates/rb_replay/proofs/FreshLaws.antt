@@ -1,5 +1,7 @@
 -- What a session holds is fresh.
-use Rattle.std.proofs.Common.{◌≡◌, ℕ, ◌+◌, ◌/◌, ◌≤◌, List, ◌∷◌, ◌++◌, length, take, drop, map, ap, sym, ◌∙◌, arith, subst}
+use Rattle.std.proofs.Common.{◌≡◌, ℕ, ◌+◌, ◌≤◌, nat_le, true, List, ◌++◌, length, take, drop, map, ap, sym, ◌∙◌, arith, subst}
+use Rattle.std.proofs.lemmas.Bool.{and_parts}
+use Rattle.std.proofs.lemmas.Bool.Decides.{nat_tests}
 use Rattle.std.proofs.lemmas.List.{map-append, take-map, drop-map}
 use Rattle.rb_script.specs.declared.limits.TheConstants.{MAX_DIRECTIVES}
 use Rattle.rb_script.specs.Script.{PlainScript}
@@ -7,8 +9,10 @@ use Rattle.rb_cluster.specs.Cluster.{Cluster}
 use Rattle.rb_script.specs.Lines.{Line}
 use Rattle.rb_replay.specs.Run.{directives, state, outputs}
 use Rattle.rb_replay.specs.Report.{differing, mismatches}
-use Rattle.rb_replay.specs.Places.{AreKept, multiples}
+use Rattle.rb_replay.specs.Places.{AreKept, start_places}
 use Rattle.rb_replay.specs.Held.{Held, IsFresh}
+use Rattle.rb_replay.specs.Start.{is_spacing}
+use Rattle.rb_replay.specs.declared.spacing.TheConstants.{MAX_SPACING}
 use Rattle.rb_replay.proofs.NearLaws.{start-kept}
 use Rattle.rb_replay.proofs.RunLaws.{both, outputs-same, states-same, lengths-same}
 
@@ -33,14 +37,18 @@ joined-map meaning f r kept fresh =
     map-append meaning (take f kept) (fresh ++ drop r kept)
     ∙ both (λ (a b : List Cluster). a ++ b) (sym (take-map meaning f kept)) (map-append meaning fresh (drop r kept) ∙ ap (λ (b : List Cluster). map meaning fresh ++ b) (sym (drop-map meaning r kept)))
 
+-- clusters are kept one directive apart, or more
+pub spacing-least : (every : ℕ) → is_spacing every ≡ true → 1 ≤ every
+spacing-least every is = let one : nat_le 1 every ≡ true = (and_parts (nat_le 1 every) (nat_le every MAX_SPACING) is).0 in grind (arith, nat_tests)
+
 -- what a run of the whole script gives
-pub fresh-whole : (s : PlainScript) (K : ℕ) (os : List (List Line)) (ms places : List ℕ) (kept : List Cluster) → 1 ≤ K → K ≤ 64 → length s.blocks ≤ MAX_DIRECTIVES → os ≡ outputs s → ms ≡ differing (0 + 1) (drop 0 s.blocks) os → places ≡ 0 ∷ multiples K (length s.blocks / K) → kept ≡ map (state s) places
+pub fresh-whole : (s : PlainScript) (K : ℕ) (os : List (List Line)) (ms places : List ℕ) (kept : List Cluster) → is_spacing K ≡ true → length s.blocks ≤ MAX_DIRECTIVES → os ≡ outputs s → ms ≡ differing (0 + 1) (drop 0 s.blocks) os → places ≡ start_places K (length s.blocks) → kept ≡ map (state s) places
     → IsFresh (record { script = s; spacing = K; outputs = os; mismatches = ms; places = places; kept = kept })
-fresh-whole s K os ms places kept one most few answered compared placed states = record {
+fresh-whole s K os ms places kept spaced few answered compared placed states = record {
   answered = answered;
   compared = compared ∙ ap (λ (n : ℕ). differing n s.blocks os) (omega arith) ∙ ap (differing 1 s.blocks) answered;
   states = states;
-  near = subst (AreKept K (length s.blocks)) (sym placed) (start-kept K (length s.blocks) one);
-  spaced = (one, most);
+  near = subst (AreKept K (length s.blocks)) (sym placed) (start-kept K (length s.blocks) (spacing-least K spaced));
+  spaced = spaced;
   few = few;
 }

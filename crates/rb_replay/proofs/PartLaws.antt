@@ -7,7 +7,7 @@ use Rattle.std.proofs.lemmas.List.{take_at, drop_at, map-append, take-map, lengt
 use Rattle.std.proofs.Math.Seq.{take-add}
 use Rattle.rb_replay.proofs.RunLaws.{both}
 use Rattle.std.proofs.lemmas.List.Edits.{get_or-remove_below, get_or-remove_above}
-use Rattle.rb_replay.specs.Places.{thin, thin_after, IsRising}
+use Rattle.rb_replay.specs.Places.{thin_after, IsRising}
 
 pub nothing_below : (a bound : ℕ) (ps : List ℕ) → bound ≤ a → IsRising a ps → ([] ≡ filter (λ p. nat_lt p bound) ps) × (ps ≡ filter (λ p. nat_le bound p) ps)
 nothing_below a bound [] le rising = (refl, refl)

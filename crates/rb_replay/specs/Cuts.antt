@@ -1,11 +1,7 @@
 -- A change, by what the code knows of it. (This project's.)
 use Rattle.std.specs.Prelude.{◌≡◌, ℕ, ◌+◌, ◌-◌, ◌<◌, ◌≤◌, min, nat_le, nat_lt, List, [], ◌∷◌, ◌++◌, length, take, drop, map, filter, slice_index, Option, Some, None}
 use Rattle.rb_script.specs.Script.{PlainScript}
-use Rattle.rb_script.specs.declared.edit.Edit.{Edit}
-use Rattle.rb_script.specs.declared.edit.Edit.TheVariants.{Insert, Replace, Remove, Expect, Accept}
 use Rattle.rb_replay.specs.declared.cut.Cut.{Cut}
-use Rattle.rb_replay.specs.declared.cut.Effect.{Effect}
-use Rattle.rb_replay.specs.declared.cut.Effect.TheVariants as effects
 use Rattle.rb_replay.specs.declared.rerun.Rerun.{Rerun}
 use Rattle.rb_replay.specs.declared.seam.Seam.{Seam}
 use Rattle.rb_replay.specs.declared.ready.Ready.{Ready}
@@ -14,18 +10,7 @@ use Rattle.rb_cluster.specs.Cluster.{Cluster}
 use Rattle.rb_replay.specs.Course.{HasRun}
 use Rattle.rb_replay.specs.Run.{state, outputs}
 use Rattle.rb_replay.specs.Report.{mismatches}
-use Rattle.rb_replay.specs.Held.{Held}
-use Rattle.rb_replay.specs.Reuse.{Change, change, start, stop, old_place, IsFirstMeeting, fresh_places, places_before}
-
-abbrev pub change_by : Held → PlainScript → Cut → Change
-change_by h new cut = change h new cut.front cut.old_rest cut.new_rest
-
-abbrev pub effect_of : Edit → Effect
-effect_of (Insert k block) = effects.Splice (record { front = k - 1; old_rest = k - 1; new_rest = k })
-effect_of (Replace k block) = effects.Splice (record { front = k - 1; old_rest = k; new_rest = k })
-effect_of (Remove k) = effects.Splice (record { front = k - 1; old_rest = k; new_rest = k - 1 })
-effect_of (Expect k lines) = effects.Expect k
-effect_of Accept = effects.Accept
+use Rattle.rb_replay.specs.Reuse.{Change, start, stop, old_place, IsFirstMeeting, fresh_places, places_before}
 
 -- where a place, or the next one after it, stands in a list of places
 pub record IsNext (places : List ℕ) (place index : ℕ) : Type 0 where

@@ -1,5 +1,5 @@
 -- What a session holds. (This project's.)
-use Rattle.std.specs.Prelude.{◌≡◌, ℕ, ◌≤◌, List, map, length}
+use Rattle.std.specs.Prelude.{◌≡◌, ℕ, ◌≤◌, true, List, map, length}
 use Rattle.rb_script.specs.declared.limits.TheConstants.{MAX_DIRECTIVES}
 use Rattle.rb_script.specs.Lines.{Line}
 use Rattle.rb_script.specs.Script.{PlainScript}
@@ -7,6 +7,7 @@ use Rattle.rb_cluster.specs.Cluster.{Cluster}
 use Rattle.rb_replay.specs.Run.{state, outputs}
 use Rattle.rb_replay.specs.Report.{mismatches}
 use Rattle.rb_replay.specs.Places.{AreKept}
+use Rattle.rb_replay.specs.Start.{is_spacing}
 
 pub record Held : Type 0 where
   pub script : PlainScript
@@ -23,5 +24,5 @@ pub record IsFresh (h : Held) : Type 0 where
   pub compared : h.mismatches ≡ mismatches h.script
   pub states : h.kept ≡ map (state h.script) h.places
   pub near : AreKept h.spacing (length h.script.blocks) h.places
-  pub spaced : (1 ≤ h.spacing) × (h.spacing ≤ 64)
+  pub spaced : is_spacing h.spacing ≡ true
   pub few : length h.script.blocks ≤ MAX_DIRECTIVES

@@ -1,5 +1,5 @@
 -- Places of a script at which a cluster is kept: ascending lists of numbers. (This project's.)
-use Rattle.std.specs.Prelude.{◌≡◌, ℕ, zero, suc, ◌+◌, ◌-◌, ◌*◌, ◌<◌, ◌≤◌, max, nat_le, List, [], ◌∷◌, ◌++◌, if◌then◌else◌}
+use Rattle.std.specs.Prelude.{◌≡◌, ℕ, zero, suc, ◌+◌, ◌-◌, ◌*◌, ◌/◌, ◌<◌, ◌≤◌, max, nat_le, List, [], ◌∷◌, ◌++◌, if◌then◌else◌}
 
 -- the greatest of the places that is at most q
 abbrev pub last_up_to : ℕ → List ℕ → ℕ
@@ -47,6 +47,6 @@ abbrev pub AreKept : ℕ → ℕ → List ℕ → Type 0
 AreKept K n [] = ⊥
 AreKept K n (p ∷ ps) = (p ≡ 0) × AreNear K n p ps × AreSparseAfter K p ps
 
--- K, 2 * K, .., as many as j
-abbrev pub multiples : ℕ → ℕ → List ℕ
-multiples K j = every K 0 j
+-- the kept places of a script of n directives that was just started: 0, K, 2 * K and so on, up to the end
+abbrev pub start_places : ℕ → ℕ → List ℕ
+start_places K n = 0 ∷ every K 0 (n / K)

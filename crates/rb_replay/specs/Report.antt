@@ -1,11 +1,11 @@
 -- Where a script's expectations are not its outputs, and the texts that say so. (This project's.)
-use Rattle.std.specs.Prelude.{ℕ, ◌+◌, ◌-◌, Bool, true, false, ◌&&◌, if◌then◌else◌, List, [], ◌∷◌, ◌++◌, length, map, slice_index_or, codes, decimal}
+use Rattle.std.specs.Prelude.{ℕ, ◌+◌, Bool, true, false, ◌&&◌, if◌then◌else◌, List, [], ◌∷◌, ◌++◌, length, map, codes, decimal}
 use Rattle.std.specs.List.{flat_map}
+use Rattle.std.specs.Option.{unwrap_or, option_map}
 use Rattle.std.specs.Str.{bytes_eq}
 use Rattle.rb_script.specs.Lines.{Line, text_of}
 use Rattle.rb_script.specs.Script.{PlainBlock, PlainScript, text, with_outputs}
-use Rattle.rb_script.specs.Edits.{block_at_place}
-use Rattle.rb_replay.specs.Run.{outputs}
+use Rattle.rb_replay.specs.Run.{outputs, at_place, output_at}
 
 abbrev pub same_lines : List Line → List Line → Bool
 same_lines [] [] = true
@@ -27,10 +27,6 @@ mismatches s = differing 1 s.blocks (outputs s)
 unfoldable pub rewritten : PlainScript → List ℕ
 rewritten s = text (with_outputs s (outputs s))
 
--- output k
-abbrev pub output_at : List (List Line) → ℕ → List Line
-output_at os k = slice_index_or os (k - 1) []
-
 -- each line after a mark
 abbrev pub marked : List ℕ → List Line → List Line
 marked mark ls = map (λ line. mark ++ line) ls
@@ -38,17 +34,21 @@ marked mark ls = map (λ line. mark ++ line) ls
 abbrev pub mismatch_line : ℕ → Line
 mismatch_line k = codes "mismatch " ++ decimal k
 
+-- the expectation of the directive at place k
+abbrev pub expected_at : PlainScript → ℕ → List Line
+expected_at s k = unwrap_or (option_map (λ b. b.expected) (at_place s.blocks k)) []
+
 -- what is reported of the mismatch at place k
-abbrev pub mismatch_lines : List PlainBlock → List (List Line) → ℕ → List Line
-mismatch_lines bs os k =
-    mismatch_line k ∷ (marked (codes "- ") (block_at_place bs k).expected ++ marked (codes "+ ") (output_at os k))
+abbrev pub mismatch_lines : PlainScript → ℕ → List Line
+mismatch_lines s k =
+    mismatch_line k ∷ (marked (codes "- ") (expected_at s k) ++ marked (codes "+ ") (unwrap_or (output_at s k) []))
 
 abbrev pub total_line : ℕ → ℕ → Line
 total_line directives mismatches = decimal directives ++ codes " directives, " ++ decimal mismatches ++ codes " mismatches"
 
 abbrev pub report_lines : PlainScript → List Line
 report_lines s =
-    flat_map (mismatch_lines s.blocks (outputs s)) (mismatches s) ++ total_line (length s.blocks) (length (mismatches s)) ∷ []
+    flat_map (mismatch_lines s) (mismatches s) ++ total_line (length s.blocks) (length (mismatches s)) ∷ []
 
 unfoldable pub report : PlainScript → List ℕ
 report s = text_of (report_lines s)

@@ -3,6 +3,10 @@ use Rattle.std.specs.Prelude.{◌≡◌, ℕ, ◌+◌, ◌-◌, ◌*◌, ◌/◌
 use Rattle.rb_script.specs.Script.{PlainScript}
 use Rattle.rb_script.specs.declared.edit.Edit.{Edit}
 use Rattle.rb_script.specs.declared.edit.Edit.TheVariants.{Insert, Replace, Remove, Expect, Accept}
+use Rattle.rb_replay.specs.declared.cut.Cut.{Cut}
+use Rattle.rb_replay.specs.declared.cut.Effect.{Effect}
+use Rattle.rb_replay.specs.declared.cut.Effect.TheVariants.{Splice}
+use Rattle.rb_replay.specs.declared.cut.Effect.TheVariants as effects
 use Rattle.rb_replay.specs.Run.{state}
 use Rattle.rb_replay.specs.Places.{last_up_to, every, thin, AreKept}
 use Rattle.rb_replay.specs.Held.{Held}
@@ -23,13 +27,25 @@ abbrev pub change : Held → PlainScript → ℕ → ℕ → ℕ → Change
 change h new front old_rest new_rest =
     record { old = h.script; new = new; front = front; old_rest = old_rest; new_rest = new_rest; spacing = h.spacing; places = h.places }
 
+-- what an edit changes of a run: the directives between a front and a rest that stay, or only expectations
+abbrev pub effect_of : Edit → Effect
+effect_of (Insert k block) = Splice (record { front = k - 1; old_rest = k - 1; new_rest = k })
+effect_of (Replace k block) = Splice (record { front = k - 1; old_rest = k; new_rest = k })
+effect_of (Remove k) = Splice (record { front = k - 1; old_rest = k; new_rest = k - 1 })
+effect_of (Expect k lines) = effects.Expect k
+effect_of Accept = effects.Accept
+
+abbrev pub change_by : Held → PlainScript → Cut → Change
+change_by h new cut = change h new cut.front cut.old_rest cut.new_rest
+
+abbrev pub change_for : Held → PlainScript → Effect → Option Change
+change_for h new (Splice cut) = Some (change_by h new cut)
+change_for h new (effects.Expect k) = None
+change_for h new effects.Accept = None
+
 -- the change that an edit makes of a session, where it may change a cluster
 abbrev pub change_of : Held → PlainScript → Edit → Option Change
-change_of h new (Insert k block) = Some (change h new (k - 1) (k - 1) k)
-change_of h new (Replace k block) = Some (change h new (k - 1) k k)
-change_of h new (Remove k) = Some (change h new (k - 1) k (k - 1))
-change_of h new (Expect k lines) = None
-change_of h new Accept = None
+change_of h new edit = change_for h new (effect_of edit)
 
 -- the place to run on from
 abbrev pub start : Change → ℕ
@@ -107,10 +123,8 @@ pub record IsCost (c : Change) (executed : ℕ) : Type 0 where
 
 -- What is used again, exactly: where running stops, how much was executed, and which places are kept then.
 pub record Reuses (c : Change) (executed : ℕ) (places : List ℕ) : Type 0 where
-  pub meeting : Option ℕ
-  pub is_first : IsFirstMeeting c meeting
-  pub is_cost : executed ≡ stop c meeting - start c
-  pub are_places : places ≡ places_after c meeting
+  pub cost : IsCost c executed
+  pub are_places : places ≡ places_after c cost.meeting
 
 -- the same of an edit: one that changes no cluster executes nothing and leaves the places
 abbrev pub ReusesIf : Option Change → List ℕ → ℕ → List ℕ → Type 0

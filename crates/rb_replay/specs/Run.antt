@@ -1,5 +1,5 @@
 -- One run of a script from the empty cluster: its clusters, and its outputs. (This project's.)
-use Rattle.std.specs.Prelude.{ℕ, List, [], ◌∷◌, map, take}
+use Rattle.std.specs.Prelude.{ℕ, ◌-◌, ◌==◌, if◌then◌else◌, List, [], ◌∷◌, map, take, slice_get, Option, None}
 use Rattle.rb_script.specs.Lines.{Line}
 use Rattle.rb_script.specs.Script.{PlainScript}
 use Rattle.rb_script.specs.Directive.{PlainDirective}
@@ -28,3 +28,11 @@ state s i = led empty (take i (directives s))
 -- the output of each directive
 abbrev pub outputs : PlainScript → List (List Line)
 outputs s = answers empty (directives s)
+
+-- what stands at a place of a list; places count from 1
+abbrev pub at_place : {T : Type 0} → List T → ℕ → Option T
+at_place xs place = if place == 0 then None else slice_get xs (place - 1)
+
+-- the output of the directive at a place
+abbrev pub output_at : PlainScript → ℕ → Option (List Line)
+output_at s place = at_place (outputs s) place

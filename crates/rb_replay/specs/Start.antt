@@ -1,16 +1,16 @@
 -- What a refused start says. (This project's.)
 use Rattle.std.specs.Prelude.{◌≡◌, ℕ, ◌≤◌, ◌+◌, Bool, ◌&&◌, nat_le, List, length, Result}
 use Rattle.rb_script.specs.declared.fault.ScriptFault.{ScriptFault}
-use Rattle.rb_script.specs.declared.fault.ScriptFault.TheVariants.{TooLong, LineTooLong, BadLine, NoSeparator, NotClosed, TooManyDirectives, NotOneBlock, TooManyArguments, OutOfMemory as ScriptOutOfMemory}
 use Rattle.rb_script.specs.Script.{PlainScript}
 use Rattle.rb_script.specs.Reads.{Reads}
 use Rattle.rb_script.specs.Reading.{Refuses}
+use Rattle.rb_replay.specs.declared.spacing.TheConstants.{MAX_SPACING}
 use Rattle.rb_replay.specs.declared.fault.StartFault.{StartFault}
 use Rattle.rb_replay.specs.declared.fault.StartFault.TheVariants.{Script, BadSpacing, OutOfMemory}
 
 -- how far apart clusters may be kept
 abbrev pub is_spacing : ℕ → Bool
-is_spacing every = nat_le 1 every && nat_le every 64
+is_spacing every = nat_le 1 every && nat_le every MAX_SPACING
 
 -- why no script was read: its fault is that of reading, and never want of memory
 abbrev pub IsRefused : StartFault → Result PlainScript ScriptFault → Type 0
@@ -25,15 +25,3 @@ RisesFor (Script fault) bytes before count = count ≡ before
 RisesFor BadSpacing bytes before count = count ≡ before
 RisesFor OutOfMemory bytes before count =
     ((s : PlainScript) → Reads bytes s → count ≤ before + length s.blocks) × (((s : PlainScript) → Reads bytes s → ⊥) → count ≡ before)
-
--- the fault of a start for one of reading
-abbrev pub refusal : ScriptFault → StartFault
-refusal TooLong = Script TooLong
-refusal (LineTooLong n) = Script (LineTooLong n)
-refusal (BadLine n) = Script (BadLine n)
-refusal (NoSeparator n) = Script (NoSeparator n)
-refusal (NotClosed n) = Script (NotClosed n)
-refusal TooManyDirectives = Script TooManyDirectives
-refusal NotOneBlock = Script NotOneBlock
-refusal (TooManyArguments n) = Script (TooManyArguments n)
-refusal ScriptOutOfMemory = OutOfMemory

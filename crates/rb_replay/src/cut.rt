@@ -1,7 +1,7 @@
 //! What an edit changes.
 
 ghost use Rattle.std.specs.Prelude.{◌≡◌};
-ghost use Rattle.rb_replay.specs.Cuts.{effect_of};
+ghost use Rattle.rb_replay.specs.Reuse.{effect_of};
 
 use rb_script::Edit;
 

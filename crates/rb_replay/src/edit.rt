@@ -14,9 +14,8 @@ impl<M: Machine> Session<M> {
     ghost use Rattle.rb_script.specs.Edits.{edited, EditFails};
     ghost use Rattle.rb_replay.specs.Run.{outputs};
     ghost use Rattle.rb_replay.specs.Held.{Held, IsFresh};
-    ghost use Rattle.rb_replay.specs.Reuse.{IsChange, IsCost, Reuses, IsCostFor};
+    ghost use Rattle.rb_replay.specs.Reuse.{change_by, IsChange, IsCost, Reuses, IsCostFor};
     ghost use Rattle.rb_replay.specs.After.{IsAnswer};
-    ghost use Rattle.rb_replay.specs.Cuts.{change_by};
 
     /// Makes one edit, and runs what it changes. A refused edit changes nothing. Refusals come in the
     /// order of [`EditFault`], and all but want of memory before anything runs.
@@ -34,6 +33,9 @@ impl<M: Machine> Session<M> {
         ensures counted { IfOk result (λ changed. M.Meter.count_of meter.new ≡ M.Meter.count_of meter.old + changed.executed) }
         ensures not_run { IfErr result (λ fault. fault ≢ EditFault.OutOfMemory → M.Meter.count_of meter.new ≡ M.Meter.count_of meter.old) }
         ensures refused { OnErr result ((new : PlainScript) → edited self.old.script edit.now (outputs self.old.script) ≡ Ok new → (n : ℕ) → IsCostFor self.old edit.now new n → M.Meter.count_of meter.new ≤ M.Meter.count_of meter.old + n) }
+        // Whatever the answer, the meter never falls, and rises by no more than a script may have directives.
+        ensures least { M.Meter.count_of meter.old ≤ M.Meter.count_of meter.new }
+        ensures most { M.Meter.count_of meter.new ≤ M.Meter.count_of meter.old + MAX_DIRECTIVES }
         // All that is held is what one run of the script gives, whatever the answer.
         ensures fresh { IsFresh self.new }
     {
@@ -58,6 +60,8 @@ impl<M: Machine> Session<M> {
         ensures fresh { IsFresh self.new }
         ensures err { OnErr result (self.new ≡ self.old) }
         ensures refused { OnErr result ((n : ℕ) → IsCost (change_by self.old new cut) n → M.Meter.count_of meter.new ≤ M.Meter.count_of meter.old + n) }
+        ensures least { M.Meter.count_of meter.old ≤ M.Meter.count_of meter.new }
+        ensures most { M.Meter.count_of meter.new ≤ M.Meter.count_of meter.old + length new.blocks }
     {
         let ready = self.prepare(&new, cut, meter)?;
         make_room(&ready.course, &mut self.outputs, &mut self.kept)?;

@@ -25,7 +25,7 @@ pub fn edits_are_changes()
     ensures { (h : Held) (edit : Edit) (new : PlainScript) → IsFresh h → edited h.script edit (outputs h.script) ≡ Ok new → IfSome (change_of h new edit) IsChange }
 {}
 
-/// There is one cost of a change.
+/// There is at most one cost of a change.
 pub fn cost_is_one()
     ensures { (c : Change) (m n : ℕ) → IsCost c m → IsCost c n → m ≡ n }
 {}
@@ -47,9 +47,10 @@ pub fn places_are_members()
     ensures members { (c : Change) (meeting : Option ℕ) (p : ℕ) → IsChange c → IsFirstMeeting c meeting → Contains (places_before c meeting) p ↔ IsPlaceBefore c meeting p }
 {}
 
-/// The first kept place is 0, neighbours are at most the spacing apart, and less than the spacing follows
+/// There is a first kept place, and it is 0; neighbours are at most the spacing apart, and less than the spacing follows
 /// the last.
 pub fn places_are_near()
+    ensures some { (K n : ℕ) (places : List ℕ) → AreKept K n places → 0 < length places }
     ensures first { (K n : ℕ) (places : List ℕ) → AreKept K n places → slice_index places 0 ≡ 0 }
     ensures ascending { (K n : ℕ) (places : List ℕ) (i : ℕ) → AreKept K n places → i + 1 < length places → slice_index places i < slice_index places (i + 1) }
     ensures near { (K n : ℕ) (places : List ℕ) (i : ℕ) → AreKept K n places → i + 1 < length places → slice_index places (i + 1) ≤ slice_index places i + K }

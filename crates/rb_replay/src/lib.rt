@@ -21,6 +21,7 @@ mod report;
 mod rerun;
 mod seam;
 mod session;
+mod spacing;
 mod start;
 
 pub use fault::StartFault;
@@ -29,6 +30,4 @@ pub use laws::{
     places_are_few, places_are_members, places_are_near,
 };
 pub use session::{Changed, Session};
-
-#[cfg(test)]
-mod tests;
+pub use spacing::{MAX_SPACING, is_spacing, spacing_limit_is};

@@ -44,6 +44,8 @@ pub(crate) fn put_between<T: Drop>(items: &mut Vec<T>, from: usize, to: usize, f
     ensures { items.new.items ≡ take from items.old.items ++ (fresh.old.items ++ drop to items.old.items) }
 {
     let rest = items.len() - to;
+    // Turned by `to`, the rest stands first and what goes last: that is cut off, and the fresh items come in its place.
+    // Turned back, the rest follows them. So it is never set aside, which would take memory.
     items.rotate_left(to);
     items.truncate(rest + from);
     items.append(fresh).unwrap();

@@ -16,8 +16,8 @@ impl<M: Machine> Session<M> {
     ghost use Rattle.rb_script.specs.declared.limits.TheConstants.{MAX_DIRECTIVES};
     ghost use Rattle.rb_replay.specs.Report.{mismatches};
     ghost use Rattle.rb_replay.specs.Held.{Held};
-    ghost use Rattle.rb_replay.specs.Reuse.{IsChange, IsCost};
-    ghost use Rattle.rb_replay.specs.Cuts.{change_by, IsRerun, IsSeam, IsMended, IsReady};
+    ghost use Rattle.rb_replay.specs.Reuse.{change_by, IsChange, IsCost};
+    ghost use Rattle.rb_replay.specs.Cuts.{IsRerun, IsSeam, IsMended, IsReady};
 
     /// The mismatches of the new script: those of the front stay, the outputs that may have changed are
     /// compared, and those of the rest move with it.
@@ -96,6 +96,8 @@ impl<M: Machine> Session<M> {
         ensures ready { IfOk result (IsReady M.meaning (change_by self.now new.now cut) self.now.kept) }
         ensures counted { IfOk result (λ ready. M.Meter.count_of meter.new ≡ M.Meter.count_of meter.old + (ready.course.at - ready.course.from)) }
         ensures refused { OnErr result ((n : ℕ) → IsCost (change_by self.now new.now cut) n → M.Meter.count_of meter.new ≤ M.Meter.count_of meter.old + n) }
+        ensures least { M.Meter.count_of meter.old ≤ M.Meter.count_of meter.new }
+        ensures most { M.Meter.count_of meter.new ≤ M.Meter.count_of meter.old + length new.now.blocks }
     {
         let run = self.run_on(new, cut, meter)?;
         let seam = self.seam(new, cut, &run);

@@ -110,7 +110,7 @@ impl<M: Machine> Session<M> {
     fn put_mismatch_at<S: Sink>(&self, sink: &mut S, place: usize) -> Result<(), WriteFault>
         requires first { 1 ≤ place }
         requires within { place ≤ length self.now.script.blocks }
-        ensures wrote { Writes result (S.held sink.old) (S.held sink.new) (text_of (mismatch_lines self.now.script.blocks (outputs self.now.script) place)) }
+        ensures wrote { Writes result (S.held sink.old) (S.held sink.new) (text_of (mismatch_lines self.now.script place)) }
         ensures all { S.takes_all sink.old → IsOk result × S.takes_all sink.new }
     {
         let block = block_at(&self.script, place - 1);

@@ -68,8 +68,8 @@ impl<M: Machine> Session<M> {
     ghost use Rattle.rb_replay.specs.Run.{state};
     ghost use Rattle.rb_replay.specs.Places.{last_up_to};
     ghost use Rattle.rb_replay.specs.Held.{Held};
-    ghost use Rattle.rb_replay.specs.Reuse.{IsChange, IsCost};
-    ghost use Rattle.rb_replay.specs.Cuts.{change_by, IsRerun};
+    ghost use Rattle.rb_replay.specs.Reuse.{change_by, IsChange, IsCost};
+    ghost use Rattle.rb_replay.specs.Cuts.{IsRerun};
 
     /// The last kept cluster before the change, and its place.
     fn last_kept(&self, front: usize) -> Result<(usize, M), AllocError>
@@ -95,6 +95,8 @@ impl<M: Machine> Session<M> {
         ensures run { IfOk result (IsRerun M.meaning (change_by self.now new.now cut)) }
         ensures counted { IfOk result (λ run. M.Meter.count_of meter.new ≡ M.Meter.count_of meter.old + (run.course.at - run.course.from)) }
         ensures refused { OnErr result ((n : ℕ) → IsCost (change_by self.now new.now cut) n → M.Meter.count_of meter.new ≤ M.Meter.count_of meter.old + n) }
+        ensures least { M.Meter.count_of meter.old ≤ M.Meter.count_of meter.new }
+        ensures most { M.Meter.count_of meter.new ≤ M.Meter.count_of meter.old + length new.now.blocks }
     {
         let (from, mut machine) = self.last_kept(cut.front)?;
         let mut course = Course::new(self.alloc, self.spacing, from);

@@ -17,40 +17,55 @@ pub(crate) struct Seam {
     pub(crate) rest: usize,
 }
 
+/// Where the old run goes on, in old places.
+#[derive(Clone, Copy)]
+struct Bounds {
+    // from here on the old run is used again
+    old_stop: usize,
+    // what is below stays
+    front: usize,
+}
+
 impl<M: Machine> Session<M> {
     ghost use Rattle.std.specs.Prelude.{◌≡◌, ◌≤◌, length};
     ghost use Rattle.rb_script.specs.declared.limits.TheConstants.{MAX_DIRECTIVES};
     ghost use Rattle.rb_replay.specs.Held.{Held};
-    ghost use Rattle.rb_replay.specs.Reuse.{IsChange};
-    ghost use Rattle.rb_replay.specs.Cuts.{change_by, old_stop, front_bound, IsRerun, IsSeam};
+    ghost use Rattle.rb_replay.specs.Reuse.{change_by, IsChange};
+    ghost use Rattle.rb_replay.specs.Cuts.{old_stop, front_bound, IsRerun, IsSeam};
 
-    /// The old place from which on the old run is used again, and the bound below which old places stay.
-    fn bounds(&self, new: &Script, cut: Cut, run: &Rerun<M>) -> (usize, usize)
+    /// Where the old run goes on.
+    fn bounds(&self, new: &Script, cut: Cut, run: &Rerun<M>) -> Bounds
         requires change { IsChange (change_by self.now new.now cut) }
         requires few { length new.now.blocks ≤ MAX_DIRECTIVES }
         requires run { IsRerun M.meaning (change_by self.now new.now cut) run.now }
-        ensures old_stop { result.0 ≡ old_stop (change_by self.now new.now cut) run.now.met }
-        ensures front { result.1 ≡ front_bound (change_by self.now new.now cut) run.now.met }
+        ensures old_stop { result.old_stop ≡ old_stop (change_by self.now new.now cut) run.now.met }
+        ensures front { result.front ≡ front_bound (change_by self.now new.now cut) run.now.met }
     {
         let after = run.course.from + 1;
         match run.met {
-            None => (self.script.len(), after),
-            Some(at) => (at - cut.new_rest + cut.old_rest, after.min(at)),
+            None => Bounds {
+                old_stop: self.script.len(),
+                front: after,
+            },
+            Some(at) => Bounds {
+                old_stop: at - cut.new_rest + cut.old_rest,
+                front: after.min(at),
+            },
         }
     }
 
-    /// Where the old run goes on.
+    /// The same by the indices of the places.
     pub(crate) fn seam(&self, new: &Script, cut: Cut, run: &Rerun<M>) -> Seam
         requires change { IsChange (change_by self.now new.now cut) }
         requires few { length new.now.blocks ≤ MAX_DIRECTIVES }
         requires run { IsRerun M.meaning (change_by self.now new.now cut) run.now }
         ensures { IsSeam (change_by self.now new.now cut) run.now.met result }
     {
-        let (old_stop, bound) = self.bounds(new, cut, run);
+        let bounds = self.bounds(new, cut, run);
         Seam {
-            old_stop,
-            front: count_below(&self.places, bound),
-            rest: count_below(&self.places, old_stop + 1),
+            old_stop: bounds.old_stop,
+            front: count_below(&self.places, bounds.front),
+            rest: count_below(&self.places, bounds.old_stop + 1),
         }
     }
 }

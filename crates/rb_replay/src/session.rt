@@ -39,9 +39,9 @@ pub struct Changed {
 }
 
 impl<M: Machine> Session<M> {
-    ghost use Rattle.std.specs.Prelude.{◌≡◌, ◌-◌, ◌==◌, length, slice_get, None, option_copied, if◌then◌else◌};
+    ghost use Rattle.std.specs.Prelude.{◌≡◌, ◌==◌, length, option_copied};
     ghost use Rattle.rb_replay.specs.Held.{Held, IsFresh};
-    ghost use Rattle.rb_replay.specs.Run.{outputs};
+    ghost use Rattle.rb_replay.specs.Run.{at_place, output_at};
     ghost use Rattle.rb_replay.specs.Report.{mismatches};
 
     /// How many directives the script has.
@@ -53,6 +53,7 @@ impl<M: Machine> Session<M> {
         self.script.len()
     }
 
+    /// Whether the script has no directives.
     pub fn is_empty(&self) -> bool
         ensures { result ≡ (length self.now.script.blocks == 0) }
     {
@@ -61,14 +62,14 @@ impl<M: Machine> Session<M> {
 
     /// The block at a place, which counts from 1.
     pub fn block(&self, place: usize) -> Option<&Block>
-        ensures { option_copied result ≡ (if place == 0 then None else slice_get self.now.script.blocks (place - 1)) }
+        ensures { option_copied result ≡ at_place self.now.script.blocks place }
     {
         self.script.block(place)
     }
 
     /// The output of the directive at a place, which counts from 1.
     pub fn output(&self, place: usize) -> Option<&Lines>
-        ensures { option_copied result ≡ (if place == 0 then None else slice_get (outputs self.now.script) (place - 1)) }
+        ensures { option_copied result ≡ output_at self.now.script place }
     {
         match place {
             0 => None,

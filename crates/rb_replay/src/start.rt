@@ -1,25 +1,27 @@
 //! Starting a session.
 
-ghost use Rattle.std.specs.Prelude.{◌≡◌, ◌≢◌, ◌+◌, ◌/◌, ◌≤◌, ◌^◌, ◌∷◌, length, map, IfOk, IfErr, IfSome, OnOk, OnErr, Ok, Err};
+ghost use Rattle.std.specs.Prelude.{◌≡◌, ◌≢◌, ◌+◌, ◌≤◌, ◌^◌, length, map, IfOk, IfErr, IfSome, OnOk, OnErr, Ok, Err};
 ghost use Rattle.rb_script.specs.declared.limits.TheConstants.{MAX_DIRECTIVES};
 ghost use Rattle.rb_script.specs.Script.{PlainScript};
 ghost use Rattle.rb_script.specs.Reads.{Reads};
 ghost use Rattle.rb_script.specs.Reading.{read_of, early_fault};
 ghost use Rattle.rb_replay.specs.Run.{state, outputs};
-ghost use Rattle.rb_replay.specs.Places.{multiples};
-ghost use Rattle.rb_replay.specs.Start.{IsRefused, refusal};
+ghost use Rattle.rb_replay.specs.Places.{start_places};
+ghost use Rattle.rb_replay.specs.Start.{IsRefused};
 
 use crate::course::Course;
 use crate::differing::list_differing;
 use crate::fault::StartFault;
 use crate::session::Session;
+use crate::spacing::is_spacing;
 use rb_cluster::{Count, Machine};
 use rb_script::{Script, ScriptFault};
 use std::alloc::{AllocError, Global};
 
 /// The fault of a start for one of reading. Want of memory is the start's own.
 fn refusal(fault: ScriptFault) -> StartFault
-    ensures { result ≡ refusal fault }
+    ensures memory { fault ≡ ScriptFault.OutOfMemory → result ≡ StartFault.OutOfMemory }
+    ensures other { fault ≢ ScriptFault.OutOfMemory → result ≡ StartFault.Script fault }
 {
     match fault {
         ScriptFault::OutOfMemory => StartFault::OutOfMemory,
@@ -42,12 +44,12 @@ fn read(alloc: Global, bytes: &[u8]) -> Result<Script, StartFault>
 }
 
 impl<M: Machine> Session<M> {
-    ghost use Rattle.std.specs.Prelude.{◌≡◌, ◌≢◌, ◌+◌, ◌/◌, ◌≤◌, ◌^◌, ◌∷◌, ℕ, true, false, length, IfOk, IfErr, IfSome, OnOk, OnErr, Ok, Err};
+    ghost use Rattle.std.specs.Prelude.{◌≡◌, ◌≢◌, ◌+◌, ◌≤◌, ◌^◌, ℕ, true, false, length, IfOk, IfErr, IfSome, OnOk, OnErr, Ok, Err};
     ghost use Rattle.rb_script.specs.declared.limits.TheConstants.{MAX_DIRECTIVES};
     ghost use Rattle.rb_script.specs.Script.{PlainScript};
     ghost use Rattle.rb_script.specs.Reads.{Reads};
     ghost use Rattle.rb_script.specs.Reading.{read_of, early_fault};
-    ghost use Rattle.rb_replay.specs.Places.{multiples};
+    ghost use Rattle.rb_replay.specs.Places.{start_places};
     ghost use Rattle.rb_replay.specs.Held.{Held, IsFresh};
     ghost use Rattle.rb_replay.specs.Start.{is_spacing, IsRefused, RisesFor};
 
@@ -65,7 +67,7 @@ impl<M: Machine> Session<M> {
         ensures fresh { IfOk result IsFresh }
         ensures spacing { IfOk result (λ s. s.spacing ≡ every) }
         // Clusters are kept at 0, `every`, twice `every` and so on, up to the end.
-        ensures places { IfOk result (λ s. s.places ≡ 0 ∷ multiples every (length s.script.blocks / every)) }
+        ensures places { IfOk result (λ s. s.places ≡ start_places every (length s.script.blocks)) }
         // Each directive is executed once.
         ensures counted { IfOk result (λ s. M.Meter.count_of meter.new ≡ M.Meter.count_of meter.old + length s.script.blocks) }
         // The spacing is looked at before anything else.
@@ -79,7 +81,7 @@ impl<M: Machine> Session<M> {
         // A refused start has executed nothing, or for want of memory at most the directives of the script.
         ensures risen { IfErr result (λ fault. RisesFor fault bytes.now (M.Meter.count_of meter.old) (M.Meter.count_of meter.new)) }
     {
-        if every < 1 || every > 64 {
+        if !is_spacing(every) {
             return Err(StartFault::BadSpacing);
         }
         let script = read(alloc, bytes)?;
@@ -93,13 +95,12 @@ impl<M: Machine> Session<M> {
         spacing: usize,
         meter: &mut M::Meter,
     ) -> Result<Session<M>, AllocError>
-        requires least { 1 ≤ spacing }
-        requires most { spacing ≤ 64 }
+        requires spacing { is_spacing spacing ≡ true }
         requires few { length script.blocks ≤ MAX_DIRECTIVES }
         requires meter { M.Meter.count_of meter.old ≤ 2 ^ 62 }
         ensures script { IfOk result (λ s. s.script ≡ script) }
         ensures spacing { IfOk result (λ s. s.spacing ≡ spacing) }
-        ensures places { IfOk result (λ s. s.places ≡ 0 ∷ multiples spacing (length script.blocks / spacing)) }
+        ensures places { IfOk result (λ s. s.places ≡ start_places spacing (length script.blocks)) }
         ensures fresh { IfOk result IsFresh }
         ensures counted { OnOk result (M.Meter.count_of meter.new ≡ M.Meter.count_of meter.old + length script.blocks) }
         ensures refused { OnErr result (M.Meter.count_of meter.new ≤ M.Meter.count_of meter.old + length script.blocks) }
@@ -118,7 +119,7 @@ impl<M: Machine> Session<M> {
     }
 }
 
-/// Runs the script from the empty cluster to its end. That is kept at place 0.
+/// Runs the script from the empty cluster to its end.
 fn run_whole<M: Machine>(
     alloc: Global,
     script: &Script,
@@ -129,18 +130,20 @@ fn run_whole<M: Machine>(
     requires few { length script.now.blocks ≤ MAX_DIRECTIVES }
     requires meter { M.Meter.count_of meter.old ≤ 2 ^ 62 }
     ensures outputs { IfOk result (λ c. c.outputs.items ≡ outputs script.now) }
-    ensures places { IfOk result (λ c. c.places.items ≡ 0 ∷ multiples spacing (length script.now.blocks / spacing)) }
+    ensures places { IfOk result (λ c. c.places.items ≡ start_places spacing (length script.now.blocks)) }
     ensures states { IfOk result (λ c. map M.meaning c.kept.items ≡ map (state script.now) c.places.items) }
     ensures counted { OnOk result (M.Meter.count_of meter.new ≡ M.Meter.count_of meter.old + length script.now.blocks) }
     ensures refused { OnErr result (M.Meter.count_of meter.new ≤ M.Meter.count_of meter.old + length script.now.blocks) }
 {
     let mut machine = M::empty(alloc)?;
+    // A step takes the machine away, so what is kept at place 0 is copied before the first.
     let first = machine.try_copy()?;
     let mut course = Course::new(alloc, spacing, 0);
     while course.at < script.len() {
         machine = course.step(machine, script, meter)?;
         course.keep_due(&machine)?;
     }
+    // It comes in now, since a course counts its places from the first that it keeps on the way.
     course.kept.insert(0, first)?;
     course.places.insert(0, 0)?;
     Ok(course)

@@ -1,11 +1,14 @@
-use Rattle.rb_bench.specs.declared.fault.BenchFault.TheVariants.{Io}
+use Rattle.std.proofs.lemmas.Result.{err_from_is_err_and}
+use Rattle.rb_line.specs.Left.{left_of}
 use Rattle.rb_bench.proofs.TurnLaws.{turned, turn_failed}
 use Rattle.rb_bench.proofs.session.turn.Goals as goal
 
-pub returns-in-Ok-send-clause-out : goal.returns-in-Ok-send-clause-out
-returns-in-Ok-send-clause-out g c =
-    turned _ _ c.in-Ok.heard c.args.session.now c.reply_to-reply.new.session _ c.reply_to-reply.result.1 _ _ c.in-Ok.ensures c.reply_to-reply.ensures c.in-Ok-send.ensures
+pub returns-clause-out : goal.returns-clause-out
+returns-clause-out g c =
+    turned _ _ c.in-Ok.heard c.args.session.now c.reply_to-reply.new.session _ c.reply_to-reply.result.1 _ _ c.in-Ok.ensures c.reply_to-reply.ensures c.in_ok-send.ensures
 
-pub returns-in-Err-clause-out : goal.returns-in-Err-clause-out
-returns-in-Err-clause-out g c =
-    turn_failed _ _ c.in-Ok.heard c.args.session.now c.reply_to-reply.new.session _ c.reply_to-reply.result.1 Io _ _ c.in-Ok.ensures c.reply_to-reply.ensures c.in-Err.ensures
+pub returns-in_err-send-clause-out : goal.returns-in_err-send-clause-out
+returns-in_err-send-clause-out g c =
+    let p = err_from_is_err_and c.from_residual.result c.from_residual.ensures.1 in
+    let left = left_of c.hear.new.input (g.R.Read.remaining c.hear.new.reader) in
+    rw p.1 (turn_failed _ left c.in-Ok.heard c.args.session.now c.reply_to-reply.new.session _ c.reply_to-reply.result.1 p.0 _ _ c.in-Ok.ensures c.reply_to-reply.ensures c.in_err-send.ensures)

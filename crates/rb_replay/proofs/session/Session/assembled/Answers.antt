@@ -3,8 +3,7 @@ use Rattle.std.proofs.lemmas.List.{take_rest}
 use Rattle.rb_script.specs.declared.limits.TheConstants.{MAX_DIRECTIVES}
 use Rattle.rb_replay.specs.Run.{state, outputs}
 use Rattle.rb_replay.specs.Held.{Held, IsFresh}
-use Rattle.rb_replay.specs.Reuse.{start, stop, new_place}
-use Rattle.rb_replay.specs.Cuts.{change_by}
+use Rattle.rb_replay.specs.Reuse.{change_by, start, stop, new_place}
 use Rattle.rb_replay.proofs.RunLaws.{both}
 use Rattle.rb_replay.proofs.DifferingLaws.{at_most-rest, at_most-more}
 use Rattle.rb_replay.proofs.ReadyLaws.{kept-all, mended-ready, outputs-ready, states-ready, joined_places, joined-before, old_stop-within, start-old}

@@ -1,16 +1,30 @@
-use Rattle.std.proofs.Common.{◌≡◌, ◌-◌, ◌<◌, ◌++◌, [], ◌∷◌, ap, sym, ◌∙◌, List, ℕ, length, arith, subst}
-use Rattle.std.specs.Prelude.{codes}
+use Rattle.std.proofs.Common.{◌≡◌, ◌-◌, ◌<◌, ◌≤◌, ◌++◌, [], ◌∷◌, ap, sym, ◌∙◌, List, ℕ, Bool, false, length, get_or, arith, subst, Option, Some, None}
+use Rattle.std.specs.Prelude.{codes, slice_get, ◌==◌, if◌then◌else◌}
+use Rattle.std.specs.Option.{unwrap_or, option_map}
+use Rattle.std.proofs.lemmas.Bool.Decides.{nat_tests}
 use Rattle.std.proofs.lemmas.List.{get_or_default}
-use Rattle.std.proofs.lemmas.Option.{get_or_from_slice_get}
+use Rattle.std.proofs.lemmas.Option.{unwrap_or-slice_get}
 use Rattle.rb_script.specs.Lines.{Line, text_of}
-use Rattle.rb_script.specs.Script.{PlainBlock}
+use Rattle.rb_script.specs.Script.{PlainBlock, PlainScript}
 use Rattle.rb_script.specs.Writes.{Writes}
-use Rattle.rb_script.specs.Edits.{block_at_place}
-use Rattle.rb_replay.specs.Run.{outputs}
-use Rattle.rb_replay.specs.Report.{marked, mismatch_line, mismatch_lines, output_at}
+use Rattle.rb_replay.specs.Run.{outputs, at_place, output_at}
+use Rattle.rb_replay.specs.Report.{marked, mismatch_line, mismatch_lines, expected_at}
 use Rattle.rb_replay.specs.Held.{Held, IsFresh}
 use Rattle.rb_replay.proofs.RunLaws.{both, length-outputs}
 use Rattle.rb_replay.proofs.session.Session.put_mismatch_at.Goals as goal
+
+not_zero : (k : ℕ) → 1 ≤ k → (k == 0) ≡ false
+not_zero k first = grind (arith, nat_tests)
+
+-- what stands at a place from 1 on
+at_place-first : {T : Type 0} (xs : List T) (k : ℕ) → 1 ≤ k → at_place xs k ≡ slice_get xs (k - 1)
+at_place-first xs k first = ap (λ (t : Bool). if t then None else slice_get xs (k - 1)) (not_zero k first)
+
+expected-found : (s : PlainScript) (k : ℕ) (b : PlainBlock) → 1 ≤ k → slice_get s.blocks (k - 1) ≡ Some b → b.expected ≡ expected_at s k
+expected-found s k b first found = sym (ap (λ (o : Option PlainBlock). unwrap_or (option_map (λ (b : PlainBlock). b.expected) o) []) (at_place-first s.blocks k first ∙ found))
+
+output-found : (s : PlainScript) (k : ℕ) → 1 ≤ k → get_or (outputs s) (k - 1) [] ≡ unwrap_or (output_at s k) []
+output-found s k first = sym (ap (λ (o : Option (List Line)). unwrap_or o []) (at_place-first (outputs s) k first) ∙ unwrap_or-slice_get (outputs s) (k - 1) [])
 
 pub index-requires : goal.index-requires
 index-requires g c =
@@ -24,10 +38,10 @@ returns-clause-wrote g c =
     let held : c.self.inside.outputs.items ≡ outputs c.args.self.now.script = ap (λ (h : Held). h.outputs) c.self.view_is ∙ fresh.answered in
     let within : c.args.place - 1 < length c.self.inside.outputs.items = omega (arith, ap length held, length-outputs c.args.self.now.script, c.requires.first, c.requires.within) in
     let blocks : (c.self.inside.script).blocks ≡ c.args.self.now.script.blocks = ap (λ (h : Held). h.script.blocks) c.self.view_is in
-    let block : c.block_at-block.result.now ≡ block_at_place c.args.self.now.script.blocks c.args.place =
-    sym (get_or_from_slice_get (c.self.inside.script).blocks (c.args.place - 1) c.block_at-block.result.now _ c.block_at-block.ensures) ∙ ap (λ (bs : List PlainBlock). block_at_place bs c.args.place) blocks in
-    let output : c.index.result.now ≡ output_at (outputs c.args.self.now.script) c.args.place =
-    c.index.ensures ∙ get_or_default c.self.inside.outputs.items (c.args.place - 1) c.index.result.now [] within ∙ ap (λ (os : List (List Line)). output_at os c.args.place) held in
-    let parts : text_of (mismatch_line c.args.place ∷ (marked (codes "- ") c.expected.result.now ++ marked (codes "+ ") c.index.result.now)) ≡ text_of (mismatch_lines c.args.self.now.script.blocks (outputs c.args.self.now.script) c.args.place) =
-    both (λ (a b : List Line). text_of (mismatch_line c.args.place ∷ (marked (codes "- ") a ++ marked (codes "+ ") b))) (c.expected.ensures ∙ ap (λ (b : PlainBlock). b.expected) block) output in
+    let block : (c.block_at-block.result.now).expected ≡ expected_at c.args.self.now.script c.args.place =
+    expected-found c.args.self.now.script c.args.place c.block_at-block.result.now c.requires.first (ap (λ (bs : List PlainBlock). slice_get bs (c.args.place - 1)) (sym blocks) ∙ c.block_at-block.ensures) in
+    let output : c.index.result.now ≡ unwrap_or (output_at c.args.self.now.script c.args.place) [] =
+    c.index.ensures ∙ get_or_default c.self.inside.outputs.items (c.args.place - 1) c.index.result.now [] within ∙ ap (λ (os : List (List Line)). get_or os (c.args.place - 1) []) held ∙ output-found c.args.self.now.script c.args.place c.requires.first in
+    let parts : text_of (mismatch_line c.args.place ∷ (marked (codes "- ") c.expected.result.now ++ marked (codes "+ ") c.index.result.now)) ≡ text_of (mismatch_lines c.args.self.now.script c.args.place) =
+    both (λ (a b : List Line). text_of (mismatch_line c.args.place ∷ (marked (codes "- ") a ++ marked (codes "+ ") b))) (c.expected.ensures ∙ block) output in
     subst (λ (l : List ℕ). Writes c.put_mismatch.result (g.S.Sink.held c.args.sink.now) (g.S.Sink.held c.put_mismatch.new.sink) l) parts c.put_mismatch.ensures.wrote

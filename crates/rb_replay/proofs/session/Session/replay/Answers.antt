@@ -1,9 +1,10 @@
-use Rattle.std.proofs.Common.{◌≡◌, length, arith, ap, sym, ◌∙◌, take, drop, ◌++◌, List, map, subst}
+use Rattle.std.proofs.Common.{◌≡◌, length, arith, ap, sym, ◌∙◌, take, drop, ◌++◌, List, map, subst, refl}
 use Rattle.rb_script.specs.Lines.{Line}
 use Rattle.rb_cluster.specs.Cluster.{Cluster}
 use Rattle.rb_replay.specs.Run.{state, outputs}
 use Rattle.rb_replay.specs.Held.{Held, IsFresh}
-use Rattle.rb_replay.specs.Cuts.{change_by, IsReady}
+use Rattle.rb_replay.specs.Reuse.{change_by}
+use Rattle.rb_replay.specs.Cuts.{IsReady}
 use Rattle.rb_replay.proofs.RunLaws.{length-outputs}
 use Rattle.rb_replay.proofs.ReadyLaws.{start-first}
 use Rattle.rb_replay.proofs.NearLaws.{places-kept}
@@ -59,3 +60,11 @@ invariant_of-self-2 g c = fresh-now g c
 
 pub returns-clause-fresh : goal.returns-clause-fresh
 returns-clause-fresh g c = fresh-now g c
+
+pub returns-clause-reuse : goal.returns-clause-reuse
+returns-clause-reuse g c =
+    let ready : IsReady g.M.Machine.meaning (change_by c.args.self.now c.args.new c.args.cut) c.args.self.now.kept c.in_ok-ready.ready = c.in_ok-ready.ensures.ready in
+    record {
+      cost = record { meeting = ready.meeting; is_first = ready.is_first; is_cost = rw (ready.at_is, ready.from_is) refl };
+      are_places = rw (c.take_over.ensures.places, ready.spacing_is, ready.places_are) refl;
+    }

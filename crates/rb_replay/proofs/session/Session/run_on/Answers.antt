@@ -5,8 +5,7 @@ use Rattle.std.proofs.lemmas.Grind.{common_steps}
 use Rattle.rb_cluster.specs.Cluster.{Cluster}
 use Rattle.rb_replay.specs.Run.{state}
 use Rattle.rb_replay.specs.Held.{Held, IsFresh}
-use Rattle.rb_replay.specs.Reuse.{start, old_place, Meets}
-use Rattle.rb_replay.specs.Cuts.{change_by}
+use Rattle.rb_replay.specs.Reuse.{change_by, start, old_place, Meets}
 use Rattle.rb_replay.proofs.ReuseLaws.{cost-at_least, unmet_more, start-le, meets-within}
 use Rattle.rb_replay.proofs.ReadyLaws.{kept-rising, states-before, on_err_always}
 use Rattle.rb_replay.proofs.CourseLaws.{course-run, course-paced, course-end, course-meeting, states-more, same-length}

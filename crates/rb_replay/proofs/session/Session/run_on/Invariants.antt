@@ -1,8 +1,8 @@
 use Rattle.std.proofs.Common.{◌≡◌, ◌+◌, ◌-◌, ◌<◌, ℕ, length}
 use Rattle.rb_replay.specs.Run.{state}
-use Rattle.rb_replay.specs.Reuse.{start, Meets}
+use Rattle.rb_replay.specs.Reuse.{change_by, start, Meets}
 use Rattle.rb_replay.specs.Course.{HasRun, PacedAt}
-use Rattle.rb_replay.specs.Cuts.{change_by, IsNext}
+use Rattle.rb_replay.specs.Cuts.{IsNext}
 use Rattle.rb_replay.proofs.session.Session.run_on.Given as goal
 
 abbrev pub invariant-steps : goal.invariant-steps

@@ -41,8 +41,8 @@ returns-in_err-put_mismatch_at-clause-wrote g c =
     let lt : c.loop-place.place-index < length (mismatches c.args.self.now.script) = rw held at c.loop-place-test.true in
     let next : drop c.loop-place.place-index (mismatches c.args.self.now.script) ≡ get_or c.deref-place-items.result.now c.loop-place.place-index 0 ∷ drop (c.loop-place.place-index + 1) (mismatches c.args.self.now.script) =
     drop_more (mismatches c.args.self.now.script) c.loop-place.place-index 0 lt ∙ ap (λ (ms : List ℕ). get_or ms c.loop-place.place-index 0 ∷ drop (c.loop-place.place-index + 1) (mismatches c.args.self.now.script)) (sym held) in
-    let more = step (mismatch_lines s.blocks (outputs s)) (drop i (mismatches s)) (drop (i + 1) (mismatches s)) (get_or c.deref-place-items.result.now i 0) total next in
-    sent_exit c.from_residual.result (g.S.Sink.held c.put_mismatch_at.new.sink) (text_of (mismatch_lines s.blocks (outputs s) (get_or c.deref-place-items.result.now i 0))) (text_of (flat_map (mismatch_lines s.blocks (outputs s)) (drop (i + 1) (mismatches s)) ++ total))
+    let more = step (mismatch_lines s) (drop i (mismatches s)) (drop (i + 1) (mismatches s)) (get_or c.deref-place-items.result.now i 0) total next in
+    sent_exit c.from_residual.result (g.S.Sink.held c.put_mismatch_at.new.sink) (text_of (mismatch_lines s (get_or c.deref-place-items.result.now i 0))) (text_of (flat_map (mismatch_lines s) (drop (i + 1) (mismatches s)) ++ total))
     c.from_residual.ensures.0 (sent_along more c.loop-place.invariant.sent) c.in_err-put_mismatch_at.ensures.wrote
 
 pub loop-place-preserved : goal.loop-place-preserved
@@ -55,9 +55,9 @@ loop-place-preserved g c =
     let lt : c.loop-place.place-index < length (mismatches c.args.self.now.script) = rw held at c.loop-place-test.true in
     let next : drop c.loop-place.place-index (mismatches c.args.self.now.script) ≡ get_or c.deref-place-items.result.now c.loop-place.place-index 0 ∷ drop (c.loop-place.place-index + 1) (mismatches c.args.self.now.script) =
     drop_more (mismatches c.args.self.now.script) c.loop-place.place-index 0 lt ∙ ap (λ (ms : List ℕ). get_or ms c.loop-place.place-index 0 ∷ drop (c.loop-place.place-index + 1) (mismatches c.args.self.now.script)) (sym held) in
-    let more = step (mismatch_lines s.blocks (outputs s)) (drop i (mismatches s)) (drop (i + 1) (mismatches s)) (get_or c.deref-place-items.result.now i 0) total next in
+    let more = step (mismatch_lines s) (drop i (mismatches s)) (drop (i + 1) (mismatches s)) (get_or c.deref-place-items.result.now i 0) total next in
     record {
-      sent = sent_more (g.S.Sink.held c.put_mismatch_at.new.sink) (text_of (mismatch_lines s.blocks (outputs s) (get_or c.deref-place-items.result.now i 0))) (text_of (flat_map (mismatch_lines s.blocks (outputs s)) (drop (i + 1) (mismatches s)) ++ total))
+      sent = sent_more (g.S.Sink.held c.put_mismatch_at.new.sink) (text_of (mismatch_lines s (get_or c.deref-place-items.result.now i 0))) (text_of (flat_map (mismatch_lines s) (drop (i + 1) (mismatches s)) ++ total))
           (sent_along more c.loop-place.invariant.sent) c.in_ok-put_mismatch_at.ensures.wrote;
       takes = λ t. (c.in_ok-put_mismatch_at.ensures.all (c.loop-place.invariant.takes t)).1;
     }
@@ -73,7 +73,7 @@ returns-clause-wrote g c =
     let none : drop c.loop-place.place-index (mismatches c.args.self.now.script) ≡ [] = drop_all c.loop-place.place-index (mismatches c.args.self.now.script) past in
     let few : c.len.result ≡ length c.args.self.now.script.blocks = c.len.ensures ∙ ap (λ (h : Held). length h.script.blocks) c.self.view_is in
     let many : c.len-2.result ≡ length (mismatches c.args.self.now.script) = omega (arith, c.len-2.ensures, ap length held, ap length c.deref-place-items.ensures.value, c.self.inside.mismatches.ok.0) in
-    let last : text_of (flat_map (mismatch_lines c.args.self.now.script.blocks (outputs c.args.self.now.script)) (drop c.loop-place.place-index (mismatches c.args.self.now.script)) ++ total_line (length c.args.self.now.script.blocks) (length (mismatches c.args.self.now.script)) ∷ []) ≡ line_text (total_line c.len.result c.len-2.result) =
-    ap (λ (ms : List ℕ). text_of (flat_map (mismatch_lines c.args.self.now.script.blocks (outputs c.args.self.now.script)) ms ++ total_line (length c.args.self.now.script.blocks) (length (mismatches c.args.self.now.script)) ∷ [])) none
+    let last : text_of (flat_map (mismatch_lines c.args.self.now.script) (drop c.loop-place.place-index (mismatches c.args.self.now.script)) ++ total_line (length c.args.self.now.script.blocks) (length (mismatches c.args.self.now.script)) ∷ []) ≡ line_text (total_line c.len.result c.len-2.result) =
+    ap (λ (ms : List ℕ). text_of (flat_map (mismatch_lines c.args.self.now.script) ms ++ total_line (length c.args.self.now.script.blocks) (length (mismatches c.args.self.now.script)) ∷ [])) none
     ∙ both (λ (n m : ℕ). text_of (total_line n m ∷ [])) (sym few) (sym many) ∙ append-nil (line_text (total_line c.len.result c.len-2.result)) in
     sent_last c.put_total.result (g.S.Sink.held c.put_total.new.sink) (line_text (total_line c.len.result c.len-2.result)) (sent_along last c.loop-place.invariant.sent) c.put_total.ensures.wrote

@@ -2,9 +2,9 @@
 
 use super::plain::{Change, HEADS, Run, Step, mismatches, report, run_whole, script, text_of};
 use super::{block_of, lines_of, shown, start};
-use crate::Session;
 use rb_cluster::{Cluster, Count, Meter};
-use rb_script::Edit;
+use rb_replay::Session;
+use rb_script::{Block, Edit};
 use std::alloc::Global;
 use std::test::Fail;
 
@@ -59,19 +59,40 @@ fn new_pair(alloc: Global, dice: &mut Dice, count: usize, every: usize) -> Resul
         text.extend_from_slice(&text_of(alloc, next.head, &next.expected)?)?;
         steps.push(next)?;
     }
+    Ok(Pair {
+        session: start(alloc, &text, every as u64)?,
+        every,
+        run: run_whole(alloc, &steps)?,
+        steps,
+        kept: first_places(alloc, count, every)?,
+    })
+}
+
+/// The places that are kept at the start.
+fn first_places(alloc: Global, count: usize, every: usize) -> Result<Vec<usize>, Fail> {
     let mut kept = Vec::new(alloc);
     for place in 0..count.saturating_add(1) {
         if place.checked_rem(every) == Some(0) {
             kept.push(place)?;
         }
     }
-    Ok(Pair {
-        session: start(alloc, &text, every as u64)?,
-        every,
-        run: run_whole(alloc, &steps)?,
-        steps,
-        kept,
-    })
+    Ok(kept)
+}
+
+/// An insert, a replace or a remove behind so many directives, and what it changes.
+fn edit_at(kind: usize, place: usize, block: Block) -> (Edit, Change) {
+    let at = place.saturating_add(1);
+    let (edit, old_rest, new_rest) = match kind {
+        0 => (Edit::Insert(at, block), place, at),
+        1 => (Edit::Replace(at, block), at, at),
+        _ => (Edit::Remove(at), at, place),
+    };
+    let change = Change {
+        front: place,
+        old_rest,
+        new_rest,
+    };
+    (edit, change)
 }
 
 impl Pair {
@@ -79,56 +100,41 @@ impl Pair {
     fn splice(&mut self, alloc: Global, dice: &mut Dice) -> Result<bool, Fail> {
         let count = self.steps.len();
         let kind = dice.below(3);
-        let place = dice.below(if kind == 0 {
+        let most = if kind == 0 {
             count.saturating_add(1)
         } else {
             count
-        });
-        let at = place.saturating_add(1);
+        };
+        let place = dice.below(most);
         let next = new_step(alloc, dice)?;
         let block = block_of(alloc, &text_of(alloc, next.head, &next.expected)?)?;
-        let (edit, change) = match kind {
-            0 => (
-                Edit::Insert(at, block),
-                Change {
-                    front: place,
-                    old_rest: place,
-                    new_rest: at,
-                },
-            ),
-            1 => (
-                Edit::Replace(at, block),
-                Change {
-                    front: place,
-                    old_rest: at,
-                    new_rest: at,
-                },
-            ),
-            _ => (
-                Edit::Remove(at),
-                Change {
-                    front: place,
-                    old_rest: at,
-                    new_rest: place,
-                },
-            ),
-        };
+        let (edit, change) = edit_at(kind, place, block);
         let mut meter = Meter::new();
         let Ok(changed) = self.session.edit(&edit, &mut meter) else {
             return Ok(count == 0 && kind > 0);
         };
+        self.put(kind, place, next)?;
+        let new = run_whole(alloc, &self.steps)?;
+        let reuse = change.reuse(alloc, self.every, &self.kept, &self.run, &new)?;
+        self.run = new;
+        self.kept = reuse.places;
+        let executed = reuse.executed as u64;
+        Ok(
+            changed.executed == executed
+                && meter.count() == executed
+                && changed.mismatches == self.session.mismatches().len(),
+        )
+    }
+
+    /// Makes the same edit of the plain script.
+    fn put(&mut self, kind: usize, place: usize, next: Step) -> Result<(), Fail> {
         if kind > 0 && place < self.steps.len() {
             let _ = self.steps.remove(place);
         }
         if kind < 2 && place <= self.steps.len() {
             self.steps.insert(place, next)?;
         }
-        let new = run_whole(alloc, &self.steps)?;
-        let reuse = change.reuse(alloc, self.every, &self.kept, &self.run, &new)?;
-        self.run = new;
-        self.kept = reuse.places;
-        let executed = reuse.executed as u64;
-        Ok(changed.executed == executed && meter.count() == executed)
+        Ok(())
     }
 
     /// Makes an edit that changes expectations.
@@ -152,7 +158,11 @@ impl Pair {
         if let Some(step) = self.steps.get_mut(place) {
             step.expected = next.expected;
         }
-        Ok(changed.executed == 0 && meter.count() == 0)
+        Ok(
+            changed.executed == 0
+                && meter.count() == 0
+                && changed.mismatches == self.session.mismatches().len(),
+        )
     }
 
     /// Whether the session answers as the plain program does.

@@ -1,11 +1,12 @@
 //! Each allocation refused in turn: these tests are run once for each, and say where one was refused.
 
-use crate::{Session, StartFault};
 use rb_cluster::{Cluster, Count, Meter};
+use rb_replay::{Changed, Session, StartFault};
 use rb_script::{Block, Edit, EditFault, Lines, Through};
 use std::alloc::Global;
 use std::io;
-use std::io::Write;
+use std::io::{Print, Write};
+use std::process::Abort;
 use std::test::Fail;
 
 const SCRIPT: &[u8] =
@@ -15,6 +16,13 @@ const REPORT: &[u8] = b"mismatch 3\n- no\n+ ok\n4 directives, 1 mismatches\n";
 
 const REWRITTEN: &[u8] =
     b"add-nodes 1 voters=(1) index=10\n----\nINFO 1 started at 1/10 with voters=(1)\n\nlog-level debug\n----\nok\n\nlog-level debug\n----\nok\n\nlog-level debug\n----\nok\n\n";
+
+const OUTPUTS: [&[u8]; 4] = [
+    b"INFO 1 started at 1/10 with voters=(1)\n",
+    b"ok\n",
+    b"ok\n",
+    b"ok\n",
+];
 
 /// Compares what is written with what is wanted, and takes no memory.
 #[derive(Drop)]
@@ -35,6 +43,17 @@ impl Write for Matching {
     fn flush(&mut self) -> io::Result<()> {
         Ok(())
     }
+}
+
+/// Whether the outputs are those of the script as it was when the session started.
+fn has_outputs(session: &Session<Cluster>) -> bool {
+    for (i, want) in OUTPUTS.iter().enumerate() {
+        match session.output(i.saturating_add(1)) {
+            Some(lines) if lines.text() == *want => {}
+            _ => return false,
+        }
+    }
+    true
 }
 
 /// Whether all that the session answers is as it was when it started.
@@ -64,6 +83,7 @@ fn is_as_before(session: &Session<Cluster>) -> bool {
         && script.rest.is_empty()
         && rewritten.rest.is_empty()
         && session.len() == 4
+        && has_outputs(session)
         && session.mismatches() == [3].as_slice()
         && session.checkpoints() == [0, 2, 4].as_slice()
 }
@@ -147,6 +167,28 @@ fn cases(alloc: Global) -> [Case; 5] {
     ]
 }
 
+/// Makes the edit; where memory is refused, all is as before, and the edit is made again.
+fn made<R: Abort + Print>(
+    rt: &R,
+    session: &mut Session<Cluster>,
+    edit: &Edit,
+    executed: u64,
+) -> Result<Result<Changed, EditFault>, Fail> {
+    let mut meter = Meter::new();
+    let answer = session.edit(edit, &mut meter);
+    if !matches!(&answer, Err(EditFault::OutOfMemory)) {
+        assert_eq!(rt; meter.count(), executed);
+        return Ok(answer);
+    }
+    println!(rt; "refused")?;
+    assert!(rt; is_as_before(session));
+    assert!(rt; meter.count() <= executed);
+    let mut again = Meter::new();
+    let answer = session.edit(edit, &mut again);
+    assert_eq!(rt; again.count(), executed);
+    Ok(answer)
+}
+
 // After a refusal all is as before, and the same edit with ample memory answers as it should.
 #[test]
 fn edits_under_refusals(rt: HostRuntime) -> Result<(), Fail> {
@@ -170,25 +212,11 @@ fn edits_under_refusals(rt: HostRuntime) -> Result<(), Fail> {
             println!(rt; "refused")?;
             continue;
         };
-        let mut meter = Meter::new();
-        let mut answer = session.edit(&edit, &mut meter);
-        if matches!(&answer, Err(EditFault::OutOfMemory)) {
-            println!(rt; "refused")?;
-            assert!(rt; is_as_before(&session));
-            assert!(rt; meter.count() <= executed);
-            meter = Meter::new();
-            answer = session.edit(&edit, &mut meter);
-        }
-        match answer {
-            Ok(changed) => {
-                assert_eq!(rt;
-                    (changed.executed, changed.mismatches),
-                    (executed, mismatches)
-                );
-                assert_eq!(rt; meter.count(), executed);
-            }
-            Err(fault) => assert!(rt; false, "{fault:?}"),
-        }
+        let want = Changed {
+            executed,
+            mismatches,
+        };
+        assert_eq!(rt; made(&rt, &mut session, &edit, executed)?, Ok(want));
     }
     Ok(())
 }

@@ -1,5 +1,5 @@
 //! Scripts that take no memory.
-use super::fakes::Room;
+use crate::tests::fakes::Room;
 use std::io::Write;
 use std::test::Fail;
 

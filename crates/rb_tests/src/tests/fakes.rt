@@ -1,7 +1,8 @@
-//! A reader and a writer that fail, and a writer that takes no memory.
+//! A reader and a writer that fail, a writer that takes no memory, and long texts.
+
 ghost use Rattle.std.specs.Prelude.{◌≡◌, Some};
 
-use std::alloc::Global;
+use std::alloc::{AllocError, Global};
 use std::io;
 use std::io::{Error, ErrorKind, Read, Write};
 
@@ -131,4 +132,13 @@ impl Write for Room {
     fn flush(&mut self) -> io::Result<()> {
         Ok(())
     }
+}
+
+/// The text so many times.
+pub fn repeated(alloc: Global, text: &[u8], times: usize) -> Result<Vec<u8>, AllocError> {
+    let mut bytes = Vec::new(alloc);
+    for _ in 0..times {
+        bytes.extend_from_slice(text)?;
+    }
+    Ok(bytes)
 }

@@ -1,7 +1,7 @@
 //! Conversations, from outside: each answer is the one that docs/SESSION.md states.
-use super::fakes::{FailingReader, FailingWriter};
 use super::scripts::one_node;
-use crate::{BenchFault, serve};
+use crate::tests::fakes::{FailingReader, FailingWriter};
+use rb_bench::{BenchFault, serve};
 use rb_script::{ScriptFault, Through};
 use std::alloc::Global;
 use std::process::Abort;
@@ -313,12 +313,19 @@ fn a_longer_line_ends_the_session(rt: HostRuntime) -> Result<(), Fail> {
     answers(&rt, rt.alloc(), &input, b"refused LineTooLong\n", 4)
 }
 
+// Each byte comes by a call of its own.
 #[test]
 fn many_commands_are_taken(rt: HostRuntime) -> Result<(), Fail> {
     let mut input = Vec::new(rt.alloc());
     add_line(&mut input, b"", b'\n', 70_000)?;
     input.extend_from_slice(b"report\n")?;
-    answers(&rt, rt.alloc(), &input, b"1 directives, 0 mismatches\n", 0)
+    let mut reader = FailingReader::new(input.as_slice(), 1, usize::MAX);
+    let mut out = Through(Vec::new(rt.alloc()));
+    let answer = serve(rt.alloc(), ONE, 16, &mut reader, &mut out);
+    assert_eq!(rt; answer, Ok(0));
+    assert!(rt; out.0.as_slice() == b"1 directives, 0 mismatches\n".as_slice());
+    assert_eq!(rt; reader.calls, 70_009);
+    Ok(())
 }
 
 #[test]

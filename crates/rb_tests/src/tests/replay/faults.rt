@@ -1,6 +1,6 @@
 use super::{block_of, edit, lines_of, reports, start};
-use crate::{Session, StartFault};
 use rb_cluster::Cluster;
+use rb_replay::{Session, StartFault};
 use rb_script::{Edit, EditFault, ScriptFault};
 use std::process::Abort;
 use std::test::Fail;

@@ -1,6 +1,6 @@
 use super::{block_of, edit, lines_of, reports, shown, start};
-use crate::Session;
 use rb_cluster::Cluster;
+use rb_replay::Session;
 use rb_script::Edit;
 use std::alloc::Global;
 use std::process::Abort;

@@ -1,4 +1,4 @@
-//! What no clause says: examples from outside, that calls succeed, and a plain slow program beside the
+//! What no clause of rb_replay says: examples from outside, that calls succeed, and a plain slow program beside the
 //! session.
 
 mod examples;
@@ -7,8 +7,8 @@ mod plain;
 mod random;
 mod refusals;
 
-use crate::{Changed, Session, StartFault};
 use rb_cluster::{Cluster, Meter};
+use rb_replay::{Changed, Session, StartFault};
 use rb_script::{Block, Edit, EditFault, Lines, Through};
 use std::alloc::Global;
 use std::process::Abort;

@@ -1,5 +1,5 @@
-use super::fakes::FailingReader;
-use crate::{ReadFault, read_up_to};
+use crate::tests::fakes::FailingReader;
+use rb_bench::{ReadFault, read_up_to};
 use std::test::Fail;
 
 #[test]

@@ -1,5 +1,5 @@
-use super::fakes::{FailingReader, FailingWriter};
-use crate::{BenchFault, Mode, run_over};
+use crate::tests::fakes::{FailingReader, FailingWriter};
+use rb_bench::{BenchFault, Mode, run_over};
 use rb_script::{ScriptFault, Through};
 use std::alloc::Global;
 use std::process::Abort;

@@ -1,7 +1,7 @@
 //! Each allocation refused in turn, over a whole conversation.
-use super::fakes::Room;
 use super::scripts::one_node;
-use crate::{BenchFault, serve};
+use crate::tests::fakes::Room;
+use rb_bench::{BenchFault, serve};
 use rb_script::Through;
 use std::alloc::Global;
 use std::io::Write;

@@ -1,7 +1,7 @@
-mod fakes;
+//! What no clause of rb_line says: that each error of a reader is answered, and how many calls are made.
 
-use crate::{Fed, InputFault, LineBuffer, LineReader, Next};
-use fakes::{FailingReader, repeated};
+use crate::tests::fakes::{FailingReader, repeated};
+use rb_line::{Fed, InputFault, LineBuffer, LineReader, Next};
 use rb_script::{Lines, MAX_LINE};
 use std::alloc::Global;
 use std::io::Read;
@@ -86,7 +86,7 @@ fn tells_a_long_line_at_once(rt: HostRuntime) -> Result<(), Fail> {
     let (lines, stop) = lines_of(rt.alloc(), &mut reader, 100_000)?;
     assert!(rt; lines.is_empty());
     assert_eq!(rt; stop, Ok(Next::TooLong));
-    assert_eq!(rt; reader.calls(), 65_537);
+    assert_eq!(rt; reader.calls, 65_537);
     Ok(())
 }
 
@@ -114,7 +114,7 @@ fn makes_no_more_calls_than_it_may(rt: HostRuntime) -> Result<(), Fail> {
         let mut reader = FailingReader::new(b"a\nbc", 1, usize::MAX);
         let (_lines, got) = lines_of(rt.alloc(), &mut reader, calls)?;
         assert_eq!(rt; got, stop, "with {calls} calls");
-        assert_eq!(rt; reader.calls() as u64, calls);
+        assert_eq!(rt; reader.calls as u64, calls);
     }
     Ok(())
 }
@@ -128,7 +128,7 @@ fn asks_no_more_after_the_end(rt: HostRuntime) -> Result<(), Fail> {
     assert!(rt; input.line() == b"a".as_slice());
     assert_eq!(rt; input.next(&mut reader), Ok(Next::End));
     assert_eq!(rt; input.next(&mut reader), Ok(Next::End));
-    assert_eq!(rt; reader.calls(), 2);
+    assert_eq!(rt; reader.calls, 2);
     Ok(())
 }
 

@@ -88,6 +88,17 @@ pub(crate) struct Reuse {
 }
 
 impl Change {
+    /// The last place before the change.
+    fn start(self, kept: &[usize]) -> usize {
+        let mut start: usize = 0;
+        for place in kept {
+            if *place <= self.front && *place > start {
+                start = *place;
+            }
+        }
+        start
+    }
+
     /// The old place of a new one in the rest, if it was kept.
     fn old_kept(self, kept: &[usize], place: usize) -> Option<usize> {
         let old = place
@@ -121,12 +132,7 @@ impl Change {
         old: &Run,
         new: &Run,
     ) -> Result<Reuse, Fail> {
-        let mut start: usize = 0;
-        for place in kept {
-            if *place <= self.front && *place > start {
-                start = *place;
-            }
-        }
+        let start = self.start(kept);
         let met = self.stop(kept, start, old, new);
         let stop = met.unwrap_or(new.outputs.len());
         let mut places = Vec::new(alloc);

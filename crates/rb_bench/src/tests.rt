@@ -1,6 +1,0 @@
-mod fakes;
-mod reading;
-mod refusals;
-mod running;
-mod scripts;
-mod session;

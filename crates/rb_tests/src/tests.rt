@@ -1,0 +1,4 @@
+mod bench;
+mod fakes;
+mod line;
+mod replay;
