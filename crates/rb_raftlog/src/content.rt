@@ -1,0 +1,193 @@
+//! The content of a node: what its state machine has taken so far.
+//!
+//! The state machine of this bench joins the payloads that it is given, in order (a replicated state machine as in Ongaro's thesis,
+//! chapter 2, whose state can be looked at). So a content only grows, and a session keeps hundreds of contents that begin alike.
+//!
+//! It is cut into pieces of PIECE bytes, which never change and which copies share, and a rest behind them. The pieces stand in
+//! pages, so that a copy costs a pointer for each 64 pieces, some for the last ones, and the rest. Equal contents are cut at the
+//! same places. The rest always has the last bytes, as many as are shown, so these are there as one slice.
+
+ghost use Rattle.std.specs.Prelude.{◌≡◌, ◌+◌, ◌-◌, ◌<◌, ◌≤◌, ◌++◌, ◌↔◌, [], ◌∷◌, length, take, drop, IsTrue, IfOk, OnOk, OnErr};
+ghost use Rattle.rb_raftlog.specs.Content.{content_end};
+ghost use Rattle.rb_raftlog.specs.Cut.{IsCut};
+ghost use Rattle.rb_raftlog.specs.Packed.{joined};
+
+use crate::limits::{END, MAX_INDEX, PIECE};
+use crate::pages::Pages;
+use crate::shared::Shared;
+use std::alloc::{AllocError, Global};
+use std::marker::Model;
+use std::slice;
+
+/// Bytes that grow at their end. Contracts see the list of the bytes.
+#[derive(Drop)]
+pub struct Content {
+    // Each has PIECE bytes.
+    pieces: Pages<Shared<u8>>,
+    // Fewer than PIECE + END bytes, and at least END of them where there are pieces.
+    rest: Vec<u8>,
+}
+
+impl Model for Content {
+    ghost use Rattle.std.specs.Prelude.{List, ℕ, ◌++◌};
+    ghost use Rattle.rb_raftlog.specs.Packed.{joined};
+    ghost use Rattle.rb_raftlog.specs.Cut.{IsCut};
+
+    ghost Value = { List ℕ };
+
+    ghost view = { λ c. joined c.pieces ++ c.rest.items };
+
+    ghost invariant = { λ c. IsCut c.pieces c.rest.items };
+}
+
+/// A list of a part of the bytes.
+fn piece_of(alloc: Global, bytes: &[u8]) -> Result<Shared<u8>, AllocError>
+    ensures { IfOk result (λ piece. piece ≡ bytes.now) }
+{
+    Shared::new(Vec::from_slice(alloc, bytes)?)
+}
+
+/// The two as one list.
+fn joined_bytes(alloc: Global, front: &[u8], back: &[u8]) -> Result<Vec<u8>, AllocError>
+    ensures { IfOk result (λ bytes. bytes.items ≡ front.now ++ back.now) }
+{
+    let mut bytes = Vec::from_slice(alloc, front)?;
+    bytes.extend_from_slice(back)?;
+    Ok(bytes)
+}
+
+/// Whether the two are the same bytes.
+fn same_bytes(bytes: &[u8], others: &[u8]) -> bool
+    ensures { IsTrue result ↔ (bytes.now ≡ others.now) }
+{
+    bytes == others
+}
+
+/// Appends a piece, or leaves the pieces as they were.
+fn push_piece(pieces: &mut Pages<Shared<u8>>, piece: &Shared<u8>) -> Result<(), AllocError>
+    requires { length pieces.old < MAX_INDEX }
+    ensures ok { OnOk result (pieces.new ≡ pieces.old ++ piece.now ∷ []) }
+    ensures err { OnErr result (pieces.new ≡ pieces.old) }
+{
+    pieces.push_some(slice::from_ref(piece))?;
+    Ok(())
+}
+
+/// Appends the bytes, with which a piece is full, and cuts that off.
+fn cut_off(
+    pieces: &mut Pages<Shared<u8>>,
+    rest: &mut Vec<u8>,
+    bytes: &[u8],
+) -> Result<(), AllocError>
+    requires cut { IsCut pieces.old rest.old.items }
+    requires full { length rest.old.items + length bytes.now ≡ PIECE + END }
+    ensures cut { IsCut pieces.new rest.new.items }
+    ensures ok { OnOk result (joined pieces.new ++ rest.new.items ≡ (joined pieces.old ++ rest.old.items) ++ bytes.now) }
+{
+    if pieces.len() as u64 >= MAX_INDEX {
+        return Err(AllocError);
+    }
+    let alloc = pieces.allocator();
+    let whole = joined_bytes(alloc, rest, bytes)?;
+    let (front, back) = whole.as_slice().split_at(PIECE);
+    let piece = piece_of(alloc, front)?;
+    let left = Vec::from_slice(alloc, back)?;
+    push_piece(pieces, &piece)?;
+    *rest = left;
+    Ok(())
+}
+
+/// Whether the two lists of pieces are equal.
+fn same_pieces(pieces: &Pages<Shared<u8>>, others: &Pages<Shared<u8>>) -> bool
+    ensures { IsTrue result ↔ (pieces.now ≡ others.now) }
+{
+    if pieces.len() != others.len() {
+        return false;
+    }
+    for k in 0..pieces.len() {
+        if !pieces.item(k).same(others.item(k)) {
+            return false;
+        }
+    }
+    true
+}
+
+impl Content {
+    /// No bytes. It takes no memory.
+    pub fn new(alloc: Global) -> Content
+        ensures { result ≡ [] }
+    {
+        Content {
+            pieces: Pages::new(alloc),
+            rest: Vec::new(alloc),
+        }
+    }
+
+    /// A content of these bytes, which are copied.
+    pub fn from_slice(alloc: Global, bytes: &[u8]) -> Result<Content, AllocError>
+        ensures { IfOk result (λ content. content ≡ bytes.now) }
+    {
+        let mut content = Content::new(alloc);
+        content.append(bytes)?;
+        Ok(content)
+    }
+
+    /// How many bytes there are, without going over them.
+    pub fn len(&self) -> usize
+        ensures { result ≡ length self.now }
+    {
+        let _rest = &self.rest;
+        self.pieces.len() * PIECE + self.rest.len()
+    }
+
+    /// The last 32 bytes, or all where there are fewer. Nothing is joined or copied.
+    pub fn end(&self) -> &[u8]
+        ensures { result.now ≡ content_end self.now }
+    {
+        let _pieces = &self.pieces;
+        &self.rest[self.rest.len().saturating_sub(END)..]
+    }
+
+    // Appends the first bytes, at least one, and gives how many: as many as fit before the next piece is cut off.
+    fn append_some(&mut self, bytes: &[u8]) -> Result<usize, AllocError>
+        requires { 0 < length bytes.now }
+        ensures { IfOk result (λ n. (0 < n) × (n ≤ length bytes.now) × (self.new ≡ self.old ++ take n bytes.now)) }
+    {
+        let n = bytes.len().min(PIECE + END - self.rest.len());
+        if self.rest.len() + n < PIECE + END {
+            self.rest.extend_from_slice(&bytes[..n])?;
+            return Ok(n);
+        }
+        cut_off(&mut self.pieces, &mut self.rest, &bytes[..n])?;
+        Ok(n)
+    }
+
+    /// Appends the bytes. It copies them, once or twice, and at times a page of pointers: what it costs goes by what is appended,
+    /// and not by what is there. A content of more than 2,000,000,000 pieces is refused as if memory had been.
+    pub fn append(&mut self, bytes: &[u8]) -> Result<(), AllocError>
+        ensures { OnOk result (self.new ≡ self.old ++ bytes.now) }
+    {
+        let mut done = 0;
+        while done < bytes.len() {
+            done += self.append_some(&bytes[done..])?;
+        }
+        Ok(())
+    }
+
+    /// The same content once more: pointers to its pieces, some of them by the page, and a copy of the rest.
+    pub fn try_copy(&self) -> Result<Content, AllocError>
+        ensures { IfOk result (λ copy. copy ≡ self.now) }
+    {
+        Ok(Content {
+            pieces: self.pieces.copy_from(0)?,
+            rest: Vec::from_slice(*self.rest.allocator(), &self.rest)?,
+        })
+    }
+
+    /// Whether both are the same bytes. Contents of different lengths are told at once, then their ends are looked at.
+    pub fn same(&self, other: &Content) -> bool
+        ensures { IsTrue result ↔ (self.now ≡ other.now) }
+    {
+        same_bytes(&self.rest, &other.rest) && same_pieces(&self.pieces, &other.pieces)
+    }
+}

@@ -1,0 +1,154 @@
+//! What a message holds of a log.
+//!
+//! A leader sends the same entries to many followers, and a session keeps hundreds of clusters with messages under way. So what a
+//! message holds is one pointer to a list that never changes: its copies share it, and where the log that it is of has pages, it
+//! shares these too. No entries take no memory.
+
+ghost use Rattle.std.specs.Prelude.{◌≡◌, ◌<◌, ◌≤◌, ◌↔◌, [], length, slice_index_or, vec_len, IsTrue, IfOk};
+ghost use Rattle.rb_raftlog.specs.Log.{last_of};
+
+use crate::entry::Entry;
+use crate::entry_list::EntryList;
+use crate::limits::MAX_INDEX;
+use crate::pieces::Pieces;
+use crate::split_store::SplitStore;
+use crate::store::Store;
+use std::alloc::AllocError;
+use std::marker::Model;
+use std::rc::Rc;
+
+/// Entries that are shared and never change. Contracts see the list of the entries.
+#[derive(Drop)]
+pub struct Entries {
+    // Nothing where there are no entries.
+    store: Option<Rc<SplitStore>>,
+}
+
+impl Model for Entries {
+    ghost use Rattle.std.specs.Prelude.{List};
+    ghost use Rattle.rb_raftlog.specs.declared.entry.Entry.{Entry};
+    ghost use Rattle.rb_raftlog.specs.Shares.{entries_behind};
+
+    ghost Value = { List Entry };
+
+    ghost view = { λ e. entries_behind e.store };
+}
+
+impl Entries {
+    /// No entries. It takes no memory.
+    pub fn empty() -> Entries
+        ensures { result ≡ [] }
+    {
+        Entries { store: None }
+    }
+
+    /// The entries that a store holds.
+    pub(crate) fn of(store: SplitStore) -> Result<Entries, AllocError>
+        ensures { IfOk result (λ entries. entries ≡ store.entries) }
+    {
+        if store.len() == 0 {
+            return Ok(Entries::empty());
+        }
+        let alloc = store.allocator();
+        Ok(Entries {
+            store: Some(Rc::new(alloc, store)?),
+        })
+    }
+
+    /// These entries, which are moved.
+    pub fn from_vec(entries: Vec<Entry>) -> Result<Entries, AllocError>
+        requires { vec_len entries ≤ MAX_INDEX }
+        ensures { IfOk result (λ shared. shared ≡ entries.items) }
+    {
+        Entries::of(SplitStore::unkept(entries))
+    }
+
+    /// How many entries there are.
+    pub fn len(&self) -> usize
+        ensures { result ≡ length self.now }
+    {
+        EntryList::len(self)
+    }
+
+    /// The entry at a place, counted from 0, without a search.
+    pub fn entry(&self, k: usize) -> &Entry
+        requires { k < length self.now }
+        ensures { result.now ≡ slice_index_or self.now k result.now }
+    {
+        EntryList::entry(self, k)
+    }
+
+    /// Whether there are no entries.
+    pub fn is_empty(&self) -> bool
+        ensures { IsTrue result ↔ (self.now ≡ []) }
+    {
+        self.len() == 0
+    }
+
+    /// The term of the last entry, if there is one. It costs no search.
+    pub fn last_term(&self) -> Option<u64>
+        ensures { result ≡ last_of self.now }
+    {
+        let len = self.len();
+        if len == 0 {
+            return None;
+        }
+        Some(self.entry(len - 1).term)
+    }
+
+    /// The entries, in pieces.
+    pub fn pieces(&self) -> Pieces<'_>
+        ensures { result ≡ self.now }
+    {
+        match &self.store {
+            None => Pieces::one(&[]),
+            Some(store) => store.pieces(0),
+        }
+    }
+
+    /// The same entries once more: one pointer, however many there are.
+    pub fn try_copy(&self) -> Result<Entries, AllocError>
+        ensures { IfOk result (λ copy. copy ≡ self.now) }
+    {
+        match &self.store {
+            None => Ok(Entries::empty()),
+            Some(store) => Ok(Entries {
+                store: Some(store.clone()?),
+            }),
+        }
+    }
+
+    /// Whether both are the same entries, whoever holds them. Different numbers of entries are told at once, others entry by entry.
+    pub fn same(&self, other: &Entries) -> bool
+        ensures { IsTrue result ↔ (self.now ≡ other.now) }
+    {
+        let len = self.len();
+        if len != other.len() {
+            return false;
+        }
+        for k in 0..len {
+            if !self.entry(k).same(other.entry(k)) {
+                return false;
+            }
+        }
+        true
+    }
+}
+
+impl EntryList for Entries {
+    ghost listed = { λ e. e };
+
+    fn len(&self) -> usize {
+        match &self.store {
+            None => 0,
+            Some(store) => store.len(),
+        }
+    }
+
+    fn entry(&self, k: usize) -> &Entry {
+        match &self.store {
+            None => unreachable!(),
+            Some(store) => store.entry(k),
+        }
+    }
+}

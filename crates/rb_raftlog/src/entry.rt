@@ -1,0 +1,123 @@
+//! Entries of a Raft log.
+//!
+//! An entry is a command with the term in which a leader took it (Ongaro's thesis, section 3.3). The command is a payload, which
+//! the state machine takes as it is, or a change of the cluster's configuration (section 4). An entry doesn't know its index: that
+//! is its place in the log.
+//!
+//! Bytes and words are shared and never change, so a copy of an entry copies a pointer.
+
+ghost use Rattle.std.specs.Prelude.{◌≡◌, ◌↔◌, IsTrue, IfOk};
+
+use crate::shared::Shared;
+use std::alloc::AllocError;
+
+/// How a change of the configuration is made: at once or over a joint configuration, and whether that is left by itself
+/// (`ConfChangeTransition` in etcd's raft).
+#[derive(Clone, Copy, PartialEq, Eq, Debug)]
+pub enum Transition {
+    /// At once where one voter changes, else over a joint configuration that is left by itself.
+    Auto,
+    /// Over a joint configuration that a further change leaves.
+    Explicit,
+    /// Over a joint configuration that is left by itself.
+    Implicit,
+}
+
+/// What a word of a change does with its id (`ConfChangeType` in etcd's raft).
+#[derive(Clone, Copy, PartialEq, Eq, Debug)]
+pub enum WordKind {
+    /// Makes the node a voter.
+    Voter,
+    /// Makes it a learner.
+    Learner,
+    /// Takes it out of the configuration.
+    Remove,
+    /// Leaves the configuration as it is.
+    Update,
+}
+
+/// One word of a change: what becomes of which node.
+#[derive(Clone, Copy, PartialEq, Eq, Debug)]
+pub struct Word {
+    pub kind: WordKind,
+    pub id: u64,
+}
+
+/// What an entry brings.
+#[derive(Drop)]
+pub enum Body {
+    /// Bytes for the state machine.
+    Payload(Shared<u8>),
+    /// A change of the configuration, its words in order. One without words leaves a joint configuration.
+    Change {
+        transition: Transition,
+        words: Shared<Word>,
+    },
+}
+
+impl Body {
+    ghost use Rattle.rb_raftlog.specs.Bodies.{is_change};
+
+    /// Whether it changes the configuration.
+    pub fn is_change(&self) -> bool
+        ensures { result ≡ is_change self.now }
+    {
+        matches!(self, Body::Change { .. })
+    }
+
+    /// The same body once more. It costs a pointer.
+    pub fn try_copy(&self) -> Result<Body, AllocError>
+        ensures { IfOk result (λ copy. copy ≡ self.now) }
+    {
+        match self {
+            Body::Payload(bytes) => Ok(Body::Payload(bytes.try_copy()?)),
+            Body::Change { transition, words } => Ok(Body::Change {
+                transition: *transition,
+                words: words.try_copy()?,
+            }),
+        }
+    }
+
+    /// Whether both bring the same.
+    pub fn same(&self, other: &Body) -> bool
+        ensures { IsTrue result ↔ (self.now ≡ other.now) }
+    {
+        match (self, other) {
+            (Body::Payload(a), Body::Payload(b)) => a.same(b),
+            (
+                Body::Change { transition, words },
+                Body::Change {
+                    transition: other_transition,
+                    words: other_words,
+                },
+            ) => *transition == *other_transition && words.same(other_words),
+            _ => false,
+        }
+    }
+}
+
+/// An entry: the term in which it was proposed, and what it brings.
+#[derive(Drop)]
+pub struct Entry {
+    pub term: u64,
+    pub body: Body,
+}
+
+impl Entry {
+    /// The same entry once more. It costs a pointer.
+    pub fn try_copy(&self) -> Result<Entry, AllocError>
+        ensures { IfOk result (λ copy. copy ≡ self.now) }
+    {
+        Ok(Entry {
+            term: self.term,
+            body: self.body.try_copy()?,
+        })
+    }
+
+    /// Whether both are the same entry. Terms are looked at first.
+    pub fn same(&self, other: &Entry) -> bool
+        ensures { IsTrue result ↔ (self.now ≡ other.now) }
+    {
+        self.term == other.term && self.body.same(&other.body)
+    }
+}

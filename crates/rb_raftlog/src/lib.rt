@@ -1,0 +1,50 @@
+//! Entries of a Raft log, snapshots, and logs.
+//!
+//! [`RaftLog`] says what a log is; [`PlainLog`] and [`SplitLog`] are two that mean the same. [`Entries`] is what a message holds of
+//! one, and [`Content`] what comes of applying payloads.
+#![tactic(auto)]
+
+mod conf_state;
+mod content;
+mod entries;
+mod entry;
+mod entry_list;
+mod laws;
+mod limits;
+mod log;
+mod page;
+mod pages;
+mod pieces;
+mod plain_store;
+mod raft_log;
+mod shared;
+mod snapshot;
+mod split_store;
+mod store;
+mod try_copy;
+
+pub use conf_state::ConfState;
+pub use content::Content;
+pub use entries::Entries;
+pub use entry::{Body, Entry, Transition, Word, WordKind};
+pub use entry_list::EntryList;
+pub use laws::{
+    appended_entries_match, appending_again_changes_nothing, committed_entries_stay,
+    compacting_keeps_terms, durable_stays_within, held_entries_stay, hints_are_greatest,
+    logs_are_ordered,
+};
+pub use limits::{MAX_INDEX, MAX_TERM, limits_are};
+pub use log::Log;
+pub use pieces::Pieces;
+pub use plain_store::PlainStore;
+pub use raft_log::{Appended, CompactFault, LogFault, RaftLog};
+pub use shared::Shared;
+pub use snapshot::Snapshot;
+pub use split_store::SplitStore;
+pub use store::Store;
+
+/// A log whose entries are one list.
+pub type PlainLog = Log<PlainStore>;
+
+/// A log whose durable entries are in pages, which copies share; what isn't durable stands after them.
+pub type SplitLog = Log<SplitStore>;

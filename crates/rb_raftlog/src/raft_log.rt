@@ -1,0 +1,175 @@
+//! What a log is.
+//!
+//! Raft keeps a replicated log (Ongaro's thesis, chapter 3). Each node has one: entries at ascending indexes after a base, where a
+//! snapshot has taken the place of what stood before (chapter 5). A leader appends entries of its own; a follower takes those of a
+//! leader, after an entry that both have, and gives up what conflicts with them (section 3.5). What is written to stable storage
+//! is durable, up to an index.
+//!
+//! Contracts see a log as one plain record, whatever holds the entries: its base, the base's term, the list of entries, and the last
+//! durable index. In what is said of costs, n is the number of entries, p the number of pages, about n / 64, and t how many entries
+//! aren't durable. A copy of an entry costs a pointer.
+
+ghost use Rattle.std.specs.Prelude.{◌≡◌, ◌+◌, ◌<◌, ◌≤◌, ◌↔◌, Ok, Err, length, IsTrue, IfOk, IfErr, OnOk};
+ghost use Rattle.rb_raftlog.specs.Log.{LogValue, IsLog, IsCompacted, fresh, first, last, last_term, is_up_to_date, term_at, entry_at, entries_from, entries_after, has_change, hint, appended, answer, own, not_durable, made_durable, restored};
+
+use crate::entries::Entries;
+use crate::entry::Entry;
+use crate::limits::MAX_INDEX;
+use crate::pieces::Pieces;
+use crate::snapshot::Snapshot;
+use std::alloc::{AllocError, Global};
+
+/// Why there is nothing at an index.
+#[derive(Clone, Copy, PartialEq, Eq, Debug)]
+pub enum LogFault {
+    /// It is below the base, or for entries at the base.
+    Compacted,
+    /// It is past the last index, or for entries from an index on past the one after it.
+    Unavailable,
+}
+
+/// Why a log isn't compacted.
+#[derive(Clone, Copy, PartialEq, Eq, Debug)]
+pub enum CompactFault {
+    /// The index is at or below the base.
+    AlreadyCompacted,
+    /// The index is above what is applied.
+    PastApplied,
+    /// There is no memory. Neither of this crate's logs ever answers it.
+    OutOfMemory,
+}
+
+/// What came of appending after an entry.
+#[derive(Clone, Copy, PartialEq, Eq, Debug)]
+pub enum Appended {
+    /// The log matches what was sent up to this index.
+    Matched(u64),
+    /// The entry to append after isn't held; the leader may try at this index.
+    Refused(u64),
+    /// An entry that is committed would have to change, at this index.
+    BelowCommit(u64),
+}
+
+/// A log: one list of entries on a base, and the last index that is durable.
+pub trait RaftLog: Drop {
+    ghost plain: { Self → LogValue };
+
+    /// A log of this base, durable there, with no entries.
+    fn fresh(alloc: Global, index: u64, term: u64) -> Result<Self, AllocError>
+        requires { index ≤ MAX_INDEX }
+        ensures { IfOk result (λ log. plain log ≡ fresh index term) };
+
+    /// The index after the base. It costs no search.
+    fn first_index(&self) -> u64
+        ensures { result ≡ first (plain self.now) };
+
+    /// The index of the last entry, or the base where there is none. It costs no search.
+    fn last_index(&self) -> u64
+        ensures value { result ≡ last (plain self.now) }
+        ensures sound { IsLog (plain self.now) };
+
+    /// The term of the entry that was at the base.
+    fn base_term(&self) -> u64
+        ensures { result ≡ (plain self.now).base_term };
+
+    /// The last index that is durable.
+    fn durable(&self) -> u64
+        ensures { result ≡ (plain self.now).durable };
+
+    /// The term at an index: the base's, or that of the entry there. It costs no search.
+    fn term_at(&self, index: u64) -> Result<u64, LogFault>
+        ensures { result ≡ term_at (plain self.now) index };
+
+    /// The entry at an index. It costs no search and copies nothing, so going over the entries between two indexes costs what
+    /// they are.
+    fn entry_at(&self, index: u64) -> Result<&Entry, LogFault>
+        ensures found { IfOk result (λ entry. entry_at (plain self.now) index ≡ Ok entry.now) }
+        ensures none { IfErr result (λ fault. entry_at (plain self.now) index ≡ Err fault) };
+
+    /// The term of the last entry, or the base's where there is none. It costs no search.
+    fn last_term(&self) -> u64
+        ensures { result ≡ last_term (plain self.now) };
+
+    /// Whether a log that ends at this index with this term is at least as new as this one, so that its node may have this one's
+    /// vote (Ongaro's thesis, section 3.6.1). It costs no search.
+    fn is_up_to_date(&self, index: u64, term: u64) -> bool
+        ensures { result ≡ is_up_to_date (plain self.now) index term };
+
+    /// The entries from an index on, in pieces. It costs no search and copies nothing.
+    fn entries(&self, from: u64) -> Result<Pieces<'_>, LogFault>
+        ensures { result ≡ entries_from (plain self.now) from };
+
+    /// The entries past an index, as a message holds them; all of them where the index is below the base. A plain log copies each of
+    /// them; a split one copies a pointer for each page of them, and those that aren't durable.
+    fn entries_after(&self, index: u64) -> Result<Entries, AllocError>
+        ensures { IfOk result (λ entries. entries ≡ entries_after (plain self.now) index) };
+
+    /// Whether an entry past one index and up to another changes the configuration. It costs what lies between them.
+    fn has_change(&self, after: u64, upto: u64) -> bool
+        ensures { result ≡ has_change (plain self.now) after upto };
+
+    /// The greatest index from the base on, at most `index` and the last one, whose term is at most `term`; 0 if there is none.
+    /// It goes down from `index` and costs what it goes past: terms need not ascend.
+    fn hint(&self, index: u64, term: u64) -> u64
+        ensures { result ≡ hint (plain self.now) index term };
+
+    /// Takes the entries of a leader, which go after index `prev`, if what is there has this term. From the first on that differs
+    /// in term from what is held, or goes past it, they take the place of what stood there; what is dropped isn't durable any more.
+    /// Nothing at or below `commit` ever changes. It costs what is sent and what is dropped, and at most a page; a refusal costs what
+    /// the hint goes past.
+    fn append_after(
+        &mut self,
+        prev: u64,
+        prev_term: u64,
+        entries: &[Entry],
+        commit: u64,
+    ) -> Result<Appended, AllocError>
+        requires { prev + length entries.now ≤ MAX_INDEX }
+        ensures log { OnOk result (plain self.new ≡ appended (plain self.old) prev prev_term entries.now commit) }
+        ensures answer { IfOk result (λ told. told ≡ answer (plain self.old) prev prev_term entries.now commit) };
+
+    /// [`RaftLog::append_after`] of what a message holds.
+    fn append_shared(
+        &mut self,
+        prev: u64,
+        prev_term: u64,
+        entries: &Entries,
+        commit: u64,
+    ) -> Result<Appended, AllocError>
+        requires { prev + length entries.now ≤ MAX_INDEX }
+        ensures log { OnOk result (plain self.new ≡ appended (plain self.old) prev prev_term entries.now commit) }
+        ensures answer { IfOk result (λ told. told ≡ answer (plain self.old) prev prev_term entries.now commit) };
+
+    /// Appends an entry of one's own. It costs the one entry.
+    fn push_own(&mut self, entry: Entry) -> Result<(), AllocError>
+        requires { last (plain self.old) < MAX_INDEX }
+        ensures { OnOk result (plain self.new ≡ own (plain self.old) entry) };
+
+    /// The entries past the last durable one.
+    fn not_durable(&self) -> &[Entry]
+        ensures { result.now ≡ not_durable (plain self.now) };
+
+    /// Makes all entries durable. A plain log only counts; a split one copies pointers to the t entries, and at most a page more.
+    fn mark_durable(&mut self) -> Result<(), AllocError>
+        ensures { OnOk result (plain self.new ≡ made_durable (plain self.old)) };
+
+    /// Drops the entries up to `index`, which becomes the base. A split log drops the pages that end there and moves the list of the
+    /// others; a plain one moves the entries that stay. Neither takes memory.
+    fn compact(&mut self, index: u64, applied: u64) -> Result<(), CompactFault>
+        requires { applied ≤ (plain self.old).durable }
+        ensures { IsCompacted (plain self.old) index applied result (plain self.new) };
+
+    /// Puts a snapshot in the place of all entries, which are dropped. It takes no memory.
+    fn restore(&mut self, snapshot: &Snapshot)
+        requires { snapshot.now.index ≤ MAX_INDEX }
+        ensures { plain self.new ≡ restored snapshot.now };
+
+    /// The same log once more. A plain log copies n entries; a split one p pointers to pages, and the t entries that aren't durable.
+    fn try_copy(&self) -> Result<Self, AllocError>
+        ensures { IfOk result (λ copy. plain copy ≡ plain self.now) };
+
+    /// Whether the two are one list on one base, whatever holds the entries. Base, length, what is durable and the last term are
+    /// looked at first; logs that agree in them are compared entry by entry.
+    fn same(&self, other: &Self) -> bool
+        ensures { IsTrue result ↔ (plain self.now ≡ plain other.now) };
+}

@@ -1,0 +1,41 @@
+//! Copies that may find no memory.
+//!
+//! What lists and pages hold is copied by pointers. A copy takes a count of a shared list up by one, which can be refused, so it
+//! answers a `Result`, and where it succeeds the copy is equal.
+
+ghost use Rattle.std.specs.Prelude.{◌≡◌, ◌++◌, ◌+◌, ◌≤◌, length, IfOk, OnOk};
+
+use crate::entry::Entry;
+use crate::shared::Shared;
+use std::alloc::AllocError;
+
+/// What can be copied.
+pub(crate) trait TryCopy: Drop {
+    /// The same value once more.
+    fn try_copy(&self) -> Result<Self, AllocError>
+        ensures { IfOk result (λ copy. copy ≡ self.now) };
+}
+
+impl TryCopy for Entry {
+    fn try_copy(&self) -> Result<Entry, AllocError> {
+        Entry::try_copy(self)
+    }
+}
+
+impl TryCopy for Shared<u8> {
+    fn try_copy(&self) -> Result<Shared<u8>, AllocError> {
+        Shared::try_copy(self)
+    }
+}
+
+/// Appends a copy of each item.
+pub(crate) fn push_copies<T: TryCopy>(copies: &mut Vec<T>, items: &[T]) -> Result<(), AllocError>
+    ensures ok { OnOk result (copies.new.items ≡ copies.old.items ++ items.now) }
+    ensures kept { length copies.old.items ≤ length copies.new.items }
+    ensures within { length copies.new.items ≤ length copies.old.items + length items.now }
+{
+    for item in items {
+        copies.push(item.try_copy()?)?;
+    }
+    Ok(())
+}

@@ -1,0 +1,6 @@
+mod examples;
+mod making;
+mod random;
+mod refusals;
+mod slow;
+mod values;
