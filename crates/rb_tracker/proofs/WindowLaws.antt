@@ -1,0 +1,94 @@
+-- Lemmas on windows, and on the views that have them
+use Rattle.std.proofs.Common.{◌≡◌, ℕ, zero, suc, ◌+◌, ◌<◌, ◌≤◌, ◌^◌, Bool, true, List, [], ◌∷◌, ◌++◌, take, filter, slice_get, Some, refl, ap, sym, arith, add-one, nat_lt}
+use Rattle.std.proofs.lemmas.Bool.Decides.{nat_tests}
+use Rattle.rb_tracker.specs.Sets.{AreAbove, AreBelow, IsAscending}
+use Rattle.rb_tracker.specs.Windows.{PlainWindow, freed}
+use Rattle.rb_tracker.specs.Progresses.{IsProgress}
+use Rattle.rb_tracker.specs.declared.progress.ProgressState.{ProgressState}
+use Rattle.rb_tracker.specs.declared.progress.ProgressState.TheVariants.{Probe, Replicate, Snapshot}
+use Rattle.rb_tracker.proofs.SetLaws.{if_both, above_lower}
+
+below_higher : (high higher : ℕ) (xs : List ℕ) → high ≤ higher → AreBelow high xs → AreBelow higher xs
+below_higher high higher [] h below = tt
+below_higher high higher (x ∷ xs) h below = (let near : x < high = below.0 in omega arith, below_higher high higher xs h below.1)
+
+below_filter : (p : ℕ → Bool) (high : ℕ) (xs : List ℕ) → AreBelow high xs → AreBelow high (filter p xs)
+below_filter p high [] below = tt
+below_filter p high (x ∷ xs) below =
+    if_both (AreBelow high) (p x) (x ∷ filter p xs) (filter p xs) (λ _. (below.0, below_filter p high xs below.1)) (λ _. below_filter p high xs below.1)
+
+below_push : (high x : ℕ) (xs : List ℕ) → x < high → AreBelow high xs → AreBelow high (xs ++ x ∷ [])
+below_push high x [] h below = (h, tt)
+below_push high x (y ∷ ys) h below = (below.0, below_push high x ys h below.1)
+
+above_push : (low x : ℕ) (xs : List ℕ) → low < x → AreAbove low xs → AreAbove low (xs ++ x ∷ [])
+above_push low x [] h above = (h, tt)
+above_push low x (y ∷ ys) h above = (above.0, above_push low x ys h above.1)
+
+-- a number above all goes last
+pub ascending_push : (xs : List ℕ) (x : ℕ) → IsAscending xs → AreBelow x xs → IsAscending (xs ++ x ∷ [])
+ascending_push [] x up below = (tt, tt)
+ascending_push (y ∷ ys) x up below = (above_push y x ys below.0 up.0, ascending_push ys x up.1 below.1)
+
+filter_above : (low : ℕ) (xs : List ℕ) → AreAbove low xs → filter (λ i. nat_lt low i) xs ≡ xs
+filter_above low [] above = refl
+filter_above low (x ∷ xs) above =
+    let in_flight : nat_lt low x ≡ true = let far : low < x = above.0 in grind (arith, nat_tests) in
+    rw in_flight (ap (λ l. x ∷ l) (filter_above low xs above.1))
+
+rest_stays : (xs : List ℕ) (index first : ℕ) → slice_get xs 0 ≡ Some first → index < first → IsAscending xs → filter (λ i. nat_lt index i) xs ≡ xs
+rest_stays [] index first at h up = cc
+rest_stays (x ∷ xs) index first at h up =
+    let same : x ≡ first = cc in
+    let far : index < x = omega arith in
+    filter_above index (x ∷ xs) (far, above_lower index x xs far up.0)
+
+-- where the first index is above one, all are
+pub freed_rest : (w : PlainWindow) (index first : ℕ) → slice_get w.in_flight 0 ≡ Some first → index < first → IsAscending w.in_flight → w ≡ freed w index
+freed_rest w index first at h up = sym (ap (λ (l : List ℕ). record w { in_flight = l }) (rest_stays w.in_flight index first at h up))
+
+above_at : (xs : List ℕ) (i low x : ℕ) → AreAbove low xs → slice_get xs i ≡ Some x → low < x
+above_at [] i low x above at = cc
+above_at (y ∷ ys) zero low x above at = let same : y ≡ x = cc in rw (← same) above.0
+above_at (y ∷ ys) (suc i) low x above at = above_at ys i low x above.1 at
+
+-- those before a place of an ascending list are below what stands there
+pub below_at : (xs : List ℕ) (i x : ℕ) → IsAscending xs → slice_get xs i ≡ Some x → AreBelow x (take i xs)
+below_at [] i x up at = cc
+below_at (y ∷ ys) zero x up at = tt
+below_at (y ∷ ys) (suc i) x up at = (above_at ys i y x up.0 at, below_at ys i x up.1 at)
+
+take_one_more : {X : Type 0} (xs : List X) (i : ℕ) (x : X) → slice_get xs i ≡ Some x → take (suc i) xs ≡ take i xs ++ x ∷ []
+take_one_more [] i x h = cc
+take_one_more (y ∷ ys) zero x h = cc
+take_one_more (y ∷ ys) (suc i) x h = ap (λ l. y ∷ l) (take_one_more ys i x h)
+
+-- one more item
+pub take_more_some : {X : Type 0} (xs : List X) (i : ℕ) (x : X) → slice_get xs i ≡ Some x → take (i + 1) xs ≡ take i xs ++ x ∷ []
+take_more_some xs i x h = rw add-one (take_one_more xs i x h)
+
+-- where a view replicates, what is in flight is below what is sent next
+pub in_flight_below : (state : ProgressState) (matched next last : ℕ) (xs : List ℕ) → IsProgress state matched next xs → state ≡ Replicate → next ≤ last → AreBelow last xs
+in_flight_below Probe matched next last xs is same h = cc
+in_flight_below Replicate matched next last xs is same h = below_higher next last xs h is.in_use
+in_flight_below Snapshot matched next last xs is same h = cc
+
+-- one more append in flight
+pub sent_stays : (state : ProgressState) (matched next last : ℕ) (xs : List ℕ) → IsProgress state matched next xs → state ≡ Replicate → next ≤ last → last + 1 < 2 ^ 41 → IsProgress state matched (last + 1) (xs ++ last ∷ [])
+sent_stays Probe matched next last xs is same h fits = cc
+sent_stays Replicate matched next last xs is same h fits = record {
+  matched_fits = is.matched_fits;
+  next_fits = fits;
+  in_use = below_push (last + 1) last xs (omega arith) (below_higher next (last + 1) xs (omega arith) is.in_use);
+}
+sent_stays Snapshot matched next last xs is same h fits = cc
+
+-- fewer appends in flight, and more to send next
+pub freed_stays : (state : ProgressState) (matched next newer later index : ℕ) (xs : List ℕ) → IsProgress state matched next xs → newer + 1 < 2 ^ 41 → later < 2 ^ 41 → next ≤ later → IsProgress state newer later (filter (λ i. nat_lt index i) xs)
+freed_stays Probe matched next newer later index xs is fits fits' h = record { matched_fits = fits; next_fits = fits'; in_use = ap (filter (λ i. nat_lt index i)) is.in_use }
+freed_stays Replicate matched next newer later index xs is fits fits' h = record {
+  matched_fits = fits;
+  next_fits = fits';
+  in_use = below_filter (λ i. nat_lt index i) later xs (below_higher next later xs h is.in_use);
+}
+freed_stays Snapshot matched next newer later index xs is fits fits' h = record { matched_fits = fits; next_fits = fits'; in_use = ap (filter (λ i. nat_lt index i)) is.in_use }

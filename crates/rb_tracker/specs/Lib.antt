@@ -1,0 +1,11 @@
+pub mod Sets
+pub mod Windows
+pub mod Progresses
+pub mod Configs
+pub mod Quorum
+pub mod Ballots
+pub mod Changes
+pub mod Trackers
+pub mod Commits
+pub mod Active
+pub mod Lending

@@ -1,0 +1,128 @@
+-- Progress: what a leader knows of a follower's log (Ongaro's thesis, section 3.5; etcd raft documentation, "Progress")
+use Rattle.std.specs.Prelude.{ℕ, ◌≡◌, ◌<◌, ◌+◌, ◌-◌, ◌^◌, max, min, nat_le, nat_lt, Bool, true, false, not, ◌&&◌, ◌||◌, List, [], ◌==◌, if◌then◌else◌}
+use Rattle.rb_tracker.specs.Sets.{AreBelow}
+use Rattle.rb_tracker.specs.Windows.{PlainWindow, empty_window, is_full, emptied, pushed, freed}
+use Rattle.rb_tracker.specs.declared.progress.ProgressState.{ProgressState}
+use Rattle.rb_tracker.specs.declared.progress.ProgressState.TheVariants.{Probe, Replicate, Snapshot}
+
+pub record PlainProgress : Type 0 where
+  pub state : ProgressState
+  -- the last index that the follower is known to hold
+  pub matched : ℕ
+  -- the first index that it is sent next
+  pub next : ℕ
+  -- a probe is on its way
+  pub waiting : Bool
+  -- the index of a snapshot on its way, or 0
+  pub pending : ℕ
+  -- it was heard of since the leader last looked
+  pub active : Bool
+  pub window : PlainWindow
+
+-- a follower of which nothing is known
+abbrev pub probing : ℕ → ℕ → Bool → PlainProgress
+probing capacity next active = record { state = Probe; matched = 0; next = next; waiting = false; pending = 0; active = active; window = empty_window capacity }
+
+-- a leader's view of itself
+abbrev pub own_view : ℕ → ℕ → ℕ → PlainProgress
+own_view capacity matched next = record (probing capacity next true) { state = Replicate; matched = matched }
+
+-- nothing is sent for now
+abbrev pub paused_in : ProgressState → PlainProgress → Bool
+paused_in Probe p = p.waiting
+paused_in Replicate p = is_full p.window
+paused_in Snapshot p = true
+
+abbrev pub paused : PlainProgress → Bool
+paused p = paused_in p.state p
+
+abbrev pub marked : PlainProgress → Bool → PlainProgress
+marked p active = record p { active = active }
+
+abbrev pub resumed : PlainProgress → PlainProgress
+resumed p = record p { waiting = false }
+
+-- the log is probed from what is known
+abbrev pub probed : PlainProgress → PlainProgress
+probed p = record p { state = Probe; next = p.matched + 1; waiting = false; window = emptied p.window }
+
+-- a snapshot up to an index is on its way
+abbrev pub snapshotting : PlainProgress → ℕ → PlainProgress
+snapshotting p index = record p { state = Snapshot; pending = index; next = index + 1; window = emptied p.window }
+
+-- appends follow one another without waiting for answers
+abbrev pub replicating : PlainProgress → PlainProgress
+replicating p = record p { state = Replicate; next = p.matched + 1; waiting = false; pending = 0; window = emptied p.window }
+
+abbrev pub sent_up_to : PlainProgress → ℕ → PlainProgress
+sent_up_to p last = record p { window = pushed p.window last; next = last + 1 }
+
+-- an append of all up to the last index was sent: a probe waits for its answer, what is new joins the window
+abbrev pub sent_in : ProgressState → PlainProgress → ℕ → PlainProgress
+sent_in Probe p last = record p { waiting = true }
+sent_in Replicate p last = if nat_le p.next last && not (is_full p.window) then sent_up_to p last else p
+sent_in Snapshot p last = p
+
+abbrev pub sent : PlainProgress → ℕ → PlainProgress
+sent p last = sent_in p.state p last
+
+-- the follower holds all up to an index
+abbrev pub matching : PlainProgress → ℕ → PlainProgress
+matching p index = record p { matched = index; next = max p.next (index + 1) }
+
+abbrev pub acked_in : ProgressState → PlainProgress → ℕ → PlainProgress
+acked_in Probe p index = replicating (matching p index)
+acked_in Replicate p index = record (matching p index) { window = freed p.window index }
+acked_in Snapshot p index = if nat_le p.pending index then replicating (matching p index) else matching p index
+
+abbrev pub is_probing : ProgressState → Bool
+is_probing Probe = true
+is_probing Replicate = false
+is_probing Snapshot = false
+
+-- an accepted index tells something: more than is known, or that a probe has found the place
+abbrev pub is_news : PlainProgress → ℕ → Bool
+is_news p index = nat_lt p.matched index || (p.matched == index && is_probing p.state)
+
+-- an accepted index is known
+abbrev pub acked : PlainProgress → ℕ → PlainProgress
+acked p index = acked_in p.state p index
+
+-- an accepted index that tells nothing frees the window
+abbrev pub freed_in : ProgressState → PlainProgress → ℕ → PlainProgress
+freed_in Probe p index = p
+freed_in Replicate p index = record p { window = freed p.window index }
+freed_in Snapshot p index = p
+
+abbrev pub freed_through : PlainProgress → ℕ → PlainProgress
+freed_through p index = freed_in p.state p index
+
+-- a refusal of what follows an index isn't an old one
+abbrev pub believes_in : ProgressState → PlainProgress → ℕ → Bool
+believes_in Probe p index = index == p.next - 1
+believes_in Replicate p index = nat_lt p.matched index
+believes_in Snapshot p index = false
+
+abbrev pub believes : PlainProgress → ℕ → Bool
+believes p index = believes_in p.state p index
+
+-- what is probed next, once what follows an index was refused with a hint
+abbrev pub refused_in : ProgressState → PlainProgress → ℕ → ℕ → PlainProgress
+refused_in Probe p index hint = record p { next = max (p.matched + 1) (min index (hint + 1)); waiting = false }
+refused_in Replicate p index hint = probed p
+refused_in Snapshot p index hint = p
+
+abbrev pub refused : PlainProgress → ℕ → ℕ → PlainProgress
+refused p index hint = refused_in p.state p index hint
+
+-- a window in use is one of appends that were sent
+abbrev pub IsInUse : ProgressState → List ℕ → ℕ → Type 0
+IsInUse Probe in_flight next = in_flight ≡ []
+IsInUse Replicate in_flight next = AreBelow next in_flight
+IsInUse Snapshot in_flight next = in_flight ≡ []
+
+-- what is true of each view
+pub record IsProgress (state : ProgressState) (matched next : ℕ) (in_flight : List ℕ) : Type 0 where
+  pub matched_fits : matched + 1 < 2 ^ 41
+  pub next_fits : next < 2 ^ 41
+  pub in_use : IsInUse state in_flight next

@@ -1,0 +1,29 @@
+-- Windows: what was sent to a follower and isn't answered (etcd raft documentation, "MaxInflightMsgs")
+use Rattle.std.specs.Prelude.{ℕ, Bool, ◌≤◌, length, List, [], ◌∷◌, ◌++◌, nat_lt, filter, ◌==◌}
+use Rattle.rb_tracker.specs.Sets.{IsAscending}
+
+-- the last index of each append in flight, and how many there may be
+pub record PlainWindow : Type 0 where
+  pub in_flight : List ℕ
+  pub capacity : ℕ
+
+abbrev pub empty_window : ℕ → PlainWindow
+empty_window capacity = record { in_flight = []; capacity = capacity }
+
+abbrev pub is_full : PlainWindow → Bool
+is_full w = length w.in_flight == w.capacity
+
+abbrev pub emptied : PlainWindow → PlainWindow
+emptied w = record w { in_flight = [] }
+
+abbrev pub pushed : PlainWindow → ℕ → PlainWindow
+pushed w index = record w { in_flight = w.in_flight ++ index ∷ [] }
+
+-- what is above an index stays, in order
+abbrev pub freed : PlainWindow → ℕ → PlainWindow
+freed w index = record w { in_flight = filter (λ i. nat_lt index i) w.in_flight }
+
+-- what is true of each window
+pub record IsWindow (in_flight : List ℕ) (capacity : ℕ) : Type 0 where
+  pub within : length in_flight ≤ capacity
+  pub ascending : IsAscending in_flight

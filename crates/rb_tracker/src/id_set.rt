@@ -1,0 +1,157 @@
+//! Sets of ids.
+//!
+//! Voters and learners are sets: an id is in or it isn't, and no order or count is told of it. What the code keeps is the one
+//! list of the ids that is ascending, so that equal sets are equal lists, and to go over a set is to go up its ids.
+ghost use Rattle.std.specs.Prelude.{◌≡◌, ◌≤◌, ◌↔◌, ◌==◌, [], length, IsTrue, IfOk, OnOk, OnErr};
+ghost use Rattle.rb_tracker.specs.Sets.{has, with_id, without, rank, union, set_of, IsAscending};
+
+use rb_raftlog::Shared;
+use smallvec::SmallVec;
+use std::alloc::{AllocError, Global};
+use std::marker::Model;
+
+/// A set of ids. Up to eight of them stand in the value, and take no memory.
+#[derive(Drop)]
+pub struct IdSet {
+    ids: SmallVec<u64, 8>,
+}
+
+impl Model for IdSet {
+    ghost use Rattle.std.specs.Prelude.{List, ℕ};
+    ghost use Rattle.rb_tracker.specs.Sets.{IsAscending};
+
+    ghost Value = { List ℕ };
+
+    ghost view = { λ set. set.ids.items };
+
+    ghost invariant = { λ set. IsAscending set.ids.items };
+}
+
+impl IdSet {
+    /// The empty set.
+    pub fn new(alloc: Global) -> IdSet
+        ensures { result ≡ [] }
+    {
+        IdSet {
+            ids: SmallVec::new(alloc),
+        }
+    }
+
+    /// The ids of a list, in whatever order it has them.
+    pub fn of(alloc: Global, ids: &[u64]) -> Result<IdSet, AllocError>
+        ensures { IfOk result (λ set. set ≡ set_of ids.now) }
+    {
+        let mut set = IdSet::new(alloc);
+        set.extend(ids)?;
+        Ok(set)
+    }
+
+    /// The ids, ascending.
+    pub fn as_slice(&self) -> &[u64]
+        ensures ids { result.now ≡ self.now }
+        ensures ascending { IsAscending self.now }
+    {
+        self.ids.as_slice()
+    }
+
+    pub fn len(&self) -> usize
+        ensures { result ≡ length self.now }
+    {
+        self.ids.len()
+    }
+
+    pub fn is_empty(&self) -> bool
+        ensures { result ≡ (length self.now == 0) }
+    {
+        self.ids.is_empty()
+    }
+
+    pub fn contains(&self, id: u64) -> bool
+        ensures { result ≡ has self.now id }
+    {
+        for x in self.ids.as_slice() {
+            if *x == id {
+                return true;
+            }
+        }
+        false
+    }
+
+    /// Leaves no id.
+    pub fn clear(&mut self)
+        ensures { self.new ≡ [] }
+    {
+        self.ids.clear();
+    }
+
+    // How many ids stand before the place of one.
+    fn rank(&self, id: u64) -> usize
+        ensures rank { result ≡ rank self.now id }
+        ensures within { result ≤ length self.now }
+    {
+        let mut at = 0;
+        for x in self.ids.as_slice() {
+            if *x >= id {
+                return at;
+            }
+            at += 1;
+        }
+        at
+    }
+
+    /// Takes an id out, if it is there.
+    pub fn remove(&mut self, id: u64)
+        ensures { self.new ≡ without self.old id }
+    {
+        if !self.contains(id) {
+            return;
+        }
+        let at = self.rank(id);
+        self.ids.remove(at);
+    }
+
+    /// Puts an id in, in its place. For want of memory nothing changes.
+    pub fn insert(&mut self, id: u64) -> Result<(), AllocError>
+        ensures ok { OnOk result (self.new ≡ with_id self.old id) }
+        ensures err { OnErr result (self.new ≡ self.old) }
+    {
+        if self.contains(id) {
+            return Ok(());
+        }
+        let at = self.rank(id);
+        self.ids.insert(at, id)?;
+        Ok(())
+    }
+
+    /// Puts in the ids of a list.
+    pub fn extend(&mut self, ids: &[u64]) -> Result<(), AllocError>
+        ensures { OnOk result (self.new ≡ union self.old ids.now) }
+    {
+        for id in ids {
+            self.insert(*id)?;
+        }
+        Ok(())
+    }
+
+    /// The ids, as a list that is shared and never changes.
+    pub fn to_shared(&self) -> Result<Shared<u64>, AllocError>
+        ensures { IfOk result (λ list. list ≡ self.now) }
+    {
+        Ok(Shared::new(Vec::from_slice(*self.ids.allocator(), self.ids.as_slice())?)?)
+    }
+
+    pub fn try_copy(&self) -> Result<IdSet, AllocError>
+        ensures { IfOk result (λ copy. copy ≡ self.now) }
+    {
+        Ok(IdSet {
+            ids: SmallVec::from_slice(*self.ids.allocator(), self.ids.as_slice())?,
+        })
+    }
+
+    /// Whether both are the same set. It takes no memory.
+    pub fn same(&self, other: &IdSet) -> bool
+        ensures { IsTrue result ↔ (self.now ≡ other.now) }
+    {
+        self.ids.as_slice() == other.ids.as_slice()
+    }
+}

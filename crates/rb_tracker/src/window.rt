@@ -1,0 +1,135 @@
+//! Windows: the appends in flight to a follower.
+//!
+//! A leader sends appends one after another without waiting for answers, up to as many as its window holds; then it waits. Of
+//! each append the window keeps its last index. The indexes rise, and an answer for one of them frees it and all below
+//! (etcd raft documentation: "Inflights").
+ghost use Rattle.std.specs.Prelude.{◌≡◌, ◌<◌, ◌≤◌, ◌↔◌, ◌==◌, ◌+◌, [], length, IsTrue, IfOk, Some, slice_get, drop};
+ghost use Rattle.rb_tracker.specs.Sets.{AreBelow, IsAscending};
+ghost use Rattle.rb_tracker.specs.Windows.{empty_window, is_full, emptied, pushed, freed};
+
+use circular_buffer::HeapCircularBuffer;
+use std::alloc::{AllocError, Global};
+use std::marker::Model;
+
+/// The last index of each append in flight, in a ring.
+#[derive(Drop)]
+pub struct Window {
+    ring: HeapCircularBuffer<u64>,
+}
+
+impl Model for Window {
+    ghost use Rattle.rb_tracker.specs.Windows.{PlainWindow, IsWindow};
+
+    ghost Value = { PlainWindow };
+
+    ghost view = { λ window. record { in_flight = window.ring.items; capacity = window.ring.capacity } };
+
+    ghost invariant = { λ window. IsWindow window.ring.items window.ring.capacity };
+}
+
+impl Window {
+    /// An empty window, with room for as many appends as it ever holds: from now on it takes no memory.
+    pub fn new(alloc: Global, capacity: usize) -> Result<Window, AllocError>
+        ensures { IfOk result (λ window. window ≡ empty_window capacity) }
+    {
+        Ok(Window {
+            ring: HeapCircularBuffer::with_capacity(alloc, capacity)?,
+        })
+    }
+
+    /// How many appends are in flight.
+    pub fn len(&self) -> usize
+        ensures len { result ≡ length self.now.in_flight }
+        ensures within { length self.now.in_flight ≤ self.now.capacity }
+        ensures ascending { IsAscending self.now.in_flight }
+    {
+        self.ring.len()
+    }
+
+    pub fn is_empty(&self) -> bool
+        ensures { result ≡ (length self.now.in_flight == 0) }
+    {
+        self.ring.is_empty()
+    }
+
+    /// How many appends may be in flight.
+    pub fn capacity(&self) -> usize
+        ensures { result ≡ self.now.capacity }
+    {
+        self.ring.capacity()
+    }
+
+    /// Whether no more appends may be sent.
+    pub fn is_full(&self) -> bool
+        ensures full { result ≡ is_full self.now }
+        ensures within { length self.now.in_flight ≤ self.now.capacity }
+    {
+        self.ring.is_full()
+    }
+
+    /// The index at a place, counted from the earliest append.
+    pub fn index_at(&self, place: usize) -> u64
+        requires { place < length self.now.in_flight }
+        ensures { slice_get self.now.in_flight place ≡ Some result }
+    {
+        *self.ring.get(place).unwrap()
+    }
+
+    /// An append up to an index above all others is in flight.
+    pub fn push(&mut self, index: u64)
+        requires room { length self.old.in_flight < self.old.capacity }
+        requires above { AreBelow index self.old.in_flight }
+        ensures { self.new ≡ pushed self.old index }
+    {
+        self.ring.push_back(index);
+    }
+
+    /// Nothing is in flight any more.
+    pub fn clear(&mut self)
+        ensures { self.new ≡ emptied self.old }
+    {
+        self.ring.clear();
+    }
+
+    // Takes the earliest append out.
+    fn pop(&mut self)
+        requires { 0 < length self.old.in_flight }
+        ensures { self.new ≡ record self.old { in_flight = drop 1 self.old.in_flight } }
+    {
+        self.ring.pop_front();
+    }
+
+    /// Frees the appends up to an index. Since they rise, the first one above it ends the way.
+    pub fn free_through(&mut self, index: u64)
+        ensures { self.new ≡ freed self.old index }
+    {
+        while self.len() > 0 && self.index_at(0) <= index {
+            self.pop();
+        }
+    }
+
+    pub fn try_copy(&self) -> Result<Window, AllocError>
+        ensures { IfOk result (λ copy. copy ≡ self.now) }
+    {
+        let mut copy = Window::new(*self.ring.allocator(), self.capacity())?;
+        for place in 0..self.len() {
+            copy.push(self.index_at(place));
+        }
+        Ok(copy)
+    }
+
+    /// Whether both have the same appends in flight, and room for as many. It takes no memory.
+    pub fn same(&self, other: &Window) -> bool
+        ensures { IsTrue result ↔ (self.now ≡ other.now) }
+    {
+        if self.len() != other.len() || self.capacity() != other.capacity() {
+            return false;
+        }
+        for place in 0..self.len() {
+            if self.index_at(place) != other.index_at(place) {
+                return false;
+            }
+        }
+        true
+    }
+}
