@@ -1,0 +1,26 @@
+//! What Raft nodes say to one another, and what a node tells of itself.
+//!
+//! Nodes know of each other by messages alone (Ongaro's thesis, section 3.1): requests for votes and entries, and their answers. A
+//! [`Message`] is a value: who sent it, to whom, in which term, and what it says ([`MessageKind`]). What a node does is told in
+//! [`Event`]s, one for each thing that a person who watches the node wants to know.
+#![tactic(auto)]
+
+mod append;
+mod event;
+mod hard_state;
+mod install;
+mod kind;
+mod message;
+mod message_type;
+mod messages;
+mod role;
+
+pub use append::Append;
+pub use event::{Event, WhyNoCampaign, WhyReplaced};
+pub use hard_state::HardState;
+pub use install::Install;
+pub use kind::MessageKind;
+pub use message::Message;
+pub use message_type::MessageType;
+pub use messages::{copies_of, same_messages};
+pub use role::Role;

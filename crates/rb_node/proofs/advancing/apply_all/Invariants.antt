@@ -1,0 +1,10 @@
+use Rattle.std.proofs.Common.{◌≡◌, ◌+◌, drop}
+use Rattle.rb_step.specs.Node.{turn}
+use Rattle.rb_step.specs.Changing.{applied_all}
+use Rattle.rb_node.proofs.advancing.apply_all.Given as goal
+
+abbrev pub invariant-loop-entry : goal.invariant-loop-entry
+invariant-loop-entry g l = record {
+  at : l.index ≡ l.after + l.entry-index;
+  rest : applied_all (turn l.initial.state l.initial.events.items) l.after l.entries ≡ applied_all (turn l.state l.events.items) l.index (drop l.entry-index l.entries);
+}

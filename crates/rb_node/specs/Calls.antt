@@ -1,0 +1,56 @@
+-- The calls of a node that are no ticks and no readies
+use Rattle.std.specs.Prelude.{ℕ, ◌≡◌, min, Result, Ok, Err, Option, Some, None, List, [], ◌∷◌, ◌++◌, if◌then◌else◌}
+use Rattle.rb_raftlog.specs.declared.raft_log.CompactFault.{CompactFault}
+use Rattle.rb_raftlog.specs.declared.snapshot.Snapshot.{Snapshot}
+use Rattle.rb_raftlog.specs.Log.{IsCompacted}
+use Rattle.rb_tracker.specs.Progresses.{PlainProgress, probed}
+use Rattle.rb_tracker.specs.Trackers.{place, view_at}
+use Rattle.rb_message.specs.declared.event.Event.{Event}
+use Rattle.rb_message.specs.declared.event.Event.TheVariants.{Started}
+use Rattle.rb_message.specs.declared.kind.MessageKind.{MessageKind}
+use Rattle.rb_message.specs.declared.role.Role.{Role}
+use Rattle.rb_message.specs.declared.role.Role.TheVariants as role
+use Rattle.rb_step.specs.declared.options.Options.{Options}
+use Rattle.rb_step.specs.Node.{PlainNode, Turn, turn, told, message, is_leader, started}
+use Rattle.rb_step.specs.Sends.{viewed, is_replicating}
+use Rattle.rb_step.specs.Step.{stepped}
+
+-- a node starts, and tells where and with which configuration
+abbrev pub node_started : ℕ → Snapshot → Options → List Event → Turn
+node_started id start options events =
+    let node = started id start options in
+    turn node (events ++ Started id start.term start.index node.tracker.config ∷ [])
+
+-- a message of the node to itself, of no term: a proposal, or a request to hand the lead over
+abbrev pub called : Turn → MessageKind → Turn
+called t what = stepped t (message t.node.id t.node.id 0 what)
+
+abbrev pub forgotten_by : Role → PlainNode → PlainNode
+forgotten_by role.Follower n = record n { lead = 0 }
+forgotten_by role.Precandidate n = n
+forgotten_by role.Candidate n = n
+forgotten_by role.Leader n = n
+
+-- a follower forgets its leader
+abbrev pub leader_forgotten : PlainNode → PlainNode
+leader_forgotten n = forgotten_by n.role n
+
+-- a leader probes a follower that can't be reached, as appends to it may be lost
+abbrev pub unreachable : PlainProgress → PlainProgress
+unreachable view = if is_replicating view.state then probed view else view
+
+abbrev pub reported_with : Option PlainProgress → PlainNode → ℕ → PlainNode
+reported_with None n at = n
+reported_with (Some view) n at = viewed n at (unreachable view)
+
+abbrev pub reported_at : Option ℕ → PlainNode → PlainNode
+reported_at None n = n
+reported_at (Some at) n = reported_with (view_at n.tracker.views at) n at
+
+abbrev pub reported : PlainNode → ℕ → PlainNode
+reported n id = if is_leader n.role then reported_at (place n.tracker.views id) n else n
+
+-- the log up to an index goes, as far as it is applied (and so durable)
+abbrev pub IsCompactedTo : PlainNode → ℕ → Result (Unit {0}) CompactFault → PlainNode → Type 0
+IsCompactedTo old index result new =
+    IsCompacted old.log index (min old.applied old.log.durable) result new.log × (new ≡ record old { log = new.log })

@@ -1,0 +1,3 @@
+pub mod Ticking
+pub mod Readying
+pub mod Calls

@@ -1,0 +1,67 @@
+-- What is ready, and what comes once it is done (etcd raft documentation, "Ready" and "Advance")
+use Rattle.std.specs.Prelude.{ℕ, Bool, false, ◌&&◌, ◌||◌, not, List, [], ◌∷◌, ◌++◌, Option, Some, None, if◌then◌else◌, filter, length, nat_lt, ◌==◌}
+use Rattle.rb_raftlog.specs.declared.entry.Entry.{Entry}
+use Rattle.rb_raftlog.specs.Log.{last, between, not_durable, made_durable}
+use Rattle.rb_message.specs.declared.hard_state.HardState.{HardState}
+use Rattle.rb_message.specs.declared.message.Message.{Message}
+use Rattle.rb_step.specs.Node.{PlainNode, Turn, with_node}
+use Rattle.rb_step.specs.Changing.{applied_all, joint_left}
+use Rattle.rb_step.specs.Step.{stepped}
+
+abbrev pub hard_state : PlainNode → HardState
+hard_state n = record { term = n.term; vote = n.vote; commit = n.commit }
+
+abbrev pub is_saved : PlainNode → Bool
+is_saved n = n.term == n.saved.term && n.vote == n.saved.vote && n.commit == n.saved.commit
+
+-- something is to be saved, applied or sent
+abbrev pub has_ready : PlainNode → Bool
+has_ready n =
+    not (is_saved n) || nat_lt n.log.durable (last n.log) || n.restored || nat_lt n.applied n.commit
+    || not (length n.sent == 0) || not (length n.waiting == 0)
+
+-- the waiting answers that are for other nodes; the rest are the node's own
+abbrev pub others : ℕ → List Message → List Message
+others id ms = filter (λ (m : Message). not (m.to == id)) ms
+
+-- what goes out: the sent messages, then the answers that waited
+abbrev pub handed : PlainNode → List Message
+handed n = n.sent ++ others n.id n.waiting
+
+-- the committed entries that aren't applied
+abbrev pub applying : PlainNode → List Entry
+applying n = between n.log n.applied n.commit
+
+pub record Ready : Type 0 where
+  -- the hard state, where it isn't saved
+  pub hard : Option HardState
+  -- the term and the index of a snapshot that was restored
+  pub snapshot : Option (ℕ × ℕ)
+  -- the entries that aren't durable
+  pub save : List Entry
+  pub apply : List Entry
+  pub send : List Message
+
+abbrev pub ready : PlainNode → Ready
+ready n = record {
+  hard = if is_saved n then None else Some (hard_state n);
+  snapshot = if n.restored then Some (n.log.base_term, n.log.base) else None;
+  save = not_durable n.log;
+  apply = applying n;
+  send = handed n;
+}
+
+-- all is durable, and both lists of messages are taken
+abbrev pub saved : PlainNode → PlainNode
+saved n = record n { saved = hard_state n; log = made_durable n.log; restored = false; sent = []; waiting = [] }
+
+-- the node's own answers, in order
+abbrev pub own_stepped : ℕ → Turn → List Message → Turn
+own_stepped id t [] = t
+own_stepped id t (m ∷ ms) = own_stepped id (if m.to == id then stepped t m else t) ms
+
+-- What is ready is saved; the entries that were committed take effect, and no later ones; a leader may leave a joint configuration;
+-- what was waiting goes out; and the node takes its own answers in, which now rest on what is durable.
+unfoldable pub advanced : Turn → Turn
+advanced t =
+    own_stepped t.node.id (joint_left (applied_all (with_node t (saved t.node)) t.node.applied (applying t.node))) t.node.waiting

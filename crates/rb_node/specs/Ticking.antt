@@ -1,0 +1,83 @@
+-- Ticks: a leader's heartbeats and looks at its quorum, and the others' timeouts (Ongaro's thesis, sections 3.4, 3.10 and 6.2; etcd raft
+-- documentation, "Tick" and "CheckQuorum")
+use Rattle.std.specs.Prelude.{ℕ, ◌+◌, Bool, false, ◌&&◌, not, List, [], ◌∷◌, min, if◌then◌else◌, nat_le, ◌==◌}
+use Rattle.rb_tracker.specs.Active.{quorum_active, unmarked}
+use Rattle.rb_tracker.specs.Commits.{match_of}
+use Rattle.rb_tracker.specs.Configs.{is_voter}
+use Rattle.rb_tracker.specs.Trackers.{ids_of}
+use Rattle.rb_message.specs.declared.event.Event.TheVariants.{LostQuorum}
+use Rattle.rb_message.specs.declared.kind.MessageKind.TheVariants as kind
+use Rattle.rb_message.specs.declared.role.Role.{Role}
+use Rattle.rb_message.specs.declared.role.Role.TheVariants as role
+use Rattle.rb_step.specs.declared.limits.TheConstants.{ELECTION_TICKS}
+use Rattle.rb_step.specs.Node.{PlainNode, Turn, told, with_node, posted}
+use Rattle.rb_step.specs.Terms.{followed}
+use Rattle.rb_step.specs.Campaigns.{campaigned}
+use Rattle.rb_step.specs.Transferring.{transfer_ended}
+use Rattle.rb_node.specs.declared.ticking.TheConstants.{MAX_TICKS, HEARTBEAT_TICKS}
+
+-- a counter, which stops at the greatest timeout: beyond it no comparison can tell
+abbrev pub counted : ℕ → ℕ
+counted n = min (n + 1) MAX_TICKS
+
+-- ---- a leader
+
+-- one heartbeat, which tells no more of the commit than the follower is known to hold
+abbrev pub beat_to : PlainNode → ℕ → PlainNode
+beat_to n id = if id == n.id then n else posted n id (kind.Heartbeat (min (match_of n.tracker.views id) n.commit))
+
+abbrev pub beat_each : PlainNode → List ℕ → PlainNode
+beat_each n [] = n
+beat_each n (id ∷ ids) = beat_each (beat_to n id) ids
+
+-- to all others with a view
+abbrev pub all_beat : PlainNode → PlainNode
+all_beat n = beat_each (record n { heartbeat_elapsed = 0 }) (ids_of n.tracker.views)
+
+unfoldable pub heartbeats_due : Turn → Turn
+heartbeats_due t = if nat_le HEARTBEAT_TICKS t.node.heartbeat_elapsed then with_node t (all_beat t.node) else t
+
+abbrev pub has_lost_quorum : PlainNode → Bool
+has_lost_quorum n = n.options.check_quorum && not (quorum_active n.tracker)
+
+-- whom it hears from now on counts at its next look
+abbrev pub looked_anew : PlainNode → PlainNode
+looked_anew n = if n.options.check_quorum then record n { tracker = unmarked n.tracker n.id } else n
+
+-- a leader that heard of no quorum steps down; else a transfer has had its time
+unfoldable pub quorum_looked_at : Turn → Turn
+quorum_looked_at t =
+    if has_lost_quorum t.node then followed (told t (LostQuorum t.node.id)) t.node.term 0
+    else heartbeats_due (transfer_ended (with_node t (looked_anew t.node)))
+
+unfoldable pub leader_counted : Turn → Turn
+leader_counted t =
+    if nat_le ELECTION_TICKS t.node.elapsed then quorum_looked_at (with_node t (record t.node { elapsed = 0 }))
+    else heartbeats_due t
+
+abbrev pub counted_up : PlainNode → PlainNode
+counted_up n = record n { elapsed = counted n.elapsed; heartbeat_elapsed = counted n.heartbeat_elapsed }
+
+unfoldable pub leader_ticked : Turn → Turn
+leader_ticked t = leader_counted (with_node t (counted_up t.node))
+
+-- ---- any other
+
+-- a voter that heard of no leader for its timeout
+abbrev pub is_due : PlainNode → Bool
+is_due n = is_voter n.tracker.config n.id && nat_le n.timeout n.elapsed
+
+abbrev pub timed_out : Turn → Turn
+timed_out t = if is_due t.node then campaigned (with_node t (record t.node { elapsed = 0 })) false else t
+
+unfoldable pub other_ticked : Turn → Turn
+other_ticked t = timed_out (with_node t (record t.node { elapsed = counted t.node.elapsed }))
+
+abbrev pub ticked_by : Role → Turn → Turn
+ticked_by role.Follower t = other_ticked t
+ticked_by role.Precandidate t = other_ticked t
+ticked_by role.Candidate t = other_ticked t
+ticked_by role.Leader t = leader_ticked t
+
+abbrev pub ticked : Turn → Turn
+ticked t = ticked_by t.node.role t

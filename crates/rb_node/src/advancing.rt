@@ -1,0 +1,143 @@
+//! What comes once all that is ready is done.
+//!
+//! What was ready is durable from here on, so answers that rest on it may go out, and the node's own answers count: its vote for itself,
+//! and that it holds its own entries (etcd raft documentation, "Advance").
+
+ghost use Rattle.std.specs.Prelude.{◌≡◌, ◌+◌, ◌≤◌, ◌++◌, [], length, OnOk, IfOk};
+ghost use Rattle.rb_raftlog.specs.declared.limits.TheConstants.{MAX_INDEX};
+ghost use Rattle.rb_step.specs.Node.{turn};
+ghost use Rattle.rb_step.specs.Changing.{applied_all};
+ghost use Rattle.rb_node.specs.Readying.{applying, others, handed, saved, own_stepped, advanced};
+
+use crate::node::Node;
+use crate::ready::{applying_entry, applying_len, hard_state};
+use rb_message::{Event, Message};
+use rb_raftlog::{Entry, RaftLog};
+use rb_step::State;
+use std::alloc::AllocError;
+use std::mem;
+
+// The two lists of messages.
+#[derive(Drop)]
+struct Mail {
+    sent: Vec<Message>,
+    waiting: Vec<Message>,
+}
+
+// Copies of the committed entries that aren't applied: a pointer each.
+#[tactic(auto, using(crate::proofs::Between::between_sizes, crate::proofs::Between::take_more_some))]
+fn applying_copies<L: RaftLog>(state: &State<L>) -> Result<Vec<Entry>, AllocError>
+    ensures entries { IfOk result (λ copies. copies.items ≡ applying state.now) }
+    ensures within { IfOk result (λ copies. state.now.applied + length copies.items ≤ MAX_INDEX) }
+{
+    let _commit = state.commit;
+    let len = applying_len(state);
+    let mut copies = Vec::with_capacity(*state.sent.allocator(), len)?;
+    for k in 0..len {
+        copies.push(applying_entry(state, k).try_copy()?)?;
+    }
+    Ok(copies)
+}
+
+// All is durable, and both lists of messages are taken.
+fn save<L: RaftLog>(state: &mut State<L>) -> Result<Mail, AllocError>
+    ensures node { OnOk result (state.new ≡ saved state.old) }
+    ensures sent { IfOk result (λ mail. mail.sent.items ≡ state.old.sent) }
+    ensures waiting { IfOk result (λ mail. mail.waiting.items ≡ state.old.waiting) }
+{
+    state.saved = hard_state(state);
+    state.log.mark_durable()?;
+    state.restored = false;
+    let alloc = *state.sent.allocator();
+    Ok(Mail {
+        sent: mem::replace(&mut state.sent, Vec::new(alloc)),
+        waiting: mem::replace(&mut state.waiting, Vec::new(alloc)),
+    })
+}
+
+// Applies the entries after an index, in order.
+fn apply_all<L: RaftLog>(
+    state: &mut State<L>,
+    after: u64,
+    entries: &[Entry],
+    events: &mut Vec<Event>,
+) -> Result<(), AllocError>
+    requires { after + length entries.now ≤ MAX_INDEX }
+    ensures { OnOk result (turn state.new events.new.items ≡ applied_all (turn state.old events.old.items) after entries.now) }
+{
+    let mut index = after;
+    for entry in entries {
+        index += 1;
+        state.apply(index, entry, events)?;
+    }
+    Ok(())
+}
+
+// Hands over the sent messages, then the answers to other nodes.
+fn hand_over(
+    id: u64,
+    mut posted: Vec<Message>,
+    waiting: &[Message],
+    sent: &mut Vec<Message>,
+) -> Result<(), AllocError>
+    ensures { OnOk result (sent.new.items ≡ sent.old.items ++ (posted.items ++ others id waiting.now)) }
+{
+    sent.append(&mut posted)?;
+    for message in waiting {
+        if message.to != id {
+            sent.push(message.try_copy()?)?;
+        }
+    }
+    Ok(())
+}
+
+// Takes the node's own answers in, in order.
+fn step_own<L: RaftLog>(
+    state: &mut State<L>,
+    id: u64,
+    waiting: &[Message],
+    events: &mut Vec<Event>,
+) -> Result<(), AllocError>
+    ensures { OnOk result (turn state.new events.new.items ≡ own_stepped id (turn state.old events.old.items) waiting.now) }
+{
+    for message in waiting {
+        if message.to == id {
+            state.step(message, events)?;
+        }
+    }
+    Ok(())
+}
+
+#[tactic(auto, unfolding(crate::specs::Readying::advanced))]
+fn advance<L: RaftLog>(
+    state: &mut State<L>,
+    sent: &mut Vec<Message>,
+    events: &mut Vec<Event>,
+) -> Result<(), AllocError>
+    ensures node { OnOk result (turn state.new events.new.items ≡ advanced (turn state.old events.old.items)) }
+    ensures sent { OnOk result (sent.new.items ≡ sent.old.items ++ handed state.old) }
+{
+    let id = state.id;
+    let applied = state.applied;
+    let entries = applying_copies(state)?;
+    let mail = save(state)?;
+    apply_all(state, applied, entries.as_slice(), events)?;
+    state.leave_joint(events)?;
+    hand_over(id, mail.sent, mail.waiting.as_slice(), sent)?;
+    step_own(state, id, mail.waiting.as_slice(), events)
+}
+
+impl<L: RaftLog> Node<L> {
+    /// Goes on once all that is ready is done: what was saved is durable, what was committed takes effect. The messages that go out are
+    /// appended to `sent`, those that waited last.
+    pub fn advance(
+        &mut self,
+        sent: &mut Vec<Message>,
+        events: &mut Vec<Event>,
+    ) -> Result<(), AllocError>
+        ensures node { OnOk result (turn self.new events.new.items ≡ advanced (turn self.old events.old.items)) }
+        ensures sent { OnOk result (sent.new.items ≡ sent.old.items ++ handed self.old) }
+    {
+        advance(&mut self.state, sent, events)
+    }
+}

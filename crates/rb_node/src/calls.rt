@@ -1,0 +1,152 @@
+//! Calls that are no ticks and no readies.
+
+ghost use Rattle.std.specs.Prelude.{◌≡◌, ◌≤◌, IfOk, OnOk, false};
+ghost use Rattle.rb_raftlog.specs.declared.limits.TheConstants.{MAX_INDEX};
+ghost use Rattle.rb_message.specs.declared.kind.MessageKind.TheVariants.{Proposal, TransferLeader};
+ghost use Rattle.rb_raftlog.specs.declared.entry.Body.TheVariants.{Payload, Change};
+ghost use Rattle.rb_step.specs.Node.{turn};
+ghost use Rattle.rb_step.specs.Campaigns.{campaigned};
+ghost use Rattle.rb_step.specs.Sends.{snapshot_of};
+ghost use Rattle.rb_step.specs.Step.{stepped};
+ghost use Rattle.rb_node.specs.Calls.{called, leader_forgotten, reported, IsCompactedTo};
+
+use crate::node::Node;
+use rb_message::{Event, Message, MessageKind, Role};
+use rb_raftlog::{Body, CompactFault, RaftLog, Shared, Snapshot, Transition, Word};
+use rb_step::State;
+use rb_tracker::ProgressState;
+use std::alloc::AllocError;
+
+// What becomes of a leader's view of a node that can't be reached.
+fn report<L: RaftLog>(state: &mut State<L>, id: u64)
+    ensures { state.new ≡ reported state.old id }
+{
+    if state.role != Role::Leader {
+        return;
+    }
+    if let Some(place) = state.tracker.place(id) {
+        let view = state.tracker.view_mut(place);
+        if view.state() == ProgressState::Replicate {
+            view.to_probe();
+        }
+    }
+}
+
+fn forget<L: RaftLog>(state: &mut State<L>)
+    ensures { state.new ≡ leader_forgotten state.old }
+{
+    if state.role == Role::Follower {
+        state.lead = 0;
+    }
+}
+
+fn set_ticks<L: RaftLog>(state: &mut State<L>, timeout: u64)
+    ensures { state.new ≡ record state.old { timeout = timeout } }
+{
+    state.timeout = timeout;
+}
+
+fn compact_to<L: RaftLog>(state: &mut State<L>, index: u64) -> Result<(), CompactFault>
+    ensures { IsCompactedTo state.old index result state.new }
+{
+    let applied = state.applied.min(state.log.durable());
+    state.log.compact(index, applied)
+}
+
+impl<L: RaftLog> Node<L> {
+    /// Takes a message in, which stays the caller's: what is kept of it is shared.
+    pub fn step(&mut self, message: &Message, events: &mut Vec<Event>) -> Result<(), AllocError>
+        ensures { OnOk result (turn self.new events.new.items ≡ stepped (turn self.old events.old.items) message.now) }
+    {
+        self.state.step(message, events)
+    }
+
+    /// Campaigns for the lead.
+    pub fn campaign(&mut self, events: &mut Vec<Event>) -> Result<(), AllocError>
+        ensures { OnOk result (turn self.new events.new.items ≡ campaigned (turn self.old events.old.items) false) }
+    {
+        self.state.campaign(false, events)
+    }
+
+    fn call(&mut self, kind: MessageKind, events: &mut Vec<Event>) -> Result<(), AllocError>
+        ensures { OnOk result (turn self.new events.new.items ≡ called (turn self.old events.old.items) kind) }
+    {
+        let id = self.state.id;
+        let message = Message {
+            from: id,
+            to: id,
+            term: 0,
+            kind,
+        };
+        self.step(&message, events)
+    }
+
+    /// Proposes a payload.
+    pub fn propose(
+        &mut self,
+        payload: Shared<u8>,
+        events: &mut Vec<Event>,
+    ) -> Result<(), AllocError>
+        ensures { OnOk result (turn self.new events.new.items ≡ called (turn self.old events.old.items) (Proposal (Payload payload))) }
+    {
+        self.call(MessageKind::Proposal(Body::Payload(payload)), events)
+    }
+
+    /// Proposes a change of the configuration. One without words leaves a joint configuration.
+    pub fn propose_change(
+        &mut self,
+        transition: Transition,
+        words: Shared<Word>,
+        events: &mut Vec<Event>,
+    ) -> Result<(), AllocError>
+        ensures { OnOk result (turn self.new events.new.items ≡ called (turn self.old events.old.items) (Proposal (Change transition words))) }
+    {
+        self.call(
+            MessageKind::Proposal(Body::Change { transition, words }),
+            events,
+        )
+    }
+
+    /// Asks to hand the lead over to a node.
+    pub fn transfer(&mut self, to: u64, events: &mut Vec<Event>) -> Result<(), AllocError>
+        ensures { OnOk result (turn self.new events.new.items ≡ called (turn self.old events.old.items) (TransferLeader to)) }
+    {
+        self.call(MessageKind::TransferLeader { target: to }, events)
+    }
+
+    /// A follower forgets its leader; any other does nothing. It takes no memory.
+    pub fn forget_leader(&mut self)
+        ensures { self.new ≡ leader_forgotten self.old }
+    {
+        forget(&mut self.state);
+    }
+
+    /// A node can't be reached: a leader that replicates to it probes it. It takes no memory.
+    pub fn report_unreachable(&mut self, id: u64)
+        ensures { self.new ≡ reported self.old id }
+    {
+        report(&mut self.state, id);
+    }
+
+    /// The node's state as far as it is applied. Its index is within the limits.
+    pub fn snapshot(&self) -> Result<Snapshot, AllocError>
+        ensures value { IfOk result (λ snapshot. snapshot ≡ snapshot_of self.now) }
+        ensures within { self.now.applied ≤ MAX_INDEX }
+    {
+        self.state.snapshot()
+    }
+
+    /// Drops the log's entries up to an index, which is applied.
+    pub fn compact(&mut self, index: u64) -> Result<(), CompactFault>
+        ensures { IsCompactedTo self.old index result self.new }
+    {
+        compact_to(&mut self.state, index)
+    }
+
+    /// After so many ticks without a leader the node campaigns, until the next reset. It takes no memory.
+    pub fn set_timeout(&mut self, timeout: u64)
+        ensures { self.new ≡ record self.old { timeout = timeout } }
+    {
+        set_ticks(&mut self.state, timeout);
+    }
+}

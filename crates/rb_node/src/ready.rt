@@ -1,0 +1,170 @@
+//! What is ready.
+//!
+//! Before a node goes on, its owner makes durable what the node must not forget, sends what goes out, and applies what is committed
+//! (etcd raft documentation, "Ready"). All of it is lent by the node; nothing is copied.
+
+ghost use Rattle.std.specs.Prelude.{◌≡◌, ◌<◌, IsOk, length, slice_get};
+ghost use Rattle.rb_raftlog.specs.Log.{entry_at};
+ghost use Rattle.rb_node.specs.Readying.{ready, hard_state, is_saved, has_ready, applying};
+
+use crate::node::Node;
+use rb_message::{HardState, Message};
+use rb_raftlog::{Entry, RaftLog};
+use rb_step::State;
+use std::marker::Model;
+
+/// What is ready, on loan from the node. Contracts see the node that it is of.
+#[derive(Drop)]
+pub struct ReadyView<'a, L: RaftLog> {
+    state: &'a State<L>,
+}
+
+impl<'a, L: RaftLog> Model for ReadyView<'a, L> {
+    ghost use Rattle.rb_step.specs.Node.{PlainNode};
+
+    ghost Value = { PlainNode };
+
+    ghost view = { λ r. r.state.now };
+}
+
+pub(crate) fn hard_state<L: RaftLog>(state: &State<L>) -> HardState
+    ensures { result ≡ hard_state state.now }
+{
+    HardState {
+        term: state.term,
+        vote: state.vote,
+        commit: state.commit,
+    }
+}
+
+pub(crate) fn is_saved<L: RaftLog>(state: &State<L>) -> bool
+    ensures { result ≡ is_saved state.now }
+{
+    state.term == state.saved.term
+        && state.vote == state.saved.vote
+        && state.commit == state.saved.commit
+}
+
+fn has_ready<L: RaftLog>(state: &State<L>) -> bool
+    ensures { result ≡ has_ready state.now }
+{
+    !is_saved(state)
+        || state.log.durable() < state.log.last_index()
+        || state.restored
+        || state.applied < state.commit
+        || state.sent.len() != 0
+        || state.waiting.len() != 0
+}
+
+// How many committed entries aren't applied.
+#[tactic(auto, using(crate::proofs::Between::between_sizes))]
+pub(crate) fn applying_len<L: RaftLog>(state: &State<L>) -> usize
+    ensures { result ≡ length (applying state.now) }
+{
+    let from = state.applied.max(state.log.first_index() - 1);
+    state
+        .commit
+        .min(state.log.last_index())
+        .saturating_sub(from) as usize
+}
+
+// The entry at an index where there is one.
+fn entry_of<L: RaftLog>(log: &L, index: u64) -> &Entry
+    requires { IsOk (entry_at (L.plain log.now) index) }
+    ensures { entry_at (L.plain log.now) index ≡ Ok result.now }
+{
+    match log.entry_at(index) {
+        Ok(entry) => entry,
+        Err(_) => unreachable!(),
+    }
+}
+
+// One of the committed entries that aren't applied.
+#[tactic(auto, using(crate::proofs::Between::between_sizes, crate::proofs::Between::between_found, crate::proofs::Between::between_is_found))]
+pub(crate) fn applying_entry<L: RaftLog>(state: &State<L>, k: usize) -> &Entry
+    requires { k < length (applying state.now) }
+    ensures { slice_get (applying state.now) k ≡ Some result.now }
+{
+    let from = state.applied.max(state.log.first_index() - 1);
+    let _last = state.log.last_index();
+    entry_of(&state.log, from + 1 + k as u64)
+}
+
+impl<'a, L: RaftLog> ReadyView<'a, L> {
+    /// The hard state, where it isn't saved.
+    pub fn hard(&self) -> Option<HardState>
+        ensures { result ≡ (ready self.now).hard }
+    {
+        let state = self.state;
+        if is_saved(state) {
+            return None;
+        }
+        Some(hard_state(state))
+    }
+
+    /// The term and the index of a snapshot that was restored.
+    pub fn snapshot(&self) -> Option<(u64, u64)>
+        ensures { result ≡ (ready self.now).snapshot }
+    {
+        let state = self.state;
+        if !state.restored {
+            return None;
+        }
+        Some((state.log.base_term(), state.log.first_index() - 1))
+    }
+
+    /// The entries that aren't durable.
+    pub fn save(&self) -> &'a [Entry]
+        ensures { result.now ≡ (ready self.now).save }
+    {
+        let state = self.state;
+        state.log.not_durable()
+    }
+
+    /// How many committed entries are to be applied.
+    pub fn apply_len(&self) -> usize
+        ensures { result ≡ length (applying self.now) }
+    {
+        applying_len(self.state)
+    }
+
+    /// One of the committed entries that are to be applied.
+    pub fn apply(&self, k: usize) -> &'a Entry
+        requires { k < length (applying self.now) }
+        ensures { slice_get (applying self.now) k ≡ Some result.now }
+    {
+        applying_entry(self.state, k)
+    }
+
+    /// The messages that go out first.
+    pub fn sent(&self) -> &'a [Message]
+        ensures { result.now ≡ self.now.sent }
+    {
+        let state = self.state;
+        state.sent.as_slice()
+    }
+
+    /// The answers that waited. Those to other nodes go out after the sent messages; those to the node itself don't.
+    pub fn waiting(&self) -> &'a [Message]
+        ensures { result.now ≡ self.now.waiting }
+    {
+        let state = self.state;
+        state.waiting.as_slice()
+    }
+}
+
+impl<L: RaftLog> Node<L> {
+    /// Whether something is to be saved, applied or sent. It looks at numbers alone.
+    pub fn has_ready(&self) -> bool
+        ensures { result ≡ has_ready self.now }
+    {
+        has_ready(&self.state)
+    }
+
+    /// What is ready. It takes no memory.
+    pub fn ready(&self) -> ReadyView<'_, L>
+        ensures { result ≡ self.now }
+    {
+        ReadyView { state: &self.state }
+    }
+}

@@ -1,0 +1,21 @@
+-- Comparing two nodes: what is a number or a flag, and the rest
+use Rattle.std.specs.Prelude.{◌≡◌}
+use Rattle.rb_step.specs.Node.{PlainNode}
+
+abbrev pub HaveSameRole : PlainNode → PlainNode → Type 0
+HaveSameRole a b = (a.id ≡ b.id) × (a.term ≡ b.term) × (a.vote ≡ b.vote) × (a.lead ≡ b.lead) × (a.role ≡ b.role)
+
+abbrev pub HaveSameIndexes : PlainNode → PlainNode → Type 0
+HaveSameIndexes a b =
+    (a.commit ≡ b.commit) × (a.applied ≡ b.applied) × (a.transferee ≡ b.transferee)
+    × (a.pending_change ≡ b.pending_change) × (a.restored ≡ b.restored)
+
+abbrev pub HaveSameCounters : PlainNode → PlainNode → Type 0
+HaveSameCounters a b =
+    (a.elapsed ≡ b.elapsed) × (a.heartbeat_elapsed ≡ b.heartbeat_elapsed) × (a.timeout ≡ b.timeout)
+    × (a.saved ≡ b.saved) × (a.options ≡ b.options)
+
+abbrev pub HaveSameLists : PlainNode → PlainNode → Type 0
+HaveSameLists a b =
+    (a.votes ≡ b.votes) × (a.tracker ≡ b.tracker) × (a.sent ≡ b.sent) × (a.waiting ≡ b.waiting)
+    × (a.log ≡ b.log) × (a.content ≡ b.content)

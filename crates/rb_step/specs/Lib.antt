@@ -1,0 +1,13 @@
+pub mod Node
+pub mod Comparing
+pub mod Terms
+pub mod Campaigns
+pub mod Sends
+pub mod Leading
+pub mod Votes
+pub mod Following
+pub mod Acknowledging
+pub mod Proposing
+pub mod Transferring
+pub mod Changing
+pub mod Step

@@ -1,0 +1,130 @@
+//! Copies of a state, and comparison.
+
+ghost use Rattle.std.specs.Prelude.{◌≡◌, ◌↔◌, IsTrue, IfOk};
+ghost use Rattle.rb_step.specs.Comparing.{HaveSameRole, HaveSameIndexes, HaveSameCounters, HaveSameLists};
+
+use super::State;
+use rb_message::{Message, copies_of, same_messages};
+use rb_raftlog::{Content, RaftLog};
+use rb_tracker::{Tracker, Votes};
+use std::alloc::AllocError;
+
+// The two lists of messages.
+#[derive(Drop)]
+struct Mail {
+    sent: Vec<Message>,
+    waiting: Vec<Message>,
+}
+
+#[derive(Drop)]
+struct Parts {
+    content: Content,
+    tracker: Tracker,
+    votes: Votes,
+}
+
+impl<L: RaftLog> State<L> {
+    fn copy_mail(&self) -> Result<Mail, AllocError>
+        ensures sent { IfOk result (λ mail. mail.sent.items ≡ self.now.sent) }
+        ensures waiting { IfOk result (λ mail. mail.waiting.items ≡ self.now.waiting) }
+    {
+        let alloc = self.allocator();
+        Ok(Mail {
+            sent: copies_of(alloc, self.sent.as_slice())?,
+            waiting: copies_of(alloc, self.waiting.as_slice())?,
+        })
+    }
+
+    fn copy_parts(&self) -> Result<Parts, AllocError>
+        ensures { IfOk result (λ parts. parts ≡ record { content = self.now.content; tracker = self.now.tracker; votes = self.now.votes }) }
+    {
+        Ok(Parts {
+            content: self.content.try_copy()?,
+            tracker: self.tracker.try_copy()?,
+            votes: self.votes.try_copy()?,
+        })
+    }
+
+    /// The same state once more. It costs pointers, and a view of each member where it leads.
+    pub fn try_copy(&self) -> Result<State<L>, AllocError>
+        ensures { IfOk result (λ copy. copy ≡ self.now) }
+    {
+        let mail = self.copy_mail()?;
+        let parts = self.copy_parts()?;
+        let log = self.log.try_copy()?;
+        Ok(State {
+            id: self.id,
+            term: self.term,
+            vote: self.vote,
+            lead: self.lead,
+            role: self.role,
+            log,
+            commit: self.commit,
+            applied: self.applied,
+            content: parts.content,
+            tracker: parts.tracker,
+            votes: parts.votes,
+            elapsed: self.elapsed,
+            heartbeat_elapsed: self.heartbeat_elapsed,
+            timeout: self.timeout,
+            transferee: self.transferee,
+            pending_change: self.pending_change,
+            saved: self.saved,
+            restored: self.restored,
+            sent: mail.sent,
+            waiting: mail.waiting,
+            options: self.options,
+        })
+    }
+
+    fn same_role(&self, other: &State<L>) -> bool
+        ensures { IsTrue result ↔ HaveSameRole self.now other.now }
+    {
+        self.id == other.id
+            && self.term == other.term
+            && self.vote == other.vote
+            && self.lead == other.lead
+            && self.role == other.role
+    }
+
+    fn same_indexes(&self, other: &State<L>) -> bool
+        ensures { IsTrue result ↔ HaveSameIndexes self.now other.now }
+    {
+        self.commit == other.commit
+            && self.applied == other.applied
+            && self.transferee == other.transferee
+            && self.pending_change == other.pending_change
+            && self.restored == other.restored
+    }
+
+    fn same_counters(&self, other: &State<L>) -> bool
+        ensures { IsTrue result ↔ HaveSameCounters self.now other.now }
+    {
+        self.elapsed == other.elapsed
+            && self.heartbeat_elapsed == other.heartbeat_elapsed
+            && self.timeout == other.timeout
+            && self.saved == other.saved
+            && self.options == other.options
+    }
+
+    fn same_lists(&self, other: &State<L>) -> bool
+        ensures { IsTrue result ↔ HaveSameLists self.now other.now }
+    {
+        self.votes.same(&other.votes)
+            && self.tracker.same(&other.tracker)
+            && same_messages(self.sent.as_slice(), other.sent.as_slice())
+            && same_messages(self.waiting.as_slice(), other.waiting.as_slice())
+            && self.log.same(&other.log)
+            && self.content.same(&other.content)
+    }
+
+    /// Whether both are the same in all that a node knows. Numbers are looked at first, then lists. It takes no memory.
+    pub fn same(&self, other: &State<L>) -> bool
+        ensures { IsTrue result ↔ (self.now ≡ other.now) }
+    {
+        self.same_role(other)
+            && self.same_indexes(other)
+            && self.same_counters(other)
+            && self.same_lists(other)
+    }
+}
