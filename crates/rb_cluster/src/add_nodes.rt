@@ -1,84 +1,108 @@
-//! `add-nodes`: what is asked for, its checks, and the new nodes.
+//! `add-nodes`: nodes with the ids that follow, which start at a base.
 
-ghost use Rattle.std.specs.Prelude.{◌≡◌, ◌+◌, ◌-◌, ◌<◌, ◌≤◌, ◌++◌, ℕ, OnOk, IfOk, MatchOption, Some, None, length, map};
-ghost use Rattle.std.specs.List.{range_with_len};
-ghost use Rattle.rb_cluster.specs.declared.limits.TheConstants.{MAX_NODES};
-ghost use Rattle.rb_cluster.specs.Arguments.{id_set, values_given};
-ghost use Rattle.rb_cluster.specs.AddNodes.{count, index, config, content, needs_index, is_low, new_node, new_nodes};
+ghost use Rattle.std.specs.Prelude.{◌≡◌, ◌+◌, ◌-◌, ◌≤◌, ◌++◌, OnOk, IfOk, [], length, map};
+ghost use Rattle.std.specs.List.{flat_map, range_with_len};
+ghost use Rattle.rb_texts.specs.Texts.{line_of};
+ghost use Rattle.std.specs.Option.{unwrap_or};
+ghost use Rattle.rb_directive.specs.declared.limits.TheConstants.{MAX_NODES};
+ghost use Rattle.rb_cluster.specs.AddNodes.{id_set, config, node_options, needs_index, is_low, add_nodes_fault, new_node, new_nodes, started_item};
 
-use crate::arguments::Arguments;
 use crate::config::Config;
-use crate::node::Node;
+use crate::node::{Node, Options};
 use crate::shared::{Content, IdSet};
-use rb_number::number_of;
+use rb_directive::{AddNodes, IdList, MAX_ID, MAX_NODES};
+use rb_level::{DirectiveError, Level, Word};
+use rb_script::Lines;
+use rb_texts::{Item, put};
 use std::alloc::{AllocError, Global};
 
-/// How many nodes are asked for.
-#[tactic(auto, unfolding(crate::specs::AddNodes::count))]
-pub(crate) fn count(args: &Arguments<'_>) -> u64
-    ensures { result ≡ count args.now }
+// Whether something is asked for that needs an index.
+fn needs_index(asked: &AddNodes<'_>) -> bool
+    ensures { result ≡ needs_index asked.now }
 {
-    match args.word(0) {
-        Some(word) => number_of(word).unwrap_or(0),
-        None => 0,
-    }
+    asked.voters.is_some() || asked.learners.is_some() || asked.content.is_some()
 }
 
-// The index of the base, if it is given.
-#[tactic(auto, unfolding(crate::specs::AddNodes::index))]
-fn index(args: &Arguments<'_>) -> Option<u64>
-    ensures { result ≡ index args.now }
+// Whether the index is too low, or lacks where it is needed.
+fn is_low(asked: &AddNodes<'_>) -> bool
+    ensures { result ≡ is_low asked.now.index asked.now }
 {
-    match args.value_given(b"index") {
-        Some(word) => number_of(word),
-        None => None,
-    }
-}
-
-// Whether there is an option that needs an index.
-fn needs_index(args: &Arguments<'_>) -> bool
-    ensures { result ≡ needs_index args.now }
-{
-    args.is_given(b"voters") || args.is_given(b"learners") || args.is_given(b"content")
-}
-
-/// Whether the index is too low, or lacks where another option needs one.
-pub(crate) fn is_index_low(args: &Arguments<'_>) -> bool
-    ensures { result ≡ is_low (index args.now) args.now }
-{
-    match index(args) {
+    match asked.index {
         Some(index) => index < 2,
-        None => needs_index(args),
+        None => needs_index(asked),
     }
 }
 
-// The ids that the option with this key names.
-fn ids_given(alloc: Global, args: &Arguments<'_>, key: &[u8]) -> Result<IdSet, AllocError>
-    ensures { IfOk result (λ s. s ≡ id_set (values_given key.now args.now)) }
+/// Why the nodes can't join these.
+#[tactic(auto, unfolding(crate::specs::AddNodes::add_nodes_fault))]
+pub(crate) fn add_nodes_fault(
+    asked: &AddNodes<'_>,
+    nodes: &[Node],
+) -> Option<DirectiveError<'static>>
+    ensures { result ≡ add_nodes_fault asked.now nodes.now }
 {
-    let mut ids = Vec::new(alloc);
-    args.add_ids_given(key, &mut ids)?;
-    IdSet::new(ids)
+    let after = (nodes.len() as u64).saturating_add(asked.count);
+    if after > MAX_NODES {
+        return Some(DirectiveError::TooManyNodes);
+    }
+    if is_low(asked) {
+        return Some(DirectiveError::IndexTooLow);
+    }
+    None
 }
 
-#[tactic(auto, unfolding(crate::specs::AddNodes::config))]
-fn config(alloc: Global, args: &Arguments<'_>) -> Result<Config, AllocError>
-    ensures { IfOk result (λ c. c ≡ config args.now) }
+// Adds the ids of a list, ascending, each once.
+#[tactic(auto, using(crate::proofs::IdLaws::naming))]
+fn push_ids(set: &mut Vec<u64>, ids: &IdList) -> Result<(), AllocError>
+    ensures { OnOk result (set.new.items ≡ set.old.items ++ id_set ids.now) }
 {
-    let voters = ids_given(alloc, args, b"voters")?;
-    let learners = ids_given(alloc, args, b"learners")?;
+    for id in 1..MAX_ID + 1 {
+        if ids.holds(id as u8) {
+            set.push(id)?;
+        }
+    }
+    Ok(())
+}
+
+// The ids of a list that may be left out.
+#[tactic(auto, using(crate::proofs::IdLaws::none_named))]
+fn set_of(alloc: Global, ids: &Option<IdList>) -> Result<IdSet, AllocError>
+    ensures { IfOk result (λ s. s ≡ id_set (unwrap_or ids.now [])) }
+{
+    let mut set = Vec::new(alloc);
+    if let Some(ids) = ids {
+        push_ids(&mut set, ids)?;
+    }
+    IdSet::new(set)
+}
+
+fn config(alloc: Global, asked: &AddNodes<'_>) -> Result<Config, AllocError>
+    ensures { IfOk result (λ c. c ≡ config asked.now) }
+{
+    let voters = set_of(alloc, &asked.voters)?;
+    let learners = set_of(alloc, &asked.learners)?;
     Ok(Config::new(voters, learners))
 }
 
-#[tactic(auto, unfolding(crate::specs::AddNodes::content))]
-fn content(alloc: Global, args: &Arguments<'_>) -> Result<Content, AllocError>
-    ensures { IfOk result (λ c. c ≡ content args.now) }
+fn content(alloc: Global, given: &Option<Word<'_>>) -> Result<Content, AllocError>
+    ensures { IfOk result (λ c. c ≡ unwrap_or given.now []) }
 {
     let mut bytes = Vec::new(alloc);
-    if let Some(word) = args.value_given(b"content") {
-        bytes.extend_from_slice(word)?;
+    if let Some(word) = given {
+        bytes.extend_from_slice(word.bytes())?;
     }
     Content::new(bytes)
+}
+
+fn node_options(asked: &AddNodes<'_>) -> Options
+    ensures { result ≡ node_options asked.now }
+{
+    Options {
+        inflight: asked.inflight,
+        prevote: asked.prevote,
+        check_quorum: asked.check_quorum,
+        step_down: asked.step_down,
+    }
 }
 
 // A node as it is asked for, with this id. Without an index the base is at 0, with term 0.
@@ -86,15 +110,16 @@ fn node_with(
     index: Option<u64>,
     config: &Config,
     content: &Content,
+    options: Options,
     id: u64,
 ) -> Result<Node, AllocError>
-    ensures { IfOk result (λ n. n ≡ new_node index config.now content.now id) }
+    ensures { IfOk result (λ n. n ≡ new_node index config.now content.now options id) }
 {
     let config = config.try_copy()?;
     let content = content.try_copy()?;
     Ok(match index {
-        Some(index) => Node::new(id, index, 1, config, content),
-        None => Node::new(id, 0, 0, config, content),
+        Some(index) => Node::new(id, index, 1, config, content, options),
+        None => Node::new(id, 0, 0, config, content, options),
     })
 }
 
@@ -106,12 +131,13 @@ fn push_nodes(
     index: Option<u64>,
     config: &Config,
     content: &Content,
+    options: Options,
 ) -> Result<(), AllocError>
     requires { first ≤ end }
-    ensures { OnOk result (nodes.new.items ≡ nodes.old.items ++ map (new_node index config.now content.now) (range_with_len first (end - first))) }
+    ensures { OnOk result (nodes.new.items ≡ nodes.old.items ++ map (new_node index config.now content.now options) (range_with_len first (end - first))) }
 {
     for id in first..end {
-        nodes.push(node_with(index, config, content, id)?)?;
+        nodes.push(node_with(index, config, content, options, id)?)?;
     }
     Ok(())
 }
@@ -120,21 +146,26 @@ fn push_nodes(
 #[tactic(auto, unfolding(crate::specs::AddNodes::new_nodes))]
 pub(crate) fn add_nodes(
     alloc: Global,
-    args: &Arguments<'_>,
+    asked: &AddNodes<'_>,
     nodes: &mut Vec<Node>,
 ) -> Result<(), AllocError>
-    requires { length nodes.old.items + count args.now ≤ MAX_NODES }
-    ensures { OnOk result (nodes.new.items ≡ nodes.old.items ++ new_nodes nodes.old.items args.now) }
+    requires { length nodes.old.items + asked.now.count ≤ MAX_NODES }
+    ensures { OnOk result (nodes.new.items ≡ nodes.old.items ++ new_nodes asked.now nodes.old.items) }
 {
-    let config = config(alloc, args)?;
-    let content = content(alloc, args)?;
+    let config = config(alloc, asked)?;
+    let content = content(alloc, &asked.content)?;
+    let options = node_options(asked);
     let first = nodes.len() as u64 + 1;
-    push_nodes(
-        nodes,
-        first,
-        first + count(args),
-        index(args),
-        &config,
-        &content,
-    )
+    let end = first + asked.count;
+    push_nodes(nodes, first, end, asked.index, &config, &content, options)
+}
+
+/// Adds that each of the nodes started.
+pub(crate) fn put_started(lines: &mut Lines, level: Level, nodes: &[Node]) -> Result<(), AllocError>
+    ensures { OnOk result (lines.new ≡ lines.old ++ flat_map (line_of level) (map started_item nodes.now)) }
+{
+    for node in nodes {
+        put(lines, level, &Item::Event(node.start()))?;
+    }
+    Ok(())
 }

@@ -1,27 +1,27 @@
 //! A cluster, and what directives do to it.
+//!
+//! A directive is refused by the first of these that holds: its name is none that is here; what it says is wrong
+//! (rb_directive); a node that it speaks of doesn't exist; this cluster can't do it. Else it has its effect.
 
-ghost use Rattle.std.specs.Prelude.{◌≡◌, ◌↔◌, ◌++◌, [], IsTrue, IfOk, OnOk, None, map, true};
+ghost use Rattle.std.specs.Prelude.{◌≡◌, ◌↔◌, ◌++◌, [], IsTrue, IfOk, OnOk, None};
 ghost use Rattle.std.specs.List.{flat_map};
 ghost use Rattle.rb_script.specs.Tokens.{plain};
+ghost use Rattle.rb_directive.specs.Requests.{request};
 ghost use Rattle.rb_texts.specs.Texts.{line_of};
-ghost use Rattle.rb_cluster.specs.Checks.{plain_fault};
-ghost use Rattle.rb_cluster.specs.AddNodes.{add_nodes_fault, new_nodes, nodes_added, started_item};
-ghost use Rattle.rb_script.specs.Directive.{PlainDirective};
-ghost use Rattle.rb_cluster.specs.Cluster.{Cluster, empty, IsNumbered};
-ghost use Rattle.rb_cluster.specs.Outcome.{own_fault, fault, cluster_after, items, unless_refused, outcome, is_output};
+ghost use Rattle.rb_cluster.specs.AddNodes.{add_nodes_fault, nodes_added};
+ghost use Rattle.rb_cluster.specs.Cluster.{Cluster, empty, is_node};
+ghost use Rattle.rb_cluster.specs.Outcome.{is_here, absent, first_absent, missing_node, own_fault, fault, effect, done, unless_refused, outcome_of, outcome, is_output};
 
-use crate::add_nodes::{add_nodes, count, is_index_low};
-use crate::arguments::Arguments;
-use crate::checks::{argument_fault, missing};
-use crate::kind::{Kind, kind_of};
-use crate::levels::{named_level, shown_level};
-use crate::limits::MAX_NODES;
+use crate::add_nodes::{add_nodes, add_nodes_fault, put_started};
 use crate::machine::Machine;
 use crate::meter::Meter;
 use crate::node::Node;
-use crate::printing::{put_ok, put_started, put_states};
+use crate::printing::put_ok;
+use crate::raft_state::put_states;
+use rb_directive::{AddNodes, Asked, Named, Request, request};
+use rb_level::{DirectiveError, Level, Word};
 use rb_script::{DirectiveRef, Lines};
-use rb_texts::{DirectiveError, Item, Level, put};
+use rb_texts::{Item, put};
 use std::alloc::{AllocError, Global};
 use std::marker::Model;
 
@@ -81,17 +81,6 @@ impl Machine for Cluster {
     }
 }
 
-/// What a directive prints has at least one line, and none that is blank or `----` or holds a byte outside 32 to 126.
-pub fn outputs_have_lines()
-    ensures { (c : Cluster) (d : PlainDirective) → is_output (outcome c d).output ≡ true }
-{}
-
-/// In each cluster that directives lead to, the nodes have the ids from 1 on, and are no more than it may have.
-pub fn nodes_are_numbered()
-    ensures first { IsNumbered empty }
-    ensures next { (c : Cluster) (d : PlainDirective) → IsNumbered c → IsNumbered (outcome c d).cluster }
-{}
-
 fn push_copies(copies: &mut Vec<Node>, nodes: &[Node]) -> Result<(), AllocError>
     ensures { OnOk result (copies.new.items ≡ copies.old.items ++ nodes.now) }
 {
@@ -115,106 +104,178 @@ fn same_nodes(nodes: &[Node], others: &[Node]) -> bool
     true
 }
 
+// Whether the directive with this name is here.
+#[tactic(auto, unfolding(crate::specs::Outcome::is_here))]
+fn is_here(name: &[u8]) -> bool
+    ensures { result ≡ is_here name.now }
+{
+    name == b"add-nodes".as_slice()
+        || name == b"log-level".as_slice()
+        || name == b"raft-state".as_slice()
+}
+
+// Whether a node has this id.
+fn is_node(nodes: &[Node], id: u64) -> bool
+    ensures { result ≡ is_node nodes.now id }
+{
+    for node in nodes {
+        if node.id() == id {
+            return true;
+        }
+    }
+    false
+}
+
+fn absent(nodes: &[Node], id: u64) -> Option<DirectiveError<'static>>
+    ensures { result ≡ absent nodes.now id }
+{
+    if is_node(nodes, id) {
+        return None;
+    }
+    Some(DirectiveError::NoSuchNode(id))
+}
+
+// The first of the ids that no node has.
+fn first_absent(nodes: &[Node], ids: &[u8]) -> Option<DirectiveError<'static>>
+    ensures { result ≡ first_absent nodes.now ids.now }
+{
+    for id in ids {
+        let fault = absent(nodes, u64::from(*id));
+        if fault.is_some() {
+            return fault;
+        }
+    }
+    None
+}
+
+// The first node that must exist and doesn't.
+fn missing_node(nodes: &[Node], named: &Named) -> Option<DirectiveError<'static>>
+    ensures { result ≡ missing_node nodes.now named.now }
+{
+    match named {
+        Named::None => None,
+        Named::One(id) => absent(nodes, *id),
+        Named::Many(ids) => first_absent(nodes, ids.as_slice()),
+    }
+}
+
 impl Cluster {
-    // What the directive may not do in this cluster.
-    fn own_fault(&self, kind: Kind, args: &Arguments<'_>) -> Option<DirectiveError<'static>>
-        ensures { plain_fault result ≡ own_fault kind self.now args.now }
-    {
-        match kind {
-            Kind::AddNodes => self.add_nodes_fault(args),
-            Kind::LogLevel => None,
-            Kind::RaftState => None,
-        }
-    }
-
-    #[tactic(auto, unfolding(crate::specs::AddNodes::add_nodes_fault))]
-    fn add_nodes_fault(&self, args: &Arguments<'_>) -> Option<DirectiveError<'static>>
-        ensures { plain_fault result ≡ add_nodes_fault self.now args.now }
-    {
-        let nodes = (self.nodes.len() as u64).saturating_add(count(args));
-        if nodes > MAX_NODES {
-            return Some(DirectiveError::TooManyNodes);
-        }
-        if is_index_low(args) {
-            return Some(DirectiveError::IndexTooLow);
-        }
-        None
-    }
-
-    // The first check that holds.
+    // The first thing for which this cluster refuses a request: a node that doesn't exist, or what it can't do.
     #[tactic(auto, unfolding(crate::specs::Outcome::fault))]
-    fn fault<'d>(&self, kind: Kind, args: &Arguments<'d>) -> Option<DirectiveError<'d>>
-        ensures { plain_fault result ≡ fault kind self.now args.now }
+    fn fault(&self, wanted: &Request<'_>) -> Option<DirectiveError<'static>>
+        ensures { result ≡ fault wanted.now self.now }
     {
-        let fault = argument_fault(kind, args);
+        let fault = missing_node(&self.nodes, &wanted.nodes());
         if fault.is_some() {
             return fault;
         }
-        let fault = missing(kind, args);
-        if fault.is_some() {
-            return fault;
+        match wanted {
+            Request::AddNodes(asked) => add_nodes_fault(asked, &self.nodes),
+            Request::LogLevel(_) | Request::RaftState => None,
+            // These are not here yet.
+            Request::Campaign(_)
+            | Request::Propose(_, _)
+            | Request::ProposeConfChange(_)
+            | Request::ProcessReady(_)
+            | Request::DeliverMsgs(_)
+            | Request::Stabilize(_, _)
+            | Request::TickElection(_)
+            | Request::TickHeartbeat(_)
+            | Request::SetRandomizedElectionTimeout(_, _)
+            | Request::TransferLeadership(_, _)
+            | Request::ForgetLeader(_)
+            | Request::ReportUnreachable(_, _)
+            | Request::SendSnapshot(_, _)
+            | Request::Compact(_, _)
+            | Request::RaftLog(_)
+            | Request::Status(_) => None,
         }
-        self.own_fault(kind, args)
     }
 
     // Adds nodes, and prints that they started.
     #[tactic(auto, using(crate::proofs::OutcomeLaws::has_room), unfolding(crate::specs::AddNodes::nodes_added))]
     fn add_nodes(
         &mut self,
-        args: &Arguments<'_>,
+        asked: &AddNodes<'_>,
         level: Level,
         lines: &mut Lines,
     ) -> Result<(), AllocError>
-        requires { add_nodes_fault self.old args.now ≡ None }
-        ensures cluster { OnOk result (self.new ≡ nodes_added self.old args.now) }
-        ensures lines { OnOk result (lines.new ≡ lines.old ++ flat_map (line_of level) (map started_item (new_nodes self.old.nodes args.now))) }
+        requires { add_nodes_fault asked.now self.old.nodes ≡ None }
+        ensures cluster { OnOk result (self.new ≡ (nodes_added asked.now self.old).cluster) }
+        ensures lines { OnOk result (lines.new ≡ lines.old ++ flat_map (line_of level) (nodes_added asked.now self.old).items) }
     {
         let before = self.nodes.len();
-        add_nodes(self.alloc, args, &mut self.nodes)?;
+        add_nodes(self.alloc, asked, &mut self.nodes)?;
         put_started(lines, level, &self.nodes[before..])
     }
 
     // Does what the directive does, and adds what it prints at the level.
-    #[tactic(auto, unfolding(crate::specs::LogLevel::level_set))]
     fn perform(
         &mut self,
-        kind: Kind,
-        args: &Arguments<'_>,
+        wanted: &Request<'_>,
         level: Level,
         lines: &mut Lines,
     ) -> Result<(), AllocError>
-        requires { fault kind self.old args.now ≡ None }
-        ensures cluster { OnOk result (self.new ≡ cluster_after kind self.old args.now) }
-        ensures lines { OnOk result (lines.new ≡ lines.old ++ flat_map (line_of level) (items kind self.old args.now)) }
+        requires { fault wanted.now self.old ≡ None }
+        ensures cluster { OnOk result (self.new ≡ (effect wanted.now self.old).cluster) }
+        ensures lines { OnOk result (lines.new ≡ lines.old ++ flat_map (line_of level) (effect wanted.now self.old).items) }
     {
-        match kind {
-            Kind::AddNodes => self.add_nodes(args, level, lines),
-            Kind::LogLevel => {
-                self.level = named_level(args, self.level);
+        match wanted {
+            Request::AddNodes(asked) => self.add_nodes(asked, level, lines),
+            Request::LogLevel(set) => {
+                self.level = *set;
                 Ok(())
             }
-            Kind::RaftState => put_states(lines, level, &self.nodes),
+            Request::RaftState => put_states(lines, level, &self.nodes),
+            // These are not here yet.
+            Request::Campaign(_)
+            | Request::Propose(_, _)
+            | Request::ProposeConfChange(_)
+            | Request::ProcessReady(_)
+            | Request::DeliverMsgs(_)
+            | Request::Stabilize(_, _)
+            | Request::TickElection(_)
+            | Request::TickHeartbeat(_)
+            | Request::SetRandomizedElectionTimeout(_, _)
+            | Request::TransferLeadership(_, _)
+            | Request::ForgetLeader(_)
+            | Request::ReportUnreachable(_, _)
+            | Request::SendSnapshot(_, _)
+            | Request::Compact(_, _)
+            | Request::RaftLog(_)
+            | Request::Status(_) => Ok(()),
         }
     }
 
-    // Runs a directive that there is.
+    // Carries out what is asked for.
     #[tactic(auto, unfolding(crate::specs::Outcome::printed))]
-    fn run_kind(
+    fn carry_out_asked(&mut self, asked: &Asked<'_>, lines: &mut Lines) -> Result<(), AllocError>
+        requires { lines.old ≡ [] }
+        ensures cluster { OnOk result (self.new ≡ (unless_refused (fault asked.now.request self.old) asked.now self.old).cluster) }
+        ensures lines { OnOk result (lines.new ≡ (unless_refused (fault asked.now.request self.old) asked.now self.old).output) }
+    {
+        if let Some(error) = self.fault(&asked.request) {
+            return put(lines, self.level, &Item::Error(error));
+        }
+        let level = asked.log_level.unwrap_or(self.level);
+        self.perform(&asked.request, level, lines)?;
+        put_ok(lines, level)
+    }
+
+    // Runs a directive that is here.
+    fn carry_out_known(
         &mut self,
-        kind: Kind,
-        args: &Arguments<'_>,
+        directive: &DirectiveRef<'_>,
         lines: &mut Lines,
     ) -> Result<(), AllocError>
         requires { lines.old ≡ [] }
-        ensures cluster { OnOk result (self.new ≡ (unless_refused kind self.old args.now (fault kind self.old args.now)).cluster) }
-        ensures lines { OnOk result (lines.new ≡ (unless_refused kind self.old args.now (fault kind self.old args.now)).output) }
+        ensures cluster { OnOk result (self.new ≡ (outcome_of (request (plain directive.now)) self.old).cluster) }
+        ensures lines { OnOk result (lines.new ≡ (outcome_of (request (plain directive.now)) self.old).output) }
     {
-        if let Some(error) = self.fault(kind, args) {
-            return put(lines, self.level, &Item::Error(error));
+        match request(directive) {
+            Ok(asked) => self.carry_out_asked(&asked, lines),
+            Err(error) => put(lines, self.level, &Item::Error(error)),
         }
-        let level = shown_level(args, self.level);
-        self.perform(kind, args, level, lines)?;
-        put_ok(lines, level)
     }
 
     // Runs a directive, and gives what it prints.
@@ -225,12 +286,11 @@ impl Cluster {
     {
         let mut lines = Lines::new(self.alloc);
         let name = directive.name();
-        match kind_of(name) {
-            Some(kind) => self.run_kind(kind, &Arguments::of(directive), &mut lines)?,
-            None => {
-                let error = DirectiveError::UnknownDirective(name);
-                put(&mut lines, self.level, &Item::Error(error))?;
-            }
+        if is_here(name) {
+            self.carry_out_known(directive, &mut lines)?;
+        } else {
+            let error = DirectiveError::UnknownDirective(Word::new(name));
+            put(&mut lines, self.level, &Item::Error(error))?;
         }
         Ok(lines)
     }

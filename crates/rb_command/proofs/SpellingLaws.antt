@@ -10,7 +10,7 @@ use Rattle.rb_command.specs.declared.command.Command.{Command}
 use Rattle.rb_command.specs.declared.command.Command.TheVariants.{Blank, Bad, Given, Remove, Accept, Show, Report, Script, Rewrite}
 use Rattle.rb_command.specs.declared.command.Kind.{Kind}
 use Rattle.rb_command.specs.declared.command.Kind.TheVariants.{Insert, Replace, Expect}
-use Rattle.rb_command.specs.Words.{words}
+use Rattle.rb_words.specs.Words.{words}
 use Rattle.rb_number.specs.Numbers.{number_of}
 use Rattle.rb_command.specs.Commands.{alone, placed, kind_of, given, spelled, command_of}
 use Rattle.rb_command.specs.Spelling.{kind_name, Spells}

@@ -7,7 +7,7 @@ use Rattle.rb_command.specs.declared.command.Command.{Command}
 use Rattle.rb_command.specs.declared.command.Command.TheVariants.{Blank, Bad, Given, Remove, Accept, Show, Report, Script, Rewrite}
 use Rattle.rb_command.specs.declared.command.Kind.{Kind}
 use Rattle.rb_command.specs.declared.command.Kind.TheVariants.{Insert, Replace, Expect}
-use Rattle.rb_command.specs.Words.{words}
+use Rattle.rb_words.specs.Words.{words}
 use Rattle.rb_number.specs.Numbers.{number_of}
 
 -- a command of one word

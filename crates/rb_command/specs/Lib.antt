@@ -1,4 +1,4 @@
 pub use Rattle.rb_number.specs.Numbers
-pub mod Words
+pub use Rattle.rb_words.specs.Words
 pub mod Commands
 pub mod Spelling

@@ -3,16 +3,21 @@
 ghost use Rattle.std.specs.Prelude.{◌≡◌, ◌≢◌};
 ghost use Rattle.std.specs.Str.{bytes_eq};
 ghost use Rattle.rb_number.specs.Numbers.{number_of};
-ghost use Rattle.rb_command.specs.Words.{words};
+ghost use Rattle.rb_words.specs.Words.{words};
 ghost use Rattle.rb_command.specs.Spelling.{Spells};
 ghost use Rattle.rb_command.specs.declared.command.Command.{Command};
 ghost use Rattle.rb_command.specs.Commands.{command_of, alone, placed, given, kind_of};
 
-use crate::words::first_word;
 use rb_number::number_of;
+use rb_words::first_word;
 
 /// How many lines a command may take after its own.
 pub const MAX_GIVEN: usize = 65_536;
+
+/// How many they are, in numbers: definitions name the constant, and take any value of it.
+pub fn limits_are()
+    ensures { MAX_GIVEN ≡ 65536 }
+{}
 
 /// What a command does with the lines that follow it.
 #[derive(Clone, Copy, Debug, PartialEq, Eq)]

@@ -5,9 +5,8 @@
 #![tactic(auto)]
 
 mod command;
-mod words;
 
-pub use command::{Command, Kind, MAX_GIVEN, command_of};
+pub use command::{Command, Kind, MAX_GIVEN, command_of, limits_are};
 
 #[cfg(test)]
 mod tests;

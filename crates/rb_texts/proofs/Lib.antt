@@ -3,3 +3,4 @@ pub mod PieceLaws
 pub mod QuotedLaws
 pub mod TextLaws
 pub mod ShownLaws
+pub mod PrintedLaws

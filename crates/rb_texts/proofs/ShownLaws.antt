@@ -7,11 +7,13 @@ use Rattle.std.proofs.lemmas.Bool.{cases_Bool, false≢true, le-leb}
 use Rattle.std.proofs.Math.Bool.{or-true}
 use Rattle.std.proofs.lemmas.List.Folds.{list_all-append, list_any-append}
 use Rattle.std.proofs.lemmas.Slice.Eq.{bytes_eq-Decides}
-use Rattle.rb_texts.specs.declared.level.Level.{Level}
+use Rattle.rb_level.specs.declared.level.Level.{Level}
 use Rattle.rb_texts.specs.declared.item.Role.{Role}
 use Rattle.rb_texts.specs.declared.item.Role.TheVariants as roles
 use Rattle.rb_texts.specs.Quoted.{is_printable, is_plain, numbered, escaped, quoted}
-use Rattle.rb_texts.specs.Items.{PlainConfig, PlainNode, PlainEvent, started, PlainError, unknown_directive, unsupported_option, bad_argument, missing_argument, no_such_node, too_many_nodes, index_too_low, PlainItem, nothing_else, raft_state, event, error}
+use Rattle.rb_texts.specs.Items.{PlainConfig, PlainNode, PlainEvent, started, PlainItem, nothing_else, raft_state, event, error}
+use Rattle.rb_level.specs.declared.directive_error.DirectiveError.{DirectiveError}
+use Rattle.rb_level.specs.declared.directive_error.DirectiveError.TheVariants as errors
 use Rattle.rb_texts.specs.Texts.{ids_text, part_text, config_text, role_text, node_text, error_text, event_text, item_text, is_shown, line_of, WORD_SHOWN}
 use Rattle.rb_script.specs.Marks.{is_space, is_blank, rule, is_rule}
 use Rattle.rb_texts.specs.Shapes.{is_one_line, is_solid}
@@ -164,26 +166,34 @@ unfolding event_text
 event_ink (started id term index config) = refl
 
 -- an error is in one line
-error_one_line : (e : PlainError) → is_one_line (error_text e) ≡ true
+error_one_line : (e : DirectiveError) → is_one_line (error_text e) ≡ true
 unfolding error_text
-error_one_line (unknown_directive name) = quoted_one_line (take WORD_SHOWN name)
-error_one_line (unsupported_option key) = quoted_one_line (take WORD_SHOWN key)
-error_one_line (bad_argument word) = quoted_one_line (take WORD_SHOWN word)
-error_one_line (missing_argument name) = quoted_one_line (take WORD_SHOWN name)
-error_one_line (no_such_node id) = decimal_one_line id
-error_one_line too_many_nodes = refl
-error_one_line index_too_low = refl
+error_one_line (errors.UnknownDirective name) = quoted_one_line (take WORD_SHOWN name)
+error_one_line (errors.UnsupportedOption key) = quoted_one_line (take WORD_SHOWN key)
+error_one_line (errors.BadArgument word) = quoted_one_line (take WORD_SHOWN word)
+error_one_line (errors.MissingArgument name) = quoted_one_line (take WORD_SHOWN name)
+error_one_line (errors.NoSuchNode id) = decimal_one_line id
+error_one_line errors.TooManyNodes = refl
+error_one_line errors.IndexTooLow = refl
+error_one_line errors.AlreadyCompacted = refl
+error_one_line errors.IndexPastApplied = refl
+error_one_line (errors.BadChange word) = quoted_one_line (take WORD_SHOWN word)
+error_one_line errors.FirstVersionTakesOne = refl
 
 -- its first letter is ink
-error_ink : (e : PlainError) → list_any is_ink (error_text e) ≡ true
+error_ink : (e : DirectiveError) → list_any is_ink (error_text e) ≡ true
 unfolding error_text
-error_ink (unknown_directive name) = refl
-error_ink (unsupported_option key) = refl
-error_ink (bad_argument word) = refl
-error_ink (missing_argument name) = refl
-error_ink (no_such_node id) = refl
-error_ink too_many_nodes = refl
-error_ink index_too_low = refl
+error_ink (errors.UnknownDirective name) = refl
+error_ink (errors.UnsupportedOption key) = refl
+error_ink (errors.BadArgument word) = refl
+error_ink (errors.MissingArgument name) = refl
+error_ink (errors.NoSuchNode id) = refl
+error_ink errors.TooManyNodes = refl
+error_ink errors.IndexTooLow = refl
+error_ink errors.AlreadyCompacted = refl
+error_ink errors.IndexPastApplied = refl
+error_ink (errors.BadChange word) = refl
+error_ink errors.FirstVersionTakesOne = refl
 
 -- the text of each item is solid
 pub is_solid-item_text : (item : PlainItem) → is_solid (item_text item) ≡ true

@@ -3,7 +3,7 @@ use Rattle.std.proofs.Common.{◌≡◌, ℕ, Bool, true, List, length, min, [],
 use Rattle.std.specs.Prelude.{if◌then◌else◌}
 use Rattle.std.proofs.lemmas.List.{take_min}
 use Rattle.rb_texts.specs.Lines.{Line, extended}
-use Rattle.rb_texts.specs.declared.level.Level.{Level}
+use Rattle.rb_level.specs.declared.level.Level.{Level}
 use Rattle.rb_texts.specs.Quoted.{quoted}
 use Rattle.rb_texts.specs.Items.{PlainConfig, PlainNode, started, PlainItem}
 use Rattle.rb_texts.specs.Texts.{ids_text, part_text, config_text, role_text, node_text, event_text, item_text, is_shown, line_of, word_text, WORD_SHOWN}

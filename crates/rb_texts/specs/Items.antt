@@ -6,8 +6,7 @@ use Rattle.rb_texts.specs.declared.item.Item.{Item}
 use Rattle.rb_texts.specs.declared.item.Item.TheVariants as items
 use Rattle.rb_texts.specs.declared.item.Event.{Event}
 use Rattle.rb_texts.specs.declared.item.Event.TheVariants as events
-use Rattle.rb_texts.specs.declared.item.DirectiveError.{DirectiveError}
-use Rattle.rb_texts.specs.declared.item.DirectiveError.TheVariants as errors
+use Rattle.rb_level.specs.declared.directive_error.DirectiveError.{DirectiveError}
 use Rattle.rb_texts.specs.declared.item.ConfigView.{ConfigView}
 use Rattle.rb_texts.specs.declared.item.NodeLine.{NodeLine}
 
@@ -35,20 +34,11 @@ pub data PlainEvent : Type 0 where
   -- a node was made, with this id, base term and base index
   started : (id term index : ℕ) (config : PlainConfig) → PlainEvent
 
-pub data PlainError : Type 0 where
-  unknown_directive : (name : List ℕ) → PlainError
-  unsupported_option : (key : List ℕ) → PlainError
-  bad_argument : (word : List ℕ) → PlainError
-  missing_argument : (name : List ℕ) → PlainError
-  no_such_node : (id : ℕ) → PlainError
-  too_many_nodes : PlainError
-  index_too_low : PlainError
-
 pub data PlainItem : Type 0 where
   nothing_else : PlainItem
   raft_state : PlainNode → PlainItem
   event : PlainEvent → PlainItem
-  error : PlainError → PlainItem
+  error : DirectiveError → PlainItem
 
 abbrev pub plain_config : ConfigView → PlainConfig
 plain_config c = record { voters = c.voters.now; outgoing = c.outgoing.now; learners = c.learners.now; next = c.next.now; auto = c.auto }
@@ -69,17 +59,8 @@ plain_node n = record {
 abbrev pub plain_event : Event → PlainEvent
 plain_event (events.Started id term index config) = started id term index (plain_config config)
 
-abbrev pub plain_error : DirectiveError → PlainError
-plain_error (errors.UnknownDirective name) = unknown_directive name.now
-plain_error (errors.UnsupportedOption key) = unsupported_option key.now
-plain_error (errors.BadArgument word) = bad_argument word.now
-plain_error (errors.MissingArgument name) = missing_argument name.now
-plain_error (errors.NoSuchNode id) = no_such_node id
-plain_error errors.TooManyNodes = too_many_nodes
-plain_error errors.IndexTooLow = index_too_low
-
 abbrev pub plain_item : Item → PlainItem
 plain_item items.NothingElse = nothing_else
 plain_item (items.RaftState node) = raft_state (plain_node node)
 plain_item (items.Event e) = event (plain_event e)
-plain_item (items.Error e) = error (plain_error e)
+plain_item (items.Error e) = error e

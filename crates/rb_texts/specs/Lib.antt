@@ -1,6 +1,6 @@
 pub use Rattle.rb_script.specs.Lines
 pub use Rattle.rb_script.specs.Marks
-pub mod Levels
+pub use Rattle.rb_level.specs.Levels
 pub mod Quoted
 pub mod Shapes
 pub mod Items

@@ -1,13 +1,15 @@
 -- The line of each item, and at which levels it is shown. (This project's texts.)
 use Rattle.std.specs.Prelude.{ℕ, Bool, true, nat_le, if◌then◌else◌, codes, decimal, List, [], ◌∷◌, ◌++◌, take, map}
 use Rattle.std.specs.List.{join_with_byte}
-use Rattle.rb_texts.specs.declared.level.Level.{Level}
-use Rattle.rb_texts.specs.declared.level.Level.TheVariants as levels
+use Rattle.rb_level.specs.declared.level.Level.{Level}
+use Rattle.rb_level.specs.declared.level.Level.TheVariants as levels
 use Rattle.rb_texts.specs.declared.item.Role.{Role}
 use Rattle.rb_texts.specs.declared.item.Role.TheVariants as roles
-use Rattle.rb_texts.specs.Levels.{rank}
+use Rattle.rb_level.specs.Levels.{rank}
 use Rattle.rb_texts.specs.Quoted.{quoted}
-use Rattle.rb_texts.specs.Items.{PlainConfig, PlainNode, PlainEvent, started, PlainError, unknown_directive, unsupported_option, bad_argument, missing_argument, no_such_node, too_many_nodes, index_too_low, PlainItem, nothing_else, raft_state, event, error}
+use Rattle.rb_texts.specs.Items.{PlainConfig, PlainNode, PlainEvent, started, PlainItem, nothing_else, raft_state, event, error}
+use Rattle.rb_level.specs.declared.directive_error.DirectiveError.{DirectiveError}
+use Rattle.rb_level.specs.declared.directive_error.DirectiveError.TheVariants as errors
 
 -- numbers with a comma between each two
 unfoldable pub ids_text : List ℕ → List ℕ
@@ -46,14 +48,18 @@ WORD_SHOWN = 64
 abbrev pub word_text : List ℕ → List ℕ
 word_text word = quoted (take WORD_SHOWN word)
 
-unfoldable pub error_text : PlainError → List ℕ
-error_text (unknown_directive name) = codes "error: unknown directive " ++ word_text name
-error_text (unsupported_option key) = codes "error: unsupported option " ++ word_text key
-error_text (bad_argument word) = codes "error: bad argument " ++ word_text word
-error_text (missing_argument name) = codes "error: missing argument " ++ word_text name
-error_text (no_such_node id) = codes "error: no node " ++ decimal id
-error_text too_many_nodes = codes "error: too many nodes"
-error_text index_too_low = codes "error: index must be above 1"
+unfoldable pub error_text : DirectiveError → List ℕ
+error_text (errors.UnknownDirective name) = codes "error: unknown directive " ++ word_text name
+error_text (errors.UnsupportedOption key) = codes "error: unsupported option " ++ word_text key
+error_text (errors.BadArgument word) = codes "error: bad argument " ++ word_text word
+error_text (errors.MissingArgument name) = codes "error: missing argument " ++ word_text name
+error_text (errors.NoSuchNode id) = codes "error: no node " ++ decimal id
+error_text errors.TooManyNodes = codes "error: too many nodes"
+error_text errors.IndexTooLow = codes "error: index must be above 1"
+error_text errors.AlreadyCompacted = codes "error: already compacted"
+error_text errors.IndexPastApplied = codes "error: index past applied"
+error_text (errors.BadChange word) = codes "error: bad change " ++ word_text word
+error_text errors.FirstVersionTakesOne = codes "error: v1 takes one change and no transition"
 
 unfoldable pub event_text : PlainEvent → List ℕ
 event_text (started id term index config) =

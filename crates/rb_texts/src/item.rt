@@ -1,5 +1,7 @@
 //! What a line can show. An item borrows what it shows.
 
+use rb_level::DirectiveError;
+
 /// What a node is in its term.
 #[derive(Clone, Copy, Debug, PartialEq, Eq)]
 pub enum Role {
@@ -55,27 +57,8 @@ pub enum Event<'a> {
     Started(u64, u64, u64, ConfigView<'a>),
 }
 
-/// Why a directive is refused. Of a word an error shows the first 64 bytes.
-#[derive(Clone, Copy)]
-pub enum DirectiveError<'a> {
-    /// The name of the directive.
-    UnknownDirective(&'a [u8]),
-    /// The key of the option.
-    UnsupportedOption(&'a [u8]),
-    /// The key of an option, or a positional word.
-    BadArgument(&'a [u8]),
-    /// The name of the argument that is wanted.
-    MissingArgument(&'a [u8]),
-    /// The id that no node has.
-    NoSuchNode(u64),
-    /// More nodes than a cluster may have.
-    TooManyNodes,
-    /// The index of a base is below 2, or lacks where it is needed.
-    IndexTooLow,
-}
-
 /// What a line shows.
-#[derive(Clone, Copy)]
+#[derive(Drop)]
 pub enum Item<'a> {
     /// The directive printed no other line: `ok`.
     NothingElse,

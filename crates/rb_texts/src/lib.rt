@@ -2,12 +2,13 @@
 #![tactic(auto)]
 
 mod item;
-mod level;
+mod laws;
 mod piece;
 mod texts;
 
-pub use item::{ConfigView, DirectiveError, Event, Item, NodeLine, Role};
-pub use level::{Level, level_of};
+pub use item::{ConfigView, Event, Item, NodeLine, Role};
+pub use laws::printed_lines_can_be_expected;
+pub use rb_level::{DirectiveError, Level, Word, level_of};
 pub use texts::{lines_are_solid, put};
 
 #[cfg(test)]

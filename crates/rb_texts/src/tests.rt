@@ -23,19 +23,19 @@ fn shown(alloc: Global, level: Level, item: &Item<'_>) -> Result<Lines, Fail> {
 fn errors_at_all_levels(rt: HostRuntime) -> Result<(), Fail> {
     for (error, want) in [
         (
-            DirectiveError::UnknownDirective(b"process-append-thread"),
+            DirectiveError::UnknownDirective(Word::new(b"process-append-thread")),
             b"error: unknown directive \"process-append-thread\"\n".as_slice(),
         ),
         (
-            DirectiveError::UnsupportedOption(b"async-storage-writes"),
+            DirectiveError::UnsupportedOption(Word::new(b"async-storage-writes")),
             b"error: unsupported option \"async-storage-writes\"\n",
         ),
         (
-            DirectiveError::BadArgument(b"17"),
+            DirectiveError::BadArgument(Word::new(b"17")),
             b"error: bad argument \"17\"\n",
         ),
         (
-            DirectiveError::MissingArgument(b"n"),
+            DirectiveError::MissingArgument(Word::new(b"n")),
             b"error: missing argument \"n\"\n",
         ),
         (DirectiveError::NoSuchNode(17), b"error: no node 17\n"),
@@ -44,9 +44,26 @@ fn errors_at_all_levels(rt: HostRuntime) -> Result<(), Fail> {
             DirectiveError::IndexTooLow,
             b"error: index must be above 1\n",
         ),
+        (
+            DirectiveError::AlreadyCompacted,
+            b"error: already compacted\n",
+        ),
+        (
+            DirectiveError::IndexPastApplied,
+            b"error: index past applied\n",
+        ),
+        (
+            DirectiveError::BadChange(Word::new(b"x1")),
+            b"error: bad change \"x1\"\n",
+        ),
+        (
+            DirectiveError::FirstVersionTakesOne,
+            b"error: v1 takes one change and no transition\n",
+        ),
     ] {
+        let item = Item::Error(error);
         for level in LEVELS {
-            let lines = shown(rt.alloc(), level, &Item::Error(error))?;
+            let lines = shown(rt.alloc(), level, &item)?;
             assert_eq!(rt; lines.text(), want);
         }
     }
@@ -67,7 +84,7 @@ fn quotes(rt: HostRuntime) -> Result<(), Fail> {
             b"error: bad argument \"\\x1f\\x0a\\xc3\\xa9b\"\n",
         ),
     ] {
-        let error = DirectiveError::BadArgument(word);
+        let error = DirectiveError::BadArgument(Word::new(word));
         let lines = shown(rt.alloc(), Level::Info, &Item::Error(error))?;
         assert_eq!(rt; lines.text(), want);
     }
@@ -91,7 +108,7 @@ fn errors_show_64_bytes_of_a_word(rt: HostRuntime) -> Result<(), Fail> {
             b"error: unknown directive \"0123456789abcdef0123456789abcdef0123456789abcdef0123456789abcde\\x0a\"\n",
         ),
     ] {
-        let error = DirectiveError::UnknownDirective(word);
+        let error = DirectiveError::UnknownDirective(Word::new(word));
         let lines = shown(rt.alloc(), Level::Info, &Item::Error(error))?;
         assert_eq!(rt; lines.text(), want);
     }

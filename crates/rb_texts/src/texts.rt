@@ -3,13 +3,13 @@
 ghost use Rattle.std.specs.Prelude.{◌≡◌, ◌<◌, ◌++◌, true, length, OnOk};
 ghost use Rattle.std.specs.List.{list_all};
 ghost use Rattle.rb_texts.specs.Lines.{extended};
-ghost use Rattle.rb_texts.specs.Items.{plain_item, plain_node, plain_event, plain_error, plain_config, started, PlainItem};
+ghost use Rattle.rb_texts.specs.Items.{plain_item, plain_node, plain_event, plain_config, started, PlainItem};
 ghost use Rattle.rb_texts.specs.Shapes.{is_solid};
 ghost use Rattle.rb_texts.specs.Texts.{line_of, is_shown, event_level, item_text, node_text, event_text, error_text, config_text, role_text, part_text, word_text};
 
-use crate::item::{ConfigView, DirectiveError, Event, Item, NodeLine, Role};
-use crate::level::Level;
+use crate::item::{ConfigView, Event, Item, NodeLine, Role};
 use crate::piece::{Piece, add_pieces};
+use rb_level::{DirectiveError, Level};
 use rb_script::Lines;
 use std::alloc::AllocError;
 
@@ -57,7 +57,7 @@ fn add_item(lines: &mut Lines, item: &Item<'_>) -> Result<(), AllocError>
         Item::NothingElse => lines.extend_last(b"ok"),
         Item::RaftState(node) => add_node(lines, node),
         Item::Event(event) => add_event(lines, event),
-        Item::Error(error) => add_error(lines, *error),
+        Item::Error(error) => add_error(lines, error),
     }
 }
 
@@ -170,29 +170,37 @@ fn add_part<'a>(lines: &mut Lines, name: &'a [u8], ids: &'a [u64]) -> Result<(),
 const WORD_SHOWN: usize = 64;
 
 #[tactic(auto, unfolding(crate::specs::Texts::error_text))]
-fn add_error(lines: &mut Lines, error: DirectiveError<'_>) -> Result<(), AllocError>
+fn add_error(lines: &mut Lines, error: &DirectiveError<'_>) -> Result<(), AllocError>
     requires { 0 < length lines.old }
-    ensures { OnOk result (lines.new ≡ extended lines.old (error_text (plain_error error.entry))) }
+    ensures { OnOk result (lines.new ≡ extended lines.old (error_text error.now)) }
 {
     match error {
         DirectiveError::UnknownDirective(name) => {
-            add_word(lines, b"error: unknown directive ", name)
+            add_word(lines, b"error: unknown directive ", name.bytes())
         }
         DirectiveError::UnsupportedOption(key) => {
-            add_word(lines, b"error: unsupported option ", key)
+            add_word(lines, b"error: unsupported option ", key.bytes())
         }
-        DirectiveError::BadArgument(word) => add_word(lines, b"error: bad argument ", word),
+        DirectiveError::BadArgument(word) => {
+            add_word(lines, b"error: bad argument ", word.bytes())
+        }
         DirectiveError::MissingArgument(name) => {
-            add_word(lines, b"error: missing argument ", name)
+            add_word(lines, b"error: missing argument ", name.bytes())
         }
         DirectiveError::NoSuchNode(id) => {
             add_pieces(
                 lines,
-                &[Piece::Bytes(b"error: no node "), Piece::Number(id)],
+                &[Piece::Bytes(b"error: no node "), Piece::Number(*id)],
             )
         }
         DirectiveError::TooManyNodes => lines.extend_last(b"error: too many nodes"),
         DirectiveError::IndexTooLow => lines.extend_last(b"error: index must be above 1"),
+        DirectiveError::AlreadyCompacted => lines.extend_last(b"error: already compacted"),
+        DirectiveError::IndexPastApplied => lines.extend_last(b"error: index past applied"),
+        DirectiveError::BadChange(word) => add_word(lines, b"error: bad change ", word.bytes()),
+        DirectiveError::FirstVersionTakesOne => {
+            lines.extend_last(b"error: v1 takes one change and no transition")
+        }
     }
 }
 

@@ -52,16 +52,12 @@ fn the_first_check_that_holds(rt: HostRuntime) -> Result<(), Fail> {
             b"error: unsupported option \"index\"\n",
         ),
         (
-            b"add-nodes 1 inflight=1",
+            b"add-nodes 1 rounds=1",
+            b"error: unsupported option \"rounds\"\n",
+        ),
+        (
+            b"log-level info inflight=1",
             b"error: unsupported option \"inflight\"\n",
-        ),
-        (
-            b"add-nodes 1 prevote=true",
-            b"error: unsupported option \"prevote\"\n",
-        ),
-        (
-            b"add-nodes 1 checkquorum=true",
-            b"error: unsupported option \"checkquorum\"\n",
         ),
         // Repeated options.
         (
@@ -126,10 +122,10 @@ fn quoted_words(rt: HostRuntime) -> Result<(), Fail> {
 }
 
 #[test]
-fn room_for_16_nodes(rt: HostRuntime) -> Result<(), Fail> {
+fn room_for_32_nodes(rt: HostRuntime) -> Result<(), Fail> {
     let run = play(
         rt.alloc(),
-        b"add-nodes 15 log-level=none
+        b"add-nodes 31 log-level=none
 ----
 ok
 
@@ -139,21 +135,21 @@ error: too many nodes
 
 add-nodes 1
 ----
-INFO 16 started at 0/0 with voters=()
+INFO 32 started at 0/0 with voters=()
 
 # The nodes are counted before the index is looked at.
 add-nodes 1 voters=(1)
 ----
 error: too many nodes
 
-add-nodes 16 index=1
+add-nodes 32 index=1
 ----
 error: too many nodes
 
 # The arguments before the nodes.
-add-nodes 17
+add-nodes 33
 ----
-error: bad argument \"17\"
+error: bad argument \"33\"
 ",
     )?;
     assert_eq!(rt; run.printed, run.expected);

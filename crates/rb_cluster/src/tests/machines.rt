@@ -7,7 +7,7 @@ use std::test::Fail;
 const NODES: &[u8] = b"add-nodes 2 voters=(1) learners=(2) index=5 content=ab\n----\n";
 
 // Scripts that lead to clusters which differ in one thing from that of `NODES`.
-const OTHERS: [&[u8]; 9] = [
+const OTHERS: [&[u8]; 13] = [
     b"",
     b"add-nodes 1 voters=(1) learners=(2) index=5 content=ab\n----\n",
     b"add-nodes 3 voters=(1) learners=(2) index=5 content=ab\n----\n",
@@ -17,13 +17,17 @@ const OTHERS: [&[u8]; 9] = [
     b"add-nodes 2 voters=(1) learners=(2) index=5 content=ac\n----\n",
     b"add-nodes 2 voters=(1) learners=(2) index=5\n----\n",
     b"log-level info\n----\n\nadd-nodes 2 voters=(1) learners=(2) index=5 content=ab\n----\n",
+    b"add-nodes 2 voters=(1) learners=(2) index=5 content=ab inflight=255\n----\n",
+    b"add-nodes 2 voters=(1) learners=(2) index=5 content=ab prevote=true\n----\n",
+    b"add-nodes 2 voters=(1) learners=(2) index=5 content=ab checkquorum=true\n----\n",
+    b"add-nodes 2 voters=(1) learners=(2) index=5 content=ab step-down-on-removal=true\n----\n",
 ];
 
 // Scripts that lead to the cluster of `NODES` by other ways.
 const SAME: [&[u8]; 3] = [
     b"add-nodes 1 index=05 voters=1 learners=(2 2) content=ab log-level=none\n----\n\nadd-nodes 1 voters=(1) learners=(2) index=5 content=ab\n----\n",
     b"log-level none\n----\n\nadd-nodes 2 voters=(1) learners=(2) index=5 content=ab\n----\n\nlog-level debug\n----\n",
-    b"add-nodes 2 voters=(1) learners=(2) index=5 content=ab\n----\n\nraft-state log-level=none\n----\n\nadd-nodes 15\n----\n\ncampaign 1\n----\n",
+    b"add-nodes 2 voters=(1) learners=(2) index=5 content=ab\n----\n\nraft-state log-level=none\n----\n\nadd-nodes 31\n----\n\ncampaign 1\n----\n",
 ];
 
 #[test]

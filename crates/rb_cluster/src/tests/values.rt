@@ -17,7 +17,7 @@ const LOW_INDEX: &[u8] = b"error: index must be above 1\n";
 fn counts_and_ids(rt: HostRuntime) -> Result<(), Fail> {
     for (head, want) in [
         (b"add-nodes 0".as_slice(), BAD_COUNT),
-        (b"add-nodes 17", b"error: bad argument \"17\"\n"),
+        (b"add-nodes 33", b"error: bad argument \"33\"\n"),
         (b"add-nodes +1", b"error: bad argument \"+1\"\n"),
         (b"add-nodes -1", b"error: bad argument \"-1\"\n"),
         (b"add-nodes 1.", b"error: bad argument \"1.\"\n"),
@@ -33,16 +33,16 @@ fn counts_and_ids(rt: HostRuntime) -> Result<(), Fail> {
             b"add-nodes 0000000001",
             b"INFO 1 started at 0/0 with voters=()\n",
         ),
-        (b"add-nodes 16 log-level=none", b"ok\n"),
+        (b"add-nodes 32 log-level=none", b"ok\n"),
         (b"add-nodes 1 index=5 voters=(0)", BAD_VOTERS),
-        (b"add-nodes 1 index=5 voters=(17)", BAD_VOTERS),
+        (b"add-nodes 1 index=5 voters=(33)", BAD_VOTERS),
         (b"add-nodes 1 index=5 voters=(1,x)", BAD_VOTERS),
         (b"add-nodes 1 index=5 voters=(00000000001)", BAD_VOTERS),
         (b"add-nodes 1 index=5 voters=", BAD_VOTERS),
         (b"add-nodes 1 index=5 voters=1,2", BAD_VOTERS),
         (
-            b"add-nodes 1 index=5 voters=(0000000016,01)",
-            b"INFO 1 started at 1/5 with voters=(1,16)\n",
+            b"add-nodes 1 index=5 voters=(0000000032,01)",
+            b"INFO 1 started at 1/5 with voters=(1,32)\n",
         ),
         // An id counts once.
         (

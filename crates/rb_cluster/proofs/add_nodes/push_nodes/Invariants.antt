@@ -6,5 +6,5 @@ use Rattle.rb_cluster.proofs.add_nodes.push_nodes.Given as goal
 
 abbrev pub invariant-loop-id : goal.invariant-loop-id
 invariant-loop-id l =
-    l.nodes.items ++ map (new_node l.index l.config l.content) (range_with_len l.id (l.end - l.id))
-    ≡ l.initial.nodes.items ++ map (new_node l.index l.config l.content) (range_with_len l.first (l.end - l.first))
+    l.nodes.items ++ map (new_node l.index l.config l.content l.options) (range_with_len l.id (l.end - l.id))
+    ≡ l.initial.nodes.items ++ map (new_node l.index l.config l.content l.options) (range_with_len l.first (l.end - l.first))

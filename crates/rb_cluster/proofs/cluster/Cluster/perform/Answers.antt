@@ -4,4 +4,4 @@ use Rattle.rb_cluster.proofs.OutcomeLaws.{own_none}
 use Rattle.rb_cluster.proofs.cluster.Cluster.perform.Goals as goal
 
 pub add_nodes-requires : goal.add_nodes-requires
-add_nodes-requires c = subst (λ kind. own_fault kind c.args.self.now c.args.args.now ≡ None) c.in-AddNodes.is (own_none c.args.kind c.args.self.now c.args.args.now c.requires)
+add_nodes-requires c = subst (λ r. own_fault r c.args.self.now ≡ None) c.in-AddNodes.is (own_none c.args.wanted.now c.args.self.now c.requires)

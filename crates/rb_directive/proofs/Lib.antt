@@ -1,0 +1,5 @@
+pub mod ListLaws
+pub mod ReadLaws
+pub mod ChangeLaws
+pub mod TableLaws
+pub mod SpellingLaws

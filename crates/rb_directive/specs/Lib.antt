@@ -1,0 +1,10 @@
+pub use Rattle.rb_level.specs.Levels
+pub mod Names
+pub mod Table
+pub mod Forms
+pub mod IdLists
+pub mod MessageTypes
+pub mod Givens
+pub mod Reading
+pub mod Changes
+pub mod Requests

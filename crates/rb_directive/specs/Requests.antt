@@ -1,0 +1,151 @@
+-- What a directive asks for: one variant a directive, of what its arguments say, or what is missing. (etcd raft's
+-- interaction tests have most of the directives; what each may leave out is this project's.)
+use Rattle.std.specs.Prelude.{ℕ, Bool, false, codes, List, [], ◌∷◌, Option, Some, None, Result, Ok, Err}
+use Rattle.std.specs.Option.{unwrap_or}
+use Rattle.rb_script.specs.Lines.{Line}
+use Rattle.rb_script.specs.Directive.{PlainDirective}
+use Rattle.rb_level.specs.declared.directive_error.DirectiveError.{DirectiveError}
+use Rattle.rb_level.specs.declared.directive_error.DirectiveError.TheVariants as errors
+use Rattle.rb_directive.specs.declared.name.Name.{Name}
+use Rattle.rb_directive.specs.declared.name.Name.TheVariants as names
+use Rattle.rb_directive.specs.declared.form.Transition.TheVariants as transitions
+use Rattle.rb_directive.specs.declared.table.Row.{Row}
+use Rattle.rb_directive.specs.declared.given.Given.{Given}
+use Rattle.rb_directive.specs.declared.asking.Request.{Request}
+use Rattle.rb_directive.specs.declared.asking.Request.TheVariants as requests
+use Rattle.rb_directive.specs.declared.asking.Named.{Named}
+use Rattle.rb_directive.specs.declared.asking.Named.TheVariants as named
+use Rattle.rb_directive.specs.declared.build.Asked.{Asked}
+use Rattle.rb_directive.specs.declared.limits.TheConstants.{WINDOW, ROUNDS}
+use Rattle.rb_directive.specs.Forms.{Word}
+use Rattle.rb_directive.specs.Table.{directives, row_in}
+use Rattle.rb_directive.specs.Givens.{nothing}
+use Rattle.rb_directive.specs.Reading.{with_arguments}
+use Rattle.rb_directive.specs.Changes.{change_fault}
+
+-- what must be given is there, or is said to be missing under this name
+abbrev pub wanted : {T : Type 0} → Word → Option T → Result T DirectiveError
+wanted name None = Err (errors.MissingArgument name)
+wanted name (Some value) = Ok value
+
+-- what follows from a value that is there
+abbrev pub and_then : {S T : Type 0} → Result S DirectiveError → (S → Result T DirectiveError) → Result T DirectiveError
+and_then (Err e) next = Err e
+and_then (Ok value) next = next value
+
+-- ---- the directives
+
+abbrev pub add_nodes : Given → Result Request DirectiveError
+add_nodes g = and_then (wanted (codes "n") g.count) (λ count. Ok (requests.AddNodes (record {
+  count = count;
+  voters = g.voters;
+  learners = g.learners;
+  index = g.index;
+  content = g.content;
+  inflight = unwrap_or g.inflight WINDOW;
+  prevote = unwrap_or g.prevote false;
+  check_quorum = unwrap_or g.check_quorum false;
+  step_down = unwrap_or g.step_down false;
+})))
+
+-- a directive that takes a node alone
+abbrev pub at_node : (ℕ → Request) → Given → Result Request DirectiveError
+at_node make g = and_then (wanted (codes "id") g.id) (λ id. Ok (make id))
+
+abbrev pub propose : Given → Result Request DirectiveError
+propose g = and_then (wanted (codes "id") g.id) (λ id. and_then (wanted (codes "payload") g.payload) (λ payload. Ok (requests.Propose id payload)))
+
+abbrev pub propose_conf_change : Given → List Line → Result Request DirectiveError
+propose_conf_change g inputs =
+    let transition = unwrap_or g.transition transitions.Auto in
+    and_then (wanted (codes "id") g.id) (λ id. Ok (requests.ProposeConfChange (record {
+      id = id;
+      transition = transition;
+      inputs = inputs;
+      fault = change_fault (unwrap_or g.first_version false) transition inputs;
+    })))
+
+abbrev pub process_ready : Given → Result Request DirectiveError
+process_ready g = and_then (wanted (codes "id") g.nodes) (λ ids. Ok (requests.ProcessReady ids))
+
+-- messages of all types where none is named
+abbrev pub deliver_msgs : Given → Request
+deliver_msgs g = requests.DeliverMsgs (record { nodes = unwrap_or g.nodes []; types = g.types; drop = unwrap_or g.drop [] })
+
+abbrev pub stabilize : Given → Request
+stabilize g = requests.Stabilize (unwrap_or g.nodes []) (unwrap_or g.rounds ROUNDS)
+
+abbrev pub set_timeout : Given → Result Request DirectiveError
+set_timeout g = and_then (wanted (codes "id") g.id) (λ id. and_then (wanted (codes "timeout") g.timeout) (λ timeout. Ok (requests.SetRandomizedElectionTimeout id timeout)))
+
+abbrev pub transfer_leadership : Given → Result Request DirectiveError
+transfer_leadership g = and_then (wanted (codes "from") g.from) (λ from. and_then (wanted (codes "to") g.to) (λ to. Ok (requests.TransferLeadership from to)))
+
+-- either of its ids is wanted as `id`
+abbrev pub report_unreachable : Given → Result Request DirectiveError
+report_unreachable g = and_then (wanted (codes "id") g.id) (λ id. and_then (wanted (codes "id") g.peer) (λ peer. Ok (requests.ReportUnreachable id peer)))
+
+abbrev pub send_snapshot : Given → Result Request DirectiveError
+send_snapshot g = and_then (wanted (codes "from") g.from) (λ from. and_then (wanted (codes "to") g.to) (λ to. Ok (requests.SendSnapshot from to)))
+
+abbrev pub compact : Given → Result Request DirectiveError
+compact g = and_then (wanted (codes "id") g.id) (λ id. and_then (wanted (codes "index") g.index) (λ index. Ok (requests.Compact id index)))
+
+abbrev pub built : Name → Given → List Line → Result Request DirectiveError
+built names.AddNodes g inputs = add_nodes g
+built names.Campaign g inputs = at_node requests.Campaign g
+built names.Propose g inputs = propose g
+built names.ProposeConfChange g inputs = propose_conf_change g inputs
+built names.ProcessReady g inputs = process_ready g
+built names.DeliverMsgs g inputs = Ok (deliver_msgs g)
+built names.Stabilize g inputs = Ok (stabilize g)
+built names.TickElection g inputs = at_node requests.TickElection g
+built names.TickHeartbeat g inputs = at_node requests.TickHeartbeat g
+built names.SetRandomizedElectionTimeout g inputs = set_timeout g
+built names.TransferLeadership g inputs = transfer_leadership g
+built names.ForgetLeader g inputs = at_node requests.ForgetLeader g
+built names.ReportUnreachable g inputs = report_unreachable g
+built names.SendSnapshot g inputs = send_snapshot g
+built names.Compact g inputs = compact g
+built names.LogLevel g inputs = and_then (wanted (codes "level") g.level) (λ level. Ok (requests.LogLevel level))
+built names.RaftLog g inputs = at_node requests.RaftLog g
+built names.Status g inputs = at_node requests.Status g
+built names.RaftState g inputs = Ok requests.RaftState
+
+-- ---- any directive
+
+abbrev pub asked_of : Row → PlainDirective → Result Asked DirectiveError
+asked_of row d =
+    and_then (with_arguments row d.args (Ok nothing)) (λ g.
+    and_then (built row.name g d.inputs) (λ r. Ok (record { request = r; log_level = g.log_level })))
+
+abbrev pub request_of : Option Row → PlainDirective → Result Asked DirectiveError
+request_of None d = Err (errors.UnknownDirective d.name)
+request_of (Some row) d = asked_of row d
+
+-- what a directive asks for, or the first fault: of its name, of its arguments from left to right, or what is missing
+unfoldable pub request : PlainDirective → Result Asked DirectiveError
+request d = request_of (row_in directives d.name) d
+
+-- ---- the nodes that must exist
+
+abbrev pub nodes_of : Request → Named
+nodes_of (requests.AddNodes r) = named.None
+nodes_of (requests.Campaign id) = named.One id
+nodes_of (requests.Propose id payload) = named.One id
+nodes_of (requests.ProposeConfChange r) = named.One r.id
+nodes_of (requests.ProcessReady ids) = named.Many ids
+nodes_of (requests.DeliverMsgs r) = named.Many r.nodes
+nodes_of (requests.Stabilize ids rounds) = named.Many ids
+nodes_of (requests.TickElection id) = named.One id
+nodes_of (requests.TickHeartbeat id) = named.One id
+nodes_of (requests.SetRandomizedElectionTimeout id timeout) = named.One id
+nodes_of (requests.TransferLeadership from to) = named.One from
+nodes_of (requests.ForgetLeader id) = named.One id
+nodes_of (requests.ReportUnreachable id peer) = named.One id
+nodes_of (requests.SendSnapshot from to) = named.One from
+nodes_of (requests.Compact id index) = named.One id
+nodes_of (requests.LogLevel level) = named.None
+nodes_of (requests.RaftLog id) = named.One id
+nodes_of (requests.Status id) = named.One id
+nodes_of requests.RaftState = named.None

@@ -1,0 +1,90 @@
+//! Ids in the order in which a directive names them, in a value that takes no memory.
+
+ghost use Rattle.std.specs.Prelude.{◌≡◌, ◌<◌, [], ◌∷◌, ◌++◌, length, nat_lt};
+ghost use Rattle.rb_directive.specs.declared.limits.TheConstants.{MAX_IDS};
+ghost use Rattle.rb_directive.specs.IdLists.{holds, share};
+
+use crate::limits::MAX_IDS;
+use std::marker::Model;
+
+/// Ids, as they are named: in their order, and as often as they are. In contracts it is the list of the ids.
+#[derive(Drop)]
+pub struct IdList {
+    ids: [u8; MAX_IDS],
+    len: usize,
+}
+
+impl Model for IdList {
+    ghost use Rattle.std.specs.Prelude.{List, ℕ, ◌≤◌, take};
+    ghost use Rattle.rb_directive.specs.declared.limits.TheConstants.{MAX_IDS};
+
+    ghost Value = { List ℕ };
+
+    ghost view = { λ l. take l.len l.ids };
+
+    ghost invariant = { λ l. l.len ≤ MAX_IDS };
+}
+
+impl IdList {
+    /// No ids.
+    pub(crate) fn new() -> IdList
+        ensures { result ≡ [] }
+    {
+        IdList {
+            ids: [0; MAX_IDS],
+            len: 0,
+        }
+    }
+
+    /// The ids.
+    pub fn as_slice(&self) -> &[u8]
+        ensures { result.now ≡ self.now }
+    {
+        &self.ids[..self.len]
+    }
+
+    /// Whether another id has room.
+    pub(crate) fn has_room(&self) -> bool
+        ensures { result ≡ nat_lt (length self.now) MAX_IDS }
+    {
+        self.len < MAX_IDS
+    }
+
+    /// Adds an id at the end.
+    pub(crate) fn push(&mut self, id: u8)
+        requires { length self.old < MAX_IDS }
+        ensures { self.new ≡ self.old ++ id ∷ [] }
+    {
+        self.ids[self.len] = id;
+        self.len += 1;
+    }
+
+    /// The same ids once more.
+    pub(crate) fn copy(&self) -> IdList
+        ensures { result ≡ self.now }
+    {
+        IdList {
+            ids: self.ids,
+            len: self.len,
+        }
+    }
+
+    /// Whether the id is one of these.
+    pub fn holds(&self, id: u8) -> bool
+        ensures { result ≡ holds self.now id }
+    {
+        self.as_slice().iter().any(|other| *other == id)
+    }
+
+    /// Whether an id stands in both lists.
+    pub(crate) fn shares(&self, other: &IdList) -> bool
+        ensures { result ≡ share self.now other.now }
+    {
+        for id in self.as_slice() {
+            if other.holds(*id) {
+                return true;
+            }
+        }
+        false
+    }
+}

@@ -1,0 +1,31 @@
+//! The laws of reading, as calls: each holds of every directive that a script can have.
+
+ghost use Rattle.std.specs.Prelude.{◌≡◌, ◌<◌, ◌≤◌, ◌^◌, ◌∷◌, [], decimal, Some, None, Ok, Err, true, false, ℕ};
+ghost use Rattle.std.specs.Option.{option_map};
+ghost use Rattle.std.specs.List.{list_all};
+ghost use Rattle.rb_script.specs.Directive.{PlainArgument, PlainDirective};
+ghost use Rattle.rb_level.specs.declared.directive_error.DirectiveError.TheVariants as errors;
+ghost use Rattle.rb_directive.specs.declared.name.Name.{Name};
+ghost use Rattle.rb_directive.specs.declared.build.Asked.{Asked};
+ghost use Rattle.rb_directive.specs.declared.given.Given.{Given};
+ghost use Rattle.rb_directive.specs.declared.table.Row.{Row};
+ghost use Rattle.rb_directive.specs.Names.{name_text};
+ghost use Rattle.rb_directive.specs.Table.{directives, row_in, option_of, has_option};
+ghost use Rattle.rb_directive.specs.Reading.{number_said, with_argument};
+ghost use Rattle.rb_directive.specs.Requests.{request};
+
+/// Each directive is found under its name, and so no two have the same.
+pub fn names_are_apart()
+    ensures { (name : Name) → option_map (λ (row : Row). row.name) (row_in directives (name_text name)) ≡ Some name }
+{}
+
+/// An option is taken only by a directive that has it in the table; every other one refuses it as unsupported.
+pub fn options_are_those_of_the_table()
+    ensures taken { (d : PlainDirective) (a : Asked) → request d ≡ Ok a → list_all (has_option d.name) d.args ≡ true }
+    ensures refused { (row : Row) (a : PlainArgument) (g : Given) → a.has_equals ≡ true → option_of (name_text row.name) a.key ≡ None → with_argument row a g ≡ Err (errors.UnsupportedOption a.key) }
+{}
+
+/// A number in decimal digits is read as itself, where it is one that the argument takes.
+pub fn numbers_are_read()
+    ensures { (low high n : ℕ) → low ≤ n → n ≤ high → n < 10 ^ 10 → number_said low high (decimal n ∷ []) ≡ Some n }
+{}

@@ -1,0 +1,33 @@
+//! What a directive asks for: a name and arguments, read once into a [`Request`].
+//!
+//! A directive is data of a script. Reading it needs no cluster: its name, which arguments it takes and what each of
+//! them may be stand in one table. [`request`] goes over the arguments once, from left to right, and gives what they say
+//! as numbers, lists of ids and borrowed words, or the first thing that is wrong. It takes no memory.
+#![tactic(auto)]
+
+mod argument;
+mod asking;
+mod build;
+mod change;
+mod form;
+mod given;
+mod id_list;
+mod laws;
+mod limits;
+mod message_type;
+mod name;
+mod reading;
+mod said;
+mod table;
+
+pub use argument::{Argument, Bytes, Flag, Ids, LevelFor, Number};
+pub use asking::{AddNodes, DeliverMsgs, Named, ProposeConfChange, Request};
+pub use build::{Asked, request};
+pub use change::{Change, ChangeKind, Inputs, change_of};
+pub use form::Transition;
+pub use id_list::IdList;
+pub use laws::{names_are_apart, numbers_are_read, options_are_those_of_the_table};
+pub use limits::{MAX_ID, MAX_NODES, limits_are};
+pub use message_type::{MessageType, TypeSet};
+pub use name::Name;
+pub use table::{OptionRow, Row};

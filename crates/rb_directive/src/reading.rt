@@ -1,0 +1,142 @@
+//! Reading the arguments, once and from left to right.
+//!
+//! Each argument is looked up in the table, by its key or its place, and what it says is added to what is given. The
+//! first that is wrong ends it.
+
+ghost use Rattle.std.specs.Prelude.{◌≡◌, MatchBool, MatchResult, Some, None, Ok, Err};
+ghost use Rattle.rb_script.specs.Tokens.{plain};
+ghost use Rattle.rb_directive.specs.Givens.{nothing, listed};
+ghost use Rattle.rb_directive.specs.IdLists.{with_ids};
+ghost use Rattle.rb_directive.specs.Names.{name_text};
+ghost use Rattle.rb_directive.specs.Table.{option_of, word_of};
+ghost use Rattle.rb_directive.specs.Reading.{words_said, ids_kept, taken, with_option, with_word, with_argument, with_arguments};
+
+use crate::argument::{Argument, Ids};
+use crate::given::Given;
+use crate::said::Said;
+use crate::table::{Row, option_of};
+use rb_level::{DirectiveError, Word};
+use rb_script::DirectiveRef;
+
+// Adds what the ids of the argument are, where none of them stands in the other list.
+fn take_ids<'d>(given: &mut Given<'d>, which: Ids, other: Option<Ids>, said: &Said<'d>) -> bool
+    ensures { MatchBool result (ids_kept which other given.old (with_ids (words_said said.now) (Some (listed which given.old))) ≡ Some given.new) (ids_kept which other given.old (with_ids (words_said said.now) (Some (listed which given.old))) ≡ None) }
+{
+    let Some(ids) = said.ids(given.listed(which)) else {
+        return false;
+    };
+    if given.excludes(other, &ids) {
+        return false;
+    }
+    given.set_ids(which, ids);
+    true
+}
+
+// Adds what the argument says, where it is what it has to be.
+fn take<'d>(given: &mut Given<'d>, argument: Argument, said: &Said<'d>) -> bool
+    ensures { MatchBool result (taken argument (words_said said.now) given.old ≡ Some given.new) (taken argument (words_said said.now) given.old ≡ None) }
+{
+    match argument {
+        Argument::Number(which, low, high) => {
+            let Some(number) = said.number(low, high) else {
+                return false;
+            };
+            given.set_number(which, number);
+            true
+        }
+        Argument::Bytes(which, low, high) => {
+            let Some(bytes) = said.bytes(low, high) else {
+                return false;
+            };
+            given.set_bytes(which, bytes);
+            true
+        }
+        Argument::Level(which) => {
+            let Some(level) = said.level() else {
+                return false;
+            };
+            given.set_level(which, level);
+            true
+        }
+        Argument::Flag(which) => {
+            let Some(flag) = said.flag() else {
+                return false;
+            };
+            given.set_flag(which, flag);
+            true
+        }
+        Argument::Transition => {
+            let Some(transition) = said.transition() else {
+                return false;
+            };
+            given.transition = Some(transition);
+            true
+        }
+        Argument::Types => {
+            let Some(types) = said.types() else {
+                return false;
+            };
+            given.types = Some(types);
+            true
+        }
+        Argument::Ids(which, other) => take_ids(given, which, other, said),
+    }
+}
+
+// Adds an option, where the directive takes it.
+fn add_option<'d>(
+    row: &Row,
+    said: &Said<'d>,
+    given: &mut Given<'d>,
+) -> Result<(), DirectiveError<'d>>
+    ensures { MatchResult result (λ _. with_option (option_of (name_text row.now.name) said.now.key) said.now given.old ≡ Ok given.new) (λ e. with_option (option_of (name_text row.now.name) said.now.key) said.now given.old ≡ Err e) }
+{
+    let key = said.key();
+    let Some(argument) = option_of(row.name.text(), key) else {
+        return Err(DirectiveError::UnsupportedOption(Word::new(key)));
+    };
+    if given.has(argument) || !take(given, argument, said) {
+        return Err(DirectiveError::BadArgument(Word::new(key)));
+    }
+    Ok(())
+}
+
+// Adds a word, where the directive takes one there.
+fn add_word<'d>(row: &Row, said: &Said<'d>, given: &mut Given<'d>) -> Result<(), DirectiveError<'d>>
+    ensures { MatchResult result (λ _. with_word (word_of row.now given.old.next) said.now given.old ≡ Ok given.new) (λ e. with_word (word_of row.now given.old.next) said.now given.old ≡ Err e) }
+{
+    let Some(argument) = row.word(given.next) else {
+        return Err(DirectiveError::BadArgument(Word::new(said.key())));
+    };
+    given.next = given.next.after();
+    if !take(given, argument, said) {
+        return Err(DirectiveError::BadArgument(Word::new(said.key())));
+    }
+    Ok(())
+}
+
+// Adds an argument.
+fn add<'d>(row: &Row, said: &Said<'d>, given: &mut Given<'d>) -> Result<(), DirectiveError<'d>>
+    ensures { MatchResult result (λ _. with_argument row.now said.now given.old ≡ Ok given.new) (λ e. with_argument row.now said.now given.old ≡ Err e) }
+{
+    if said.has_equals() {
+        add_option(row, said, given)
+    } else {
+        add_word(row, said, given)
+    }
+}
+
+/// What the arguments say, or what is wrong with the first that is wrong.
+#[tactic(auto, using(crate::proofs::ReadLaws::reading))]
+pub(crate) fn read<'d>(
+    row: &Row,
+    directive: &'d DirectiveRef<'d>,
+) -> Result<Given<'d>, DirectiveError<'d>>
+    ensures { result ≡ with_arguments row.now (plain directive.now).args (Ok nothing) }
+{
+    let mut given = Given::nothing();
+    for place in 0..directive.args() {
+        add(row, &Said::at(directive, place), &mut given)?;
+    }
+    Ok(given)
+}

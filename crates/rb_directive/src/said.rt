@@ -1,0 +1,180 @@
+//! An argument where it stands in a directive: its key, and the words that it says.
+
+use crate::form::{Transition, flag_of, id_of, number_within, transition_of};
+use crate::id_list::IdList;
+use crate::message_type::{TypeSet, type_of};
+use rb_level::{Level, level_of};
+use rb_script::DirectiveRef;
+use std::marker::Model;
+
+/// An argument of a directive. In contracts it is the plain argument.
+#[derive(Drop)]
+pub(crate) struct Said<'d> {
+    directive: &'d DirectiveRef<'d>,
+    place: usize,
+}
+
+impl<'d> Model for Said<'d> {
+    ghost use Rattle.std.specs.Prelude.{◌<◌, length};
+    ghost use Rattle.rb_script.specs.Directive.{PlainArgument, plain_argument};
+    ghost use Rattle.rb_script.specs.Tokens.{plain};
+
+    ghost Value = { PlainArgument };
+
+    ghost view = { λ a. plain_argument (plain a.directive.now) a.place };
+
+    ghost invariant = { λ a. a.place < length (plain a.directive.now).args };
+}
+
+impl<'d> Said<'d> {
+    ghost use Rattle.std.specs.Prelude.{◌≡◌, ◌<◌, length, Some, MatchOption, None, [], slice_index_or};
+    ghost use Rattle.rb_script.specs.Directive.{plain_argument};
+    ghost use Rattle.rb_script.specs.Tokens.{plain};
+    ghost use Rattle.rb_directive.specs.IdLists.{with_ids};
+    ghost use Rattle.rb_directive.specs.MessageTypes.{with_types, no_types};
+    ghost use Rattle.rb_directive.specs.Reading.{words_said, only, number_said, bytes_said, level_said, flag_said, transition_said};
+
+    /// The argument at a place of the directive, counted from 0.
+    pub(crate) fn at(directive: &'d DirectiveRef<'d>, place: usize) -> Said<'d>
+        requires { place < length (plain directive.now).args }
+        ensures { result ≡ plain_argument (plain directive.now) place }
+    {
+        Said { directive, place }
+    }
+
+    /// The key of an option, or the word.
+    pub(crate) fn key(&self) -> &'d [u8]
+        ensures { result.now ≡ self.now.key }
+    {
+        self.directive.key(self.place)
+    }
+
+    /// Whether it is an option.
+    pub(crate) fn has_equals(&self) -> bool
+        ensures { result ≡ self.now.has_equals }
+    {
+        self.directive.has_equals(self.place)
+    }
+
+    /// How many words it says.
+    pub(crate) fn len(&self) -> usize
+        ensures { result ≡ length (words_said self.now) }
+    {
+        if self.has_equals() {
+            self.directive.values(self.place)
+        } else {
+            1
+        }
+    }
+
+    /// The word that it says at a place, counted from 0.
+    pub(crate) fn word(&self, at: usize) -> &'d [u8]
+        requires { at < length (words_said self.now) }
+        ensures { result.now ≡ slice_index_or (words_said self.now) at [] }
+    {
+        if self.has_equals() {
+            self.directive.value(self.place, at)
+        } else {
+            self.key()
+        }
+    }
+
+    /// The word that it says, where it says one.
+    pub(crate) fn only(&self) -> Option<&'d [u8]>
+        ensures { MatchOption result (only (words_said self.now) ≡ None) (λ w. only (words_said self.now) ≡ Some w.now) }
+    {
+        if self.len() != 1 {
+            return None;
+        }
+        Some(self.word(0))
+    }
+
+    /// The number that it says, from `low` to `high`.
+    pub(crate) fn number(&self, low: u64, high: u64) -> Option<u64>
+        ensures { result ≡ number_said low high (words_said self.now) }
+    {
+        match self.only() {
+            Some(word) => number_within(word, low, high),
+            None => None,
+        }
+    }
+
+    /// The bytes that it says, from `low` to `high` of them.
+    pub(crate) fn bytes(&self, low: usize, high: usize) -> Option<&'d [u8]>
+        ensures { MatchOption result (bytes_said low high (words_said self.now) ≡ None) (λ w. bytes_said low high (words_said self.now) ≡ Some w.now) }
+    {
+        match self.only() {
+            Some(word) => {
+                if low <= word.len() && word.len() <= high {
+                    Some(word)
+                } else {
+                    None
+                }
+            }
+            None => None,
+        }
+    }
+
+    /// The level that it names.
+    pub(crate) fn level(&self) -> Option<Level>
+        ensures { result ≡ level_said (words_said self.now) }
+    {
+        match self.only() {
+            Some(word) => level_of(word),
+            None => None,
+        }
+    }
+
+    /// The choice that it says.
+    pub(crate) fn flag(&self) -> Option<bool>
+        ensures { result ≡ flag_said (words_said self.now) }
+    {
+        match self.only() {
+            Some(word) => flag_of(word),
+            None => None,
+        }
+    }
+
+    /// The transition that it names.
+    pub(crate) fn transition(&self) -> Option<Transition>
+        ensures { result ≡ transition_said (words_said self.now) }
+    {
+        match self.only() {
+            Some(word) => transition_of(word),
+            None => None,
+        }
+    }
+
+    /// The types that it names.
+    #[tactic(auto, using(crate::proofs::ReadLaws::naming))]
+    pub(crate) fn types(&self) -> Option<TypeSet>
+        ensures { result ≡ with_types (words_said self.now) (Some no_types) }
+    {
+        let mut types = TypeSet::new();
+        for at in 0..self.len() {
+            let Some(named) = type_of(self.word(at)) else {
+                return None;
+            };
+            types = types.with(named);
+        }
+        Some(types)
+    }
+
+    /// The ids, and those that it names.
+    #[tactic(auto, using(crate::proofs::ReadLaws::listing))]
+    pub(crate) fn ids(&self, before: IdList) -> Option<IdList>
+        ensures { result ≡ with_ids (words_said self.now) (Some before) }
+    {
+        let mut ids = before;
+        for at in 0..self.len() {
+            let Some(id) = id_of(self.word(at)) else {
+                return None;
+            };
+            if !ids.has_room() {
+                return None;
+            }
+            ids.push(id);
+        }
+        Some(ids)
+    }
+}

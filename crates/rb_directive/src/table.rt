@@ -1,0 +1,180 @@
+//! The table of directives: which words and which options each of them takes.
+//!
+//! The rows are data that the code and the definitions share. Every directive also takes the option `log-level`.
+
+ghost use Rattle.std.specs.Prelude.{◌≡◌, MatchOption, Some, None};
+ghost use Rattle.rb_directive.specs.Table.{directives, options, row_in, option_in, option_of, word_of};
+
+use crate::argument::{Argument, Bytes, Flag, Ids, LevelFor, Number};
+use crate::given::WordPlace;
+use crate::limits::{
+    MAX_BYTES, MAX_COMPACTED, MAX_ID, MAX_INDEX, MAX_NODES, MAX_ROUNDS, MAX_TIMEOUT, MAX_WINDOW,
+};
+use crate::name::Name;
+
+/// A directive, and the words that it takes.
+#[derive(Clone, Copy)]
+pub struct Row {
+    pub name: Name,
+    /// The first word, where it takes one.
+    pub first: Option<Argument>,
+    /// The second word, where it takes one.
+    pub second: Option<Argument>,
+    /// Whether it takes ids in place of them, any number.
+    pub takes_ids: bool,
+}
+
+/// An option of a directive.
+#[derive(Clone, Copy)]
+pub struct OptionRow {
+    pub name: Name,
+    pub option: Argument,
+}
+
+const ID: Argument = Argument::Number(Number::Id, 1, MAX_ID);
+
+const PEER: Argument = Argument::Number(Number::Peer, 1, MAX_ID);
+
+const FROM: Argument = Argument::Number(Number::From, 1, MAX_ID);
+
+const TO: Argument = Argument::Number(Number::To, 1, MAX_ID);
+
+const COUNT: Argument = Argument::Number(Number::Count, 1, MAX_NODES);
+
+const BASE: Argument = Argument::Number(Number::Index, 0, MAX_INDEX);
+
+const COMPACTED: Argument = Argument::Number(Number::Index, 0, MAX_COMPACTED);
+
+const INFLIGHT: Argument = Argument::Number(Number::Inflight, 1, MAX_WINDOW);
+
+const ROUNDS: Argument = Argument::Number(Number::Rounds, 1, MAX_ROUNDS);
+
+const TIMEOUT: Argument = Argument::Number(Number::Timeout, 1, MAX_TIMEOUT);
+
+const PAYLOAD: Argument = Argument::Bytes(Bytes::Payload, 1, MAX_BYTES);
+
+const CONTENT: Argument = Argument::Bytes(Bytes::Content, 0, MAX_BYTES);
+
+const LEVEL: Argument = Argument::Level(LevelFor::Cluster);
+
+const PREVOTE: Argument = Argument::Flag(Flag::Prevote);
+
+const CHECK_QUORUM: Argument = Argument::Flag(Flag::CheckQuorum);
+
+const STEP_DOWN: Argument = Argument::Flag(Flag::StepDown);
+
+const FIRST_VERSION: Argument = Argument::Flag(Flag::FirstVersion);
+
+const TRANSITION: Argument = Argument::Transition;
+
+const TYPES: Argument = Argument::Types;
+
+const DROP: Argument = Argument::Ids(Ids::Drop, None);
+
+const VOTERS: Argument = Argument::Ids(Ids::Voters, Some(Ids::Learners));
+
+const LEARNERS: Argument = Argument::Ids(Ids::Learners, Some(Ids::Voters));
+
+/// The directives, with their words.
+#[rattlefmt::skip]
+pub(crate) static DIRECTIVES: [Row; 19] = [
+    Row { name: Name::AddNodes, first: Some(COUNT), second: None, takes_ids: false },
+    Row { name: Name::Campaign, first: Some(ID), second: None, takes_ids: false },
+    Row { name: Name::Propose, first: Some(ID), second: Some(PAYLOAD), takes_ids: false },
+    Row { name: Name::ProposeConfChange, first: Some(ID), second: None, takes_ids: false },
+    Row { name: Name::ProcessReady, first: None, second: None, takes_ids: true },
+    Row { name: Name::DeliverMsgs, first: None, second: None, takes_ids: true },
+    Row { name: Name::Stabilize, first: None, second: None, takes_ids: true },
+    Row { name: Name::TickElection, first: Some(ID), second: None, takes_ids: false },
+    Row { name: Name::TickHeartbeat, first: Some(ID), second: None, takes_ids: false },
+    Row { name: Name::SetRandomizedElectionTimeout, first: Some(ID), second: None, takes_ids: false },
+    Row { name: Name::TransferLeadership, first: None, second: None, takes_ids: false },
+    Row { name: Name::ForgetLeader, first: Some(ID), second: None, takes_ids: false },
+    Row { name: Name::ReportUnreachable, first: Some(ID), second: Some(PEER), takes_ids: false },
+    Row { name: Name::SendSnapshot, first: Some(FROM), second: Some(TO), takes_ids: false },
+    Row { name: Name::Compact, first: Some(ID), second: Some(COMPACTED), takes_ids: false },
+    Row { name: Name::LogLevel, first: Some(LEVEL), second: None, takes_ids: false },
+    Row { name: Name::RaftLog, first: Some(ID), second: None, takes_ids: false },
+    Row { name: Name::Status, first: Some(ID), second: None, takes_ids: false },
+    Row { name: Name::RaftState, first: None, second: None, takes_ids: false },
+];
+
+/// The options that they take.
+#[rattlefmt::skip]
+pub(crate) static OPTIONS: [OptionRow; 16] = [
+    OptionRow { name: Name::AddNodes, option: VOTERS },
+    OptionRow { name: Name::AddNodes, option: LEARNERS },
+    OptionRow { name: Name::AddNodes, option: BASE },
+    OptionRow { name: Name::AddNodes, option: CONTENT },
+    OptionRow { name: Name::AddNodes, option: INFLIGHT },
+    OptionRow { name: Name::AddNodes, option: PREVOTE },
+    OptionRow { name: Name::AddNodes, option: CHECK_QUORUM },
+    OptionRow { name: Name::AddNodes, option: STEP_DOWN },
+    OptionRow { name: Name::ProposeConfChange, option: FIRST_VERSION },
+    OptionRow { name: Name::ProposeConfChange, option: TRANSITION },
+    OptionRow { name: Name::DeliverMsgs, option: TYPES },
+    OptionRow { name: Name::DeliverMsgs, option: DROP },
+    OptionRow { name: Name::Stabilize, option: ROUNDS },
+    OptionRow { name: Name::SetRandomizedElectionTimeout, option: TIMEOUT },
+    OptionRow { name: Name::TransferLeadership, option: FROM },
+    OptionRow { name: Name::TransferLeadership, option: TO },
+];
+
+// The row of the directive with this name.
+fn row_in(rows: &'static [Row], name: &[u8]) -> Option<&'static Row>
+    ensures { MatchOption result (row_in rows.now name.now ≡ None) (λ row. row_in rows.now name.now ≡ Some row.now) }
+{
+    for row in rows {
+        if row.name.text() == name {
+            return Some(row);
+        }
+    }
+    None
+}
+
+/// The row of the directive with this name.
+#[tactic(auto, unfolding(crate::specs::Table::directives))]
+pub(crate) fn row_of(name: &[u8]) -> Option<&'static Row>
+    ensures { MatchOption result (row_in directives name.now ≡ None) (λ row. row_in directives name.now ≡ Some row.now) }
+{
+    row_in(&DIRECTIVES, name)
+}
+
+// The option with this key that the directive of this name has among these.
+fn option_in(options: &[OptionRow], name: &[u8], key: &[u8]) -> Option<Argument>
+    ensures { result ≡ option_in options.now name.now key.now }
+{
+    for row in options {
+        if row.option.text() == key && row.name.text() == name {
+            return Some(row.option);
+        }
+    }
+    None
+}
+
+/// The option with this key, where the directive of this name takes it.
+#[tactic(auto, unfolding(crate::specs::Table::option_of, crate::specs::Table::options))]
+pub(crate) fn option_of(name: &[u8], key: &[u8]) -> Option<Argument>
+    ensures { result ≡ option_of name.now key.now }
+{
+    if key == b"log-level".as_slice() {
+        return Some(Argument::Level(LevelFor::Directive));
+    }
+    option_in(&OPTIONS, name, key)
+}
+
+impl Row {
+    /// The word at a place, where the directive takes one there.
+    pub(crate) fn word(&self, place: WordPlace) -> Option<Argument>
+        ensures { result ≡ word_of self.now place }
+    {
+        if self.takes_ids {
+            return Some(Argument::Ids(Ids::Nodes, None));
+        }
+        match place {
+            WordPlace::First => self.first,
+            WordPlace::Second => self.second,
+            WordPlace::Later => None,
+        }
+    }
+}

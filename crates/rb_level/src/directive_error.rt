@@ -1,0 +1,30 @@
+//! Why a directive is refused. The refusal is its whole output, and nothing changes.
+
+use crate::word::Word;
+
+/// Why a directive is refused. Of a word an error shows the first 64 bytes.
+#[derive(Drop)]
+pub enum DirectiveError<'a> {
+    /// The name of the directive.
+    UnknownDirective(Word<'a>),
+    /// The key of the option.
+    UnsupportedOption(Word<'a>),
+    /// The key of an option, or a positional word.
+    BadArgument(Word<'a>),
+    /// The name of the argument that is wanted.
+    MissingArgument(Word<'a>),
+    /// The id that no node has.
+    NoSuchNode(u64),
+    /// More nodes than a cluster may have.
+    TooManyNodes,
+    /// The index of a base is below 2, or lacks where it is needed.
+    IndexTooLow,
+    /// The log is compacted up to this index already.
+    AlreadyCompacted,
+    /// The index is not applied yet.
+    IndexPastApplied,
+    /// The word is no change of a configuration.
+    BadChange(Word<'a>),
+    /// A change of the first version is one word, and has no transition of its own.
+    FirstVersionTakesOne,
+}

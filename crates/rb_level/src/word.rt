@@ -1,0 +1,35 @@
+//! Words of a directive: bytes of the script, which are lent and not copied. In contracts a word is the list of its bytes.
+
+use std::marker::Model;
+
+/// Bytes of a script, such as a name, a key or a value.
+#[derive(Drop)]
+pub struct Word<'a> {
+    bytes: &'a [u8],
+}
+
+impl<'a> Model for Word<'a> {
+    ghost use Rattle.std.specs.Prelude.{List, ℕ};
+
+    ghost Value = { List ℕ };
+
+    ghost view = { λ w. w.bytes.now };
+}
+
+impl<'a> Word<'a> {
+    ghost use Rattle.std.specs.Prelude.{◌≡◌};
+
+    /// The word of these bytes.
+    pub fn new(bytes: &'a [u8]) -> Word<'a>
+        ensures { result ≡ bytes.now }
+    {
+        Word { bytes }
+    }
+
+    /// The bytes.
+    pub fn bytes(&self) -> &'a [u8]
+        ensures { result.now ≡ self.now }
+    {
+        self.bytes
+    }
+}
