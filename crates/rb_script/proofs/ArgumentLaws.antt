@@ -16,14 +16,14 @@ use Rattle.rb_script.specs.declared.fault.ScriptFault.TheVariants as faults
 use Rattle.rb_script.specs.declared.tokens.HeadFault.{HeadFault}
 use Rattle.rb_script.specs.declared.tokens.HeadFault.TheVariants as head_faults
 use Rattle.rb_script.specs.Directive.{PlainArgument, is_word, is_value, begins, is_gap, is_inside, in_piece, fields, is_some_piece, without_empty, pieces}
-use Rattle.rb_script.specs.Kinds.{is_piece}
+use Rattle.rb_script.specs.ByteClasses.{is_piece}
 use Rattle.rb_script.specs.Lines.{Line}
 use Rattle.rb_script.specs.Marks.{is_space, is_blank}
 use Rattle.rb_script.specs.Joined.{while_of, after_while}
 use Rattle.rb_script.specs.Tokens.{SpannedDirective, token, argument_of, plain, line_at, IsPart}
 use Rattle.rb_script.specs.Parsed.{spanned, AreParts, KeepsValues, with_one, ParsesValues, ParsesArgument, ParsesArguments, ParsesHead}
 use Rattle.rb_script.specs.Told.{IsSpanned}
-use Rattle.rb_script.specs.Reading.{with_inputs, directive_of, head_at, begins_space, ValuesThere, ArgumentThere, list_at, values_at, with_key, behind_key, argument_at, ArgumentsThere, before, then_arguments, arguments_at, HeadThere, named, word_head, few_or}
+use Rattle.rb_script.specs.Heads.{with_inputs, directive_of, head_at, begins_space, ValuesThere, ArgumentThere, list_at, values_at, with_key, behind_key, argument_at, ArgumentsThere, before, then_arguments, arguments_at, HeadThere, named, word_head, few_or}
 use Rattle.rb_script.specs.Fronts.{block_of_front, HasTokens}
 use Rattle.rb_script.proofs.TokenLaws.{begins_by, run_parts, run_all, after_stops, while_one, after_one, while_over, after_over, all_wider, some_run, after_len, after_shorter, begins_at, begins_nowhere, front_cons}
 

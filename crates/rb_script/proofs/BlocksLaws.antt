@@ -13,7 +13,9 @@ use Rattle.rb_script.specs.Marks.{is_lead, stops}
 use Rattle.rb_script.specs.Script.{PlainBlock, PlainScript}
 use Rattle.rb_script.specs.Shared.{values}
 use Rattle.rb_script.specs.Reads.{begins_lead, ReadsBlock, ReadsBlocks}
-use Rattle.rb_script.specs.Reading.{◌>>=◌, Fails, upto, onward, lead_of, from_head, is_empty, block_at, blocks_at, behind, tail_only}
+use Rattle.rb_script.specs.Results.{◌>>=◌, Fails}
+use Rattle.rb_script.specs.Runs.{upto, onward}
+use Rattle.rb_script.specs.Blocks.{lead_of, from_head, is_empty, block_at, blocks_at, behind, tail_only}
 use Rattle.rb_script.proofs.ResultLaws.{bind_ok, done, ok_is, fails_through}
 use Rattle.rb_script.proofs.RunLaws.{upto-append-onward, none-upto, onward-first, upto-whole, leads_none}
 use Rattle.rb_script.proofs.BlockLaws.{block_sound, block_complete}

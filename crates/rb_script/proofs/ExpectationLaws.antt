@@ -6,7 +6,8 @@ use Rattle.std.proofs.lemmas.Slice.Eq.{bytes_eq-Decides}
 use Rattle.rb_script.specs.Lines.{Line}
 use Rattle.rb_script.specs.Marks.{is_blank, is_rule, rule}
 use Rattle.rb_script.specs.Reads.{is_readable, ends_or_rules, begins_rule, begins_blank, ReadsPlain, ReadsDouble}
-use Rattle.rb_script.specs.Reading.{upto, onward, Expectation, with_line, to_pair, after_blank, then_blank, plain_at, expectation_at}
+use Rattle.rb_script.specs.Runs.{upto, onward}
+use Rattle.rb_script.specs.Expectations.{Expectation, with_line, to_pair, after_blank, then_blank, plain_at, expectation_at}
 use Rattle.rb_script.proofs.RunLaws.{none_of, upto-append-onward, none-upto, onward-first, upto-run, upto-whole}
 
 -- ---- the double form

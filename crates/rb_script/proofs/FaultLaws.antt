@@ -13,16 +13,21 @@ use Rattle.rb_script.specs.Script.{PlainBlock, PlainScript, text}
 use Rattle.rb_script.specs.Joined.{joined}
 use Rattle.rb_script.specs.Directive.{PlainArgument}
 use Rattle.rb_script.specs.Limits.{are_few}
-use Rattle.rb_script.specs.Reads.{IsDirective, ReadsSome}
-use Rattle.rb_script.specs.Reading.{◌>>=◌, upto, onward, head_of, after_head, HeadThere, head_at, few_or, Expectation, expectation_at, closed_or, after_separator, number_of, lead_of, from_head, is_empty, block_at, blocks_at, behind, tail_only, long_line, no_long_line, parts_of, fits_text, read_of, only_block, block_of}
-use Rattle.rb_script.specs.Faults.{IsHeadFault, StopsAt, IsFault}
+use Rattle.rb_script.specs.Reads.{IsDirective, ReadsSome, alone}
+use Rattle.rb_script.specs.Results.{◌>>=◌}
+use Rattle.rb_script.specs.Runs.{upto, onward, head_of, after_head}
+use Rattle.rb_script.specs.Heads.{HeadThere, head_at, few_or}
+use Rattle.rb_script.specs.Expectations.{Expectation, expectation_at}
+use Rattle.rb_script.specs.Blocks.{closed_or, after_separator, line_number, lead_of, from_head, is_empty, block_at, blocks_at, behind, tail_only}
+use Rattle.rb_script.specs.Reading.{long_line, no_long_line, parts_of, fits_text, read_of, only_block, block_of}
+use Rattle.rb_script.specs.Faults.{IsHeadFault, StopsAt, AreBlocks, AreShort, IsFirstFault, IsScriptFault, IsBlockFault}
 use Rattle.rb_script.proofs.GrammarLaws.{head_sound, head_complete}
 use Rattle.rb_script.proofs.ResultLaws.{done, same_fault, bind_err, guard_err}
 use Rattle.rb_script.proofs.RunLaws.{none_of, upto-append-onward, none-upto, onward-first}
 use Rattle.rb_script.proofs.ExpectationLaws.{expectation_complete}
-use Rattle.rb_script.proofs.BlockLaws.{after_is, directive_sound, made, behind_head}
+use Rattle.rb_script.proofs.BlockLaws.{after_is, directive_sound, made, behind_head, steps}
 use Rattle.rb_script.proofs.BlocksLaws.{one_more, leads_of, begins_from, next_sound}
-use Rattle.rb_script.proofs.ScriptLaws.{parts_sound}
+use Rattle.rb_script.proofs.ScriptLaws.{long_sound, no_long_is, parts_sound, only_is}
 
 -- ---- one head
 
@@ -52,22 +57,22 @@ onward_none p ls e =
     ap (none_of p) (sym same) ∙ none-upto p ls
 
 -- a head that isn't there is in no grammar
-bad_line : (end : ℕ) (ls : List Line) → head_at (joined (head_of ls)) ≡ None → IsHeadFault end ls (faults.BadLine (number_of end ls))
+bad_line : (end : ℕ) (ls : List Line) → head_at (joined (head_of ls)) ≡ None → IsHeadFault end ls (faults.BadLine (line_number end ls))
 bad_line end ls none = record {
   number = refl;
   none = λ name args d. let no : None ≡ Some (name, args) = sym none ∙ head_complete (joined (head_of ls)) name args d in cc;
 }
 
 -- a head with too many arguments is in the grammar
-many_arguments : (end : ℕ) (ls : List Line) (x : List ℕ × List PlainArgument) → head_at (joined (head_of ls)) ≡ Some x → are_few x.1 ≡ false → IsHeadFault end ls (faults.TooManyArguments (number_of end ls))
+many_arguments : (end : ℕ) (ls : List Line) (x : List ℕ × List PlainArgument) → head_at (joined (head_of ls)) ≡ Some x → are_few x.1 ≡ false → IsHeadFault end ls (faults.TooManyArguments (line_number end ls))
 many_arguments end ls x some many = record { name = x.0; args = x.1; number = refl; derives = head_sound (joined (head_of ls)) x.0 x.1 some; many = many }
 
 -- where nothing was cut off, no line is a separator
-no_separator : (end : ℕ) (ls : List Line) → IsDirective (head_of ls) → onward is_separator (after_head ls) ≡ [] → IsHeadFault end ls (faults.NoSeparator (number_of end ls))
+no_separator : (end : ℕ) (ls : List Line) → IsDirective (head_of ls) → onward is_separator (after_head ls) ≡ [] → IsHeadFault end ls (faults.NoSeparator (line_number end ls))
 no_separator end ls d none = record { number = refl; directive = d; none = onward_none is_separator (after_head ls) none }
 
 -- where no expectation is read, none is in the relation
-not_closed : (end : ℕ) (ls after : List Line) (line : Line) → IsDirective (head_of ls) → onward is_separator (after_head ls) ≡ line ∷ after → expectation_at after ≡ None → IsHeadFault end ls (faults.NotClosed (number_of end (onward is_separator (after_head ls))))
+not_closed : (end : ℕ) (ls after : List Line) (line : Line) → IsDirective (head_of ls) → onward is_separator (after_head ls) ≡ line ∷ after → expectation_at after ≡ None → IsHeadFault end ls (faults.NotClosed (line_number end (onward is_separator (after_head ls))))
 not_closed end ls after line d first none = record {
   input = upto is_separator (after_head ls);
   separator = line;
@@ -75,7 +80,7 @@ not_closed end ls after line d first none = record {
   parts = sym (upto-append-onward is_separator (after_head ls)) ∙ ap (λ (l : List Line). upto is_separator (after_head ls) ++ l) first;
   first = none-upto is_separator (after_head ls);
   separates = onward-first is_separator (after_head ls) line after first;
-  number = ap (number_of end) first;
+  number = ap (line_number end) first;
   directive = d;
   none = λ expected rest readable reads. let no : None ≡ Some (expected, rest) = sym none ∙ expectation_complete after expected rest readable reads in cc;
 }
@@ -86,14 +91,13 @@ along end ls d e is h = subst (λ (x : ScriptFault). IsHeadFault end ls x) is h
 
 -- why a block isn't read
 block_fault : (end : ℕ) (lead ls : List Line) (e : ScriptFault) → block_at end lead ls ≡ Err e → IsHeadFault end ls e
-unfolding block_at
 block_fault end lead ls e h =
-    let n = number_of end ls in
+    let n = line_number end ls in
     let on = onward is_separator (after_head ls) in
     let missing = faults.NoSeparator n in
-    let unclosed = faults.NotClosed (number_of end on) in
+    let unclosed = faults.NotClosed (line_number end on) in
     let make = made lead (head_of ls) (upto is_separator (after_head ls)) in
-    elim (bind_err (few_or n (head_at (joined (head_of ls)))) (λ _. behind_head missing unclosed on make) e h) [
+    elim (bind_err (few_or n (head_at (joined (head_of ls)))) (λ _. behind_head missing unclosed on make) e (sym (steps end lead ls) ∙ h)) [
       | inl f ↦ elim (few_err n (head_at (joined (head_of ls))) e f) [
         | inl none ↦ along end ls (faults.BadLine n) e none.1 (bad_line end ls none.0)
         | inr many ↦ along end ls (faults.TooManyArguments n) e many.3 (many_arguments end ls many.0 many.1 many.2)
@@ -161,26 +165,30 @@ blocks_fault (suc room) end ls e h =
 cut_rest : (ls rest : List Line) (bs : List PlainBlock) → ReadsSome ls bs rest → ReadsSome ls bs (lead_of rest ++ from_head rest)
 cut_rest ls rest bs h = subst (λ (l : List Line). ReadsSome ls bs l) (sym (upto-append-onward (stops Head) rest)) h
 
+-- bytes that are short enough, as the reader found them
+short_parts : (bytes : List ℕ) (u : Unit {0}) → ltb MAX_SCRIPT (length bytes) ≡ false → no_long_line (long_line 1 (lines bytes)) ≡ Ok u → AreShort bytes
+short_parts bytes u f e = record { short = ltb-false MAX_SCRIPT (length bytes) f; short_lines = long_sound 1 (lines bytes) (no_long_is (long_line 1 (lines bytes)) u e) }
+
 -- a fault at a head is a fault of the bytes
-stops_at : (bytes : List ℕ) (e : ScriptFault) → StopsAt (lines bytes) e → IsFault bytes e
-stops_at bytes faults.TooLong s = absurd s.why
-stops_at bytes (faults.LineTooLong n) s = absurd s.why
-stops_at bytes (faults.BadLine n) s = s
-stops_at bytes (faults.NoSeparator n) s = s
-stops_at bytes (faults.NotClosed n) s = s
-stops_at bytes faults.TooManyDirectives s = absurd s.why
-stops_at bytes faults.NotOneBlock s = absurd s.why
-stops_at bytes (faults.TooManyArguments n) s = s
-stops_at bytes faults.OutOfMemory s = absurd s.why
+stops_at : (bytes : List ℕ) (e : ScriptFault) → AreShort bytes → StopsAt (lines bytes) e → IsFirstFault bytes e
+stops_at bytes faults.TooLong short s = absurd s.why
+stops_at bytes (faults.LineTooLong n) short s = absurd s.why
+stops_at bytes (faults.BadLine n) short s = (short, s)
+stops_at bytes (faults.NoSeparator n) short s = (short, s)
+stops_at bytes (faults.NotClosed n) short s = (short, s)
+stops_at bytes faults.TooManyDirectives short s = absurd s.why
+stops_at bytes faults.NotOneBlock short s = absurd s.why
+stops_at bytes (faults.TooManyArguments n) short s = (short, s)
+stops_at bytes faults.OutOfMemory short s = absurd s.why
 
 -- why the blocks aren't read
-stops_fault : (bytes : List ℕ) (e : ScriptFault) → Stops MAX_DIRECTIVES (1 + length (lines bytes)) (lines bytes) e → IsFault bytes e
-stops_fault bytes e s =
+stops_fault : (bytes : List ℕ) (e : ScriptFault) → AreShort bytes → Stops MAX_DIRECTIVES (1 + length (lines bytes)) (lines bytes) e → IsFirstFault bytes e
+stops_fault bytes e short s =
     let head = begins_from s.rest (from_head s.rest) refl s.some in
     let before = cut_rest (lines bytes) s.rest s.blocks s.before in
     elim s.why [
-      | inl full ↦ subst (λ (x : ScriptFault). IsFault bytes x) full.1 (record { blocks = s.blocks; lead = lead_of s.rest; from = from_head s.rest; before = before; leads = leads_of s.rest; head = head; many = full.0 })
-      | inr bad ↦ stops_at bytes e (record {
+      | inl full ↦ subst (λ (x : ScriptFault). IsFirstFault bytes x) full.1 (short, record { blocks = s.blocks; lead = lead_of s.rest; from = from_head s.rest; before = before; leads = leads_of s.rest; head = head; many = full.0 })
+      | inr bad ↦ stops_at bytes e short (record {
         blocks = s.blocks;
         lead = lead_of s.rest;
         from = from_head s.rest;
@@ -233,59 +241,100 @@ no_long_err None e h = absurd cc
 no_long_err (Some n) e h = (n, refl, same_fault (faults.LineTooLong n) e h)
 
 -- the line is told by its number
-long_fault : (bytes : List ℕ) (n : ℕ) → long_line 1 (lines bytes) ≡ Some n → IsFault bytes (faults.LineTooLong n)
-long_fault bytes n h =
+long_fault : (bytes : List ℕ) (n : ℕ) → ltb MAX_SCRIPT (length bytes) ≡ false → long_line 1 (lines bytes) ≡ Some n → IsFirstFault bytes (faults.LineTooLong n)
+long_fault bytes n short h =
     let f = long_found 1 (lines bytes) n h in
-    record { front = f.front; line = f.line; rest = f.rest; parts = f.parts; number = f.number; short = f.short; long = f.long }
+    (ltb-false MAX_SCRIPT (length bytes) short, record { front = f.front; line = f.line; rest = f.rest; parts = f.parts; number = f.number; short = f.short; long = f.long })
 
 -- a fault of reading the parts
-parts_fault : (bytes : List ℕ) (e : ScriptFault) → parts_of bytes ≡ Err e → IsFault bytes e
+parts_fault : (bytes : List ℕ) (e : ScriptFault) → parts_of bytes ≡ Err e → IsFirstFault bytes e
 unfolding parts_of
 parts_fault bytes e h =
     let ls = lines bytes in
     elim (guard_err (ltb MAX_SCRIPT (length bytes)) faults.TooLong (no_long_line (long_line 1 ls) >>= λ _. blocks_at MAX_DIRECTIVES (1 + length ls) ls) e h) [
-      | inl long ↦ subst (λ (x : ScriptFault). IsFault bytes x) long.1 (inl (ltb-true MAX_SCRIPT (length bytes) long.0))
+      | inl long ↦ subst (λ (x : ScriptFault). IsFirstFault bytes x) long.1 (ltb-true MAX_SCRIPT (length bytes) long.0)
       | inr later ↦ elim (bind_err (no_long_line (long_line 1 ls)) (λ _. blocks_at MAX_DIRECTIVES (1 + length ls) ls) e later.1) [
-        | inl f ↦ let found = no_long_err (long_line 1 ls) e f in subst (λ (x : ScriptFault). IsFault bytes x) found.2 (long_fault bytes found.0 found.1)
-        | inr x ↦ stops_fault bytes e (blocks_fault MAX_DIRECTIVES (1 + length ls) ls e x.2)
+        | inl f ↦ let found = no_long_err (long_line 1 ls) e f in subst (λ (x : ScriptFault). IsFirstFault bytes x) found.2 (long_fault bytes found.0 later.0 found.1)
+        | inr x ↦ stops_fault bytes e (short_parts bytes x.0 later.0 x.1) (blocks_fault MAX_DIRECTIVES (1 + length ls) ls e x.2)
       ]
     ]
 
+-- parts that were read
+record Parted (bytes : List ℕ) (s : PlainScript) : Type 0 where
+  short : AreShort bytes
+  parts : AreBlocks (lines bytes) s
+
+parted : (bytes : List ℕ) (s : PlainScript) → parts_of bytes ≡ Ok s → Parted bytes s
+parted bytes s h = let p = parts_sound bytes s h in record { short = record { short = p.short; short_lines = p.short_lines }; parts = record { parts = p.parts; few = p.few } }
+
 -- a text that is too long
-text_fault : (bytes : List ℕ) (s : PlainScript) (e : ScriptFault) → parts_of bytes ≡ Ok s → fits_text s ≡ Err e → IsFault bytes e
+long_text : (s : PlainScript) (e : ScriptFault) → fits_text s ≡ Err e → (e ≡ faults.TooLong) × (MAX_SCRIPT < length (text s))
 unfolding fits_text
-text_fault bytes s e parts h =
+long_text s e h =
     elim (guard_err (ltb MAX_SCRIPT (length (text s))) faults.TooLong (Ok s) e h) [
-      | inl long ↦ subst (λ (x : ScriptFault). IsFault bytes x) long.1 (inr (record { script = s; parts = (parts_sound bytes s parts).parts; long = ltb-true MAX_SCRIPT (length (text s)) long.0 }))
+      | inl long ↦ (sym long.1, ltb-true MAX_SCRIPT (length (text s)) long.0)
       | inr fits ↦ absurd cc
     ]
 
--- what a fault of reading a script says
-pub script_fault : (bytes : List ℕ) (e : ScriptFault) → read_of bytes ≡ Err e → IsFault bytes e
+-- why bytes are no script
+pub script_fault : (bytes : List ℕ) (e : ScriptFault) → read_of bytes ≡ Err e → IsScriptFault bytes e
 unfolding read_of
-script_fault bytes e h = elim (bind_err (parts_of bytes) (λ s. fits_text s) e h) [ inl f ↦ parts_fault bytes e f | inr s ↦ text_fault bytes s.0 e s.1 s.2 ]
+script_fault bytes e h =
+    elim (bind_err (parts_of bytes) (λ s. fits_text s) e h) [
+      | inl f ↦ inl (parts_fault bytes e f)
+      | inr s ↦
+          let p = parted bytes s.0 s.1 in
+          let t = long_text s.0 e s.2 in
+          inr (t.0, p.short, record { script = s.0; parts = p.parts; long = t.1 })
+    ]
 
 -- more or less than one block was there
-only_err : (bs : List PlainBlock) (tail : List Line) (e : ScriptFault) → only_block bs tail ≡ Err e → (faults.NotOneBlock ≡ e) × ((b : PlainBlock) → bs ≡ b ∷ [] → tail ≡ [] → ⊥)
-only_err [] tail e h = (same_fault faults.NotOneBlock e h, λ b is none. cc)
+only_err : (bs : List PlainBlock) (tail : List Line) (e : ScriptFault) → only_block bs tail ≡ Err e → (e ≡ faults.NotOneBlock) × ((b : PlainBlock) → bs ≡ b ∷ [] → tail ≡ [] → ⊥)
+only_err [] tail e h = (sym (same_fault faults.NotOneBlock e h), λ b is none. cc)
 only_err (x ∷ []) [] e h = absurd cc
-only_err (x ∷ []) (line ∷ tail) e h = (same_fault faults.NotOneBlock e h, λ b is none. cc)
-only_err (x ∷ y ∷ bs) tail e h = (same_fault faults.NotOneBlock e h, λ b is none. cc)
+only_err (x ∷ []) (line ∷ tail) e h = (sym (same_fault faults.NotOneBlock e h), λ b is none. cc)
+only_err (x ∷ y ∷ bs) tail e h = (sym (same_fault faults.NotOneBlock e h), λ b is none. cc)
 
--- what a fault of reading one block says
-pub alone_fault : (bytes : List ℕ) (e : ScriptFault) → block_of bytes ≡ Err e → IsFault bytes e
+-- one block was there alone
+alone_is : (s : PlainScript) (b : PlainBlock) → only_block s.blocks s.tail ≡ Ok b → s ≡ alone b
+alone_is s b h =
+    let only = only_is s.blocks s.tail b h in
+    ap (λ (bs : List PlainBlock). record { blocks = bs; tail = s.tail }) only.0 ∙ ap (λ (ls : List Line). record { blocks = b ∷ []; tail = ls }) only.1
+
+-- why bytes are no one block
+pub alone_fault : (bytes : List ℕ) (e : ScriptFault) → block_of bytes ≡ Err e → IsBlockFault bytes e
 unfolding block_of
 alone_fault bytes e h =
     elim (bind_err (parts_of bytes) (λ s. only_block s.blocks s.tail >>= λ b. fits_text s >>= λ _. Ok b) e h) [
-      | inl f ↦ parts_fault bytes e f
-      | inr s ↦ elim (bind_err (only_block s.0.blocks s.0.tail) (λ b. fits_text s.0 >>= λ _. Ok b) e s.2) [
-        | inl f ↦
-            let others = only_err s.0.blocks s.0.tail e f in
-            subst (λ (x : ScriptFault). IsFault bytes x) others.0 (record {
-              script = s.0;
-              parts = (parts_sound bytes s.0 s.1).parts;
-              others = λ b is. others.1 b (ap (λ (x : PlainScript). x.blocks) is) (ap (λ (x : PlainScript). x.tail) is);
-            })
-        | inr b ↦ elim (bind_err (fits_text s.0) (λ _. Ok b.0) e b.2) [ inl f ↦ text_fault bytes s.0 e s.1 f | inr fits ↦ absurd cc ]
-      ]
+      | inl f ↦ inl (parts_fault bytes e f)
+      | inr s ↦
+          let p = parted bytes s.0 s.1 in
+          elim (bind_err (only_block s.0.blocks s.0.tail) (λ b. fits_text s.0 >>= λ _. Ok b) e s.2) [
+            | inl f ↦
+                let others = only_err s.0.blocks s.0.tail e f in
+                inr (inl (
+                  others.0,
+                  p.short,
+                  record {
+                    script = s.0;
+                    parts = p.parts;
+                    others = λ b is. others.1 b (ap (λ (x : PlainScript). x.blocks) is) (ap (λ (x : PlainScript). x.tail) is);
+                  },
+                ))
+            | inr b ↦ elim (bind_err (fits_text s.0) (λ _. Ok b.0) e b.2) [
+              | inl f ↦
+                  let t = long_text s.0 e f in
+                  let is = alone_is s.0 b.0 b.1 in
+                  inr (inr (
+                    t.0,
+                    p.short,
+                    record {
+                      block = b.0;
+                      parts = subst (λ (x : PlainScript). AreBlocks (lines bytes) x) is p.parts;
+                      long = subst (λ (x : PlainScript). MAX_SCRIPT < length (text x)) is t.1;
+                    },
+                  ))
+              | inr fits ↦ absurd cc
+            ]
+          ]
     ]

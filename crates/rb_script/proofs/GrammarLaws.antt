@@ -10,8 +10,8 @@ use Rattle.rb_script.specs.Lines.{Line}
 use Rattle.rb_script.specs.Script.{PlainBlock}
 use Rattle.rb_script.specs.Joined.{joined, while_of, after_while}
 use Rattle.rb_script.specs.Directive.{PlainArgument, PlainDirective, is_word, is_value, is_inside, is_some_piece, pieces, begins, IsRun, IsArgument, AreArguments, Derives}
-use Rattle.rb_script.specs.Reading.{ArgumentThere, ArgumentsThere, HeadThere, begins_space, ValuesThere, list_at, values_at, with_key, behind_key, argument_at, before, then_arguments, arguments_at, named, word_head, head_at, with_inputs, directive_of}
-use Rattle.rb_script.specs.Held.{IsBlock}
+use Rattle.rb_script.specs.Heads.{ArgumentThere, ArgumentsThere, HeadThere, begins_space, ValuesThere, list_at, values_at, with_key, behind_key, argument_at, before, then_arguments, arguments_at, named, word_head, head_at, with_inputs, directive_of}
+use Rattle.rb_script.specs.Valid.{IsBlock}
 use Rattle.rb_script.proofs.TokenLaws.{begins_by, run_parts, run_all, run_of, after_run, some_run, begins_wider}
 use Rattle.rb_script.proofs.ArgumentLaws.{begins_is, blank_is, arguments_of, arguments_blank, arguments_spaced}
 
@@ -26,14 +26,14 @@ begins_cons : (x : ℕ) (bytes : List ℕ) → begins x bytes ≡ true → bytes
 begins_cons x [] h = absurd cc
 begins_cons x (b ∷ bytes) h = ap (λ (c : ℕ). c ∷ bytes) (eqb-true b x h)
 
--- the bytes of the kind at the front are a run, if there are any
+-- the bytes of the class at the front are a run, if there are any
 run_is : (p : ℕ → Bool) (bytes : List ℕ) → begins_by p bytes ≡ true → IsRun p (while_of p bytes)
 run_is p bytes h = record {
   some = λ e. let none = ap is_some_piece e in let some = some_run p bytes in absurd cc;
   all = run_all p bytes;
 }
 
--- a run begins by its kind
+-- a run begins by its class
 run_begins : (p : ℕ → Bool) (run rest : List ℕ) → IsRun p run → begins_by p (run ++ rest) ≡ true
 run_begins p [] rest is = absurd (is.some refl)
 run_begins p (b ∷ run) rest is = (and_parts (p b) (list_all p run) is.all).0
@@ -315,9 +315,9 @@ directive_read : (b : PlainBlock) (name : List ℕ) (args : List PlainArgument) 
 unfolding directive_of
 directive_read b name args d = ap (with_inputs b.input) (head_complete (joined b.head) name args d)
 
--- where the block can be held, the grammar derives it
-pub held_derived : (b : PlainBlock) → IsBlock b → Derives (joined b.head) (directive_of b).name (directive_of b).args
-held_derived b held =
+-- where the block is valid, the grammar derives it
+pub valid_derived : (b : PlainBlock) → IsBlock b → Derives (joined b.head) (directive_of b).name (directive_of b).args
+valid_derived b held =
     let d = held.directive in
     subst (λ (x : PlainDirective). Derives (joined b.head) x.name x.args) (sym (directive_read b d.name d.args d.derives)) d.derives
 

@@ -14,9 +14,13 @@ pub mod BlockLaws
 pub mod BlocksLaws
 pub mod ScriptLaws
 pub mod TextLaws
-pub mod HeldLaws
+pub mod ValidLaws
 pub mod FaultLaws
 pub mod WriteLaws
 pub mod LengthLaws
-pub mod EditLaws
-pub mod PlaceLaws
+pub mod SharedLaws
+pub mod EditedLaws
+pub mod LinePartLaws
+pub mod EndLaws
+pub mod RefusalLaws
+pub mod SolidLaws

@@ -6,7 +6,7 @@ use Rattle.rb_script.specs.declared.marks.Stop.TheVariants.{Head}
 use Rattle.rb_script.specs.Lines.{Line}
 use Rattle.rb_script.specs.Marks.{is_lead, continues, stops}
 use Rattle.rb_script.specs.Reads.{IsContinued}
-use Rattle.rb_script.specs.Reading.{upto, onward, head_of, after_head}
+use Rattle.rb_script.specs.Runs.{upto, onward, head_of, after_head}
 
 -- ---- runs of lines
 

@@ -8,7 +8,9 @@ use Rattle.rb_script.specs.declared.limits.TheConstants.{MAX_SCRIPT, MAX_LINE, M
 use Rattle.rb_script.specs.Lines.{Line, lines}
 use Rattle.rb_script.specs.Script.{PlainBlock, PlainScript, text}
 use Rattle.rb_script.specs.Reads.{ReadsBlocks, Reads, alone}
-use Rattle.rb_script.specs.Reading.{◌>>=◌, blocks_at, long_line, no_long_line, parts_of, fits_text, read_of, only_block, block_of}
+use Rattle.rb_script.specs.Results.{◌>>=◌}
+use Rattle.rb_script.specs.Blocks.{blocks_at}
+use Rattle.rb_script.specs.Reading.{long_line, no_long_line, parts_of, fits_text, read_of, only_block, block_of}
 use Rattle.rb_script.proofs.ResultLaws.{bind_ok, ok_is, guard_ok}
 use Rattle.rb_script.proofs.BlocksLaws.{blocks_sound, blocks_complete}
 
@@ -102,7 +104,7 @@ reads_once bytes a b r q = ok_is a b (sym (read_complete bytes a r) ∙ read_com
 -- ---- one block alone
 
 -- one block was taken
-only_is : (bs : List PlainBlock) (tail : List Line) (b : PlainBlock) → only_block bs tail ≡ Ok b → (bs ≡ b ∷ []) × (tail ≡ [])
+pub only_is : (bs : List PlainBlock) (tail : List Line) (b : PlainBlock) → only_block bs tail ≡ Ok b → (bs ≡ b ∷ []) × (tail ≡ [])
 only_is [] tail b e = absurd cc
 only_is (x ∷ []) [] b e = (ap (λ (y : PlainBlock). y ∷ []) (ok_is x b e), refl)
 only_is (x ∷ []) (line ∷ tail) b e = absurd cc

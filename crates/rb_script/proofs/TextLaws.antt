@@ -1,4 +1,4 @@
--- The text of a script that is held reads as that script.
+-- The text of a valid script reads as that script.
 use Rattle.std.proofs.Common.{◌≡◌, ℕ, ◌≤◌, Bool, true, false, cond, not, ◌||◌, eqb, List, [], ◌∷◌, ◌++◌, length, map, refl, ap, sym, subst, ◌∙◌, append_assoc, inl, inr, ◌⊎◌}
 use Rattle.std.specs.List.{list_all, flat_map, AllByRecursion}
 use Rattle.std.proofs.lemmas.Bool.{cases_Bool, and_parts, and_from, not-true}
@@ -7,7 +7,7 @@ use Rattle.rb_script.specs.Lines.{Line, in_first, cut, lines, without_returns, t
 use Rattle.rb_script.specs.Marks.{is_blank, is_lead, is_rule, is_separator, rule, without_front}
 use Rattle.rb_script.specs.Script.{PlainBlock, PlainScript, needs_double, shown, block_lines, script_lines, text}
 use Rattle.rb_script.specs.Reads.{begins_rule, ReadsPlain, ReadsDouble, ReadsBlock, ReadsBlocks, Reads}
-use Rattle.rb_script.specs.Held.{IsLine, IsBlock, IsScript}
+use Rattle.rb_script.specs.Valid.{IsLine, IsBlock, IsScript}
 
 -- ---- lines
 
@@ -106,7 +106,7 @@ all_short : (ls : List Line) → AllByRecursion IsLine ls → AllByRecursion (λ
 all_short [] h = tt
 all_short (line ∷ ls) h = (h.0.short, all_short ls h.1)
 
--- the text of a script that is held is read as that script
+-- the text of a valid script is read as that script
 pub text_reads : (s : PlainScript) → IsScript s → Reads (text s) s
 unfolding text
 text_reads s h =

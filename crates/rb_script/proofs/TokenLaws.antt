@@ -1,4 +1,4 @@
--- The bytes of a joined head, and runs of bytes of a kind.
+-- The bytes of a joined head, and runs of bytes of a class.
 use Rattle.std.proofs.Common.{◌≡◌, ℕ, ◌+◌, ◌-◌, ◌≤◌, ◌<◌, Bool, true, false, cond, ◌&&◌, List, [], ◌∷◌, ◌++◌, length, take, drop, get_or, refl, ap, sym, ◌∙◌, append_assoc, arith}
 use Rattle.std.specs.Prelude.{slice_get, Some, None}
 use Rattle.std.specs.List.{list_all}
@@ -25,7 +25,7 @@ module _ (p : ℕ → Bool) (bytes : List ℕ) (i : ℕ) (lt : i < length bytes)
   unfolding after_while
   rest_more total h so_far = sym (ap (after_while p) (drop_more bytes i 0 lt) ∙ ap (λ t. cond t (after_while p (drop (i + 1) bytes)) (get_or bytes i 0 ∷ drop (i + 1) bytes)) h) ∙ so_far
 
-  -- the run ends before a byte of another kind
+  -- the run ends before a byte of another class
   pub word_stop : (total : List ℕ) → p (get_or bytes i 0) ≡ false → take i bytes ++ while_of p (drop i bytes) ≡ total → take i bytes ≡ total
   unfolding while_of
   word_stop total h so_far =
@@ -166,7 +166,7 @@ while_of_append p [] true ls h = ap (λ t. cond t (32 ∷ while_of p (joined ls)
 while_of_append p [] false ls h = refl
 while_of_append p (b ∷ bytes) more ls h = ap (λ (l : List ℕ). cond (p b) (b ∷ l) []) (while_of_append p bytes more ls h)
 
--- the bytes of a token are those of the kind at the front
+-- the bytes of a token are those of the class at the front
 pub taken : (p : ℕ → Bool) (line piece : Line) (at n : ℕ) (more : Bool) (ls : List Line) → p 32 ≡ false → piece ≡ take (length piece) line → at ≤ length piece → n ≤ length (take (length piece - at) (drop at piece)) → take n (take (length piece - at) (drop at piece)) ≡ while_of p (take (length piece - at) (drop at piece)) → take (at + n - at) (drop at line) ≡ while_of p (drop at piece ++ behind_piece more ls)
 taken p line piece at n more ls h part within le run =
     let whole = take_rest piece at in
@@ -178,9 +178,9 @@ taken p line piece at n more ls h part within le run =
     ap (λ (k : ℕ). take k (drop at line)) count ∙ sym (take-take n (length piece - at) (drop at line) room) ∙ ap (take n) (sym rest)
     ∙ ap (take n) (sym whole) ∙ run ∙ ap (while_of p) whole ∙ sym (while_of_append p (drop at piece) more ls h)
 
--- ---- past the bytes of a kind
+-- ---- past the bytes of a class
 
--- a byte of the kind is gone past
+-- a byte of the class is gone past
 skip_one : (p : ℕ → Bool) (left : List ℕ) (b : ℕ) → Some b ≡ slice_get left 0 → p b ≡ true → after_while p (drop 1 left) ≡ after_while p left
 unfolding after_while
 skip_one p [] b front h = absurd cc
@@ -188,7 +188,7 @@ skip_one p (x ∷ left) b front h =
     let same : b ≡ x = cc in
     sym (ap (λ t. cond t (after_while p left) (x ∷ left)) (ap p (sym same) ∙ h))
 
--- a byte of another kind stays
+-- a byte of another class stays
 skip_none : (p : ℕ → Bool) (left : List ℕ) (b : ℕ) → Some b ≡ slice_get left 0 → p b ≡ false → left ≡ after_while p left
 unfolding after_while
 skip_none p [] b front h = absurd cc
@@ -197,11 +197,11 @@ skip_none p (x ∷ left) b front h =
     sym (ap (λ t. cond t (after_while p left) (x ∷ left)) (ap p (sym same) ∙ h))
 
 module _ (p : ℕ → Bool) (left : List ℕ) (b : ℕ) (front : Some b ≡ slice_get left 0) where
-  -- one byte of the kind
+  -- one byte of the class
   pub skip_more : (next total : List ℕ) → p b ≡ true → next ≡ drop 1 left → after_while p left ≡ total → after_while p next ≡ total
   skip_more next total h is so_far = ap (after_while p) is ∙ skip_one p left b front h ∙ so_far
 
-  -- a byte of another kind
+  -- a byte of another class
   pub skip_stop : (total : List ℕ) → p b ≡ false → after_while p left ≡ total → left ≡ total
   skip_stop total h so_far = skip_none p left b front h ∙ so_far
 
@@ -211,14 +211,14 @@ unfolding after_while
 skip_nil p [] total front so_far = so_far
 skip_nil p (b ∷ left) total front so_far = absurd cc
 
--- ---- runs of bytes of a kind
+-- ---- runs of bytes of a class
 
--- the first byte is of the kind
+-- the first byte is of the class
 abbrev pub begins_by : (ℕ → Bool) → List ℕ → Bool
 begins_by p [] = false
 begins_by p (b ∷ bytes) = p b
 
--- the bytes of the kind at the front, and the others, are all of them
+-- the bytes of the class at the front, and the others, are all of them
 pub run_parts : (p : ℕ → Bool) (bytes : List ℕ) → while_of p bytes ++ after_while p bytes ≡ bytes
 unfolding while_of after_while
 run_parts p [] = refl
@@ -228,7 +228,7 @@ run_parts p (b ∷ bytes) =
       | false ↦ refl
     ]
 
--- each byte of a run is of its kind
+-- each byte of a run is of its class
 pub run_all : (p : ℕ → Bool) (bytes : List ℕ) → list_all p (while_of p bytes) ≡ true
 unfolding while_of
 run_all p [] = refl
@@ -242,7 +242,7 @@ run_all p (b ∷ bytes) =
 pub after_len : (p : ℕ → Bool) (bytes : List ℕ) → length (after_while p bytes) ≤ length bytes
 after_len p bytes = omega (arith, ap length (run_parts p bytes), length-append (while_of p bytes) (after_while p bytes))
 
--- what follows a run doesn't begin by the kind
+-- what follows a run doesn't begin by the class
 pub after_stops : (p : ℕ → Bool) (bytes : List ℕ) → begins_by p (after_while p bytes) ≡ false
 unfolding after_while
 after_stops p [] = refl
@@ -252,7 +252,7 @@ after_stops p (b ∷ bytes) =
       | false ↦ λ h. h
     ] refl
 
--- a byte of the kind begins the run
+-- a byte of the class begins the run
 pub while_one : (p : ℕ → Bool) (b : ℕ) (bytes : List ℕ) → p b ≡ true → while_of p (b ∷ bytes) ≡ b ∷ while_of p bytes
 unfolding while_of
 while_one p b bytes h = ap (λ t. cond t (b ∷ while_of p bytes) []) h
@@ -262,7 +262,7 @@ pub after_one : (p : ℕ → Bool) (b : ℕ) (bytes : List ℕ) → p b ≡ true
 unfolding after_while
 after_one p b bytes h = ap (λ t. cond t (after_while p bytes) (b ∷ bytes)) h
 
--- bytes of the kind before others
+-- bytes of the class before others
 pub while_over : (p : ℕ → Bool) (run rest : List ℕ) → list_all p run ≡ true → while_of p (run ++ rest) ≡ run ++ while_of p rest
 while_over p [] rest all = refl
 while_over p (b ∷ run) rest all =
@@ -276,14 +276,14 @@ after_over p (b ∷ run) rest all =
     let both = and_parts (p b) (list_all p run) all in
     after_one p b (run ++ rest) both.0 ∙ after_over p run rest both.1
 
--- bytes of one kind are of a wider one
+-- bytes of one class are of a wider one
 pub all_wider : (p q : ℕ → Bool) → ((b : ℕ) → p b ≡ true → q b ≡ true) → (bytes : List ℕ) → list_all p bytes ≡ true → list_all q bytes ≡ true
 all_wider p q wider [] h = refl
 all_wider p q wider (b ∷ bytes) h =
     let both = and_parts (p b) (list_all p bytes) h in
     and_from (q b) (list_all q bytes) (wider b both.0) (all_wider p q wider bytes both.1)
 
--- where the first byte is not of the kind there is no run
+-- where the first byte is not of the class there is no run
 pub no_run : (p : ℕ → Bool) (bytes : List ℕ) → begins_by p bytes ≡ false → while_of p bytes ≡ []
 unfolding while_of
 no_run p [] stops = refl
@@ -295,7 +295,7 @@ unfolding after_while
 no_run_after p [] stops = refl
 no_run_after p (b ∷ bytes) stops = ap (λ t. cond t (after_while p bytes) (b ∷ bytes)) stops
 
--- a run of the kind before what doesn't begin by it
+-- a run of the class before what doesn't begin by it
 pub run_of : (p : ℕ → Bool) (run rest : List ℕ) → list_all p run ≡ true → begins_by p rest ≡ false → while_of p (run ++ rest) ≡ run
 run_of p run rest all stops = while_over p run rest all ∙ ap (λ (l : List ℕ). run ++ l) (no_run p rest stops) ∙ append-nil run
 
@@ -303,7 +303,7 @@ run_of p run rest all stops = while_over p run rest all ∙ ap (λ (l : List ℕ
 pub after_run : (p : ℕ → Bool) (run rest : List ℕ) → list_all p run ≡ true → begins_by p rest ≡ false → after_while p (run ++ rest) ≡ rest
 after_run p run rest all stops = after_over p run rest all ∙ no_run_after p rest stops
 
--- a run of the kind is there where the first byte is of it
+-- a run of the class is there where the first byte is of it
 pub some_run : (p : ℕ → Bool) (bytes : List ℕ) → is_some_piece (while_of p bytes) ≡ begins_by p bytes
 unfolding while_of
 some_run p [] = refl
@@ -329,7 +329,7 @@ pub begins_nowhere : (bytes : List ℕ) → None ≡ slice_get bytes 0 → bytes
 begins_nowhere [] front = refl
 begins_nowhere (b ∷ bytes) front = absurd cc
 
--- what begins by one kind begins by a wider one
+-- what begins by one class begins by a wider one
 pub begins_wider : (p q : ℕ → Bool) → ((b : ℕ) → p b ≡ true → q b ≡ true) → (bytes : List ℕ) → begins_by q bytes ≡ false → begins_by p bytes ≡ false
 begins_wider p q wider [] h = refl
 begins_wider p q wider (b ∷ bytes) h = false_from_ne_true (p b) (λ e. both_ways (q b) h (wider b e))

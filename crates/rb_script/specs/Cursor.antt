@@ -1,8 +1,8 @@
--- A place in the lines. (This project's.)
+-- A position in the lines. (This project's.)
 use Rattle.std.specs.Prelude.{ℕ, ◌+◌, List, length, Option, Some, None}
 use Rattle.rb_script.specs.declared.cursor.Cursor.{Cursor}
 use Rattle.rb_script.specs.Lines.{Line, lines}
-use Rattle.rb_script.specs.Reading.{Expectation}
+use Rattle.rb_script.specs.Expectations.{Expectation}
 
 -- what the code found, as lines
 abbrev pub seen : Option (List Line × Cursor) → Expectation

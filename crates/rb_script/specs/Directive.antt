@@ -58,7 +58,7 @@ abbrev pub begins : ℕ → List ℕ → Bool
 begins x [] = false
 begins x (b ∷ bytes) = b == x
 
--- one byte or more, all of the kind
+-- one byte or more, all of the class
 pub record IsRun (p : ℕ → Bool) (bytes : List ℕ) : Type 0 where
   pub some : bytes ≢ []
   pub all : list_all p bytes ≡ true

@@ -16,7 +16,7 @@ ends_in_return [] = false
 ends_in_return (b ∷ []) = b == carriage_return
 ends_in_return (b ∷ c ∷ line) = ends_in_return (c ∷ line)
 
--- a line that can stand in a script: the test of Held.IsLine
+-- a line that can stand in a script: the test of Valid.IsLine
 abbrev pub is_text_line : Line → Bool
 is_text_line line = list_all (λ b. not (b == line_feed)) line && (not (ends_in_return line) && nat_le (length line) MAX_LINE)
 

@@ -1,4 +1,5 @@
--- What each fault says of the bytes. (This project's.)
+-- What each fault of reading says of the bytes: its cause, and that no fault that comes before it holds. (This project's
+-- order: the bytes, the lines, then block by block, then how many blocks there are, and last the canonical text.)
 use Rattle.std.specs.Prelude.{◌≡◌, ℕ, ◌+◌, ◌≤◌, ◌<◌, ◌⊎◌, true, false, not, List, ◌∷◌, ◌++◌, length}
 use Rattle.std.specs.List.{list_all, AllByRecursion}
 use Rattle.rb_script.specs.declared.fault.ScriptFault.{ScriptFault}
@@ -11,24 +12,25 @@ use Rattle.rb_script.specs.Joined.{joined}
 use Rattle.rb_script.specs.Directive.{PlainArgument, Derives}
 use Rattle.rb_script.specs.Limits.{are_few}
 use Rattle.rb_script.specs.Reads.{begins_lead, is_readable, IsDirective, ReadsPlain, ReadsDouble, ReadsSome, ReadsBlocks, alone}
-use Rattle.rb_script.specs.Reading.{head_of, after_head, number_of}
+use Rattle.rb_script.specs.Runs.{head_of, after_head}
+use Rattle.rb_script.specs.Blocks.{line_number}
 
 -- The head at the front is no name and arguments.
 pub record IsBadLine (end : ℕ) (from : List Line) (n : ℕ) : Type 0 where
-  pub number : n ≡ number_of end from
+  pub number : n ≡ line_number end from
   pub none : (name : List ℕ) (args : List PlainArgument) → Derives (joined (head_of from)) name args → ⊥
 
 -- It has more arguments, or values, than there may be.
 pub record HasManyArguments (end : ℕ) (from : List Line) (n : ℕ) : Type 0 where
   pub name : List ℕ
   pub args : List PlainArgument
-  pub number : n ≡ number_of end from
+  pub number : n ≡ line_number end from
   pub derives : Derives (joined (head_of from)) name args
   pub many : are_few args ≡ false
 
 -- It is a directive, and no line ---- follows it.
 pub record HasNoSeparator (end : ℕ) (from : List Line) (n : ℕ) : Type 0 where
-  pub number : n ≡ number_of end from
+  pub number : n ≡ line_number end from
   pub directive : IsDirective (head_of from)
   pub none : list_all (λ line. not (is_separator line)) (after_head from) ≡ true
 
@@ -40,7 +42,7 @@ pub record IsNotClosed (end : ℕ) (from : List Line) (n : ℕ) : Type 0 where
   pub parts : after_head from ≡ input ++ separator ∷ after
   pub first : list_all (λ line. not (is_separator line)) input ≡ true
   pub separates : is_separator separator ≡ true
-  pub number : n ≡ number_of end (separator ∷ after)
+  pub number : n ≡ line_number end (separator ∷ after)
   pub directive : IsDirective (head_of from)
   pub none : (expected rest : List Line) → is_readable expected ≡ true → ReadsPlain after expected rest ⊎ ReadsDouble after expected rest → ⊥
 
@@ -87,25 +89,51 @@ pub record HasManyBlocks (ls : List Line) : Type 0 where
   pub head : begins_lead from ≡ false
   pub many : length blocks ≡ MAX_DIRECTIVES
 
--- the lines are blocks and a tail, whose text is too long
+-- the lines are these blocks and this tail, and no head is one too many
+pub record AreBlocks (ls : List Line) (s : PlainScript) : Type 0 where
+  pub parts : ReadsBlocks ls s.blocks s.tail
+  pub few : length s.blocks ≤ MAX_DIRECTIVES
+
+-- the lines are a script, but for its text, which is too long
 pub record HasLongText (ls : List Line) : Type 0 where
   pub script : PlainScript
-  pub parts : ReadsBlocks ls script.blocks script.tail
+  pub parts : AreBlocks ls script
   pub long : MAX_SCRIPT < length (text script)
 
--- the lines are blocks and a tail, and not one block alone
+-- the lines are one block, but for its text, which is too long
+pub record IsLongBlock (ls : List Line) : Type 0 where
+  pub block : PlainBlock
+  pub parts : AreBlocks ls (alone block)
+  pub long : MAX_SCRIPT < length (text (alone block))
+
+-- the lines are a script, but for the length of its text, and not one block alone
 pub record IsNotAlone (ls : List Line) : Type 0 where
   pub script : PlainScript
-  pub parts : ReadsBlocks ls script.blocks script.tail
+  pub parts : AreBlocks ls script
   pub others : (b : PlainBlock) → script ≡ alone b → ⊥
 
-abbrev pub IsFault : List ℕ → ScriptFault → Type 0
-IsFault bytes TooLong = (MAX_SCRIPT < length bytes) ⊎ HasLongText (lines bytes)
-IsFault bytes (LineTooLong n) = HasLongLine (lines bytes) n
-IsFault bytes (BadLine n) = StopsAt (lines bytes) (BadLine n)
-IsFault bytes (NoSeparator n) = StopsAt (lines bytes) (NoSeparator n)
-IsFault bytes (NotClosed n) = StopsAt (lines bytes) (NotClosed n)
-IsFault bytes TooManyDirectives = HasManyBlocks (lines bytes)
-IsFault bytes NotOneBlock = IsNotAlone (lines bytes)
-IsFault bytes (TooManyArguments n) = StopsAt (lines bytes) (TooManyArguments n)
-IsFault bytes OutOfMemory = ⊥
+-- neither the bytes nor a line of them are too long
+pub record AreShort (bytes : List ℕ) : Type 0 where
+  pub short : length bytes ≤ MAX_SCRIPT
+  pub short_lines : AllByRecursion (λ line. length line ≤ MAX_LINE) (lines bytes)
+
+-- why the bytes are no script, and no one block: what is the same of both
+abbrev pub IsFirstFault : List ℕ → ScriptFault → Type 0
+IsFirstFault bytes TooLong = MAX_SCRIPT < length bytes
+IsFirstFault bytes (LineTooLong n) = (length bytes ≤ MAX_SCRIPT) × HasLongLine (lines bytes) n
+IsFirstFault bytes (BadLine n) = AreShort bytes × StopsAt (lines bytes) (BadLine n)
+IsFirstFault bytes (NoSeparator n) = AreShort bytes × StopsAt (lines bytes) (NoSeparator n)
+IsFirstFault bytes (NotClosed n) = AreShort bytes × StopsAt (lines bytes) (NotClosed n)
+IsFirstFault bytes TooManyDirectives = AreShort bytes × HasManyBlocks (lines bytes)
+IsFirstFault bytes NotOneBlock = ⊥
+IsFirstFault bytes (TooManyArguments n) = AreShort bytes × StopsAt (lines bytes) (TooManyArguments n)
+IsFirstFault bytes OutOfMemory = ⊥
+
+-- why the bytes are no script
+abbrev pub IsScriptFault : List ℕ → ScriptFault → Type 0
+IsScriptFault bytes fault = IsFirstFault bytes fault ⊎ ((fault ≡ TooLong) × AreShort bytes × HasLongText (lines bytes))
+
+-- why the bytes are no one block
+abbrev pub IsBlockFault : List ℕ → ScriptFault → Type 0
+IsBlockFault bytes fault =
+    IsFirstFault bytes fault ⊎ ((fault ≡ NotOneBlock) × AreShort bytes × IsNotAlone (lines bytes)) ⊎ ((fault ≡ TooLong) × AreShort bytes × IsLongBlock (lines bytes))

@@ -5,8 +5,9 @@ use Rattle.rb_script.specs.declared.tokens.Tokens.{Tokens}
 use Rattle.rb_script.specs.Lines.{Line, text_of}
 use Rattle.rb_script.specs.Script.{PlainBlock, block_text}
 use Rattle.rb_script.specs.Joined.{joined}
-use Rattle.rb_script.specs.Reading.{head_at, capped}
-use Rattle.rb_script.specs.Held.{IsBlock}
+use Rattle.rb_script.specs.Heads.{head_at}
+use Rattle.rb_script.specs.Reading.{capped}
+use Rattle.rb_script.specs.Valid.{IsBlock}
 use Rattle.rb_script.specs.Parsed.{texts, TokensAreParts}
 
 abbrev pub block_of_front : Front → List Line → PlainBlock
@@ -20,7 +21,7 @@ pub record HasTokens (f : Front) : Type 0 where
   pub texts_are : head_at (joined f.head) ≡ Some (texts f.head (tokens_of_front f))
   pub parts : TokensAreParts f.head (tokens_of_front f)
 
-pub record IsHeldBlock (f : Front) (expected : List Line) (text_len : ℕ) : Type 0 where
+pub record IsKeptBlock (f : Front) (expected : List Line) (text_len : ℕ) : Type 0 where
   pub block : IsBlock (block_of_front f expected)
   pub tokens : HasTokens f
   pub len : text_len ≡ capped (length (block_text (block_of_front f expected)))

@@ -20,7 +20,7 @@ abbrev pub behind_piece : Bool → List Line → List ℕ
 behind_piece true ls = space ∷ joined ls
 behind_piece false ls = []
 
--- the bytes before the first that isn't of the kind, and those from it on
+-- the bytes before the first that isn't of the class, and those from it on
 unfoldable pub while_of : (ℕ → Bool) → List ℕ → List ℕ
 while_of p [] = []
 while_of p (b ∷ bytes) = if p b then b ∷ while_of p bytes else []

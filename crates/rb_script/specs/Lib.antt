@@ -6,11 +6,16 @@ pub mod Script
 pub mod Joined
 pub mod Directive
 pub mod Tokens
-pub mod Kinds
-pub mod HeadPlaces
+pub mod ByteClasses
+pub mod HeadPositions
 pub mod Limits
 pub mod Reads
-pub mod Held
+pub mod Valid
+pub mod Results
+pub mod Runs
+pub mod Heads
+pub mod Expectations
+pub mod Blocks
 pub mod Reading
 pub mod Faults
 pub mod Cursor
@@ -19,4 +24,7 @@ pub mod Fronts
 pub mod Told
 pub mod Shared
 pub mod Edits
+pub mod LineParts
+pub mod Ends
+pub mod Refusals
 pub mod Writes

@@ -14,7 +14,8 @@ use Rattle.rb_script.specs.Lines.{Line}
 use Rattle.rb_script.specs.Directive.{PlainArgument}
 use Rattle.rb_script.specs.Tokens.{SpannedArgument, token, argument_of, IsPart}
 use Rattle.rb_script.specs.Limits.{has_few_values, are_few}
-use Rattle.rb_script.specs.Reading.{ValuesThere, ArgumentThere, ArgumentsThere, Fails}
+use Rattle.rb_script.specs.Results.{Fails}
+use Rattle.rb_script.specs.Heads.{ValuesThere, ArgumentThere, ArgumentsThere}
 
 -- an item more, or nothing where there are enough
 abbrev pub with_one : {T : Type 0} → ℕ → Option (List T) → T → Option (List T)

@@ -4,7 +4,7 @@ use Rattle.std.specs.declared.rc.Rc.{Rc}
 use Rattle.std.specs.declared.alloc.Global.{Global}
 use Rattle.rb_script.specs.Lines.{Line}
 use Rattle.rb_script.specs.Script.{PlainBlock, PlainScript, text}
-use Rattle.rb_script.specs.Held.{IsScript}
+use Rattle.rb_script.specs.Valid.{IsScript}
 use Rattle.rb_script.specs.declared.reading.Parts.{Parts}
 
 -- the blocks behind their pointers
@@ -14,7 +14,7 @@ values pointers = map (λ p. p.value) pointers
 abbrev pub script_of : List (Rc PlainBlock Global) → List Line → PlainScript
 script_of blocks tail = record { blocks = values blocks; tail = tail }
 
-pub record IsHeldScript (s : PlainScript) (text_len : ℕ) : Type 0 where
+pub record IsKeptScript (s : PlainScript) (text_len : ℕ) : Type 0 where
   pub script : IsScript s
   pub len : text_len ≡ length (text s)
 

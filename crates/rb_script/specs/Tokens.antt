@@ -1,4 +1,4 @@
--- The tokens of a head as places in its lines. (This project's.)
+-- The tokens of a head as spans of its lines. (This project's.)
 use Rattle.std.specs.Prelude.{ℕ, Bool, ◌-◌, ◌<◌, ◌≤◌, List, [], length, take, drop, map, slice_index_or}
 use Rattle.rb_script.specs.declared.span.Span.{Span}
 use Rattle.rb_script.specs.Lines.{Line}

@@ -1,4 +1,4 @@
--- A directive by the places of its tokens. (This project's.)
+-- A directive by the spans of its tokens. (This project's.)
 use Rattle.std.specs.Prelude.{ℕ, [], false, slice_index_or}
 use Rattle.std.specs.List.{AllByRecursion}
 use Rattle.rb_script.specs.declared.span.Span.{Span}

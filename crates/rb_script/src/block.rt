@@ -39,24 +39,24 @@ impl Model for Block {
 
     ghost Value = { PlainBlock };
 
-    ghost use Rattle.rb_script.specs.Fronts.{block_of_front, IsHeldBlock};
+    ghost use Rattle.rb_script.specs.Fronts.{block_of_front, IsKeptBlock};
 
     ghost view = { λ b. block_of_front b.front.value b.expected };
 
-    ghost invariant = { λ b. IsHeldBlock b.front.value b.expected b.text_len };
+    ghost invariant = { λ b. IsKeptBlock b.front.value b.expected b.text_len };
 }
 
 impl Block {
     ghost use Rattle.std.specs.Prelude.{◌≡◌, ◌≢◌, ◌+◌, ℕ, List, IfOk, IfErr, IfSome, Ok, Err, true, length};
     ghost use Rattle.rb_script.specs.Script.{PlainBlock, block_text, expecting};
     ghost use Rattle.rb_script.specs.Reads.{Reads, alone};
-    ghost use Rattle.rb_script.specs.Joined.{joined};
-    ghost use Rattle.rb_script.specs.Directive.{PlainArgument, Derives};
-    ghost use Rattle.rb_script.specs.Held.{IsBlock};
+    ghost use Rattle.rb_script.specs.Valid.{IsBlock};
     ghost use Rattle.rb_script.specs.Edits.{is_expectation};
     ghost use Rattle.rb_script.specs.Fronts.{block_of_front, HasTokens};
     ghost use Rattle.rb_script.specs.Tokens.{plain};
-    ghost use Rattle.rb_script.specs.Reading.{Gives, block_of, early_fault, directive_of, capped};
+    ghost use Rattle.rb_script.specs.Results.{Gives};
+    ghost use Rattle.rb_script.specs.Heads.{directive_of};
+    ghost use Rattle.rb_script.specs.Reading.{block_of, early_fault, capped};
 
     /// The block that the bytes are, where no line stands after it. Lines of faults count within the bytes.
     pub fn read(alloc: Global, bytes: &[u8]) -> Result<Block, ScriptFault>
@@ -73,13 +73,6 @@ impl Block {
     {
         reading::one_block(alloc, bytes)
     }
-
-    /// The directive of a block that can be held is the one that the grammar derives from its head, and no other is.
-    pub fn directive_is_derived()
-        ensures derived { (b : PlainBlock) → IsBlock b → Derives (joined b.head) (directive_of b).name (directive_of b).args }
-        ensures only { (b : PlainBlock) (name : List ℕ) (args : List PlainArgument) → Derives (joined b.head) name args → (name ≡ (directive_of b).name) × (args ≡ (directive_of b).args) }
-        ensures inputs { (b : PlainBlock) → (directive_of b).inputs ≡ b.input }
-    {}
 
     // The block of what stands above its expectation, and that.
     pub(crate) fn new(front: Rc<Front>, expected: Lines) -> Block
@@ -140,8 +133,8 @@ impl Block {
     /// How long the canonical text is.
     pub(crate) fn text_len(&self) -> usize
         ensures len { result ≡ capped (length (block_text self.now)) }
-        // What is held is a block.
-        ensures held { IsBlock self.now }
+        // It is a valid block.
+        ensures valid { IsBlock self.now }
     {
         self.text_len
     }

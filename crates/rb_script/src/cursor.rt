@@ -1,4 +1,4 @@
-//! A place in the lines.
+//! A position in the lines.
 
 ghost use Rattle.std.specs.Prelude.{◌+◌, ◌^◌, ◌<◌, length};
 
@@ -17,7 +17,7 @@ impl<'a> Cursor<'a> {
     ghost use Rattle.std.specs.Prelude.{◌≡◌, [], ◌∷◌, drop, true, false, IfSome, IfNone};
     ghost use Rattle.rb_script.specs.Lines.{lines};
     ghost use Rattle.rb_script.specs.Reads.{begins_rule};
-    ghost use Rattle.rb_script.specs.Reading.{after_blank};
+    ghost use Rattle.rb_script.specs.Expectations.{after_blank};
     ghost use Rattle.rb_script.specs.Cursor.{end_of};
 
     pub(crate) fn next(self) -> Option<(&'a [u8], Cursor<'a>)>

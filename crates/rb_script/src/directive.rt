@@ -6,7 +6,7 @@ use crate::span::Span;
 use std::marker::Model;
 
 /// The directive of a block: a name, arguments and input lines. Each name, key and value is a part of one line
-/// of the head. Indexes count from 0.
+/// of the head. Positions of arguments and values count from 0.
 #[derive(Drop)]
 pub struct DirectiveRef<'a> {
     head: &'a Lines,

@@ -98,8 +98,8 @@ fn spliced(
 impl Script {
     ghost use Rattle.std.specs.Prelude.{◌≡◌, [], Err, IfErr, IfOk, length};
     ghost use Rattle.rb_script.specs.Script.{text, with_outputs};
-    ghost use Rattle.rb_script.specs.Held.{IsScript};
-    ghost use Rattle.rb_script.specs.Shared.{script_of, IsHeldScript};
+    ghost use Rattle.rb_script.specs.Valid.{IsScript};
+    ghost use Rattle.rb_script.specs.Shared.{script_of, IsKeptScript};
     ghost use Rattle.rb_script.specs.Edits.{edited, with_blocks, Makes};
     ghost use Rattle.rb_script.specs.declared.edit.Edit.TheVariants.{Insert, Replace, Remove, Expect, Accept};
 
@@ -202,8 +202,8 @@ impl Script {
     // How long the canonical text is.
     fn text_len(&self) -> usize
         ensures len { result ≡ length (text self.now) }
-        // What is held is a script.
-        ensures held { IsScript self.now }
+        // It is a valid script.
+        ensures valid { IsScript self.now }
     {
         self.text_len
     }
@@ -240,7 +240,7 @@ impl Script {
     ) -> Result<Script, EditFault>
         requires from { from ≤ length self.now.blocks }
         requires to { to ≤ length self.now.blocks }
-        requires held { IsHeldScript (with_blocks self.now (take from self.now.blocks ++ (option_to_list new ++ drop to self.now.blocks))) text_len }
+        requires kept { IsKeptScript (with_blocks self.now (take from self.now.blocks ++ (option_to_list new ++ drop to self.now.blocks))) text_len }
         ensures ok { IfOk result (λ s. s ≡ with_blocks self.now (take from self.now.blocks ++ (option_to_list new ++ drop to self.now.blocks))) }
         ensures err { IfErr result (λ e. e ≡ EditFault.OutOfMemory) }
     {
@@ -250,7 +250,7 @@ impl Script {
 
     // The script with these blocks in place of its own.
     fn with_blocks(&self, blocks: Vec<Rc<Block>>, text_len: usize) -> Result<Script, EditFault>
-        requires { IsHeldScript (script_of blocks.items self.now.tail) text_len }
+        requires { IsKeptScript (script_of blocks.items self.now.tail) text_len }
         ensures ok { IfOk result (λ s. s ≡ script_of blocks.items self.now.tail) }
         ensures err { IfErr result (λ e. e ≡ EditFault.OutOfMemory) }
     {

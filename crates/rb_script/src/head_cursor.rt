@@ -1,20 +1,20 @@
-//! A place in a joined head, over its lines.
+//! A position in a joined head, over its lines.
 
 ghost use Rattle.std.specs.Prelude.{◌≡◌, ◌+◌, ◌-◌, ◌<◌, ◌≤◌, ◌++◌, ◌∷◌, ℕ, length, take, drop, slice_get};
 ghost use Rattle.rb_script.specs.Lines.{Line};
 ghost use Rattle.rb_script.specs.Marks.{is_space, continues};
 ghost use Rattle.rb_script.specs.Joined.{body, joined, behind_piece, while_of, after_while};
 ghost use Rattle.rb_script.specs.Tokens.{line_at, token, IsPart};
-ghost use Rattle.rb_script.specs.Kinds.{is_of};
+ghost use Rattle.rb_script.specs.ByteClasses.{is_of};
 
 use crate::lines::Lines;
 use crate::marks::{continues, is_space};
 use crate::span::Span;
 use std::marker::Model;
 
-/// A kind of bytes.
+/// A class of bytes, by which a head is cut.
 #[derive(Clone, Copy)]
-pub(crate) enum Kind {
+pub(crate) enum ByteClass {
     /// A space or a tab.
     Space,
     /// What parts the values within parentheses: blanks and commas.
@@ -27,21 +27,21 @@ pub(crate) enum Kind {
     Piece,
 }
 
-impl Kind {
-    /// Whether the byte is of the kind.
+impl ByteClass {
+    /// Whether the byte is of the class.
     fn has(self, b: u8) -> bool
         ensures { result ≡ is_of self b }
     {
         match self {
-            Kind::Space => is_space(b),
-            Kind::Gap => is_space(b) || b == b',',
-            Kind::Word => !(is_space(b) || b == b'=' || b == b'(' || b == b')'),
-            Kind::Value => !is_space(b),
-            Kind::Piece => !(is_space(b) || b == b',' || b == b'(' || b == b')'),
+            ByteClass::Space => is_space(b),
+            ByteClass::Gap => is_space(b) || b == b',',
+            ByteClass::Word => !(is_space(b) || b == b'=' || b == b'(' || b == b')'),
+            ByteClass::Value => !is_space(b),
+            ByteClass::Piece => !(is_space(b) || b == b',' || b == b'(' || b == b')'),
         }
     }
 
-    /// How many bytes of the kind stand at the front.
+    /// How many bytes of the class stand at the front.
     fn run_len(self, bytes: &[u8]) -> usize
         ensures len { result ≤ length bytes.now }
         ensures run { take result bytes.now ≡ while_of (is_of self) bytes.now }
@@ -86,7 +86,7 @@ fn piece_of(head: &Lines, line: usize) -> (&[u8], bool)
     }
 }
 
-/// A place in a joined head: what is left of one line's piece, and the lines after it.
+/// A position in a joined head: what is left of one line's piece, and the lines after it.
 #[derive(Drop)]
 pub(crate) struct HeadCursor<'a> {
     head: &'a Lines,
@@ -99,20 +99,20 @@ pub(crate) struct HeadCursor<'a> {
 impl<'a> Model for HeadCursor<'a> {
     ghost use Rattle.std.specs.Prelude.{◌+◌, ◌++◌, drop};
     ghost use Rattle.rb_script.specs.Joined.{behind_piece};
-    ghost use Rattle.rb_script.specs.HeadPlaces.{HeadPlace, IsHeadPlace};
+    ghost use Rattle.rb_script.specs.HeadPositions.{HeadPosition, IsHeadPosition};
 
-    ghost Value = { HeadPlace };
+    ghost Value = { HeadPosition };
 
     ghost view = { λ c. record { head = c.head.now; left = drop c.at c.piece.now ++ behind_piece c.is_continued (drop (c.line + 1) c.head.now) } };
 
-    ghost invariant = { λ c. IsHeadPlace c.head.now c.line c.piece.now c.at };
+    ghost invariant = { λ c. IsHeadPosition c.head.now c.line c.piece.now c.at };
 }
 
 impl<'a> HeadCursor<'a> {
     ghost use Rattle.std.specs.Prelude.{◌≡◌, ◌<◌, length, drop, slice_get, option_copied};
     ghost use Rattle.rb_script.specs.Joined.{joined, while_of, after_while};
     ghost use Rattle.rb_script.specs.Tokens.{token, IsPart};
-    ghost use Rattle.rb_script.specs.Kinds.{is_of, IsToken};
+    ghost use Rattle.rb_script.specs.ByteClasses.{is_of, IsWithinLine};
 
     /// The beginning of the joined head.
     pub(crate) fn new(head: &'a Lines) -> HeadCursor<'a>
@@ -166,30 +166,30 @@ impl<'a> HeadCursor<'a> {
         }
     }
 
-    /// Goes past the bytes of the kind.
-    pub(crate) fn skip(&mut self, kind: Kind)
-        ensures left { self.new.left ≡ after_while (is_of kind) self.old.left }
+    /// Goes past the bytes of the class.
+    pub(crate) fn skip(&mut self, class: ByteClass)
+        ensures left { self.new.left ≡ after_while (is_of class) self.old.left }
         ensures head { self.new.head ≡ self.old.head }
     {
         while let Some(b) = self.peek() {
-            if !kind.has(b) {
+            if !class.has(b) {
                 break;
             }
             self.advance();
         }
     }
 
-    /// Goes past the bytes of the kind, and says where they stand. The space that joins two lines is not of the
-    /// kind, so they stand in one line.
-    pub(crate) fn take(&mut self, kind: Kind) -> Span
-        requires { IsToken kind }
-        ensures token { token self.old.head result ≡ while_of (is_of kind) self.old.left }
-        ensures left { self.new.left ≡ after_while (is_of kind) self.old.left }
+    /// Goes past the bytes of the class, and says where they stand. The space that joins two lines is not of the
+    /// class, so they stand in one line.
+    pub(crate) fn take(&mut self, class: ByteClass) -> Span
+        requires { IsWithinLine class }
+        ensures token { token self.old.head result ≡ while_of (is_of class) self.old.left }
+        ensures left { self.new.left ≡ after_while (is_of class) self.old.left }
         ensures head { self.new.head ≡ self.old.head }
         ensures part { IsPart self.old.head result }
     {
         let start = self.at;
-        let end = start + kind.run_len(&self.piece[start..]);
+        let end = start + class.run_len(&self.piece[start..]);
         self.at = end;
         Span {
             line: self.line,

@@ -14,6 +14,7 @@ mod edit;
 mod edits;
 mod fault;
 mod head_cursor;
+mod laws;
 mod limits;
 mod lines;
 mod marks;
@@ -28,6 +29,11 @@ pub use block::Block;
 pub use directive::DirectiveRef;
 pub use edit::Edit;
 pub use fault::{EditFault, ScriptFault};
+pub use laws::{
+    blanks_are, directive_is_derived, double_expectations_end, expectations_are, faults_are,
+    heads_are_joined, lead_lines_are, plain_expectations_end, read_is_valid, reads_once,
+    refusals_are, separators_are, solid_lines_can_be_expected, text_reads_back,
+};
 pub use limits::{MAX_ARGUMENTS, MAX_DIRECTIVES, MAX_LINE, MAX_SCRIPT, MAX_VALUES, limits_are};
 pub use lines::{Lines, without_returns};
 pub use marks::{is_space, without_front};

@@ -9,7 +9,7 @@ pub const MAX_SCRIPT: usize = 4_194_304;
 pub const MAX_LINE: usize = 65_536;
 
 /// How many directives a script may have.
-pub const MAX_DIRECTIVES: usize = 10_000;
+pub const MAX_DIRECTIVES: usize = 20_000;
 
 /// How many arguments a directive may have.
 pub const MAX_ARGUMENTS: usize = 64;
@@ -21,7 +21,7 @@ pub const MAX_VALUES: usize = 64;
 pub fn limits_are()
     ensures script { MAX_SCRIPT ≡ 4194304 }
     ensures line { MAX_LINE ≡ 65536 }
-    ensures directives { MAX_DIRECTIVES ≡ 10000 }
+    ensures directives { MAX_DIRECTIVES ≡ 20000 }
     ensures arguments { MAX_ARGUMENTS ≡ 64 }
     ensures values { MAX_VALUES ≡ 64 }
 {}

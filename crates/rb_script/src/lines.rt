@@ -69,7 +69,7 @@ impl Lines {
         self.ends.is_empty()
     }
 
-    /// The line at index `i`, which counts from 0, without its end.
+    /// The line at position `i`, which counts from 0, without its end.
     pub fn line(&self, i: usize) -> &[u8]
         requires { i < length self.now }
         ensures { slice_get self.now i ≡ Some result.now }

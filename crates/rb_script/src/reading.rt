@@ -1,14 +1,21 @@
 //! Reading blocks, from the first line on.
 
-ghost use Rattle.std.specs.Prelude.{◌≡◌, ◌+◌, ◌^◌, ◌<◌, [], ◌∷◌, true, false, length, drop, not, IfOk, IfErr, IfSome, IfNone, MatchOption, Err};
+ghost use Rattle.std.specs.Prelude.{◌≡◌, ◌+◌, ◌^◌, ◌<◌, [], ◌∷◌, true, false, length, drop, not, IfOk, IfErr, IfSome, IfNone, MatchOption, Ok, Err};
 ghost use Rattle.std.specs.List.{list_all, AllByRecursion};
 ghost use Rattle.rb_script.specs.Lines.{lines};
 ghost use Rattle.rb_script.specs.Marks.{is_blank, is_lead, is_separator, stops};
 ghost use Rattle.rb_script.specs.Reads.{begins_lead, begins_rule, is_readable};
-ghost use Rattle.rb_script.specs.Reading.{upto, onward, head_of, after_head, after_blank, to_pair, then_blank, plain_at, expectation_at, block_at, blocks_at, parts_of, block_of, Gives, long_line, no_long_line, capped, early_fault, read_of};
+ghost use Rattle.rb_script.specs.Results.{Fails, Gives};
+ghost use Rattle.rb_script.specs.Runs.{upto, onward, head_of, after_head};
+ghost use Rattle.rb_script.specs.Expectations.{after_blank, to_pair, then_blank, plain_at, expectation_at};
+ghost use Rattle.rb_script.specs.Parsed.{ParsesHead};
+ghost use Rattle.rb_script.specs.Joined.{joined};
+ghost use Rattle.rb_script.specs.Heads.{few_or, head_at};
+ghost use Rattle.rb_script.specs.Blocks.{below_head, block_at, blocks_at};
+ghost use Rattle.rb_script.specs.Reading.{parts_of, block_of, long_line, no_long_line, capped, early_fault, read_of};
 ghost use Rattle.rb_script.specs.Cursor.{seen, end_of};
 ghost use Rattle.rb_script.specs.Script.{text};
-ghost use Rattle.rb_script.specs.Held.{IsLine};
+ghost use Rattle.rb_script.specs.Valid.{IsLine};
 ghost use Rattle.rb_script.specs.Shared.{parts_view};
 
 use crate::block::{Block, Front};
@@ -18,7 +25,7 @@ use crate::limits::{MAX_DIRECTIVES, MAX_LINE, MAX_SCRIPT};
 use crate::lines::Lines;
 use crate::marks::{Stop, continues, is_rule};
 use crate::script::Script;
-use crate::tokens::tokens_of;
+use crate::tokens::{Tokens, tokens_of};
 use std::alloc::{AllocError, Global};
 use std::rc::Rc;
 
@@ -114,7 +121,7 @@ fn double<'a>(
     Ok(None)
 }
 
-#[tactic(auto, unfolding(crate::specs::Reading::expectation_at))]
+#[tactic(auto, unfolding(crate::specs::Expectations::expectation_at))]
 fn expectation<'a>(
     room: &mut Lines,
     start: Cursor<'a>,
@@ -126,6 +133,45 @@ fn expectation<'a>(
         Some(after) => double(room, after),
         None => plain(room, start),
     }
+}
+
+/// The head, where its tokens stand, and the lines after it.
+fn head_tokens<'a>(
+    alloc: Global,
+    room: &mut Lines,
+    start: Cursor<'a>,
+) -> Result<(Lines, Tokens, Cursor<'a>), ScriptFault>
+    requires { begins_lead (lines start.rest.now) ≡ false }
+    ensures head { IfOk result (λ p. p.0 ≡ head_of (lines start.entry.rest.now)) }
+    ensures tokens { IfOk result (λ p. ParsesHead p.0 (Ok p.1) (few_or start.entry.number (head_at (joined p.0)))) }
+    ensures rest { IfOk result (λ p. lines p.2.rest.now ≡ after_head (lines start.entry.rest.now)) }
+    ensures end { IfOk result (λ p. end_of p.2 ≡ end_of start.entry) }
+    ensures failed { IfErr result (λ fault. Fails fault (few_or start.entry.number (head_at (joined (head_of (lines start.entry.rest.now)))))) }
+{
+    let number = start.number;
+    let (head, at) = head(room, start)?;
+    let tokens = tokens_of(alloc, &head, number)?;
+    Ok((head, tokens, at))
+}
+
+/// What stands below the head that begins at this line: the input, the expected lines, and the lines after them.
+fn below_head<'a>(
+    room: &mut Lines,
+    start: Cursor<'a>,
+    number: usize,
+) -> Result<(Lines, Lines, Cursor<'a>), ScriptFault>
+    ensures gives { Gives (λ p. (p.0, p.1, lines p.2.rest.now)) result (below_head (end_of start.entry) number (lines start.entry.rest.now)) }
+    ensures end { IfOk result (λ p. end_of p.2 ≡ end_of start.entry) }
+{
+    let (input, at) = run(room, start, Stop::Separator)?;
+    let separator = at.number;
+    let Some((_, at)) = at.next() else {
+        return Err(ScriptFault::NoSeparator(number));
+    };
+    let Some((expected, at)) = expectation(room, at)? else {
+        return Err(ScriptFault::NotClosed(separator));
+    };
+    Ok((input, expected, at))
 }
 
 /// The block whose lead was read, and the lines after it.
@@ -143,16 +189,8 @@ fn block<'a>(
     ensures end { IfOk result (λ p. end_of p.1 ≡ end_of start.entry) }
 {
     let number = start.number;
-    let (head, at) = head(room, start)?;
-    let tokens = tokens_of(alloc, &head, number)?;
-    let (input, at) = run(room, at, Stop::Separator)?;
-    let separator = at.number;
-    let Some((_, at)) = at.next() else {
-        return Err(ScriptFault::NoSeparator(number));
-    };
-    let Some((expected, at)) = expectation(room, at)? else {
-        return Err(ScriptFault::NotClosed(separator));
-    };
+    let (head, tokens, at) = head_tokens(alloc, room, start)?;
+    let (input, expected, at) = below_head(room, at, number)?;
     let front = Rc::new(
         alloc,
         Front {
@@ -213,7 +251,7 @@ fn check_lines(start: Cursor<'_>) -> Result<(), ScriptFault>
 }
 
 /// The blocks and the tail of the bytes. What is too long is found before any growth.
-#[tactic(auto, using(crate::proofs::HeldLaws::checked_lines), unfolding(crate::specs::Reading::parts_of))]
+#[tactic(auto, using(crate::proofs::ValidLaws::checked_lines), unfolding(crate::specs::Reading::parts_of))]
 fn read_parts(alloc: Global, bytes: &[u8]) -> Result<Parts, ScriptFault>
     ensures exact { Gives parts_view result (parts_of bytes.now) }
     ensures early { IfSome (early_fault bytes.now) (λ fault. result ≡ Err fault) }
@@ -260,13 +298,12 @@ pub(crate) fn script(alloc: Global, bytes: &[u8]) -> Result<Script, ScriptFault>
 }
 
 /// The block behind the pointer, or a copy of it where others share it.
-fn unshared(block: Rc<Block>) -> Result<Block, ScriptFault>
-    ensures ok { IfOk result (λ b. b ≡ block.value) }
-    ensures err { IfErr result (λ fault. fault ≡ ScriptFault.OutOfMemory) }
+fn unshared(block: Rc<Block>) -> Result<Block, AllocError>
+    ensures { IfOk result (λ b. b ≡ block.value) }
 {
     match Rc::try_unwrap(block) {
         Ok(block) => Ok(block),
-        Err(shared) => Ok(shared.try_copy()?),
+        Err(shared) => shared.try_copy(),
     }
 }
 
@@ -284,7 +321,7 @@ pub(crate) fn one_block(alloc: Global, bytes: &[u8]) -> Result<Block, ScriptFaul
         return Err(ScriptFault::TooLong);
     }
     match parts.blocks.pop() {
-        Some(block) => unshared(block),
+        Some(block) => Ok(unshared(block)?),
         None => Err(ScriptFault::NotOneBlock),
     }
 }

@@ -25,22 +25,19 @@ impl Model for Script {
 
     ghost Value = { PlainScript };
 
-    ghost use Rattle.rb_script.specs.Shared.{script_of, IsHeldScript};
+    ghost use Rattle.rb_script.specs.Shared.{script_of, IsKeptScript};
 
     ghost view = { λ s. script_of s.blocks.items s.tail.value };
 
-    ghost invariant = { λ s. IsHeldScript (script_of s.blocks.items s.tail.value) s.text_len };
+    ghost invariant = { λ s. IsKeptScript (script_of s.blocks.items s.tail.value) s.text_len };
 }
 
 impl Script {
-    ghost use Rattle.std.specs.Prelude.{◌≡◌, ◌≢◌, ◌↔◌, ℕ, List, ◌-◌, ◌==◌, true, IfOk, IfErr, IfSome, Ok, Err, None, length, slice_get, option_copied, if◌then◌else◌};
-    ghost use Rattle.rb_script.specs.Script.{PlainScript, text};
+    ghost use Rattle.std.specs.Prelude.{◌≡◌, ◌≢◌, ◌-◌, ◌==◌, IfOk, IfErr, IfSome, Ok, Err, None, length, slice_get, option_copied, if◌then◌else◌};
+    ghost use Rattle.rb_script.specs.Script.{PlainScript};
     ghost use Rattle.rb_script.specs.Reads.{Reads};
-    ghost use Rattle.rb_script.specs.Lines.{Line};
-    ghost use Rattle.rb_script.specs.Held.{IsLine, IsScript};
-    ghost use Rattle.rb_script.specs.Edits.{is_text_line};
-    ghost use Rattle.rb_script.specs.Reading.{Gives, read_of, block_of, early_fault};
-    ghost use Rattle.rb_script.specs.Faults.{IsFault};
+    ghost use Rattle.rb_script.specs.Results.{Gives};
+    ghost use Rattle.rb_script.specs.Reading.{read_of, early_fault};
 
     /// The script of the bytes.
     pub fn read(alloc: Global, bytes: &[u8]) -> Result<Script, ScriptFault>
@@ -84,30 +81,4 @@ impl Script {
             },
         }
     }
-
-    /// Bytes are at most one script.
-    pub fn reads_once()
-        ensures { (bytes : List ℕ) (a b : PlainScript) → Reads bytes a → Reads bytes b → a ≡ b }
-    {}
-
-    /// What bytes read as can be held.
-    pub fn read_is_held()
-        ensures { (bytes : List ℕ) (s : PlainScript) → Reads bytes s → IsScript s }
-    {}
-
-    /// The lines that an edit may set are those that read as themselves.
-    pub fn text_lines_are_lines()
-        ensures { (line : Line) → (is_text_line line ≡ true) ↔ IsLine line }
-    {}
-
-    /// What a fault says of the bytes, where a script or one block was read.
-    pub fn fault_is()
-        ensures script { (bytes : List ℕ) (fault : ScriptFault) → read_of bytes ≡ Err fault → IsFault bytes fault }
-        ensures block { (bytes : List ℕ) (fault : ScriptFault) → block_of bytes ≡ Err fault → IsFault bytes fault }
-    {}
-
-    /// The text of each script that can be held reads as that script.
-    pub fn text_reads_back()
-        ensures { (s : PlainScript) → IsScript s → Reads (text s) s }
-    {}
 }

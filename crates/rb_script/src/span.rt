@@ -8,6 +8,6 @@ pub struct Span {
     pub line: usize,
     /// Where the token begins in the line.
     pub start: usize,
-    /// Where it ends: the place behind its last byte.
+    /// Where it ends: the position behind its last byte.
     pub end: usize,
 }

@@ -4,14 +4,14 @@ ghost use Rattle.std.specs.Prelude.{◌≡◌, ◌<◌, ◌++◌, ◌∷◌, ℕ
 ghost use Rattle.rb_script.specs.Lines.{Line};
 ghost use Rattle.rb_script.specs.Joined.{joined};
 ghost use Rattle.rb_script.specs.Directive.{PlainArgument};
-ghost use Rattle.rb_script.specs.Reading.{list_at, values_at, behind_key, argument_at, arguments_at, few_or, head_at};
+ghost use Rattle.rb_script.specs.Heads.{list_at, values_at, behind_key, argument_at, arguments_at, few_or, head_at};
 ghost use Rattle.rb_script.specs.Parsed.{with_one, KeepsArgument, KeepsArguments, ParsesValues, ParsesArgument, ParsesArguments, ParsesHead};
 ghost use Rattle.rb_script.specs.Tokens.{token, IsPart};
 ghost use Rattle.rb_script.specs.declared.tokens.HeadFault.TheVariants.{OutOfMemory};
 
 use crate::argument::Argument;
 use crate::fault::ScriptFault;
-use crate::head_cursor::{HeadCursor, Kind};
+use crate::head_cursor::{ByteClass, HeadCursor};
 use crate::limits::{MAX_ARGUMENTS, MAX_VALUES};
 use crate::lines::Lines;
 use crate::marks::is_space;
@@ -74,7 +74,7 @@ fn list(alloc: Global, at: &mut HeadCursor<'_>) -> Result<Option<Vec<Span>>, Hea
 {
     let mut found = Some(Vec::new(alloc));
     loop {
-        at.skip(Kind::Gap);
+        at.skip(ByteClass::Gap);
         let Some(b) = at.peek() else {
             return Err(HeadFault::Bad);
         };
@@ -85,13 +85,13 @@ fn list(alloc: Global, at: &mut HeadCursor<'_>) -> Result<Option<Vec<Span>>, Hea
             at.advance();
             return Ok(found);
         }
-        let value = at.take(Kind::Piece);
+        let value = at.take(ByteClass::Piece);
         found = with_item(found, value, MAX_VALUES)?;
     }
 }
 
 // The values behind an `=`, or nothing where they are too many: those within parentheses, or the one that stands there.
-#[tactic(auto, unfolding(crate::specs::Reading::values_at))]
+#[tactic(auto, unfolding(crate::specs::Heads::values_at))]
 fn values(alloc: Global, at: &mut HeadCursor<'_>) -> Result<Option<Vec<Span>>, HeadFault>
     ensures gives { ParsesValues at.old.head result at.new.left (values_at at.old.left) }
     ensures head { at.new.head ≡ at.old.head }
@@ -101,12 +101,12 @@ fn values(alloc: Global, at: &mut HeadCursor<'_>) -> Result<Option<Vec<Span>>, H
         return list(alloc, at);
     }
     let mut found = Vec::with_capacity(alloc, 1)?;
-    found.push(at.take(Kind::Value))?;
+    found.push(at.take(ByteClass::Value))?;
     Ok(Some(found))
 }
 
 // The argument whose key was read.
-#[tactic(auto, unfolding(crate::specs::Reading::behind_key))]
+#[tactic(auto, unfolding(crate::specs::Heads::behind_key))]
 fn argument_of_key(
     alloc: Global,
     key: Span,
@@ -138,12 +138,12 @@ fn argument_of_key(
 }
 
 // The argument at the front, or nothing where its values are too many.
-#[tactic(auto, unfolding(crate::specs::Reading::argument_at))]
+#[tactic(auto, unfolding(crate::specs::Heads::argument_at))]
 fn argument(alloc: Global, at: &mut HeadCursor<'_>) -> Result<Option<Argument>, HeadFault>
     ensures gives { ParsesArgument at.old.head result at.new.left (argument_at at.old.left) }
     ensures head { at.new.head ≡ at.old.head }
 {
-    let key = at.take(Kind::Word);
+    let key = at.take(ByteClass::Word);
     if key.start == key.end {
         return Err(HeadFault::Bad);
     }
@@ -171,7 +171,7 @@ fn arguments(alloc: Global, at: &mut HeadCursor<'_>) -> Result<Option<Vec<Argume
     let mut found = Some(Vec::new(alloc));
     loop {
         let first = at.peek();
-        at.skip(Kind::Space);
+        at.skip(ByteClass::Space);
         if at.peek().is_none() {
             return Ok(found);
         }
@@ -186,14 +186,14 @@ fn arguments(alloc: Global, at: &mut HeadCursor<'_>) -> Result<Option<Vec<Argume
 }
 
 /// Where the name and the arguments of the head that begins at this line stand.
-#[tactic(auto, unfolding(crate::specs::Reading::head_at, crate::specs::Reading::word_head))]
+#[tactic(auto, unfolding(crate::specs::Heads::head_at, crate::specs::Heads::word_head))]
 pub(crate) fn tokens_of(alloc: Global, head: &Lines, number: usize) -> Result<Tokens, ScriptFault>
     requires { 0 < length head.now }
     ensures gives { ParsesHead head.now result (few_or number (head_at (joined head.now))) }
 {
     let mut at = HeadCursor::new(head);
-    at.skip(Kind::Space);
-    let name = at.take(Kind::Word);
+    at.skip(ByteClass::Space);
+    let name = at.take(ByteClass::Word);
     if name.start == name.end {
         return Err(ScriptFault::BadLine(number));
     }

@@ -131,6 +131,15 @@ fn refusals(rt: HostRuntime) -> Result<(), Fail> {
     Ok(())
 }
 
+#[test]
+fn outputs_that_cannot_be_expected(rt: HostRuntime) -> Result<(), Fail> {
+    let script = Script::read(rt.alloc(), SCRIPT)?;
+    let outputs = outputs_of(rt.alloc(), &[&[b"x"], &[b"y", b"----"], &[]]).ok_or("no outputs")?;
+    let made = after(rt.alloc(), &script, &Edit::Accept, outputs.as_slice())?;
+    is_refused(&rt, made.err(), Some(EditFault::BadExpectation));
+    Ok(())
+}
+
 /// Why a line of so many bytes can't be expected, if it can't.
 fn fault_of_line(alloc: Global, len: usize) -> Result<Option<EditFault>, Fail> {
     let line = b"x".repeat(alloc, len)?;
@@ -161,6 +170,13 @@ fn too_many(rt: HostRuntime) -> Result<(), Fail> {
     let script = Script::read(rt.alloc(), full.as_slice())?;
     let fault = fault_of_edit(rt.alloc(), &script, Asked::Insert(1, EMPTY))?;
     is_refused(&rt, fault, Some(EditFault::TooManyDirectives));
+    // the place comes before that
+    let past = fault_of_edit(
+        rt.alloc(),
+        &script,
+        Asked::Insert(MAX_DIRECTIVES + 2, EMPTY),
+    )?;
+    is_refused(&rt, past, Some(EditFault::NoSuchPlace));
     Ok(())
 }
 

@@ -104,7 +104,7 @@ fn directives(rt: HostRuntime) -> Result<(), Fail> {
     let block = b"raft-state\n----\nok\n\n";
     let most = Long::new(b"", block, MAX_DIRECTIVES, b"");
     let count = blocks_of(&rt, rt.alloc(), most, 200_000)?;
-    is_count(&rt, count, 10_000);
+    is_count(&rt, count, 20_000);
     // the next head is one too many, and it isn't looked at
     let more = Long::new(b"", block, MAX_DIRECTIVES, b"a (\n");
     comes_to(&rt, rt.alloc(), more, Some(ScriptFault::TooManyDirectives))
@@ -156,6 +156,9 @@ fn canonical_text(rt: HostRuntime) -> Result<(), Fail> {
     let text = Long::new(b"", b"\n", MAX_SCRIPT - 8, b"a\n----\nb");
     comes_to(&rt, rt.alloc(), text, Some(ScriptFault::TooLong))?;
     is_no_block(&rt, rt.alloc(), text, MAX_SCRIPT, ScriptFault::TooLong)?;
+    // that there are two blocks comes before that
+    let two = Long::new(b"", b"\n", MAX_SCRIPT - 16, b"a\n----\n\na\n----\nb");
+    is_no_block(&rt, rt.alloc(), two, MAX_SCRIPT, ScriptFault::NotOneBlock)?;
     let shorter = Long::new(b"", b"\n", MAX_SCRIPT - 10, b"a\n----\nb");
     comes_to(&rt, rt.alloc(), shorter, None)
 }

@@ -1,7 +1,7 @@
 use Rattle.std.proofs.Common.{arith}
 use Rattle.rb_script.specs.Script.{all_expecting}
 use Rattle.rb_script.specs.Shared.{values}
-use Rattle.rb_script.proofs.EditLaws.{expecting_more, expecting_all}
+use Rattle.rb_script.proofs.SharedLaws.{expecting_more, expecting_all}
 use Rattle.rb_script.proofs.edits.all_expecting.Goals as goal
 
 pub loop-i-preserved : goal.loop-i-preserved

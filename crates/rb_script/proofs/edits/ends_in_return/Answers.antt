@@ -1,5 +1,5 @@
 use Rattle.std.proofs.Common.{sym}
-use Rattle.rb_script.proofs.EditLaws.{last_return}
+use Rattle.rb_script.proofs.SharedLaws.{last_return}
 use Rattle.rb_script.proofs.edits.ends_in_return.Goals as goal
 
 pub returns-in-Some : goal.returns-in-Some

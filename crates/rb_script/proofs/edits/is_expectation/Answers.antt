@@ -1,7 +1,7 @@
 use Rattle.std.proofs.Common.{◌&&◌, sym, ap, ◌∙◌, arith}
 use Rattle.std.specs.List.{list_all}
 use Rattle.rb_script.specs.Edits.{is_text_line}
-use Rattle.rb_script.proofs.EditLaws.{text_lines_more, text_lines_not, text_lines_end}
+use Rattle.rb_script.proofs.SharedLaws.{text_lines_more, text_lines_not, text_lines_end}
 use Rattle.rb_script.proofs.edits.is_expectation.Goals as goal
 
 pub returns-then-not-is_text_line : goal.returns-then-not-is_text_line

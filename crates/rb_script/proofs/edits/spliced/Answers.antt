@@ -2,7 +2,7 @@ use Rattle.std.proofs.Common.{◌≡◌, ◌++◌, ap, sym, ◌∙◌, append-ni
 use Rattle.std.specs.Prelude.{Option, option_to_list}
 use Rattle.rb_script.specs.Script.{PlainBlock}
 use Rattle.rb_script.specs.Shared.{values}
-use Rattle.rb_script.proofs.EditLaws.{pushed, shared_part}
+use Rattle.rb_script.proofs.SharedLaws.{pushed, shared_part}
 use Rattle.rb_script.proofs.edits.spliced.Goals as goal
 use Rattle.rb_script.proofs.edits.spliced.Goals.{in-Some+in_ok-new+in_ok-push, in_default}
 

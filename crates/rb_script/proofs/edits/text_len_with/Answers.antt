@@ -2,7 +2,7 @@ use Rattle.std.proofs.Common.{◌+◌, length, min, drop, ap, ◌∙◌, arith}
 use Rattle.rb_script.specs.Script.{PlainBlock, block_text, all_expecting, expecting}
 use Rattle.rb_script.specs.Reading.{capped}
 use Rattle.rb_script.specs.Shared.{values}
-use Rattle.rb_script.proofs.EditLaws.{expecting_split, expecting_none}
+use Rattle.rb_script.proofs.SharedLaws.{expecting_split, expecting_none}
 use Rattle.rb_script.proofs.LengthLaws.{blocks_len, sum_more, sum_end}
 use Rattle.rb_script.proofs.edits.text_len_with.Goals as goal
 

@@ -1,44 +1,47 @@
-use Rattle.std.proofs.Common.{Ok, sym, ap, subst, ◌∙◌, arith}
+use Rattle.std.proofs.Common.{Ok, refl, sym, ap, subst, ◌∙◌, arith}
 use Rattle.std.proofs.lemmas.Result.{err_from_is_err_and}
 use Rattle.rb_script.specs.declared.block.Front.{Front}
 use Rattle.rb_script.specs.Lines.{lines}
 use Rattle.rb_script.specs.Script.{PlainBlock}
-use Rattle.rb_script.specs.Cursor.{seen, end_of}
+use Rattle.rb_script.specs.Results.{Fails}
+use Rattle.rb_script.specs.Runs.{head_of, after_head}
+use Rattle.rb_script.specs.Blocks.{below_head}
+use Rattle.rb_script.specs.Cursor.{end_of}
 use Rattle.rb_script.specs.Fronts.{block_of_front}
-use Rattle.rb_script.specs.Held.{IsBlock}
-use Rattle.rb_script.proofs.BlockLaws.{number_is, head_some, head_fails, no_separator, not_closed, block_read}
-use Rattle.rb_script.proofs.HeldLaws.{made_held}
+use Rattle.rb_script.specs.Valid.{IsBlock}
+use Rattle.rb_script.proofs.BlockLaws.{head_fails, below_fails, block_below}
+use Rattle.rb_script.proofs.ValidLaws.{made_valid}
 use Rattle.rb_script.proofs.reading.block.Goals as goal
 
-pub tokens_of-requires : goal.tokens_of-requires
-tokens_of-requires c = head_some (lines c.args.start.rest.now) c.in_ok-head.head c.in_ok-head.ensures.run c.requires.head
-
-pub returns-in_err-tokens-clause-gives : goal.returns-in_err-tokens-clause-gives
-returns-in_err-tokens-clause-gives c =
-    let p = err_from_is_err_and c.from_residual-in_err-tokens.result c.from_residual-in_err-tokens.ensures.1 in
+pub returns-in_err-head-clause-gives : goal.returns-in_err-head-clause-gives
+returns-in_err-head-clause-gives c =
+    let p = err_from_is_err_and c.from_residual.result c.from_residual.ensures.1 in
     let ls = lines c.args.start.rest.now in
-    rw (p.1, p.2) (head_fails (end_of c.args.start) c.args.start.number c.args.lead ls c.in_ok-head.head (lines c.in_ok-head.at.rest.now) (omega arith) c.in_ok-head.ensures.run c.in_ok-head.ensures.rest c.in_err-tokens.field-0.0 c.in_err-tokens.ensures.gives)
+    rw (p.1, p.2) (head_fails (end_of c.args.start) c.args.start.number c.args.lead ls (head_of ls) (after_head ls) (omega arith) refl refl c.in_err-head.field-0.0 c.in_err-head.ensures.failed)
 
-pub returns-in_default-clause-gives : goal.returns-in_default-clause-gives
-returns-in_default-clause-gives c =
-    no_separator (end_of c.args.start) c.args.start.number c.args.lead (lines c.args.start.rest.now) c.in_ok-head.head (lines c.in_ok-head.at.rest.now) (omega arith) c.in_ok-head.ensures.run c.in_ok-head.ensures.rest _ c.in_ok-tokens.ensures.gives.0
-    (lines c.in_ok-input.at.rest.now) c.in_ok-input.ensures.rest c.in_default.ensures.none
-
-pub returns-in_default-2-clause-gives : goal.returns-in_default-2-clause-gives
-returns-in_default-2-clause-gives c =
-    not_closed (end_of c.args.start) c.args.start.number c.args.lead (lines c.args.start.rest.now) c.in_ok-head.head (lines c.in_ok-head.at.rest.now) (omega arith) c.in_ok-head.ensures.run c.in_ok-head.ensures.rest _ c.in_ok-tokens.ensures.gives.0
-    c.in_ok-input.at.number (lines c.in_ok-input.at.rest.now) (lines c.in-Some.at.rest.now) c.in-Some.field-0-0.now (number_is c.in_ok-input.at.number (end_of c.args.start) (lines c.in_ok-input.at.rest.now) (c.in_ok-input.ensures.end ∙ c.in_ok-head.ensures.end))
-    c.in_ok-input.ensures.rest c.in-Some.ensures.first (ap seen (sym c.in_default-2.is) ∙ c.in_ok-expected.ensures.found)
+pub returns-in_err-input-clause-gives : goal.returns-in_err-input-clause-gives
+returns-in_err-input-clause-gives c =
+    let p = err_from_is_err_and c.from_residual-in_err-input.result c.from_residual-in_err-input.ensures.1 in
+    let ls = lines c.args.start.rest.now in
+    let after = lines c.in_ok-head.at.rest.now in
+    let failed = subst (λ k. Fails c.in_err-input.field-0.0 (below_head k c.args.start.number after)) c.in_ok-head.ensures.end c.in_err-input.ensures.gives in
+    rw (p.1, p.2)
+    (below_fails (end_of c.args.start) c.args.start.number c.args.lead ls c.in_ok-head.head after (omega arith) c.in_ok-head.ensures.head c.in_ok-head.ensures.rest _ c.in_ok-head.ensures.tokens.0 c.in_err-input.field-0.0 failed)
 
 pub new-requires-2-clause-block : goal.new-requires-2-clause-block
 new-requires-2-clause-block c =
-    let read =
-    block_read (end_of c.args.start) c.args.start.number c.args.lead (lines c.args.start.rest.now) c.in_ok-head.head (lines c.in_ok-head.at.rest.now) (omega arith) c.in_ok-head.ensures.run c.in_ok-head.ensures.rest _ c.in_ok-tokens.ensures.gives.0
-    c.in_ok-input.input (lines c.in_ok-input.at.rest.now) (lines c.in-Some.at.rest.now) c.in-Some-2.expected (lines c.in-Some-2.at.rest.now) c.in-Some.field-0-0.now c.in_ok-input.ensures.run c.in_ok-input.ensures.rest c.in-Some.ensures.first (ap seen (sym c.in-Some-2.is) ∙ c.in_ok-expected.ensures.found) in
-    subst (λ (f : Front). IsBlock (block_of_front f c.in-Some-2.expected)) (sym c.in_ok-front.ensures.ok) (made_held (end_of c.args.start) c.args.lead (lines c.args.start.rest.now) (lines c.in-Some-2.at.rest.now) _ read c.requires.lead c.requires.head c.requires.lead_lines c.requires.lines).0
+    let ls = lines c.args.start.rest.now in
+    let after = lines c.in_ok-head.at.rest.now in
+    let next = lines c.in_ok-input.at.rest.now in
+    let below = sym (ap (λ k. below_head k c.args.start.number after) c.in_ok-head.ensures.end) ∙ c.in_ok-input.ensures.gives in
+    let read = block_below (end_of c.args.start) c.args.start.number c.args.lead ls c.in_ok-head.head after (omega arith) c.in_ok-head.ensures.head c.in_ok-head.ensures.rest _ c.in_ok-head.ensures.tokens.0 (Ok (c.in_ok-input.input, c.in_ok-input.expected, next)) below in
+    subst (λ (f : Front). IsBlock (block_of_front f c.in_ok-input.expected)) (sym c.in_ok-front.ensures.ok) (made_valid (end_of c.args.start) c.args.lead ls next _ read c.requires.lead c.requires.head c.requires.lead_lines c.requires.lines).0
 
 pub returns-clause-gives : goal.returns-clause-gives
 returns-clause-gives c =
-    block_read (end_of c.args.start) c.args.start.number c.args.lead (lines c.args.start.rest.now) c.in_ok-head.head (lines c.in_ok-head.at.rest.now) (omega arith) c.in_ok-head.ensures.run c.in_ok-head.ensures.rest _ c.in_ok-tokens.ensures.gives.0
-    c.in_ok-input.input (lines c.in_ok-input.at.rest.now) (lines c.in-Some.at.rest.now) c.in-Some-2.expected (lines c.in-Some-2.at.rest.now) c.in-Some.field-0-0.now c.in_ok-input.ensures.run c.in_ok-input.ensures.rest c.in-Some.ensures.first (ap seen (sym c.in-Some-2.is) ∙ c.in_ok-expected.ensures.found)
-    ∙ ap (λ (b : PlainBlock). Ok (b, lines c.in-Some-2.at.rest.now)) (sym (c.new-2.ensures ∙ ap (λ (f : Front). block_of_front f c.in-Some-2.expected) c.in_ok-front.ensures.ok))
+    let ls = lines c.args.start.rest.now in
+    let after = lines c.in_ok-head.at.rest.now in
+    let next = lines c.in_ok-input.at.rest.now in
+    let below = sym (ap (λ k. below_head k c.args.start.number after) c.in_ok-head.ensures.end) ∙ c.in_ok-input.ensures.gives in
+    block_below (end_of c.args.start) c.args.start.number c.args.lead ls c.in_ok-head.head after (omega arith) c.in_ok-head.ensures.head c.in_ok-head.ensures.rest _ c.in_ok-head.ensures.tokens.0 (Ok (c.in_ok-input.input, c.in_ok-input.expected, next)) below
+    ∙ ap (λ (b : PlainBlock). Ok (b, next)) (sym (c.new-2.ensures ∙ ap (λ (f : Front). block_of_front f c.in_ok-input.expected) c.in_ok-front.ensures.ok))

@@ -5,9 +5,10 @@ use Rattle.rb_script.specs.declared.limits.TheConstants.{MAX_DIRECTIVES}
 use Rattle.rb_script.specs.Lines.{lines}
 use Rattle.rb_script.specs.Cursor.{end_of}
 use Rattle.rb_script.specs.Shared.{values}
-use Rattle.rb_script.specs.Reading.{Fails, blocks_at}
+use Rattle.rb_script.specs.Results.{Fails}
+use Rattle.rb_script.specs.Blocks.{blocks_at}
 use Rattle.rb_script.proofs.BlocksLaws.{with_blocks, lines_empty, blocks_more, blocks_fail, blocks_done, blocks_full, pushed_value, tested, same_block, leads_of, begins_from, next_sound}
-use Rattle.rb_script.proofs.HeldLaws.{split_lines, block_held}
+use Rattle.rb_script.proofs.ValidLaws.{split_lines, block_valid}
 use Rattle.rb_script.proofs.reading.blocks.Goals as goal
 
 pub returns-then-is_empty : goal.returns-then-is_empty
@@ -57,6 +58,6 @@ loop-found-preserved c =
           ∙ ap (λ k. with_blocks (values c.loop-found.found.items ++ c.in_ok-block.block ∷ []) (blocks_at (MAX_DIRECTIVES - k) (end_of c.args.start) after)) c.in_ok-push.ensures.len
           ∙ blocks_more MAX_DIRECTIVES (values c.loop-found.found.items) (vec_len c.loop-found.found) (end_of c.args.start) ls _ c.loop-found.invariant.read c.in_ok-block.block after (omega arith) some next;
       end = c.in_ok-block.ensures.end ∙ c.in_ok-lead.ensures.end ∙ c.loop-found.invariant.end;
-      lines_left = (block_held ls after c.in_ok-block.block c.loop-found.invariant.lines_left (next_sound (end_of c.args.start) ls after c.in_ok-block.block some next)).1;
+      lines_left = (block_valid ls after c.in_ok-block.block c.loop-found.invariant.lines_left (next_sound (end_of c.args.start) ls after c.in_ok-block.block some next)).1;
       few = omega arith;
     }

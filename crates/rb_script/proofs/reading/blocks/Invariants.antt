@@ -2,10 +2,10 @@ use Rattle.std.proofs.Common.{◌≡◌, ◌-◌, ◌≤◌, vec_len}
 use Rattle.std.specs.List.{AllByRecursion}
 use Rattle.rb_script.specs.declared.limits.TheConstants.{MAX_DIRECTIVES}
 use Rattle.rb_script.specs.Lines.{lines}
-use Rattle.rb_script.specs.Held.{IsLine}
+use Rattle.rb_script.specs.Valid.{IsLine}
 use Rattle.rb_script.specs.Cursor.{end_of}
 use Rattle.rb_script.specs.Shared.{values}
-use Rattle.rb_script.specs.Reading.{blocks_at}
+use Rattle.rb_script.specs.Blocks.{blocks_at}
 use Rattle.rb_script.proofs.BlocksLaws.{with_blocks}
 use Rattle.rb_script.proofs.reading.blocks.Given as goal
 

@@ -3,7 +3,7 @@ use Rattle.std.proofs.lemmas.Bool.{and_left, and_right}
 use Rattle.rb_script.specs.Lines.{lines}
 use Rattle.rb_script.specs.Marks.{is_rule}
 use Rattle.rb_script.specs.Reads.{begins_rule}
-use Rattle.rb_script.specs.Reading.{after_blank}
+use Rattle.rb_script.specs.Expectations.{after_blank}
 use Rattle.rb_script.proofs.ReadingLaws.{counted, pair_more, pair_found, pair_end}
 use Rattle.rb_script.proofs.reading.double.Goals as goal
 use Rattle.rb_script.proofs.reading.double.Goals.{then-is_rule+in_default-after_rule, else-is_rule}

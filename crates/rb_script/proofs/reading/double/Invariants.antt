@@ -1,6 +1,6 @@
 use Rattle.std.proofs.Common.{◌≡◌, length}
 use Rattle.rb_script.specs.Lines.{lines}
-use Rattle.rb_script.specs.Reading.{to_pair}
+use Rattle.rb_script.specs.Expectations.{to_pair}
 use Rattle.rb_script.specs.Cursor.{end_of}
 use Rattle.rb_script.proofs.ReadingLaws.{with_lines}
 use Rattle.rb_script.proofs.reading.double.Given as goal

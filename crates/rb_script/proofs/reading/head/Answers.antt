@@ -1,7 +1,7 @@
 use Rattle.std.proofs.Common.{◌++◌, ap, sym, ◌∙◌}
 use Rattle.rb_script.specs.declared.cursor.Cursor.{Cursor}
 use Rattle.rb_script.specs.Lines.{lines}
-use Rattle.rb_script.specs.Reading.{head_of}
+use Rattle.rb_script.specs.Runs.{head_of}
 use Rattle.rb_script.proofs.ReadingLaws.{pushed, counted, head_more, after_head_more, head_last, after_head_last, head_nil, after_head_nil, ended}
 use Rattle.rb_script.proofs.reading.head.Goals as goal
 use Rattle.rb_script.proofs.reading.head.Goals.{in-Some+in_ok-push+then-not-continues, in_default}

@@ -1,6 +1,6 @@
 use Rattle.std.proofs.Common.{◌≡◌, ◌+◌, ◌++◌, length}
 use Rattle.rb_script.specs.Lines.{lines}
-use Rattle.rb_script.specs.Reading.{head_of, after_head}
+use Rattle.rb_script.specs.Runs.{head_of, after_head}
 use Rattle.rb_script.proofs.reading.head.Given as goal
 
 abbrev pub invariant-loop-line : goal.invariant-loop-line

@@ -1,7 +1,7 @@
 use Rattle.std.proofs.Common.{sym, ◌∙◌}
 use Rattle.rb_script.specs.Lines.{lines}
 use Rattle.rb_script.specs.Marks.{stops}
-use Rattle.rb_script.specs.Reading.{upto}
+use Rattle.rb_script.specs.Runs.{upto}
 use Rattle.rb_script.proofs.ReadingLaws.{pushed, counted, upto_more, onward_more, upto_stop, onward_stop, upto_nil, onward_nil, ended}
 use Rattle.rb_script.proofs.reading.run.Goals as goal
 use Rattle.rb_script.proofs.reading.run.Goals.{in-Some+then-at, in_default}

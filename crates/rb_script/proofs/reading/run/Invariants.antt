@@ -1,7 +1,7 @@
 use Rattle.std.proofs.Common.{◌≡◌, ◌+◌, ◌++◌, length}
 use Rattle.rb_script.specs.Lines.{lines}
 use Rattle.rb_script.specs.Marks.{stops}
-use Rattle.rb_script.specs.Reading.{upto, onward}
+use Rattle.rb_script.specs.Runs.{upto, onward}
 use Rattle.rb_script.proofs.reading.run.Given as goal
 
 abbrev pub invariant-loop-line : goal.invariant-loop-line

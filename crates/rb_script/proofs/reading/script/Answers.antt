@@ -4,7 +4,7 @@ use Rattle.rb_script.specs.Script.{PlainScript}
 use Rattle.rb_script.specs.Shared.{parts_view}
 use Rattle.rb_script.specs.Reading.{early_fault}
 use Rattle.rb_script.proofs.ResultLaws.{early_through}
-use Rattle.rb_script.proofs.HeldLaws.{script_held}
+use Rattle.rb_script.proofs.ValidLaws.{script_valid}
 use Rattle.rb_script.proofs.reading.script.Goals as goal
 
 pub returns-in_err-parts-clause-early : goal.returns-in_err-parts-clause-early
@@ -14,4 +14,4 @@ returns-in_err-parts-clause-early c =
 
 pub invariant_of-result : goal.invariant_of-result
 invariant_of-result c =
-    rw c.in_ok-new.ensures.ok (script_held c.args.bytes.now (parts_view c.in_ok-parts.parts) c.text_len-text_len.result c.in_ok-parts.ensures.exact c.text_len-text_len.ensures c.if-text_len-gt-MAX_SCRIPT.false)
+    rw c.in_ok-new.ensures.ok (script_valid c.args.bytes.now (parts_view c.in_ok-parts.parts) c.text_len-text_len.result c.in_ok-parts.ensures.exact c.text_len-text_len.ensures c.if-text_len-gt-MAX_SCRIPT.false)

@@ -3,7 +3,7 @@ use Rattle.rb_script.specs.Lines.{text_of}
 use Rattle.rb_script.specs.Script.{PlainBlock, block_text}
 use Rattle.rb_script.specs.Reading.{capped}
 use Rattle.rb_script.specs.Shared.{values, parts_view}
-use Rattle.rb_script.proofs.EditLaws.{values_split, values_none}
+use Rattle.rb_script.proofs.SharedLaws.{values_split, values_none}
 use Rattle.rb_script.proofs.LengthLaws.{blocks_len, sum_more, sum_end, text-length}
 use Rattle.rb_script.proofs.reading.text_len.Goals as goal
 

@@ -1,6 +1,6 @@
 use Rattle.std.proofs.Common.{◌≡◌, ℕ, List, length}
 use Rattle.rb_script.specs.Parsed.{KeepsValues}
-use Rattle.rb_script.specs.Reading.{list_at}
+use Rattle.rb_script.specs.Heads.{list_at}
 use Rattle.rb_script.proofs.ArgumentLaws.{with_values}
 use Rattle.rb_script.proofs.tokens.list.Given as goal
 

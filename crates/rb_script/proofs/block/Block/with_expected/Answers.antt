@@ -1,8 +1,8 @@
-use Rattle.rb_script.proofs.EditLaws.{expecting_held}
+use Rattle.rb_script.proofs.SharedLaws.{expecting_valid}
 use Rattle.rb_script.proofs.block.Block.with_expected.Goals as goal
 
 pub new-requires-clause-block : goal.new-requires-clause-block
 new-requires-clause-block c =
-    let held = expecting_held _ c.args.lines.now c.self.invariant.block c.requires in
+    let held = expecting_valid _ c.args.lines.now c.self.invariant.block c.requires in
     let same = c.in_ok-clone.ensures.cases in
     rw (same, c.in_ok-try_copy.ensures) held

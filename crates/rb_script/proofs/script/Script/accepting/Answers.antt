@@ -3,7 +3,7 @@ use Rattle.rb_script.specs.declared.edit.Edit.TheVariants.{Accept}
 use Rattle.rb_script.specs.Script.{text, with_outputs}
 use Rattle.rb_script.specs.Reading.{capped}
 use Rattle.rb_script.specs.Edits.{edited}
-use Rattle.rb_script.proofs.PlaceLaws.{refused, Counts, too_long, fits_grown, accept_bad, accept_fitting}
+use Rattle.rb_script.proofs.EditedLaws.{refused, Counts, too_long, fits_grown, accept_bad, accept_fitting}
 use Rattle.rb_script.proofs.script.Script.accepting.Goals as goal
 use Rattle.rb_script.proofs.script.Script.accepting.Goals.{Else-not-are_expectations}
 

@@ -1,4 +1,4 @@
-use Rattle.rb_script.proofs.PlaceLaws.{settled_as, insert_alone, replace_alone, remove_alone, expect_alone}
+use Rattle.rb_script.proofs.EditedLaws.{settled_as, insert_alone, replace_alone, remove_alone, expect_alone}
 use Rattle.rb_script.proofs.script.Script.edited.Goals as goal
 
 pub returns-in-Insert : goal.returns-in-Insert

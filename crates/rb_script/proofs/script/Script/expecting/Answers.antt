@@ -2,8 +2,8 @@ use Rattle.std.proofs.Common.{◌≡◌, [], ℕ, ◌+◌, ◌-◌, min, true, s
 use Rattle.rb_script.specs.declared.edit.Edit.TheVariants.{Expect}
 use Rattle.rb_script.specs.Script.{expecting}
 use Rattle.rb_script.specs.Edits.{edited, is_expectation}
-use Rattle.rb_script.proofs.EditLaws.{expecting_held}
-use Rattle.rb_script.proofs.PlaceLaws.{refused, Counts, too_long, fits_early, fits_grown, with_replaced, old_fits, there_within, expect_nowhere, expect_bad, expect_fitting, replace_counts, replace_held}
+use Rattle.rb_script.proofs.SharedLaws.{expecting_valid}
+use Rattle.rb_script.proofs.EditedLaws.{refused, Counts, too_long, fits_early, fits_grown, with_replaced, old_fits, there_within, expect_nowhere, expect_bad, expect_fitting, replace_counts, replace_valid}
 use Rattle.rb_script.proofs.script.Script.expecting.Goals as goal
 use Rattle.rb_script.proofs.script.Script.expecting.Goals.{After-text_len_with}
 
@@ -20,7 +20,7 @@ counts c n is =
     let old = c.in-Some.old.now in
     let there = c.in-Some.ensures in
     let lines = c.args.lines.now in
-    replace_counts s k old there (expecting old lines) (expect_fitting s k old there lines (good c)) c.text_len.result c.text_len-2.result c.text_len_with.result n c.text_len.ensures.held c.text_len.ensures.len c.text_len-2.ensures.len c.text_len_with.ensures is
+    replace_counts s k old there (expecting old lines) (expect_fitting s k old there lines (good c)) c.text_len.result c.text_len-2.result c.text_len_with.result n c.text_len.ensures.valid c.text_len.ensures.len c.text_len-2.ensures.len c.text_len_with.ensures is
 
 pub returns-in_default : goal.returns-in_default
 returns-in_default c =
@@ -54,11 +54,11 @@ with_part-requires c =
     let at = (goal.at.with_part-requires c).After-text_len_with in
     let inside = there_within c.args.self.now c.args.place old there in
     let counted = counts at _ c.saturating_add-text_len.ensures in
-    let block = expecting_held old lines c.text_len-2.ensures.held (good at) in
+    let block = expecting_valid old lines c.text_len-2.ensures.valid (good at) in
     record {
       from = inside.0;
       to = inside.1;
-      held = replace_held c.args.self.now c.args.place old there (expecting old lines) c.in_ok-block.block c.in_ok-block.ensures c.text_len.ensures.held block counted c.if-text_len-gt-MAX_SCRIPT.false;
+      kept = replace_valid c.args.self.now c.args.place old there (expecting old lines) c.in_ok-block.block c.in_ok-block.ensures c.text_len.ensures.valid block counted c.if-text_len-gt-MAX_SCRIPT.false;
     }
 
 pub returns : goal.returns

@@ -1,7 +1,7 @@
 use Rattle.std.proofs.Common.{◌≡◌, [], ℕ, ◌+◌, min, ap, inl, inr, arith}
 use Rattle.rb_script.specs.declared.edit.Edit.TheVariants.{Insert}
 use Rattle.rb_script.specs.Edits.{edited}
-use Rattle.rb_script.proofs.PlaceLaws.{refused, Counts, too_long, fits_early, fits_grown, with_inserted, insert_nowhere, insert_full, insert_counts, insert_held}
+use Rattle.rb_script.proofs.EditedLaws.{refused, Counts, too_long, fits_early, fits_grown, with_inserted, insert_nowhere, insert_full, insert_counts, insert_valid}
 use Rattle.rb_script.proofs.script.Script.inserted.Goals as goal
 use Rattle.rb_script.proofs.script.Script.inserted.Goals.{After-text_len-2, then-place-eq0-via-then-place-eq0, then-place-eq0-via-else-place-eq0+then-place-count}
 
@@ -34,10 +34,10 @@ returns-in_err-copy-clause-early c =
     let counted = counts (goal.at.returns-in_err-copy-clause-early c).After-text_len-2 _ c.saturating_add-text_len.ensures in
     fits_early _ counted c.if-text_len-gt-MAX_SCRIPT.false
 
-pub with_part-requires-clause-held : goal.with_part-requires-clause-held
-with_part-requires-clause-held c =
-    let counted = counts (goal.at.with_part-requires-clause-held c).After-text_len-2 _ c.saturating_add-text_len.ensures in
-    insert_held c.args.self.now c.args.place c.args.block.now c.if-place-eq0.false (omega arith) (omega arith) c.in_ok-copy.copy c.in_ok-copy.ensures c.text_len.ensures.held c.text_len-2.ensures.held counted c.if-text_len-gt-MAX_SCRIPT.false
+pub with_part-requires-clause-kept : goal.with_part-requires-clause-kept
+with_part-requires-clause-kept c =
+    let counted = counts (goal.at.with_part-requires-clause-kept c).After-text_len-2 _ c.saturating_add-text_len.ensures in
+    insert_valid c.args.self.now c.args.place c.args.block.now c.if-place-eq0.false (omega arith) (omega arith) c.in_ok-copy.copy c.in_ok-copy.ensures c.text_len.ensures.valid c.text_len-2.ensures.valid counted c.if-text_len-gt-MAX_SCRIPT.false
 
 pub returns : goal.returns
 returns c =

@@ -1,4 +1,4 @@
-use Rattle.rb_script.proofs.PlaceLaws.{refused, grown, with_removed, old_fits, there_within, remove_nowhere, remove_made, remove_held}
+use Rattle.rb_script.proofs.EditedLaws.{refused, grown, with_removed, old_fits, there_within, remove_nowhere, remove_made, remove_valid}
 use Rattle.rb_script.proofs.script.Script.removed.Goals as goal
 
 pub returns-in_default : goal.returns-in_default
@@ -16,7 +16,7 @@ with_part-requires c =
     let old = c.in-Some.old.now in
     let there = c.in-Some.ensures in
     let inside = there_within s k old there in
-    record { from = inside.0; to = inside.1; held = remove_held s k old there c.text_len.result c.text_len-2.result c.text_len.ensures.held c.text_len.ensures.len c.text_len-2.ensures.len }
+    record { from = inside.0; to = inside.1; kept = remove_valid s k old there c.text_len.result c.text_len-2.result c.text_len.ensures.valid c.text_len.ensures.len c.text_len-2.ensures.len }
 
 pub returns : goal.returns
 returns c =

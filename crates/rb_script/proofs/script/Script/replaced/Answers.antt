@@ -1,7 +1,7 @@
 use Rattle.std.proofs.Common.{◌≡◌, [], ℕ, ◌+◌, ◌-◌, min, ap}
 use Rattle.rb_script.specs.declared.edit.Edit.TheVariants.{Replace}
 use Rattle.rb_script.specs.Edits.{edited}
-use Rattle.rb_script.proofs.PlaceLaws.{refused, Counts, too_long, fits_early, fits_grown, with_replaced, old_fits, there_within, replace_nowhere, replace_fitting, replace_counts, replace_held}
+use Rattle.rb_script.proofs.EditedLaws.{refused, Counts, too_long, fits_early, fits_grown, with_replaced, old_fits, there_within, replace_nowhere, replace_fitting, replace_counts, replace_valid}
 use Rattle.rb_script.proofs.script.Script.replaced.Goals as goal
 use Rattle.rb_script.proofs.script.Script.replaced.Goals.{After-text_len-3}
 
@@ -13,7 +13,7 @@ counts c n is =
     let old = c.in-Some.old.now in
     let there = c.in-Some.ensures in
     let b = c.args.block.now in
-    replace_counts s k old there b (replace_fitting s k old there b) c.text_len.result c.text_len-2.result c.text_len-3.result n c.text_len.ensures.held c.text_len.ensures.len c.text_len-2.ensures.len c.text_len-3.ensures.len is
+    replace_counts s k old there b (replace_fitting s k old there b) c.text_len.result c.text_len-2.result c.text_len-3.result n c.text_len.ensures.valid c.text_len.ensures.len c.text_len-2.ensures.len c.text_len-3.ensures.len is
 
 pub returns-in_default : goal.returns-in_default
 returns-in_default c =
@@ -43,7 +43,7 @@ with_part-requires c =
     record {
       from = inside.0;
       to = inside.1;
-      held = replace_held c.args.self.now c.args.place old there c.args.block.now c.in_ok-copy.copy c.in_ok-copy.ensures c.text_len.ensures.held c.text_len-3.ensures.held counted c.if-text_len-gt-MAX_SCRIPT.false;
+      kept = replace_valid c.args.self.now c.args.place old there c.args.block.now c.in_ok-copy.copy c.in_ok-copy.ensures c.text_len.ensures.valid c.text_len-3.ensures.valid counted c.if-text_len-gt-MAX_SCRIPT.false;
     }
 
 pub returns : goal.returns

@@ -3,7 +3,7 @@ use Rattle.std.specs.List.{flat_map}
 use Rattle.rb_script.specs.Lines.{text_of}
 use Rattle.rb_script.specs.Script.{block_lines, block_text, script_lines, expecting, text}
 use Rattle.rb_script.specs.Shared.{values}
-use Rattle.rb_script.proofs.EditLaws.{values_split, values_none}
+use Rattle.rb_script.proofs.SharedLaws.{values_split, values_none}
 use Rattle.rb_script.proofs.WriteLaws.{SentLines, lines_more, lines_exit, lines_last, lines_along, next_block, no_block, own_text}
 use Rattle.rb_script.proofs.script.Script.write_to.Given as given
 use Rattle.rb_script.proofs.script.Script.write_to.Goals as goal

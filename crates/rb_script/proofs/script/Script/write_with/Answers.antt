@@ -3,7 +3,7 @@ use Rattle.std.specs.List.{flat_map}
 use Rattle.rb_script.specs.Lines.{text_of}
 use Rattle.rb_script.specs.Script.{PlainBlock, PlainScript, block_lines, block_text, script_lines, with_outputs, expecting, all_expecting, text}
 use Rattle.rb_script.specs.Shared.{values}
-use Rattle.rb_script.proofs.EditLaws.{values-length, expecting_split, expecting_none}
+use Rattle.rb_script.proofs.SharedLaws.{values-length, expecting_split, expecting_none}
 use Rattle.rb_script.proofs.WriteLaws.{SentLines, lines_more, lines_exit, lines_last, lines_along, next_block, no_block}
 use Rattle.rb_script.proofs.script.Script.write_with.Given as given
 use Rattle.rb_script.proofs.script.Script.write_with.Goals as goal

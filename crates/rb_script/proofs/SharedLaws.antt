@@ -1,0 +1,219 @@
+-- Edits of lists of blocks.
+use Rattle.std.proofs.Common.{◌≡◌, ℕ, ◌+◌, ◌-◌, ◌≤◌, ◌<◌, Bool, true, false, cond, not, ◌&&◌, List, [], ◌∷◌, ◌++◌, length, take, drop, get_or, Some, zero, suc, refl, ap, sym, subst, ◌∙◌, inl, inr, append_assoc, append-nil, arith}
+use Rattle.std.specs.Prelude.{◌==◌, nat_le, slice_get}
+use Rattle.std.proofs.lemmas.Option.{slice_get_within, same_Some}
+use Rattle.std.specs.declared.rc.Rc.{Rc}
+use Rattle.std.specs.declared.alloc.Global.{Global}
+use Rattle.std.specs.List.{list_all, AllByRecursion}
+use Rattle.std.proofs.lemmas.Bool.{cases_Bool, and_parts, and_from, not-true, leb-true, le-leb}
+use Rattle.std.proofs.lemmas.List.{take-append-drop, drop_all, drop_more, take_more, take_all, take_rest, take-map, drop-map, map-append, length-map}
+use Rattle.std.proofs.Math.ListN.{get_or-map}
+use Rattle.rb_script.specs.declared.limits.TheConstants.{MAX_LINE}
+use Rattle.rb_script.specs.Lines.{Line, put_before, without_returns}
+use Rattle.rb_script.specs.Marks.{rule}
+use Rattle.rb_script.specs.Script.{PlainBlock, shown, needs_double, expecting, all_expecting}
+use Rattle.rb_script.specs.Reads.{is_readable}
+use Rattle.rb_script.specs.Valid.{IsLine, IsBlock}
+use Rattle.rb_script.specs.Edits.{ends_in_return, is_text_line, is_expectation}
+use Rattle.rb_script.specs.Shared.{values}
+use Rattle.rb_script.proofs.ReadingLaws.{drop_found}
+
+-- ---- what holds of each element
+
+pub every-append : {X : Type 0} (P : X → Type 0) (a b : List X) → AllByRecursion P a → AllByRecursion P b → AllByRecursion P (a ++ b)
+every-append P [] b h k = k
+every-append P (x ∷ a) b h k = (h.0, every-append P a b h.1 k)
+
+pub every-parts : {X : Type 0} (P : X → Type 0) (a b : List X) → AllByRecursion P (a ++ b) → AllByRecursion P a × AllByRecursion P b
+every-parts P [] b h = (tt, h)
+every-parts P (x ∷ a) b h = let p = every-parts P a b h.1 in ((h.0, p.0), p.1)
+
+pub every-take : {X : Type 0} (P : X → Type 0) (i : ℕ) (a : List X) → AllByRecursion P a → AllByRecursion P (take i a)
+every-take P i a h = (every-parts P (take i a) (drop i a) (subst (AllByRecursion P) (sym (take-append-drop i a)) h)).0
+
+pub every-drop : {X : Type 0} (P : X → Type 0) (i : ℕ) (a : List X) → AllByRecursion P a → AllByRecursion P (drop i a)
+every-drop P i a h = (every-parts P (take i a) (drop i a) (subst (AllByRecursion P) (sym (take-append-drop i a)) h)).1
+
+-- ---- lines that can be an expectation
+
+-- a line that doesn't end in a carriage return has none to lose
+pub returns_kept : (line : Line) → ends_in_return line ≡ false → without_returns line ≡ line
+unfolding without_returns
+returns_kept [] h = refl
+returns_kept (b ∷ []) h = ap (λ t. cond t [] (b ∷ [])) h
+returns_kept (b ∷ c ∷ line) h = ap (put_before b) (returns_kept (c ∷ line) h)
+
+last_is : (line : Line) (n b : ℕ) → length line ≡ n + 1 → slice_get line n ≡ Some b → (b == 13) ≡ ends_in_return line
+last_is [] n b e found = absurd (omega arith)
+last_is (x ∷ []) zero b e found = ap (λ (y : ℕ). y == 13) (sym (same_Some x b found))
+last_is (x ∷ []) (suc n) b e found = absurd (omega arith)
+last_is (x ∷ y ∷ line) zero b e found = absurd (omega arith)
+last_is (x ∷ y ∷ line) (suc n) b e found = last_is (y ∷ line) n b (omega arith) found
+
+-- the last byte tells
+pub last_return : (line : Line) (b : ℕ) → slice_get line (length line - 1) ≡ Some b → (b == 13) ≡ ends_in_return line
+last_return line b found = let within = slice_get_within line (length line - 1) b found in last_is line (length line - 1) b (omega arith) found
+
+-- nor does a line that has none to lose end in one
+put_ends : (b : ℕ) (line : Line) → ends_in_return line ≡ false → ends_in_return (put_before b line) ≡ false
+put_ends b [] h =
+    elim (cases_Bool (b == 13)) [
+      | inl t ↦ ap (λ x. ends_in_return (cond x [] (b ∷ []))) t
+      | inr f ↦ ap (λ x. ends_in_return (cond x [] (b ∷ []))) f ∙ f
+    ]
+put_ends b (c ∷ line) h = h
+
+trimmed_ends : (line : Line) → ends_in_return (without_returns line) ≡ false
+unfolding without_returns
+trimmed_ends [] = refl
+trimmed_ends (b ∷ line) = put_ends b (without_returns line) (trimmed_ends line)
+
+-- a line that reads as itself passes the test
+pub line_text_is : (line : Line) → IsLine line → is_text_line line ≡ true
+line_text_is line is =
+    let ends : ends_in_return line ≡ false = sym (ap ends_in_return is.no_return) ∙ trimmed_ends line in
+    and_from (list_all (λ b. not (b == 10)) line) (not (ends_in_return line) && nat_le (length line) MAX_LINE) is.no_end
+    (and_from (not (ends_in_return line)) (nat_le (length line) MAX_LINE) (ap not ends) (le-leb (length line) MAX_LINE is.short))
+
+-- and the other way round
+pub text_line : (line : Line) → is_text_line line ≡ true → IsLine line
+text_line line h =
+    let p = and_parts (list_all (λ b. not (b == 10)) line) (not (ends_in_return line) && nat_le (length line) MAX_LINE) h in
+    let q = and_parts (not (ends_in_return line)) (nat_le (length line) MAX_LINE) p.1 in
+    record { no_end = p.0; no_return = returns_kept line (not-true (ends_in_return line) q.0); short = leb-true (length line) MAX_LINE q.1 }
+
+pub text_lines : (ls : List Line) → list_all is_text_line ls ≡ true → AllByRecursion IsLine ls
+text_lines [] h = tt
+text_lines (line ∷ ls) h = let p = and_parts (is_text_line line) (list_all is_text_line ls) h in (text_line line p.0, text_lines ls p.1)
+
+rule_line : IsLine rule
+unfolding without_returns
+rule_line = record { no_end = refl; no_return = refl; short = omega arith }
+
+-- the lines of either form are lines
+shown_lines : (e : List Line) → AllByRecursion IsLine e → AllByRecursion IsLine (shown e)
+shown_lines e h = elim (needs_double e) as (λ t. AllByRecursion IsLine (cond t (rule ∷ e ++ rule ∷ rule ∷ []) e)) [ true ↦ (rule_line, every-append IsLine e (rule ∷ rule ∷ []) h (rule_line, (rule_line, tt))) | false ↦ h ]
+
+-- a block stays one with lines that can be an expectation in place of its own
+pub expecting_valid : (b : PlainBlock) (e : List Line) → IsBlock b → is_expectation e ≡ true → IsBlock (expecting b e)
+expecting_valid b e h is =
+    let p = and_parts (is_readable e) (list_all is_text_line e) is in
+    let old = shown b.expected ++ [] ∷ [] in
+    let new = shown e ++ [] ∷ [] in
+    let x = every-parts IsLine b.lead (b.head ++ (b.input ++ rule ∷ old)) h.lines in
+    let y = every-parts IsLine b.head (b.input ++ rule ∷ old) x.1 in
+    let z = every-parts IsLine b.input (rule ∷ old) y.1 in
+    let last = every-parts IsLine (shown b.expected) ([] ∷ []) z.1.1 in
+    let ends = every-append IsLine (shown e) ([] ∷ []) (shown_lines e (text_lines e p.1)) last.1 in
+    record {
+      lead = h.lead;
+      head = h.head;
+      directive = h.directive;
+      input = h.input;
+      readable = p.0;
+      lines = every-append IsLine b.lead (b.head ++ (b.input ++ rule ∷ new)) x.0 (every-append IsLine b.head (b.input ++ rule ∷ new) y.0 (every-append IsLine b.input (rule ∷ new) z.0 (rule_line, ends)));
+    }
+
+-- ---- testing lines one after another
+
+module _ (ls : List Line) (i : ℕ) (line : Line) (found : slice_get ls i ≡ Some line) where
+  lines_split : list_all is_text_line (drop i ls) ≡ (is_text_line line && list_all is_text_line (drop (i + 1) ls))
+  lines_split = ap (list_all is_text_line) (drop_found ls i line found)
+
+  -- a line passed
+  pub text_lines_more : (total : Bool) → is_text_line line ≡ true → list_all is_text_line (drop i ls) ≡ total → list_all is_text_line (drop (i + 1) ls) ≡ total
+  text_lines_more total h so_far = sym (ap (λ t. t && list_all is_text_line (drop (i + 1) ls)) h) ∙ sym lines_split ∙ so_far
+
+  -- a line failed
+  pub text_lines_not : (total : Bool) → is_text_line line ≡ false → list_all is_text_line (drop i ls) ≡ total → false ≡ total
+  text_lines_not total h so_far = sym (ap (λ t. t && list_all is_text_line (drop (i + 1) ls)) h) ∙ sym lines_split ∙ so_far
+
+-- all lines passed
+pub text_lines_end : (ls : List Line) (i : ℕ) (total : Bool) → length ls ≤ i → list_all is_text_line (drop i ls) ≡ total → true ≡ total
+text_lines_end ls i total le so_far = sym (ap (list_all is_text_line) (drop_all i ls le)) ∙ so_far
+
+-- ---- blocks behind their pointers, one after another
+
+pub values-length : {T : Type 0} (ps : List (Rc T Global)) → length (values ps) ≡ length ps
+values-length {T} ps = length-map ps (λ (q : Rc T Global). q.value)
+
+module _ {T : Type 0} (ps : List (Rc T Global)) (i : ℕ) (p : Rc T Global) (lt : i < length ps) (is : p ≡ get_or ps i p) where
+  value_is : get_or (values ps) i p.value ≡ p.value
+  value_is = get_or-map (λ (q : Rc T Global). q.value) ps i p ∙ ap (λ (q : Rc T Global). q.value) (sym is)
+
+  some_value : i < length (values ps)
+  some_value = subst (λ (n : ℕ). i < n) (sym (values-length ps)) lt
+
+  -- the value at a place, and those after it
+  pub values_split : drop i (values ps) ≡ p.value ∷ drop (i + 1) (values ps)
+  values_split = drop_more (values ps) i p.value some_value ∙ ap (λ (v : T). v ∷ drop (i + 1) (values ps)) value_is
+
+  -- one more pointer, to the value at a place
+  pub shared_more : (old : List T) (into next : List (Rc T Global)) (q : Rc T Global) → next ≡ into ++ q ∷ [] → q.value ≡ p.value → values into ≡ old ++ take i (values ps) → values next ≡ old ++ take (i + 1) (values ps)
+  shared_more old into next q e same so_far =
+      ap values e ∙ map-append (λ (r : Rc T Global). r.value) into (q ∷ []) ∙ ap (λ (v : T). values into ++ v ∷ []) same ∙ ap (λ (l : List T). l ++ p.value ∷ []) so_far ∙ append_assoc old (take i (values ps)) (p.value ∷ [])
+      ∙ ap (λ (l : List T). old ++ l) (sym (take_more (values ps) i p.value some_value ∙ ap (λ (v : T). take i (values ps) ++ v ∷ []) value_is))
+
+-- all of them
+pub shared_all : {T : Type 0} (ps : List (Rc T Global)) (i : ℕ) (old now : List T) → length ps ≤ i → now ≡ old ++ take i (values ps) → now ≡ old ++ values ps
+shared_all {T} ps i old now le so_far = so_far ∙ ap (λ (l : List T). old ++ l) (take_all i (values ps) (subst (λ (n : ℕ). n ≤ i) (sym (values-length ps)) le))
+
+-- no value is left
+pub values_none : {T : Type 0} (ps : List (Rc T Global)) (i : ℕ) → length ps ≤ i → drop i (values ps) ≡ []
+values_none ps i le = drop_all i (values ps) (subst (λ (n : ℕ). n ≤ i) (sym (values-length ps)) le)
+
+-- shared up to a place, then new, then shared from a place on
+pub shared_part : {T : Type 0} (ps : List (Rc T Global)) (from to : ℕ) (new first second third last : List T) → first ≡ [] → second ≡ first ++ values (take from ps) → third ≡ second ++ new → last ≡ third ++ values (take (length ps - to) (drop to ps))
+    → last ≡ take from (values ps) ++ (new ++ drop to (values ps))
+shared_part {T} ps from to new first second third last e1 e2 e3 e4 =
+    let f : Rc T Global → T = λ p. p.value in
+    let front : second ≡ take from (values ps) = e2 ∙ ap (λ (l : List T). l ++ values (take from ps)) e1 ∙ sym (take-map f from ps) in
+    let back : values (take (length ps - to) (drop to ps)) ≡ drop to (values ps) = ap values (take_rest ps to) ∙ sym (drop-map f to ps) in
+    e4 ∙ ap (λ (l : List T). third ++ l) back ∙ ap (λ (l : List T). l ++ drop to (values ps)) (e3 ∙ ap (λ (l : List T). l ++ new) front) ∙ append_assoc (take from (values ps)) new (drop to (values ps))
+
+-- one more pointer, to this value
+pub pushed : {T : Type 0} (into next : List (Rc T Global)) (p : Rc T Global) (v : T) → next ≡ into ++ p ∷ [] → p.value ≡ v → values next ≡ values into ++ v ∷ []
+pushed {T} into next p v e is = ap values e ∙ map-append (λ (q : Rc T Global). q.value) into (p ∷ []) ∙ ap (λ (x : T). values into ++ x ∷ []) is
+
+-- ---- each block with its output
+
+module _ (ps : List (Rc PlainBlock Global)) (outputs : List (List Line)) (i : ℕ) (p : Rc PlainBlock Global) (output : List Line) (lt : i < length ps) (p_is : p ≡ get_or ps i p) (some : i < length outputs) (output_is : output ≡ get_or outputs i output) where
+  -- the block at a place with its output, and those after it
+  pub expecting_split : all_expecting (drop i (values ps)) (drop i outputs) ≡ expecting p.value output ∷ all_expecting (drop (i + 1) (values ps)) (drop (i + 1) outputs)
+  unfolding all_expecting
+  expecting_split =
+      ap (λ (l : List PlainBlock). all_expecting l (drop i outputs)) (values_split ps i p lt p_is)
+      ∙ ap (all_expecting (p.value ∷ drop (i + 1) (values ps))) (drop_more outputs i output some ∙ ap (λ (o : List Line). o ∷ drop (i + 1) outputs) (sym output_is))
+
+  -- one more block with its output was made
+  pub expecting_more : (all : List PlainBlock) (made next : List (Rc PlainBlock Global)) (r : Rc PlainBlock Global) → next ≡ made ++ r ∷ [] → r.value ≡ expecting p.value output
+      → values made ++ all_expecting (drop i (values ps)) (drop i outputs) ≡ all → values next ++ all_expecting (drop (i + 1) (values ps)) (drop (i + 1) outputs) ≡ all
+  expecting_more all made next r e same so_far =
+      let rest = all_expecting (drop (i + 1) (values ps)) (drop (i + 1) outputs) in
+      ap (λ (l : List (Rc PlainBlock Global)). values l ++ rest) e ∙ ap (λ (l : List PlainBlock). l ++ rest) (map-append (λ (q : Rc PlainBlock Global). q.value) made (r ∷ [])) ∙ append_assoc (values made) (r.value ∷ []) rest
+      ∙ ap (λ (v : PlainBlock). values made ++ v ∷ rest) same ∙ ap (λ (l : List PlainBlock). values made ++ l) (sym expecting_split) ∙ so_far
+
+-- no block is left
+pub expecting_none : (ps : List (Rc PlainBlock Global)) (outputs : List (List Line)) (i : ℕ) → length ps ≤ i → all_expecting (drop i (values ps)) outputs ≡ []
+unfolding all_expecting
+expecting_none ps outputs i le = ap (λ (l : List PlainBlock). all_expecting l outputs) (values_none ps i le)
+
+-- all are made
+pub expecting_all : (ps : List (Rc PlainBlock Global)) (outputs : List (List Line)) (i : ℕ) (made all : List PlainBlock) → length ps ≤ i → made ++ all_expecting (drop i (values ps)) (drop i outputs) ≡ all → made ≡ all
+expecting_all ps outputs i made all le so_far = sym (append-nil made) ∙ ap (λ (l : List PlainBlock). made ++ l) (sym (expecting_none ps (drop i outputs) i le)) ∙ so_far
+
+-- as many blocks as before
+pub outputs_count : (bs : List PlainBlock) (outputs : List (List Line)) → length outputs ≡ length bs → length (all_expecting bs outputs) ≡ length bs
+unfolding all_expecting
+outputs_count [] outputs e = refl
+outputs_count (b ∷ bs) [] e = absurd (omega arith)
+outputs_count (b ∷ bs) (output ∷ outputs) e = let rest = outputs_count bs outputs (omega arith) in omega arith
+
+-- each is a block
+pub outputs_valid : (bs : List PlainBlock) (outputs : List (List Line)) → AllByRecursion IsBlock bs → list_all is_expectation outputs ≡ true → AllByRecursion IsBlock (all_expecting bs outputs)
+unfolding all_expecting
+outputs_valid [] outputs all good = tt
+outputs_valid (b ∷ bs) [] all good = tt
+outputs_valid (b ∷ bs) (output ∷ outputs) all good =
+    let p = and_parts (is_expectation output) (list_all is_expectation outputs) good in
+    (expecting_valid b output all.0 p.0, outputs_valid bs outputs all.1 p.1)

@@ -1,5 +1,0 @@
-use Rattle.rb_script.proofs.ScriptLaws.{reads_once}
-use Rattle.rb_script.proofs.script.Script.reads_once.Goals as goal
-
-pub returns : goal.returns
-returns c = reads_once

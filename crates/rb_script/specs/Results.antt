@@ -1,0 +1,23 @@
+-- What a function answered, beside what reading gives. (This project's.)
+use Rattle.std.specs.Prelude.{◌≡◌, ◌≢◌, Result, Ok, Err}
+use Rattle.rb_script.specs.declared.fault.ScriptFault.{ScriptFault}
+use Rattle.rb_script.specs.declared.fault.ScriptFault.TheVariants.{OutOfMemory}
+
+infixl 10 ◌>>=◌
+abbrev pub ◌>>=◌ : {A B : Type 0} → Result A ScriptFault → (A → Result B ScriptFault) → Result B ScriptFault
+(Ok x) >>= f = f x
+(Err e) >>= f = Err e
+
+-- reading gives this fault, or memory ran out
+abbrev pub Fails : {Y : Type 0} → ScriptFault → Result Y ScriptFault → Type 0
+Fails OutOfMemory read = Unit {0}
+Fails fault read = read ≡ Err fault
+
+-- what a function answered, seen by view, is what reading gives, unless memory ran out
+abbrev pub Gives : {X Y : Type 0} → (X → Y) → Result X ScriptFault → Result Y ScriptFault → Type 0
+Gives view (Ok x) read = read ≡ Ok (view x)
+Gives view (Err e) read = Fails e read
+
+-- what is read is refused for this fault, and not for want of memory
+abbrev pub Refuses : {Y : Type 0} → Result Y ScriptFault → ScriptFault → Type 0
+Refuses read fault = (read ≡ Err fault) × (fault ≢ OutOfMemory)

@@ -1,0 +1,115 @@
+//! What holds of scripts, as laws: each is a call that does nothing, and its contract is what holds.
+//!
+//! The other contracts speak of functions on lists of lines, as `Reading.read_of` and `Edits.edited`, and of the relation
+//! `Reads`. The laws say what those mean, by what lines are made of: which lines are blank, comments, separators or
+//! continued; where an expectation ends; why bytes are refused, and an edit; and that a text reads back.
+
+ghost use Rattle.std.specs.Prelude.{◌≡◌, ◌↔◌, ℕ, ◌⊎◌, true, false, List, [], ◌∷◌, ◌++◌, Ok, Err};
+ghost use Rattle.std.specs.List.{AllByRecursion};
+ghost use Rattle.rb_script.specs.declared.fault.ScriptFault.{ScriptFault};
+ghost use Rattle.rb_script.specs.declared.fault.EditFault.{EditFault};
+ghost use Rattle.rb_script.specs.declared.edit.Edit.{Edit};
+ghost use Rattle.rb_script.specs.Bytes.{tab, space, backslash};
+ghost use Rattle.rb_script.specs.Lines.{Line};
+ghost use Rattle.rb_script.specs.Marks.{is_space, is_blank, is_lead, rule, is_rule, is_separator, continues};
+ghost use Rattle.rb_script.specs.Script.{PlainBlock, PlainScript, needs_double, text};
+ghost use Rattle.rb_script.specs.Joined.{joined};
+ghost use Rattle.rb_script.specs.Directive.{PlainArgument, Derives};
+ghost use Rattle.rb_script.specs.Reads.{begins_blank, ReadsBlock, Reads};
+ghost use Rattle.rb_script.specs.Heads.{directive_of};
+ghost use Rattle.rb_script.specs.Reading.{read_of, block_of};
+ghost use Rattle.rb_script.specs.Faults.{IsScriptFault, IsBlockFault};
+ghost use Rattle.rb_script.specs.Valid.{IsLine, IsBlock, IsScript};
+ghost use Rattle.rb_script.specs.Edits.{is_text_line, is_expectation, edited};
+ghost use Rattle.rb_script.specs.LineParts.{AreBlanks, IsComment, IsRuleWithin, AsksForNext, IsSolid};
+ghost use Rattle.rb_script.specs.Ends.{above, CanBePlain};
+ghost use Rattle.rb_script.specs.Refusals.{CanBeExpected, MayBeMade, made_by, IsEditFault};
+
+/// Blanks are spaces and tabs, and a blank line has nothing else.
+pub fn blanks_are()
+    ensures byte { (b : ℕ) → (is_space b ≡ true) ↔ ((b ≡ space) ⊎ (b ≡ tab)) }
+    ensures line { (line : Line) → (is_blank line ≡ true) ↔ AreBlanks line }
+{}
+
+/// A lead line is blank, or blanks and then a number sign.
+pub fn lead_lines_are()
+    ensures { (line : Line) → (is_lead line ≡ true) ↔ (AreBlanks line ⊎ IsComment line) }
+{}
+
+/// A separator is `----` with blanks around it. The lines that open and close the double form are exactly `----`.
+pub fn separators_are()
+    ensures separator { (line : Line) → (is_separator line ≡ true) ↔ IsRuleWithin line }
+    ensures exact { (line : Line) → (is_rule line ≡ true) ↔ (line ≡ rule) }
+{}
+
+/// A head line asks for the next by a backslash, with blanks or nothing behind it. One blank joins them, also where
+/// nothing follows.
+pub fn heads_are_joined()
+    ensures asks { (line : Line) → (continues line ≡ true) ↔ AsksForNext line }
+    ensures next { (body blanks : Line) (ls : List Line) → AreBlanks blanks → joined ((body ++ backslash ∷ blanks) ∷ ls) ≡ body ++ space ∷ joined ls }
+    ensures nothing { (body blanks : Line) → AreBlanks blanks → joined ((body ++ backslash ∷ blanks) ∷ []) ≡ body ++ space ∷ [] }
+    ensures last { (line : Line) → continues line ≡ false → joined (line ∷ []) ≡ line }
+{}
+
+/// A blank line, of blanks too, ends an expectation in the plain form, and so does the end of the lines.
+pub fn plain_expectations_end()
+    ensures at_blank { (b : PlainBlock) (separator : Line) → IsBlock b → IsRuleWithin separator → (blank : Line) (rest : List Line) → CanBePlain b.expected → AreBlanks blank →
+        ReadsBlock (above b separator (b.expected ++ blank ∷ rest)) b rest }
+    ensures at_end { (b : PlainBlock) (separator : Line) → IsBlock b → IsRuleWithin separator → CanBePlain b.expected → ReadsBlock (above b separator b.expected) b [] }
+{}
+
+/// Two lines `----` end an expectation in the double form. One blank line behind them is taken.
+pub fn double_expectations_end()
+    ensures at_blank { (b : PlainBlock) (separator : Line) → IsBlock b → IsRuleWithin separator → (blank : Line) (rest : List Line) → AreBlanks blank →
+        ReadsBlock (above b separator (rule ∷ b.expected ++ rule ∷ rule ∷ blank ∷ rest)) b rest }
+    ensures at_pair { (b : PlainBlock) (separator : Line) → IsBlock b → IsRuleWithin separator → (rest : List Line) → begins_blank rest ≡ false →
+        ReadsBlock (above b separator (rule ∷ b.expected ++ rule ∷ rule ∷ rest)) b rest }
+{}
+
+/// Bytes are at most one script.
+pub fn reads_once()
+    ensures { (bytes : List ℕ) (a b : PlainScript) → Reads bytes a → Reads bytes b → a ≡ b }
+{}
+
+/// Why bytes are no script, or no one block: the cause of each fault, and that no fault before it in the order holds.
+pub fn faults_are()
+    ensures script { (bytes : List ℕ) (fault : ScriptFault) → read_of bytes ≡ Err fault → IsScriptFault bytes fault }
+    ensures block { (bytes : List ℕ) (fault : ScriptFault) → block_of bytes ≡ Err fault → IsBlockFault bytes fault }
+{}
+
+/// The directive of a valid block is the one that the grammar derives from its head, and no other is.
+pub fn directive_is_derived()
+    ensures derived { (b : PlainBlock) → IsBlock b → Derives (joined b.head) (directive_of b).name (directive_of b).args }
+    ensures only { (b : PlainBlock) (name : List ℕ) (args : List PlainArgument) → Derives (joined b.head) name args → (name ≡ (directive_of b).name) × (args ≡ (directive_of b).args) }
+    ensures inputs { (b : PlainBlock) → (directive_of b).inputs ≡ b.input }
+{}
+
+/// What bytes read as is valid.
+pub fn read_is_valid()
+    ensures { (bytes : List ℕ) (s : PlainScript) → Reads bytes s → IsScript s }
+{}
+
+/// The text of each valid script reads as that script.
+pub fn text_reads_back()
+    ensures { (s : PlainScript) → IsScript s → Reads (text s) s }
+{}
+
+/// Lines can be expected where each reads as itself, no two neighbours are `----`, and the last is none.
+pub fn expectations_are()
+    ensures line { (line : Line) → (is_text_line line ≡ true) ↔ IsLine line }
+    ensures lines { (ls : List Line) → (is_expectation ls ≡ true) ↔ CanBeExpected ls }
+{}
+
+/// Printable lines that are neither blank nor `----`, and no longer than a line may be, can be expected, in the plain
+/// form: so what is printed can be.
+pub fn solid_lines_can_be_expected()
+    ensures expected { (ls : List Line) → AllByRecursion IsSolid ls → is_expectation ls ≡ true }
+    ensures plain { (ls : List Line) → AllByRecursion IsSolid ls → needs_double ls ≡ false }
+{}
+
+/// Why an edit is refused: the cause of each fault, and that no fault before it in the order holds. Where it isn't
+/// refused, none of them holds.
+pub fn refusals_are()
+    ensures refused { (s : PlainScript) (e : Edit) (outputs : List (List Line)) (fault : EditFault) → edited s e outputs ≡ Err fault → IsEditFault s e outputs fault }
+    ensures made { (s : PlainScript) (e : Edit) (outputs : List (List Line)) (t : PlainScript) → edited s e outputs ≡ Ok t → MayBeMade s e outputs × (t ≡ made_by s e outputs) }
+{}
