@@ -2,16 +2,17 @@
 
 use crate::refusal::Refusal;
 use crate::spacing::spacing;
-use rb_args::chosen;
-use rb_bench::{Mode, read_up_to, run_over, serve};
+use rb_args::{Mode, chosen};
+use rb_bench::{Status, read_up_to, run_over, serve};
+use rb_line::Incoming;
 use rb_script::{MAX_SCRIPT, Through};
 use std::fs::File;
 use std::io::BufWriter;
 use std::rt::{Env, Files};
 use std::{env, io};
 
-/// The whole program. The answer is its status.
-pub(crate) fn status<R: Files + Input + Print + Eprint + Env + AllocGlobal>(rt: &R) -> u8 {
+/// The whole program.
+pub(crate) fn status<R: Files + Input + Print + Eprint + Env + AllocGlobal>(rt: &R) -> Status {
     match answered(rt) {
         Ok(status) => status,
         Err(refusal) => refusal.tell(rt),
@@ -27,26 +28,22 @@ fn words<R: Env + AllocGlobal>(rt: &R) -> Result<Vec<String>, Refusal> {
     }
 }
 
-fn answered<R: Files + Input + Print + Env + AllocGlobal>(rt: &R) -> Result<u8, Refusal> {
+fn answered<R: Files + Input + Print + Env + AllocGlobal>(rt: &R) -> Result<Status, Refusal> {
     let words = words(rt)?;
     let choice = chosen(rt.alloc(), words.as_slice())?;
-    let (Some(mode), Some(file)) = (&choice.mode, &choice.file) else {
+    let (Some(mode), Some(file)) = (choice.mode, &choice.file) else {
         return Err(Refusal::Usage);
     };
-    let is_session = mode.as_str() == "session";
-    if is_session && file.as_str() == "-" {
+    if mode == Mode::Session && file.as_str() == "-" {
         return Err(Refusal::Usage);
     }
     let Some(every) = spacing(choice.every.as_deref()) else {
         return Err(Refusal::Usage);
     };
-    if is_session {
-        return session(rt, file.as_str(), every);
-    }
-    match mode.as_str() {
-        "run" => run(rt, file.as_str(), Mode::Run, every),
-        "rewrite" => run(rt, file.as_str(), Mode::Rewrite, every),
-        _ => Err(Refusal::Usage),
+    match mode {
+        Mode::Run => run(rt, file.as_str(), rb_bench::Mode::Run, every),
+        Mode::Rewrite => run(rt, file.as_str(), rb_bench::Mode::Rewrite, every),
+        Mode::Session => session(rt, file.as_str(), every),
     }
 }
 
@@ -54,16 +51,25 @@ fn answered<R: Files + Input + Print + Env + AllocGlobal>(rt: &R) -> Result<u8, 
 fn run<R: Files + Input + Print + AllocGlobal>(
     rt: &R,
     file: &str,
-    mode: Mode,
+    mode: rb_bench::Mode,
     every: u64,
-) -> Result<u8, Refusal> {
+) -> Result<Status, Refusal> {
     let alloc = rt.alloc();
     let mut writer = Through(BufWriter::new(alloc, io::writer(rt))?);
     if file == "-" {
-        return Ok(run_over(alloc, &mut rt.reader(), &mut writer, mode, every)?);
+        let mut source = Incoming(rt.reader());
+        return Ok(run_over(alloc, &mut source, &mut writer, mode, every)?);
     }
-    let mut opened = File::open(rt, file)?;
-    Ok(run_over(alloc, &mut opened, &mut writer, mode, every)?)
+    let mut source = Incoming(opened(rt, file)?);
+    Ok(run_over(alloc, &mut source, &mut writer, mode, every)?)
+}
+
+// A file that can't be opened has failed as input, whatever the system says was wanting.
+fn opened<R: Files>(rt: &R, file: &str) -> Result<R::File, Refusal> {
+    match File::open(rt, file) {
+        Ok(opened) => Ok(opened),
+        Err(_) => Err(Refusal::Io),
+    }
 }
 
 // Holds a session on the script in the file, over standard input and output.
@@ -71,10 +77,17 @@ fn session<R: Files + Input + Print + AllocGlobal>(
     rt: &R,
     file: &str,
     every: u64,
-) -> Result<u8, Refusal> {
+) -> Result<Status, Refusal> {
     let alloc = rt.alloc();
-    let mut opened = File::open(rt, file)?;
-    let script = read_up_to(alloc, &mut opened, MAX_SCRIPT + 1)?;
+    let script = script(rt, file)?;
     let mut writer = Through(BufWriter::new(alloc, io::writer(rt))?);
-    Ok(serve(alloc, &script, every, &mut rt.reader(), &mut writer)?)
+    let mut source = Incoming(rt.reader());
+    Ok(serve(alloc, &script, every, &mut source, &mut writer)?)
+}
+
+// The first bytes of the file, which is closed again. Where standard input was closed, the file took its place: what is
+// left of it must not be read for commands.
+fn script<R: Files + AllocGlobal>(rt: &R, file: &str) -> Result<Vec<u8>, Refusal> {
+    let mut source = Incoming(opened(rt, file)?);
+    Ok(read_up_to(rt.alloc(), &mut source, MAX_SCRIPT + 1)?)
 }

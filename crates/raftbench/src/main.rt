@@ -5,8 +5,9 @@ mod edge;
 mod refusal;
 mod spacing;
 
+use rb_bench::status_code;
 use std::process::ExitCode;
 
 fn main(rt: HostRuntime) -> ExitCode {
-    ExitCode::from(edge::status(&rt))
+    ExitCode::from(status_code(edge::status(&rt)))
 }

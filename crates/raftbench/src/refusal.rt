@@ -1,7 +1,7 @@
 //! Why the program ends without having done what was asked.
 
 use rb_args::ChoiceFault;
-use rb_bench::{BenchFault, ReadFault, script_fault_line, script_fault_name};
+use rb_bench::{BenchFault, ReadFault, Status, script_fault_line, script_fault_name};
 use rb_script::ScriptFault;
 use std::alloc::AllocError;
 use std::io;
@@ -19,29 +19,29 @@ pub(crate) enum Refusal {
 
 impl Refusal {
     /// Writes the one line that says why, and answers the status.
-    pub(crate) fn tell<R: Eprint + Print>(self, rt: &R) -> u8 {
+    pub(crate) fn tell<R: Eprint + Print>(self, rt: &R) -> Status {
         match self {
             Refusal::Clap(error) => tell_clap(rt, error),
             Refusal::Usage => {
                 let _ = eprintln!(rt; "raftbench: bad usage");
-                2
+                Status::BadUsage
             }
             Refusal::Script(fault) => {
                 tell_script(rt, fault);
-                3
+                Status::BadScript
             }
             Refusal::Io => tell_io(rt),
             Refusal::OutOfMemory => {
                 let _ = eprintln!(rt; "raftbench: out of memory");
-                5
+                Status::OutOfMemory
             }
         }
     }
 }
 
-fn tell_io<R: Eprint>(rt: &R) -> u8 {
+fn tell_io<R: Eprint>(rt: &R) -> Status {
     let _ = eprintln!(rt; "raftbench: input or output failed");
-    4
+    Status::Failed
 }
 
 fn tell_script<R: Eprint>(rt: &R, fault: ScriptFault) {
@@ -52,12 +52,17 @@ fn tell_script<R: Eprint>(rt: &R, fault: ScriptFault) {
     };
 }
 
-// Help goes to standard output, with status 0.
-fn tell_clap<R: Eprint + Print>(rt: &R, error: clap::Error) -> u8 {
-    if error.print(rt).is_err() {
-        return tell_io(rt);
+// Help was asked for, and goes to standard output: where that fails, what was asked for wasn't done. What says that words
+// are wrong goes to standard error, and they are wrong whether or not it gets there.
+fn tell_clap<R: Eprint + Print>(rt: &R, error: clap::Error) -> Status {
+    let went_out = error.print(rt).is_ok();
+    if error.use_stderr() {
+        Status::BadUsage
+    } else if went_out {
+        Status::Done
+    } else {
+        tell_io(rt)
     }
-    if error.use_stderr() { 2 } else { 0 }
 }
 
 impl From<ChoiceFault> for Refusal {

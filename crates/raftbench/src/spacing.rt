@@ -3,17 +3,15 @@
 ghost use Rattle.std.specs.Prelude.{◌≡◌, MatchOption, Some};
 ghost use Rattle.rb_number.specs.Numbers.{number_of};
 
+use rb_bench::USUAL_SPACING;
 use rb_number::number_of;
-
-/// How many directives stand from one checkpoint to the next, where nothing is said.
-const USUAL: u64 = 16;
 
 /// The number that the word says. It may still be outside what a session takes.
 pub(crate) fn spacing(word: Option<&str>) -> Option<u64>
-    ensures { MatchOption word.entry (result ≡ Some USUAL) (λ word. result ≡ number_of word.now) }
+    ensures { MatchOption word.entry (result ≡ Some USUAL_SPACING) (λ word. result ≡ number_of word.now) }
 {
     match word {
         Some(word) => number_of(word.as_bytes()),
-        None => Some(USUAL),
+        None => Some(USUAL_SPACING),
     }
 }

@@ -5,7 +5,8 @@ use Rattle.clap.specs.Words.{Row, Text, first_of, subcommand_name_of, subcommand
 use Rattle.clap.specs.declared.parser.matches.ArgMatches.{ArgMatches}
 use Rattle.clap.specs.declared.parser.matches.ArgMatches.TheViews.{out-ArgMatches, out-SubCommand}
 use Rattle.std.specs.Box.{box_value}
-use Rattle.rb_args.specs.Chosen.{IsChoiceOf}
+use Rattle.rb_args.specs.Chosen.{IsChoiceOf, mode_of}
+use Rattle.rb_args.specs.declared.choice.Mode.{Mode}
 use Rattle.rb_args.specs.declared.choice.Choice.{Choice}
 
 pub name_in_rows : (m : ArgMatches) → option_map (λ p. p.0) (subcommand_rows_of m) ≡ subcommand_name_of m
@@ -15,11 +16,11 @@ pub pair_is : {A B : Type 0} (o : Option (A × B)) (a : A) (b : B) → option_ma
 pair_is None a b e f = cc
 pair_is (Some (x, y)) a b e f = let p : x ≡ a = cc in let q : y ≡ b = cc in rw (p, q)
 
-pub choice_from : {E : Type 0} (r : Result Choice E) (met : Option (Text × List Row)) (mode file every : Option (List ℕ))
-    → IfOk r (λ choice. option_map string_bytes choice.mode ≡ mode)
+pub choice_from : {E : Type 0} (r : Result Choice E) (met : Option (Text × List Row)) (mode : Option Mode) (file every : Option (List ℕ))
+    → IfOk r (λ choice. choice.mode ≡ mode)
     → IfOk r (λ choice. option_map string_bytes choice.file ≡ file)
     → IfOk r (λ choice. option_map string_bytes choice.every ≡ every)
-    → mode ≡ option_map (λ p. p.0) met
+    → mode ≡ option_and_then (λ p. mode_of p.0) met
     → file ≡ option_and_then (λ p. first_of (codes "file") p.1) met
     → every ≡ option_and_then (λ p. first_of (codes "every") p.1) met
     → IfOk r (IsChoiceOf met)

@@ -1,15 +1,26 @@
 -- What the words choose, by what clap found in them, and how a refusal is told. (This project's.)
-use Rattle.std.specs.Prelude.{◌≡◌, ◌≢◌, List, Option, codes, option_map, option_and_then, string_bytes}
+use Rattle.std.specs.Prelude.{◌≡◌, ◌≢◌, if◌then◌else◌, List, Option, Some, None, codes, option_map, option_and_then, string_bytes}
+use Rattle.std.specs.Str.{bytes_eq}
 use Rattle.clap.specs.Words.{IsAmong, Kinds, Row, Text, first_of, kind_of}
 use Rattle.clap.specs.declared.error.Error.{Error}
 use Rattle.clap.specs.declared.error.kind.ErrorKind.TheVariants as kind
+use Rattle.rb_args.specs.declared.choice.Mode.{Mode}
+use Rattle.rb_args.specs.declared.choice.Mode.TheVariants.{Run, Rewrite, Session}
 use Rattle.rb_args.specs.declared.choice.Choice.{Choice}
 use Rattle.rb_args.specs.declared.choice.ChoiceFault.{ChoiceFault}
 use Rattle.rb_args.specs.declared.choice.ChoiceFault.TheVariants.{Refused, OutOfMemory}
 
--- the name of the subcommand that was met, and the values of its FILE and its --every
+-- the mode that a subcommand's name says
+abbrev pub mode_of : Text → Option Mode
+mode_of name =
+    if bytes_eq name (codes "run") then Some Run
+    else if bytes_eq name (codes "rewrite") then Some Rewrite
+    else if bytes_eq name (codes "session") then Some Session
+    else None
+
+-- the subcommand that was met, and the values of its FILE and its --every
 pub record IsChoiceOf (met : Option (Text × List Row)) (choice : Choice) : Type 0 where
-  pub mode : option_map string_bytes choice.mode ≡ option_map (λ p. p.0) met
+  pub mode : choice.mode ≡ option_and_then (λ p. mode_of p.0) met
   pub file : option_map string_bytes choice.file ≡ option_and_then (λ p. first_of (codes "file") p.1) met
   pub every : option_map string_bytes choice.every ≡ option_and_then (λ p. first_of (codes "every") p.1) met
 

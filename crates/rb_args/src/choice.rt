@@ -2,11 +2,22 @@
 
 use clap::Error;
 
+/// What the program is asked to do.
+#[derive(Clone, Copy, Debug, PartialEq, Eq)]
+pub enum Mode {
+    /// `run`: write the report of a script.
+    Run,
+    /// `rewrite`: write a script with its outputs.
+    Rewrite,
+    /// `session`: keep a script, and answer edits of it.
+    Session,
+}
+
 /// What the words choose. What they don't give is `None`.
 #[derive(Debug, Drop)]
 pub struct Choice {
-    /// The subcommand's name: `run`, `rewrite` or `session`.
-    pub mode: Option<String>,
+    /// The subcommand.
+    pub mode: Option<Mode>,
     /// Its FILE, as it was given.
     pub file: Option<String>,
     /// The text of its `--every`, as it was given.

@@ -4,9 +4,9 @@ ghost use Rattle.std.specs.Prelude.{◌≡◌, [], IfOk, IfErr, map, true, false
 ghost use Rattle.clap.specs.Words.{app_of, fault_of, subcommand_of, subcommand_rows_of, takes};
 ghost use Rattle.clap.specs.declared.builder.command.Command.TheViews.{out-Command};
 ghost use Rattle.rb_args.specs.CommandLine.{command_line, mode_line};
-ghost use Rattle.rb_args.specs.Chosen.{IsChoiceOf, IsRefusal, RefusedFor};
+ghost use Rattle.rb_args.specs.Chosen.{IsChoiceOf, IsRefusal, RefusedFor, mode_of};
 
-use crate::{Choice, ChoiceFault};
+use crate::{Choice, ChoiceFault, Mode};
 use clap::error::ErrorKind;
 use clap::{Arg, ArgMatches, Command, Error};
 use std::alloc::{AllocError, Global};
@@ -105,21 +105,36 @@ fn choice_of(alloc: Global, matches: &ArgMatches<'_>) -> Result<Choice, AllocErr
     };
     let file = inner.get_str("file");
     let every = inner.get_str("every");
-    copied(alloc, Some(name), file, every)
+    copied(alloc, mode_of(name), file, every)
+}
+
+// The mode that a subcommand's name says.
+fn mode_of(name: &str) -> Option<Mode>
+    ensures { result ≡ mode_of name.now }
+{
+    if name == "run" {
+        Some(Mode::Run)
+    } else if name == "rewrite" {
+        Some(Mode::Rewrite)
+    } else if name == "session" {
+        Some(Mode::Session)
+    } else {
+        None
+    }
 }
 
 fn copied(
     alloc: Global,
-    mode: Option<&str>,
+    mode: Option<Mode>,
     file: Option<&str>,
     every: Option<&str>,
 ) -> Result<Choice, AllocError>
-    ensures mode { IfOk result (λ choice. option_map string_bytes choice.mode ≡ option_map (λ s. s.now) mode.entry) }
+    ensures mode { IfOk result (λ choice. choice.mode ≡ mode) }
     ensures file { IfOk result (λ choice. option_map string_bytes choice.file ≡ option_map (λ s. s.now) file.entry) }
     ensures every { IfOk result (λ choice. option_map string_bytes choice.every ≡ option_map (λ s. s.now) every.entry) }
 {
     Ok(Choice {
-        mode: owned(alloc, mode)?,
+        mode,
         file: owned(alloc, file)?,
         every: owned(alloc, every)?,
     })

@@ -1,4 +1,4 @@
-use crate::{Choice, ChoiceFault, chosen};
+use crate::{Choice, ChoiceFault, Mode, chosen};
 use clap::error::ErrorKind;
 use std::alloc::Global;
 use std::test::Fail;
@@ -14,20 +14,22 @@ fn refusal_of(alloc: Global, words: &[&str]) -> Option<ErrorKind> {
     }
 }
 
-fn is_choice(choice: &Choice, mode: Option<&str>, file: Option<&str>, every: Option<&str>) -> bool {
-    choice.mode.as_deref() == mode
-        && choice.file.as_deref() == file
-        && choice.every.as_deref() == every
+fn is_choice(choice: &Choice, mode: Option<Mode>, file: Option<&str>, every: Option<&str>) -> bool {
+    choice.mode == mode && choice.file.as_deref() == file && choice.every.as_deref() == every
 }
 
 #[test]
 fn takes_each_mode(rt: HostRuntime) -> Result<(), Fail> {
-    for mode in ["run", "rewrite", "session"] {
-        let words = ["raftbench", mode, "first.txt"];
+    for (name, mode) in [
+        ("run", Mode::Run),
+        ("rewrite", Mode::Rewrite),
+        ("session", Mode::Session),
+    ] {
+        let words = ["raftbench", name, "first.txt"];
         let choice = chosen(rt.alloc(), words.as_slice())?;
         assert!(rt;
             is_choice(&choice, Some(mode), Some("first.txt"), None),
-            "{mode}"
+            "{name}"
         );
     }
     Ok(())
@@ -41,7 +43,7 @@ fn takes_every_before_and_after_the_file(rt: HostRuntime) -> Result<(), Fail> {
     for words in [behind.as_slice(), before.as_slice(), joined.as_slice()] {
         let choice = chosen(rt.alloc(), words)?;
         assert!(rt;
-            is_choice(&choice, Some("run"), Some("-"), Some("4")),
+            is_choice(&choice, Some(Mode::Run), Some("-"), Some("4")),
             "{words:?}"
         );
     }
@@ -54,13 +56,13 @@ fn leaves_words_to_the_caller(rt: HostRuntime) -> Result<(), Fail> {
     let choice = chosen(rt.alloc(), ["raftbench"].as_slice())?;
     assert!(rt; is_choice(&choice, None, None, None));
     let choice = chosen(rt.alloc(), ["raftbench", "run"].as_slice())?;
-    assert!(rt; is_choice(&choice, Some("run"), None, None));
+    assert!(rt; is_choice(&choice, Some(Mode::Run), None, None));
     let words = ["raftbench", "session", "-", "--every", "many"];
     let choice = chosen(rt.alloc(), words.as_slice())?;
-    assert!(rt; is_choice(&choice, Some("session"), Some("-"), Some("many")));
+    assert!(rt; is_choice(&choice, Some(Mode::Session), Some("-"), Some("many")));
     let words = ["raftbench", "run", "--", "--every"];
     let choice = chosen(rt.alloc(), words.as_slice())?;
-    assert!(rt; is_choice(&choice, Some("run"), Some("--every"), None));
+    assert!(rt; is_choice(&choice, Some(Mode::Run), Some("--every"), None));
     Ok(())
 }
 
@@ -122,7 +124,7 @@ fn chooses_under_refusals(rt: HostRuntime) -> Result<(), Fail> {
     let words = ["raftbench", "run", "--every", "4", "first.txt"];
     match chosen(rt.alloc(), words.as_slice()) {
         Ok(choice) => {
-            assert!(rt; is_choice(&choice, Some("run"), Some("first.txt"), Some("4")));
+            assert!(rt; is_choice(&choice, Some(Mode::Run), Some("first.txt"), Some("4")));
         }
         Err(fault) => match fault {
             ChoiceFault::Refused(error) => assert!(rt; false, "{error:?}"),

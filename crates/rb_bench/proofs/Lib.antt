@@ -1,6 +1,9 @@
+pub mod NameLaws
+pub mod RunLaws
+pub mod StepLaws
 pub mod ReadLaws
 pub mod PieceLaws
-pub mod EditLaws
+pub mod MakeLaws
 pub mod TurnLaws
 pub mod HearLaws
 pub mod ServeLaws

@@ -1,5 +1,5 @@
 -- A command with its lines, as they come in. (This project's.)
-use Rattle.std.specs.Prelude.{◌≡◌, ℕ, ◌<◌, ◌≤◌, false, true, List, [], ◌∷◌, ◌++◌, length, take, Option}
+use Rattle.std.specs.Prelude.{◌≡◌, ℕ, ◌<◌, ◌≤◌, false, true, List, [], ◌∷◌, ◌++◌, length, take, Option, ⊤}
 use Rattle.std.specs.List.{list_any}
 use Rattle.rb_script.specs.declared.limits.TheConstants.{MAX_SCRIPT}
 use Rattle.rb_script.specs.Lines.{Line, text_of}
@@ -24,6 +24,13 @@ pub record HasTaken (all rest : List Line) (count : ℕ) (given : Given) : Type 
   pub count_is : length ls ≡ count
   pub short : list_any is_long ls ≡ false
   pub is_given : IsGiven given ls
+
+-- a command came, and all of its lines
+abbrev pub IsCommand : Heard → Type 0
+IsCommand (heards.Command command given) = ⊤
+IsCommand heards.End = ⊥
+IsCommand heards.LineTooLong = ⊥
+IsCommand heards.CutOff = ⊥
 
 -- what is heard behind the line of a command
 abbrev pub Gathers : Command → Heard → List Line → List Line → Type 0

@@ -1,8 +1,10 @@
 pub mod Faults
+pub mod Statuses
+pub mod Handed
 pub mod Names
 pub mod Reading
-pub mod Answers
-pub mod Commands
+pub mod Runs
+pub mod Responses
 pub mod Talk
 pub mod Made
 pub mod Serves

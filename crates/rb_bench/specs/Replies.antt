@@ -3,13 +3,13 @@ use Rattle.std.specs.Prelude.{ℕ, List, [], codes}
 use Rattle.rb_script.specs.Script.{text}
 use Rattle.rb_replay.specs.Run.{output_at}
 use Rattle.rb_replay.specs.Report.{report, rewritten}
-use Rattle.rb_replay.specs.Held.{Held}
+use Rattle.rb_replay.specs.Holding.{Holding}
 use Rattle.rb_bench.specs.declared.reply.Reply.{Reply}
 use Rattle.rb_bench.specs.declared.reply.Reply.TheVariants as replies
 use Rattle.rb_bench.specs.Names.{edit_name}
-use Rattle.rb_bench.specs.Commands.{fault_text, refused, done, shown}
+use Rattle.rb_bench.specs.Responses.{fault_text, refused, done, shown}
 
-abbrev pub reply_text : Held → Reply → List ℕ
+abbrev pub reply_text : Holding → Reply → List ℕ
 reply_text h replies.Nothing = []
 reply_text h replies.BadCommand = refused (codes "BadCommand")
 reply_text h (replies.BadBlock fault) = refused (fault_text fault)

@@ -7,9 +7,11 @@ use Rattle.rb_command.specs.declared.command.Command.{Command}
 use Rattle.rb_command.specs.declared.command.Command.TheVariants.{Given}
 use Rattle.rb_command.specs.Commands.{command_of}
 use Rattle.rb_replay.specs.Report.{mismatches}
-use Rattle.rb_replay.specs.Held.{Held}
-use Rattle.rb_bench.specs.Answers.{status_of}
-use Rattle.rb_bench.specs.Commands.{AnswersCommand, refused}
+use Rattle.rb_replay.specs.Holding.{Holding}
+use Rattle.rb_bench.specs.declared.status.Status.{Status}
+use Rattle.rb_bench.specs.declared.status.Status.TheVariants.{Failed}
+use Rattle.rb_bench.specs.Runs.{status_of}
+use Rattle.rb_bench.specs.Responses.{AnswersCommand, refused}
 
 -- A line that was sent, the lines given to it, and what came of it: whether memory refused it, the answer, and the
 -- session after it.
@@ -18,7 +20,7 @@ pub record Exchange : Type 0 where
   pub given : List Line
   pub no_memory : Bool
   pub answer : List ℕ
-  pub after : Held
+  pub after : Holding
 
 -- more bytes than a line may have
 abbrev pub is_long : Line → Bool
@@ -45,13 +47,13 @@ abbrev pub refusals : List Exchange → List Bool
 refusals xs = map (λ x. x.no_memory) xs
 
 -- A session is sent the lines, and answers.
-pub record Responds (h : Held) (x : Exchange) : Type 0 where
+pub record Responds (h : Holding) (x : Exchange) : Type 0 where
   pub whole : length (taken x) ≡ wanted x.line
   pub short : list_any is_long (taken x) ≡ false
   pub answers : AnswersCommand h (command_of x.line) x.given x.no_memory x.answer x.after
 
 -- one exchange after another
-abbrev pub Converses : Held → List Exchange → Held → Type 0
+abbrev pub Converses : Holding → List Exchange → Holding → Type 0
 Converses h [] last = last ≡ h
 Converses h (x ∷ xs) last = Responds h x × Converses x.after xs last
 
@@ -74,21 +76,21 @@ abbrev pub BreaksOff : List Line → List ℕ → Type 0
 BreaksOff ls text = (HasLong ls × (text ≡ refused (codes "LineTooLong"))) ⊎ (IsCut ls × (text ≡ refused (codes "CutOff")))
 
 -- How a session ends with these lines left: what is still written, and the status.
-abbrev pub Ends : Held → List Line → List ℕ → ℕ → Type 0
+abbrev pub Ends : Holding → List Line → List ℕ → Status → Type 0
 Ends h [] text status = (text ≡ []) × (status ≡ status_of (mismatches h.script))
-Ends h (line ∷ ls) text status = BreaksOff (line ∷ ls) text × (status ≡ 4)
+Ends h (line ∷ ls) text status = BreaksOff (line ∷ ls) text × (status ≡ Failed)
 
 -- A conversation begins with these exchanges: what they answer, the lines that are left, and the session after them.
-pub record Begins (first : Held) (ls rest : List Line) (text : List ℕ) (last : Held) : Type 0 where
+pub record Begins (first : Holding) (ls rest : List Line) (text : List ℕ) (last : Holding) : Type 0 where
   pub exchanges : List Exchange
   pub lines_are : ls ≡ flat_map taken exchanges ++ rest
   pub converses : Converses first exchanges last
   pub text_is : text ≡ flat_map answer_of exchanges
 
 -- The whole conversation over lines: what is written, and the status.
-pub record Talks (first : Held) (ls : List Line) (text : List ℕ) (status : ℕ) : Type 0 where
+pub record Talks (first : Holding) (ls : List Line) (text : List ℕ) (status : Status) : Type 0 where
   pub rest : List Line
-  pub last : Held
+  pub last : Holding
   pub answers : List ℕ
   pub ending : List ℕ
   pub begins : Begins first ls rest answers last

@@ -3,13 +3,14 @@ use Rattle.std.specs.Prelude.{◌≡◌, ℕ, ◌⊎◌, List, [], ◌++◌, Opt
 use Rattle.std.specs.Io.KnownBytes.{Appends}
 use Rattle.rb_script.specs.Lines.{Line, lines}
 use Rattle.rb_script.specs.Writes.{AppendsFront}
-use Rattle.rb_replay.specs.Held.{Held}
+use Rattle.rb_replay.specs.Holding.{Holding}
+use Rattle.rb_bench.specs.declared.status.Status.{Status}
 use Rattle.rb_bench.specs.declared.fault.BenchFault.{BenchFault}
 use Rattle.rb_bench.specs.Talk.{Exchange, taken, Responds, Ends}
 use Rattle.rb_bench.specs.Known.{IfKnown}
 
 -- an exchange, after which this is the session
-pub record IsExchange (h : Held) (ls rest : List Line) (text : List ℕ) (after : Held) : Type 0 where
+pub record IsExchange (h : Holding) (ls rest : List Line) (text : List ℕ) (after : Holding) : Type 0 where
   pub exchange : Exchange
   pub lines_are : ls ≡ taken exchange ++ rest
   pub responds : Responds h exchange
@@ -17,27 +18,27 @@ pub record IsExchange (h : Held) (ls rest : List Line) (text : List ℕ) (after 
   pub after_is : exchange.after ≡ after
 
 -- an exchange, or the end with a status
-abbrev pub IsTurn : Held → List Line → List Line → List ℕ → Held → Option ℕ → Type 0
+abbrev pub IsTurn : Holding → List Line → List Line → List ℕ → Holding → Option Status → Type 0
 IsTurn h ls rest text after None = IsExchange h ls rest text after
 IsTurn h ls rest text after (Some status) = Ends h ls text status
 
 -- a turn went out whole
-pub record Turned (h : Held) (ls rest : List Line) (after : Held) (status : Option ℕ) (old new : Option (List ℕ)) : Type 0 where
+pub record Turned (h : Holding) (ls rest : List Line) (after : Holding) (status : Option Status) (old new : Option (List ℕ)) : Type 0 where
   pub text : List ℕ
   pub turn : IsTurn h ls rest text after status
   pub went_out : Appends old new text
 
 -- what was to go out where a call failed: nothing yet, or the text of a turn
-abbrev pub IsDue : Held → List Line → List ℕ → Type 0
-IsDue h ls text = (text ≡ []) ⊎ ((rest : List Line) × (after : Held) × (status : Option ℕ) × IsTurn h ls rest text after status)
+abbrev pub IsDue : Holding → List Line → List ℕ → Type 0
+IsDue h ls text = (text ≡ []) ⊎ ((rest : List Line) × (after : Holding) × (status : Option Status) × IsTurn h ls rest text after status)
 
 -- a beginning of it went out
-pub record TurnedInPart (h : Held) (ls : List Line) (old new : Option (List ℕ)) : Type 0 where
+pub record TurnedInPart (h : Holding) (ls : List Line) (old new : Option (List ℕ)) : Type 0 where
   pub text : List ℕ
   pub is_due : IsDue h ls text
   pub went_out : AppendsFront old new text
 
 -- what a turn came to, of bytes that may not be known
-abbrev pub TurnsOut : Option (List ℕ) → Option (List ℕ) → Result (Option ℕ) BenchFault → Held → Held → Option (List ℕ) → Option (List ℕ) → Type 0
+abbrev pub TurnsOut : Option (List ℕ) → Option (List ℕ) → Result (Option Status) BenchFault → Holding → Holding → Option (List ℕ) → Option (List ℕ) → Type 0
 TurnsOut before left (Ok status) h after old new = IfKnown before left (λ ls rest. Turned h ls rest after status old new)
 TurnsOut before left (Err fault) h after old new = IfSome before (λ bytes. TurnedInPart h (lines bytes) old new)

@@ -1,16 +1,16 @@
 //! Taking the lines that a command is given.
 
-ghost use Rattle.std.specs.Prelude.{◌≡◌, ◌<◌, IfOk, IfErr, Option, List, ℕ};
+ghost use Rattle.std.specs.Prelude.{◌≡◌, IsOk, IfOk, OnOk, OnErr};
 ghost use Rattle.rb_line.specs.Left.{left_of};
+ghost use Rattle.rb_line.specs.Asked.{GoesOn, HasCallsFor, Stops};
 ghost use Rattle.rb_bench.specs.Talk.{given_count};
 ghost use Rattle.rb_bench.specs.Hearing.{GathersOf};
 
 use crate::given::Given;
 use crate::hear::Heard;
 use rb_command::Command;
-use rb_line::{InputFault, LineReader, Next};
+use rb_line::{InputFault, LineReader, Next, Source};
 use std::alloc::Global;
-use std::io::Read;
 
 /// How many lines are given to a command.
 pub(crate) fn given_count(command: Command) -> usize
@@ -23,19 +23,22 @@ pub(crate) fn given_count(command: Command) -> usize
 }
 
 /// Takes the lines of a command, all of them whether or not there is memory.
-pub(crate) fn gather<R: Read>(
+pub(crate) fn gather<S: Source>(
     alloc: Global,
     command: Command,
     input: &mut LineReader,
-    reader: &mut R,
+    source: &mut S,
 ) -> Result<Heard, InputFault>
-    ensures { IfOk result (λ heard. GathersOf (left_of input.old (R.remaining reader.old)) (left_of input.new (R.remaining reader.new)) command heard) }
+    ensures heard { IfOk result (λ heard. GathersOf (left_of input.old (S.left source.old)) (left_of input.new (S.left source.new)) command heard) }
+    ensures goes { OnOk result (GoesOn input.old input.new (S.left source.old) (S.left source.new) (S.asked source.old) (S.asked source.new)) }
+    ensures stops { OnErr result (Stops input.old (S.left source.old) (S.asked source.old) (S.asked source.new)) }
+    ensures all { S.gives_all source.old → HasCallsFor input.old (S.left source.old) → IsOk result × S.gives_all source.new }
 {
     let mut given = Given::new(alloc);
     let count = given_count(command);
     let mut taken: usize = 0;
     while taken < count {
-        match input.next(reader)? {
+        match input.next(source)? {
             Next::Line => given.add(input.line()),
             Next::TooLong => return Ok(Heard::LineTooLong),
             Next::End => return Ok(Heard::CutOff),

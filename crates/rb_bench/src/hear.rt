@@ -1,15 +1,15 @@
 //! What comes in: a command with the lines that are given to it, or the end.
 
-ghost use Rattle.std.specs.Prelude.{IfOk};
+ghost use Rattle.std.specs.Prelude.{◌<◌, IsOk, IfOk, OnOk, OnErr};
 ghost use Rattle.rb_line.specs.Left.{left_of};
-ghost use Rattle.rb_bench.specs.Hearing.{HearsOf};
+ghost use Rattle.rb_line.specs.Asked.{GoesOn, HasCallsFor, Stops, size_of};
+ghost use Rattle.rb_bench.specs.Hearing.{HearsOf, IsCommand};
 
 use crate::gather::gather;
 use crate::given::Given;
 use rb_command::{Command, command_of};
-use rb_line::{InputFault, LineReader, Next};
+use rb_line::{InputFault, LineReader, Next, Source};
 use std::alloc::Global;
-use std::io::Read;
 
 /// What came in.
 #[derive(Drop)]
@@ -25,17 +25,21 @@ pub(crate) enum Heard {
 }
 
 /// Reads the next command and all lines that are given to it.
-pub(crate) fn hear<R: Read>(
+pub(crate) fn hear<S: Source>(
     alloc: Global,
     input: &mut LineReader,
-    reader: &mut R,
+    source: &mut S,
 ) -> Result<Heard, InputFault>
-    ensures { IfOk result (λ heard. HearsOf (left_of input.old (R.remaining reader.old)) (left_of input.new (R.remaining reader.new)) heard) }
+    ensures heard { IfOk result (λ heard. HearsOf (left_of input.old (S.left source.old)) (left_of input.new (S.left source.new)) heard) }
+    ensures goes { OnOk result (GoesOn input.old input.new (S.left source.old) (S.left source.new) (S.asked source.old) (S.asked source.new)) }
+    ensures stops { OnErr result (Stops input.old (S.left source.old) (S.asked source.old) (S.asked source.new)) }
+    ensures all { S.gives_all source.old → HasCallsFor input.old (S.left source.old) → IsOk result × S.gives_all source.new }
+    ensures smaller { IfOk result (λ heard. IsCommand heard → size_of input.new < size_of input.old) }
 {
-    match input.next(reader)? {
+    match input.next(source)? {
         Next::Line => {}
         Next::TooLong => return Ok(Heard::LineTooLong),
         Next::End => return Ok(Heard::End),
     }
-    gather(alloc, command_of(input.line()), input, reader)
+    gather(alloc, command_of(input.line()), input, source)
 }

@@ -1,18 +1,30 @@
 //! Laws of conversations.
 
-ghost use Rattle.std.specs.Prelude.{◌≡◌, ℕ, List};
+ghost use Rattle.std.specs.Prelude.{◌≡◌, ℕ, List, Option, Ok, Err};
+ghost use Rattle.std.specs.Io.KnownBytes.{Appends};
+ghost use Rattle.rb_script.specs.declared.fault.ScriptFault.{ScriptFault};
+ghost use Rattle.rb_script.specs.declared.fault.EditFault.{EditFault};
 ghost use Rattle.rb_script.specs.Lines.{Line};
-ghost use Rattle.rb_replay.specs.Held.{Held, IsFresh};
+ghost use Rattle.rb_script.specs.Script.{PlainScript};
+ghost use Rattle.rb_script.specs.Reads.{Reads};
+ghost use Rattle.rb_script.specs.Writes.{AppendsFront};
+ghost use Rattle.rb_replay.specs.Holding.{Holding, IsFresh};
 ghost use Rattle.rb_replay.specs.After.{Answered, Leads, after};
 ghost use Rattle.rb_bench.specs.Talk.{Exchange, Converses, Talks, refusals};
 ghost use Rattle.rb_bench.specs.Made.{AreMade};
+ghost use Rattle.rb_bench.specs.Runs.{Answers, IsNoScript, status_for, text_for};
+ghost use Rattle.rb_bench.specs.Serves.{IsStarted};
+ghost use Rattle.rb_bench.specs.Names.{script_name, script_line, edit_name};
+ghost use Rattle.rb_bench.specs.declared.running.Mode.{Mode};
+ghost use Rattle.rb_bench.specs.declared.fault.BenchFault.TheVariants as faults;
+ghost use Rattle.rb_bench.specs.declared.status.Status.{Status};
 
 use rb_replay::edits_answer_as_one_run;
 
 /// Whatever is sent to a session, its accepted edits are those that its commands ask for, in order, and what it holds
 /// at last is what one run gives of the first script with these edits made.
 pub fn conversations_answer_as_one_run()
-    ensures { (first last : Held) (xs : List Exchange) → IsFresh first → Converses first xs last
+    ensures { (first last : Holding) (xs : List Exchange) → IsFresh first → Converses first xs last
         → (steps : Answered) × AreMade first xs steps × Leads first steps last × (last.script ≡ after first.script steps) × IsFresh last }
 {
     edits_answer_as_one_run();
@@ -21,6 +33,28 @@ pub fn conversations_answer_as_one_run()
 /// A conversation has one text and one status: over the same lines, from the same session, and where memory refuses the
 /// same commands.
 pub fn conversations_are_one()
-    ensures { (first : Held) (ls : List Line) (text other : List ℕ) (status code : ℕ) (one : Talks first ls text status) (two : Talks first ls other code) → IsFresh first
+    ensures { (first : Holding) (ls : List Line) (text other : List ℕ) (status code : Status) (one : Talks first ls text status) (two : Talks first ls other code) → IsFresh first
         → refusals one.begins.exchanges ≡ refusals two.begins.exchanges → (text ≡ other) × (status ≡ code) }
+{}
+
+/// A run has one text and one status, those of the script that the bytes are: where it ends with a status this is that
+/// script's, and its text was written; where writing failed, a beginning of it was. Where no script fits neither is so.
+pub fn runs_are_one()
+    ensures ended { (mode : Mode) (bytes : List ℕ) (s : PlainScript) (status : Status) (old new : Option (List ℕ)) → Reads bytes s → Answers mode bytes (Ok status) old new
+        → (status ≡ status_for mode s) × Appends old new (text_for mode s) }
+    ensures failed { (mode : Mode) (bytes : List ℕ) (s : PlainScript) (old new : Option (List ℕ)) → Reads bytes s → Answers mode bytes (Err faults.Io) old new
+        → AppendsFront old new (text_for mode s) }
+    ensures none { (mode : Mode) (bytes : List ℕ) (status : Status) (old new : Option (List ℕ)) → IsNoScript bytes → Answers mode bytes (Ok status) old new → ⊥ }
+    ensures refused { (mode : Mode) (bytes : List ℕ) (s : PlainScript) (fault : ScriptFault) (old new : Option (List ℕ)) → Reads bytes s → Answers mode bytes (Err (faults.Script fault)) old new → ⊥ }
+{}
+
+/// The session that a conversation begins with is the one that the bytes and the spacing determine.
+pub fn sessions_start_as_one()
+    ensures { (script : List ℕ) (every : ℕ) (first other : Holding) → IsStarted script every first → IsStarted script every other → first ≡ other }
+{}
+
+/// No two faults are told in the same words.
+pub fn names_are_distinct()
+    ensures script { (fault other : ScriptFault) → script_name fault ≡ script_name other → script_line fault ≡ script_line other → fault ≡ other }
+    ensures edit { (fault other : EditFault) → edit_name fault ≡ edit_name other → fault ≡ other }
 {}

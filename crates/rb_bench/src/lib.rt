@@ -1,4 +1,4 @@
-//! What the program does, over any reader and writer.
+//! What the program does, over any source and outlet.
 //!
 //! [`run_over`] runs a script once, and [`run_bytes`] one that was read. [`serve`] holds a session: commands come in, one a line, and each is answered
 //! before the next is read.
@@ -9,7 +9,9 @@ mod gather;
 mod given;
 mod hear;
 mod laws;
+mod limits;
 mod names;
+mod outlet;
 mod reading;
 mod reply;
 mod respond;
@@ -17,10 +19,17 @@ mod running;
 mod send;
 mod session;
 mod starting;
+mod status;
 
 pub use fault::BenchFault;
-pub use laws::{conversations_answer_as_one_run, conversations_are_one};
+pub use laws::{
+    conversations_answer_as_one_run, conversations_are_one, names_are_distinct, runs_are_one,
+    sessions_start_as_one,
+};
+pub use limits::{MAX_READS, USUAL_SPACING, limits_are};
 pub use names::{edit_fault_name, script_fault_line, script_fault_name};
+pub use outlet::Outlet;
 pub use reading::{ReadFault, read_up_to};
 pub use running::{Mode, run_bytes, run_over};
 pub use session::serve;
+pub use status::{Status, status_code};

@@ -1,11 +1,11 @@
 //! What a session answers to a command.
 
-ghost use Rattle.std.specs.Prelude.{◌≡◌, [], Bool, List, IfOk};
+ghost use Rattle.std.specs.Prelude.{◌≡◌, [], Bool, List, None, IfOk};
 ghost use Rattle.rb_script.specs.Lines.{Line};
 ghost use Rattle.rb_script.specs.Reading.{Gives};
 ghost use Rattle.rb_script.specs.declared.edit.Edit.{Edit};
-ghost use Rattle.rb_bench.specs.Commands.{AnswersEdit, AnswersGiven, AnswersCommand, edit_of};
-ghost use Rattle.rb_bench.specs.Hearing.{IsGiven, Hears};
+ghost use Rattle.rb_bench.specs.Responses.{AnswersEdit, AnswersGiven, AnswersCommand, edit_of};
+ghost use Rattle.rb_bench.specs.Hearing.{IsCommand, IsGiven, Hears};
 ghost use Rattle.rb_bench.specs.Replies.{reply_text};
 ghost use Rattle.rb_bench.specs.Turns.{IsTurn};
 
@@ -13,9 +13,10 @@ use crate::given::Given;
 use crate::hear::Heard;
 use crate::reply::Reply;
 use crate::running::{Mode, status};
-use rb_cluster::{Cluster, Meter};
+use crate::starting::BenchSession;
+use crate::status::Status;
+use rb_cluster::Meter;
 use rb_command::{Command, Kind};
-use rb_replay::Session;
 use rb_script::{Block, Edit, EditFault, Lines, MAX_SCRIPT, ScriptFault};
 use std::alloc::Global;
 
@@ -31,7 +32,7 @@ fn edit_of(alloc: Global, kind: Kind, place: usize, lines: Lines) -> Result<Edit
 }
 
 /// Makes an edit, each with a meter of its own.
-fn make(session: &mut Session<Cluster>, edit: &Edit) -> Reply
+fn make(session: &mut BenchSession, edit: &Edit) -> Reply
     ensures { (no_memory : Bool) × AnswersEdit session.old edit.now no_memory (reply_text session.new result) session.new }
 {
     let mut meter = Meter::new();
@@ -44,7 +45,7 @@ fn make(session: &mut Session<Cluster>, edit: &Edit) -> Reply
 /// Makes the edit that a command asks for with its lines.
 fn make_given(
     alloc: Global,
-    session: &mut Session<Cluster>,
+    session: &mut BenchSession,
     kind: Kind,
     place: usize,
     given: Given,
@@ -65,7 +66,7 @@ fn make_given(
 }
 
 /// What is answered to a command and the lines given to it.
-fn respond(alloc: Global, session: &mut Session<Cluster>, command: Command, given: Given) -> Reply
+fn respond(alloc: Global, session: &mut BenchSession, command: Command, given: Given) -> Reply
     ensures { (ls : List Line) → IsGiven given ls
         → (no_memory : Bool) × AnswersCommand session.old command ls no_memory (reply_text session.new result) session.new }
 {
@@ -85,16 +86,17 @@ fn respond(alloc: Global, session: &mut Session<Cluster>, command: Command, give
 /// What is answered to what came in, and the status if that ends the session.
 pub(crate) fn reply_to(
     alloc: Global,
-    session: &mut Session<Cluster>,
+    session: &mut BenchSession,
     heard: Heard,
-) -> (Reply, Option<u8>)
-    ensures { (ls rest : List Line) → Hears heard ls rest
+) -> (Reply, Option<Status>)
+    ensures going { result.1 ≡ None → IsCommand heard }
+    ensures turn { (ls rest : List Line) → Hears heard ls rest
         → IsTurn session.old ls rest (reply_text session.new result.0) session.new result.1 }
 {
     match heard {
         Heard::Command(command, given) => (respond(alloc, session, command, given), None),
         Heard::End => (Reply::Nothing, Some(status(session, Mode::Run))),
-        Heard::LineTooLong => (Reply::LineTooLong, Some(4)),
-        Heard::CutOff => (Reply::CutOff, Some(4)),
+        Heard::LineTooLong => (Reply::LineTooLong, Some(Status::Failed)),
+        Heard::CutOff => (Reply::CutOff, Some(Status::Failed)),
     }
 }

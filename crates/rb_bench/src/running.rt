@@ -1,20 +1,23 @@
 //! One run of a script, from bytes to bytes.
 
-ghost use Rattle.std.specs.Prelude.{◌≡◌, ◌↔◌, ◌≤◌, true, false, ℕ, List, length, Err, IsErrOf, IsOk, IfSome};
-ghost use Rattle.std.specs.Io.KnownBytes.{Keeps, Consumes};
+ghost use Rattle.std.specs.Prelude.{◌≡◌, ◌≢◌, ◌↔◌, ◌⊎◌, ◌≤◌, true, false, ℕ, List, length, Err, IsErrOf, IsOk, IfSome, OnOk};
+ghost use Rattle.std.specs.Io.KnownBytes.{Consumes};
+ghost use Rattle.rb_line.specs.Asked.{AsksFor};
 ghost use Rattle.rb_script.specs.Reading.{early_fault};
 ghost use Rattle.rb_script.specs.Writes.{Writes};
 ghost use Rattle.rb_replay.specs.Start.{is_spacing};
-ghost use Rattle.rb_bench.specs.Answers.{Answers, RunsOver, IsWritten, text_for, status_for, most_read};
+ghost use Rattle.rb_bench.specs.Handed.{IsHandedOn};
+ghost use Rattle.rb_bench.specs.Runs.{Answers, RunsOver, IsWritten, text_for, status_for, most_read};
 
 use crate::fault::BenchFault;
+use crate::outlet::Outlet;
 use crate::reading::read_up_to;
-use crate::starting::started;
-use rb_cluster::Cluster;
-use rb_replay::{Session, is_spacing};
-use rb_script::{MAX_SCRIPT, Sink, Through, WriteFault};
+use crate::starting::{BenchSession, started};
+use crate::status::Status;
+use rb_line::Source;
+use rb_replay::is_spacing;
+use rb_script::{MAX_SCRIPT, Sink, WriteFault};
 use std::alloc::Global;
-use std::io::{Read, Write};
 
 /// What is written of a run.
 #[derive(Clone, Copy, Debug, PartialEq, Eq)]
@@ -26,31 +29,36 @@ pub enum Mode {
 }
 
 /// Reads a script, runs it and writes what `mode` asks for. `every` is how many directives stand from one checkpoint
-/// to the next, 1 to 64. The answer is the program's status: 0, or 1 where there are mismatches in a report.
+/// to the next, 1 to 64. The answer is the program's status: `Done`, or `Mismatches` where a report tells some.
 ///
 /// # Errors
 ///
-/// `Spacing` before anything is read. `Io` where a call of the reader failed, or of the writer, which is called only
+/// `Spacing` before anything is read. `Io` where a call of the source failed, or of the writer, which is called only
 /// for a script. `OutOfMemory`, and `Script` where what was read is no script, as [`run_bytes`] answers.
-pub fn run_over<R: Read, W: Write>(
+pub fn run_over<S: Source, W: Outlet>(
     alloc: Global,
-    reader: &mut R,
-    writer: &mut Through<W>,
+    source: &mut S,
+    writer: &mut W,
     mode: Mode,
     every: u64,
-) -> Result<u8, BenchFault>
+) -> Result<Status, BenchFault>
     // Found before anything is read.
     ensures spacing { IsErrOf result BenchFault.Spacing ↔ (is_spacing every ≡ false) }
-    ensures unread { IsErrOf result BenchFault.Spacing → (reader.new ≡ reader.old) × (writer.new ≡ writer.old) }
-    // No more is taken of the reader than is wanted, whatever comes of it.
-    ensures consumed { (taken : List ℕ) × (length taken ≤ most_read) × Consumes (R.remaining reader.old) (R.remaining reader.new) taken }
-    // Where the reader's bytes are known.
-    ensures answered { is_spacing every ≡ true → IfSome (R.remaining reader.old) (λ all. RunsOver mode all (R.remaining reader.new) result (W.contents writer.old.0) (W.contents writer.new.0)) }
+    ensures unread { IsErrOf result BenchFault.Spacing → (source.new ≡ source.old) × (writer.new ≡ writer.old) }
+    // No more is taken of the source than is wanted, whatever comes of it, and it is asked no more often than for that.
+    ensures consumed { (taken : List ℕ) × (length taken ≤ most_read) × Consumes (S.left source.old) (S.left source.new) taken }
+    ensures asked { IsErrOf result BenchFault.Spacing ⊎ AsksFor (S.left source.old) (S.asked source.old) (S.asked source.new) most_read }
+    // Where the source's bytes are known.
+    ensures answered { is_spacing every ≡ true → IfSome (S.left source.old) (λ all. RunsOver mode all (S.left source.new) result (W.held writer.old) (W.held writer.new)) }
+    // What was written was handed on.
+    ensures handed { OnOk result (IsHandedOn (W.handed writer.new) (W.held writer.new)) }
+    // No failure is told where no call failed.
+    ensures io { S.gives_all source.old → W.takes_all writer.old → result ≢ Err BenchFault.Io }
 {
     if !is_spacing(every) {
         return Err(BenchFault::Spacing);
     }
-    let bytes = read_up_to(alloc, reader, MAX_SCRIPT + 1)?;
+    let bytes = read_up_to(alloc, source, MAX_SCRIPT + 1)?;
     run_bytes(alloc, bytes, writer, mode, every)
 }
 
@@ -59,19 +67,21 @@ pub fn run_over<R: Read, W: Write>(
 /// # Errors
 ///
 /// `Spacing`, then `Script` where the bytes are no script, `Io` where they are one and the writer failed, and `OutOfMemory`.
-pub fn run_bytes<W: Write>(
+pub fn run_bytes<W: Outlet>(
     alloc: Global,
     bytes: Vec<u8>,
-    writer: &mut Through<W>,
+    writer: &mut W,
     mode: Mode,
     every: u64,
-) -> Result<u8, BenchFault>
+) -> Result<Status, BenchFault>
     // Found before anything else.
     ensures spacing { IsErrOf result BenchFault.Spacing ↔ (is_spacing every ≡ false) }
-    ensures answered { is_spacing every ≡ true → Answers mode bytes.items result (W.contents writer.old.0) (W.contents writer.new.0) }
+    ensures answered { is_spacing every ≡ true → Answers mode bytes.items result (W.held writer.old) (W.held writer.new) }
     // What is too long is found whether or not there is memory.
     ensures early { is_spacing every ≡ true → IfSome (early_fault bytes.items) (λ fault. result ≡ Err (BenchFault.Script fault)) }
     ensures unwritten { IsErrOf result BenchFault.Spacing → (writer.new ≡ writer.old) }
+    ensures handed { OnOk result (IsHandedOn (W.handed writer.new) (W.held writer.new)) }
+    ensures io { W.takes_all writer.old → result ≢ Err BenchFault.Io }
 {
     let session = started(alloc, &bytes, every)?;
     drop(bytes);
@@ -79,33 +89,37 @@ pub fn run_bytes<W: Write>(
 }
 
 // Writes what the mode asks for, and gives the status.
-fn answer<W: Write>(
-    session: &Session<Cluster>,
-    writer: &mut Through<W>,
+fn answer<W: Outlet>(
+    session: &BenchSession,
+    writer: &mut W,
     mode: Mode,
-) -> Result<u8, BenchFault>
-    ensures { IsWritten mode session.now.script result (W.contents writer.old.0) (W.contents writer.new.0) }
+) -> Result<Status, BenchFault>
+    ensures wrote { IsWritten mode session.now.script result (W.held writer.old) (W.held writer.new) }
+    ensures handed { OnOk result (IsHandedOn (W.handed writer.new) (W.held writer.new)) }
+    ensures all { W.takes_all writer.old → IsOk result }
 {
     write_out(session, writer, mode)?;
     Ok(status(session, mode))
 }
 
 // Writes what the mode asks for, and hands it on.
-fn write_out<W: Write>(
-    session: &Session<Cluster>,
-    writer: &mut Through<W>,
+fn write_out<W: Outlet>(
+    session: &BenchSession,
+    writer: &mut W,
     mode: Mode,
 ) -> Result<(), WriteFault>
-    ensures { Writes result (W.contents writer.old.0) (W.contents writer.new.0) (text_for mode session.now.script) }
+    ensures wrote { Writes result (W.held writer.old) (W.held writer.new) (text_for mode session.now.script) }
+    ensures handed { OnOk result (IsHandedOn (W.handed writer.new) (W.held writer.new)) }
+    ensures all { W.takes_all writer.old → IsOk result × W.takes_all writer.new }
 {
     match put_text(session, writer, mode) {
-        Ok(()) => flush(writer),
+        Ok(()) => writer.flush(),
         Err(fault) => Err(fault),
     }
 }
 
 // Writes what the mode asks for.
-fn put_text<S: Sink>(session: &Session<Cluster>, sink: &mut S, mode: Mode) -> Result<(), WriteFault>
+fn put_text<S: Sink>(session: &BenchSession, sink: &mut S, mode: Mode) -> Result<(), WriteFault>
     ensures wrote { Writes result (S.held sink.old) (S.held sink.new) (text_for mode session.now.script) }
     ensures all { S.takes_all sink.old → IsOk result × S.takes_all sink.new }
 {
@@ -115,28 +129,18 @@ fn put_text<S: Sink>(session: &Session<Cluster>, sink: &mut S, mode: Mode) -> Re
     }
 }
 
-// Hands on what the writer holds back.
-pub(crate) fn flush<W: Write>(writer: &mut Through<W>) -> Result<(), WriteFault>
-    ensures { Keeps (W.contents writer.old.0) (W.contents writer.new.0) }
-{
-    match writer.0.flush() {
-        Ok(()) => Ok(()),
-        Err(_) => Err(WriteFault),
-    }
-}
-
 // The status of what the mode asks for.
-pub(crate) fn status(session: &Session<Cluster>, mode: Mode) -> u8
+pub(crate) fn status(session: &BenchSession, mode: Mode) -> Status
     ensures { result ≡ status_for mode session.now.script }
 {
     match mode {
         Mode::Run => {
             if session.mismatches().is_empty() {
-                0
+                Status::Done
             } else {
-                1
+                Status::Mismatches
             }
         }
-        Mode::Rewrite => 0,
+        Mode::Rewrite => Status::Done,
     }
 }

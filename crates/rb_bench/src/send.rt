@@ -1,19 +1,19 @@
 //! Writing what a session answers.
 
-ghost use Rattle.std.specs.Prelude.{IsOk};
+ghost use Rattle.std.specs.Prelude.{IsOk, OnOk};
 ghost use Rattle.rb_script.specs.Writes.{Writes};
 ghost use Rattle.rb_replay.specs.Run.{output_at};
-ghost use Rattle.rb_bench.specs.Commands.{at_line, fault_text, refused, done, output_text, shown};
+ghost use Rattle.rb_bench.specs.Responses.{at_line, fault_text, refused, done, output_text, shown};
+ghost use Rattle.rb_bench.specs.Handed.{IsHandedOn};
 ghost use Rattle.rb_bench.specs.Replies.{reply_text};
 
 use crate::names::{edit_fault_name, script_fault_line, script_fault_name};
+use crate::outlet::Outlet;
 use crate::reply::Reply;
-use crate::running::flush;
-use rb_cluster::Cluster;
+use crate::starting::BenchSession;
 use rb_number::put_number;
-use rb_replay::{Changed, Session};
-use rb_script::{Lines, ScriptFault, Sink, Through, WriteFault};
-use std::io::Write;
+use rb_replay::Changed;
+use rb_script::{Lines, ScriptFault, Sink, WriteFault};
 
 // Writes at which line it is, where there is one.
 fn put_line_number<S: Sink>(sink: &mut S, line: Option<usize>) -> Result<(), WriteFault>
@@ -76,11 +76,7 @@ fn put_output<S: Sink>(sink: &mut S, output: &Lines) -> Result<(), WriteFault>
 }
 
 // The output at a place, or that there is none.
-fn put_shown<S: Sink>(
-    sink: &mut S,
-    session: &Session<Cluster>,
-    place: usize,
-) -> Result<(), WriteFault>
+fn put_shown<S: Sink>(sink: &mut S, session: &BenchSession, place: usize) -> Result<(), WriteFault>
     ensures wrote { Writes result (S.held sink.old) (S.held sink.new) (shown (output_at session.now.script place)) }
     ensures all { S.takes_all sink.old → IsOk result × S.takes_all sink.new }
 {
@@ -90,11 +86,7 @@ fn put_shown<S: Sink>(
     }
 }
 
-fn put_reply<S: Sink>(
-    sink: &mut S,
-    session: &Session<Cluster>,
-    reply: Reply,
-) -> Result<(), WriteFault>
+fn put_reply<S: Sink>(sink: &mut S, session: &BenchSession, reply: Reply) -> Result<(), WriteFault>
     ensures wrote { Writes result (S.held sink.old) (S.held sink.new) (reply_text session.now reply) }
     ensures all { S.takes_all sink.old → IsOk result × S.takes_all sink.new }
 {
@@ -114,18 +106,20 @@ fn put_reply<S: Sink>(
 }
 
 /// Writes an answer, and hands it on. Where there is none the writer isn't touched.
-pub(crate) fn send<W: Write>(
-    writer: &mut Through<W>,
-    session: &Session<Cluster>,
+pub(crate) fn send<W: Outlet>(
+    writer: &mut W,
+    session: &BenchSession,
     reply: Reply,
 ) -> Result<(), WriteFault>
-    ensures { Writes result (W.contents writer.old.0) (W.contents writer.new.0) (reply_text session.now reply) }
+    ensures wrote { Writes result (W.held writer.old) (W.held writer.new) (reply_text session.now reply) }
+    ensures handed { OnOk result (IsHandedOn (W.handed writer.old) (W.held writer.old) → IsHandedOn (W.handed writer.new) (W.held writer.new)) }
+    ensures all { W.takes_all writer.old → IsOk result × W.takes_all writer.new }
 {
     if reply == Reply::Nothing {
         return Ok(());
     }
     match put_reply(writer, session, reply) {
-        Ok(()) => flush(writer),
+        Ok(()) => writer.flush(),
         Err(fault) => Err(fault),
     }
 }

@@ -5,7 +5,7 @@ ghost use Rattle.rb_script.specs.Script.{PlainScript};
 ghost use Rattle.rb_script.specs.Reads.{Reads};
 ghost use Rattle.rb_script.specs.Reading.{read_of, early_fault};
 ghost use Rattle.rb_replay.specs.Start.{is_spacing};
-ghost use Rattle.rb_bench.specs.Faults.{IsRefused};
+ghost use Rattle.rb_bench.specs.Faults.{TellsFault};
 ghost use Rattle.rb_bench.specs.Serves.{IsStarted};
 
 use crate::fault::BenchFault;
@@ -13,18 +13,17 @@ use rb_cluster::{Cluster, Meter};
 use rb_replay::Session;
 use std::alloc::Global;
 
+/// The sessions that the program holds: over the cluster of scripts.
+pub(crate) type BenchSession = Session<Cluster>;
+
 /// A session on the script of the bytes, with a cluster kept every so many directives.
-pub(crate) fn started(
-    alloc: Global,
-    bytes: &[u8],
-    every: u64,
-) -> Result<Session<Cluster>, BenchFault>
+pub(crate) fn started(alloc: Global, bytes: &[u8], every: u64) -> Result<BenchSession, BenchFault>
     ensures started { IfOk result (λ s. IsStarted bytes.now every s) }
     // The spacing is looked at first.
     ensures spacing { (result ≡ Err BenchFault.Spacing) ↔ (is_spacing every ≡ false) }
     // What is a script is refused for want of memory alone.
     ensures only { (s : PlainScript) → Reads bytes.now s → is_spacing every ≡ true → IfErr result (λ fault. fault ≡ BenchFault.OutOfMemory) }
-    ensures refused { IfErr result (λ fault. IsRefused fault (read_of bytes.now)) }
+    ensures refused { IfErr result (λ fault. TellsFault (read_of bytes.now) fault) }
     // What is too long is found whether or not there is memory.
     ensures early { is_spacing every ≡ true → IfSome (early_fault bytes.now) (λ fault. result ≡ Err (BenchFault.Script fault)) }
     // Nothing else is read or written.

@@ -1,3 +1,4 @@
 pub mod BegunLaws
 pub mod CutLaws
 pub mod GivenLaws
+pub mod AskedLaws

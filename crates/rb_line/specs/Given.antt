@@ -23,10 +23,10 @@ IsFirstLong [] = ⊥
 IsFirstLong (line ∷ ls) = MAX_LINE < length line
 
 -- what is given of the bytes that were left before, which leaves those after
-abbrev pub Gives : Next → Option (List ℕ) → Option (List ℕ) → Line → Type 0
-Gives next.Line before after line = LosesLine before after line × (length line ≤ MAX_LINE)
-Gives next.TooLong before after line = IfSome before (λ all. IsFirstLong (lines all)) × LosesLong before after
-Gives next.End before after line = IsAtEnd before × (after ≡ Some [])
+abbrev pub GivesNext : Next → Option (List ℕ) → Option (List ℕ) → Line → Type 0
+GivesNext next.Line before after line = LosesLine before after line × (length line ≤ MAX_LINE)
+GivesNext next.TooLong before after line = IfSome before (λ all. IsFirstLong (lines all)) × LosesLong before after
+GivesNext next.End before after line = IsAtEnd before × (after ≡ Some [])
 
 -- no line ended in the bytes that were lost
 abbrev pub StopsInLine : Option (List ℕ) → Option (List ℕ) → Type 0

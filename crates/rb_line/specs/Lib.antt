@@ -3,3 +3,4 @@ pub mod Begun
 pub mod Feeding
 pub mod Left
 pub mod Given
+pub mod Asked

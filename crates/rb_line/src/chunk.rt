@@ -1,10 +1,10 @@
 //! Bytes that were read and not yet taken.
 
-ghost use Rattle.std.specs.Prelude.{◌≡◌, ◌↔◌, ◌∷◌, [], IfNone, IfSome, OnOk, OnErr, IsTrue};
+ghost use Rattle.std.specs.Prelude.{◌≡◌, ◌↔◌, ◌≤◌, ◌∷◌, [], length, IfNone, IfSome, IsOk, OnOk, OnErr, IsTrue};
 ghost use Rattle.std.specs.Io.KnownBytes.{Consumes, IsAtEnd, Keeps};
+ghost use Rattle.rb_line.specs.Asked.{Asks};
 
-use crate::InputFault;
-use std::io::Read;
+use crate::{InputFault, Source};
 use std::marker::Model;
 
 // How many bytes one call may give.
@@ -59,20 +59,18 @@ impl Chunk {
         Some(byte)
     }
 
-    /// Holds what one more call gives. Nothing then says that the reader is at its end.
-    pub(crate) fn fill<R: Read>(&mut self, reader: &mut R) -> Result<(), InputFault>
-        ensures ok { OnOk result (Consumes (R.remaining reader.old) (R.remaining reader.new) self.new) }
-        ensures end { OnOk result (self.new ≡ [] → IsAtEnd (R.remaining reader.new)) }
-        ensures err { OnErr result ((self.new ≡ []) × Keeps (R.remaining reader.old) (R.remaining reader.new)) }
+    /// Holds what one more call gives. Nothing then says that the source is at its end.
+    pub(crate) fn fill<S: Source>(&mut self, source: &mut S) -> Result<(), InputFault>
+        ensures ok { OnOk result (Consumes (S.left source.old) (S.left source.new) self.new) }
+        ensures end { OnOk result (self.new ≡ [] → IsAtEnd (S.left source.new)) }
+        ensures err { OnErr result ((self.new ≡ []) × Keeps (S.left source.old) (S.left source.new)) }
+        ensures most { length self.new ≤ CHUNK }
+        ensures counted { Asks (S.asked source.old) (S.asked source.new) 1 }
+        ensures all { S.gives_all source.old → IsOk result × S.gives_all source.new }
     {
         self.from = 0;
         self.to = 0;
-        match reader.read(self.bytes.as_mut_slice()) {
-            Ok(n) => {
-                self.to = n;
-                Ok(())
-            }
-            Err(_) => Err(InputFault),
-        }
+        self.to = source.get(self.bytes.as_mut_slice())?;
+        Ok(())
     }
 }

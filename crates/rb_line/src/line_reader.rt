@@ -1,18 +1,18 @@
-//! The lines of a reader.
+//! The lines of a source.
 
-ghost use Rattle.std.specs.Prelude.{◌≡◌, ◌<◌, ◌≤◌, ◌++◌, ℕ, List, Option, [], false, IfOk, IfErr, OnOk};
+ghost use Rattle.std.specs.Prelude.{◌≡◌, ◌+◌, ◌<◌, ◌≤◌, ◌++◌, ℕ, List, Option, [], Ok, false, length, IsOk, IfOk, IfErr, OnOk, OnErr};
 ghost use Rattle.std.specs.Io.KnownBytes.{Keeps};
 ghost use Rattle.rb_line.specs.Begun.{Holds};
 ghost use Rattle.rb_line.specs.Left.{calls_of, left_of, line_of};
-ghost use Rattle.rb_line.specs.Given.{Gives, StopsInLine};
+ghost use Rattle.rb_line.specs.Given.{GivesNext, StopsInLine};
+ghost use Rattle.rb_line.specs.Asked.{GoesOn, HasCallsFor, Stops, size_of, wanted};
 ghost use Rattle.rb_line.specs.Feeding.{Takes};
 
 use crate::chunk::Chunk;
-use crate::{Fed, LineBuffer};
+use crate::{Fed, InputFault, LineBuffer, Source};
 use std::alloc::{AllocError, Global};
-use std::io::Read;
 
-/// What comes next from a reader.
+/// What comes next from a source.
 #[derive(Clone, Copy, Debug, PartialEq, Eq)]
 pub enum Next {
     /// A line, which the `LineReader` holds.
@@ -23,11 +23,7 @@ pub enum Next {
     End,
 }
 
-/// The reader failed, or all calls of it were made.
-#[derive(Clone, Copy, Debug, PartialEq, Eq)]
-pub struct InputFault;
-
-/// Gives the lines of a reader, one at a time.
+/// GivesNext the lines of a source, one at a time.
 #[derive(Drop)]
 pub struct LineReader {
     line: LineBuffer,
@@ -37,7 +33,7 @@ pub struct LineReader {
 }
 
 impl LineReader {
-    /// Takes the room for the longest line. At most `calls` calls will be made of the reader; a further one counts
+    /// Takes the room for the longest line. At most `calls` calls will be made of the source; a further one counts
     /// as a failure.
     ///
     /// # Errors
@@ -46,6 +42,7 @@ impl LineReader {
     pub fn new(alloc: Global, calls: u64) -> Result<LineReader, AllocError>
         ensures left { IfOk result (λ lines. (known : Option (List ℕ)) → left_of lines known ≡ known) }
         ensures calls { IfOk result (λ lines. calls_of lines ≡ calls) }
+        ensures wanted { IfOk result (λ lines. (bytes : List ℕ) → wanted lines bytes ≡ length bytes + 1) }
     {
         let line = LineBuffer::new(alloc)?;
         Ok(LineReader {
@@ -56,24 +53,29 @@ impl LineReader {
         })
     }
 
-    /// Reads on to the end of the next line. Each call is to be handed the same reader. Once the end was met, the
-    /// reader isn't asked again.
+    /// Reads on to the end of the next line. Each call is to be handed the same source. Once the end was met, the
+    /// source isn't asked again.
     ///
     /// # Errors
     ///
-    /// At the first error of the reader, an interrupted call too, and where all calls were made. The line that was
+    /// At the first error of the source, an interrupted call too, and where all calls were made. The line that was
     /// begun is lost then.
-    pub fn next<R: Read>(&mut self, reader: &mut R) -> Result<Next, InputFault>
-        ensures given { IfOk result (λ next. Gives next (left_of self.old (R.remaining reader.old))
-            (left_of self.new (R.remaining reader.new)) (line_of self.new)) }
-        ensures failed { IfErr result (λ _. StopsInLine (left_of self.old (R.remaining reader.old))
-            (left_of self.new (R.remaining reader.new))) }
-        ensures calls { calls_of self.new ≤ calls_of self.old }
+    pub fn next<S: Source>(&mut self, source: &mut S) -> Result<Next, InputFault>
+        ensures given { IfOk result (λ next. GivesNext next (left_of self.old (S.left source.old))
+            (left_of self.new (S.left source.new)) (line_of self.new)) }
+        ensures failed { IfErr result (λ _. StopsInLine (left_of self.old (S.left source.old))
+            (left_of self.new (S.left source.new))) }
+        // How often the source is asked: each call is counted, and the bytes asked for it.
+        ensures goes { OnOk result (GoesOn self.old self.new (S.left source.old) (S.left source.new) (S.asked source.old) (S.asked source.new)) }
+        ensures stops { OnErr result (Stops self.old (S.left source.old) (S.asked source.old) (S.asked source.new)) }
+        ensures smaller { result ≡ Ok Next.Line → size_of self.new < size_of self.old }
+        // Over a source that gives all, it fails only where calls are wanting.
+        ensures all { S.gives_all source.old → HasCallsFor self.old (S.left source.old) → IsOk result × S.gives_all source.new }
     {
         self.line.clear();
         while !self.has_ended {
             match take_line(&mut self.line, &mut self.unread) {
-                Fed::More => self.refill(reader)?,
+                Fed::More => self.refill(source)?,
                 Fed::Line => return Ok(Next::Line),
                 Fed::TooLong => return Ok(Next::TooLong),
             }
@@ -93,19 +95,22 @@ impl LineReader {
     }
 
     // Makes one more call, where one is left.
-    fn refill<R: Read>(&mut self, reader: &mut R) -> Result<(), InputFault>
+    fn refill<S: Source>(&mut self, source: &mut S) -> Result<(), InputFault>
         requires taken { self.old.unread ≡ [] }
         requires going { self.old.has_ended ≡ false }
         ensures counted { OnOk result (self.new.calls < self.old.calls) }
-        ensures calls { self.new.calls ≤ self.old.calls }
         ensures line { self.new.line ≡ self.old.line }
-        ensures left { Keeps (left_of self.old (R.remaining reader.old)) (left_of self.new (R.remaining reader.new)) }
+        ensures left { Keeps (left_of self.old (S.left source.old)) (left_of self.new (S.left source.new)) }
+        ensures goes { OnOk result (GoesOn self.old self.new (S.left source.old) (S.left source.new) (S.asked source.old) (S.asked source.new)) }
+        ensures smaller { OnOk result (size_of self.new < size_of self.old) }
+        ensures stops { OnErr result (Stops self.old (S.left source.old) (S.asked source.old) (S.asked source.new)) }
+        ensures all { S.gives_all source.old → HasCallsFor self.old (S.left source.old) → IsOk result × S.gives_all source.new }
     {
         if self.calls == 0 {
             return Err(InputFault);
         }
         self.calls -= 1;
-        self.unread.fill(reader)?;
+        self.unread.fill(source)?;
         self.has_ended = self.unread.is_empty();
         Ok(())
     }

@@ -1,11 +1,13 @@
-//! Measures parts of raftbench: `rb_measure reading FILE ROUNDS` and `rb_measure edits DIRECTIVES ROUNDS`. With no
-//! words it prints how it is called.
+//! Measures parts of raftbench: `rb_measure reading FILE ROUNDS`, `rb_measure edits DIRECTIVES ROUNDS`, `rb_measure logs ENTRIES
+//! ROUNDS`, and `rb_measure plain-copies ENTRIES COPIES` or `split-copies`. With no words it prints how it is called.
 #![tactic(auto)]
 
 mod edits;
+mod logs;
 mod reading;
 
 use anyhow::{Context, Result};
+use rb_raftlog::{PlainLog, SplitLog};
 use std::env;
 use std::rt::{Clock, Env, Files};
 
@@ -34,12 +36,22 @@ fn measure<R: Files + Clock + Print + AllocGlobal>(rt: &R, asked: &Asked) -> Res
             let directives = asked.of.as_str().parse::<usize>();
             edits::measure(rt, directives.context("the directives")?, asked.rounds)
         }
+        "logs" => logs::measure(rt, entries(asked)?, asked.rounds),
+        "plain-copies" => logs::keep::<PlainLog, R>(rt, entries(asked)?, asked.rounds),
+        "split-copies" => logs::keep::<SplitLog, R>(rt, entries(asked)?, asked.rounds),
         _ => usage(rt),
     }
 }
 
+fn entries(asked: &Asked) -> Result<usize> {
+    let entries = asked.of.as_str().parse::<usize>();
+    entries.context("the entries")
+}
+
 fn usage<R: Print>(rt: &R) -> Result<()> {
-    println!(rt; "usage: rb_measure reading FILE ROUNDS | edits DIRECTIVES ROUNDS")?;
+    println!(rt;
+        "usage: rb_measure reading FILE ROUNDS | edits DIRECTIVES ROUNDS | logs ENTRIES ROUNDS | plain-copies ENTRIES COPIES | split-copies ENTRIES COPIES"
+    )?;
     Ok(())
 }
 

@@ -11,7 +11,7 @@ use Rattle.rb_script.specs.Script.{PlainBlock, PlainScript, all_expecting}
 use Rattle.rb_replay.specs.declared.cut.Cut.{Cut}
 use Rattle.rb_replay.specs.Run.{outputs}
 use Rattle.rb_replay.specs.Report.{same_lines, differing, mismatches}
-use Rattle.rb_replay.specs.Places.{IsRising}
+use Rattle.rb_replay.specs.Points.{IsRising}
 use Rattle.rb_replay.specs.Cuts.{IsMended}
 use Rattle.rb_replay.proofs.RunLaws.{both, length-outputs}
 use Rattle.rb_replay.proofs.PartLaws.{nothing_below}

@@ -9,24 +9,24 @@ use Rattle.rb_cluster.specs.Cluster.{Cluster}
 use Rattle.rb_script.specs.Lines.{Line}
 use Rattle.rb_replay.specs.Run.{directives, state, outputs}
 use Rattle.rb_replay.specs.Report.{differing, mismatches}
-use Rattle.rb_replay.specs.Places.{AreKept, start_places}
-use Rattle.rb_replay.specs.Held.{Held, IsFresh}
+use Rattle.rb_replay.specs.Points.{AreKept, start_points}
+use Rattle.rb_replay.specs.Holding.{Holding, IsFresh}
 use Rattle.rb_replay.specs.Start.{is_spacing}
 use Rattle.rb_replay.specs.declared.spacing.TheConstants.{MAX_SPACING}
 use Rattle.rb_replay.proofs.NearLaws.{start-kept}
 use Rattle.rb_replay.proofs.RunLaws.{both, outputs-same, states-same, lengths-same}
 
 -- a script of the same directives
-pub fresh-same : (h inside : Held) (new : PlainScript) (ms : List ℕ) → inside ≡ h → IsFresh inside → directives new ≡ directives h.script → ms ≡ mismatches new
-    → IsFresh (record { script = new; spacing = inside.spacing; outputs = inside.outputs; mismatches = ms; places = inside.places; kept = inside.kept })
+pub fresh-same : (h inside : Holding) (new : PlainScript) (ms : List ℕ) → inside ≡ h → IsFresh inside → directives new ≡ directives h.script → ms ≡ mismatches new
+    → IsFresh (record { script = new; spacing = inside.spacing; outputs = inside.outputs; mismatches = ms; points = inside.points; kept = inside.kept })
 fresh-same h inside new ms view fresh same compared =
-    let along : directives new ≡ directives inside.script = same ∙ sym (ap (λ (h : Held). directives h.script) view) in
+    let along : directives new ≡ directives inside.script = same ∙ sym (ap (λ (h : Holding). directives h.script) view) in
     let long : length new.blocks ≡ length inside.script.blocks = lengths-same new inside.script along in
     record {
       answered = fresh.answered ∙ sym (outputs-same new inside.script along);
       compared = compared;
-      states = fresh.states ∙ sym (states-same new inside.script inside.places along);
-      near = subst (λ (n : ℕ). AreKept inside.spacing n inside.places) (sym long) fresh.near;
+      states = fresh.states ∙ sym (states-same new inside.script inside.points along);
+      near = subst (λ (n : ℕ). AreKept inside.spacing n inside.points) (sym long) fresh.near;
       spaced = fresh.spaced;
       few = omega (arith, fresh.few, long);
     }
@@ -42,9 +42,9 @@ pub spacing-least : (every : ℕ) → is_spacing every ≡ true → 1 ≤ every
 spacing-least every is = let one : nat_le 1 every ≡ true = (and_parts (nat_le 1 every) (nat_le every MAX_SPACING) is).0 in grind (arith, nat_tests)
 
 -- what a run of the whole script gives
-pub fresh-whole : (s : PlainScript) (K : ℕ) (os : List (List Line)) (ms places : List ℕ) (kept : List Cluster) → is_spacing K ≡ true → length s.blocks ≤ MAX_DIRECTIVES → os ≡ outputs s → ms ≡ differing (0 + 1) (drop 0 s.blocks) os → places ≡ start_places K (length s.blocks) → kept ≡ map (state s) places
-    → IsFresh (record { script = s; spacing = K; outputs = os; mismatches = ms; places = places; kept = kept })
-fresh-whole s K os ms places kept spaced few answered compared placed states = record {
+pub fresh-whole : (s : PlainScript) (K : ℕ) (os : List (List Line)) (ms points : List ℕ) (kept : List Cluster) → is_spacing K ≡ true → length s.blocks ≤ MAX_DIRECTIVES → os ≡ outputs s → ms ≡ differing (0 + 1) (drop 0 s.blocks) os → points ≡ start_points K (length s.blocks) → kept ≡ map (state s) points
+    → IsFresh (record { script = s; spacing = K; outputs = os; mismatches = ms; points = points; kept = kept })
+fresh-whole s K os ms points kept spaced few answered compared placed states = record {
   answered = answered;
   compared = compared ∙ ap (λ (n : ℕ). differing n s.blocks os) (omega arith) ∙ ap (differing 1 s.blocks) answered;
   states = states;

@@ -1,5 +1,5 @@
 pub mod RunLaws
-pub mod PlaceLaws
+pub mod PointLaws
 pub mod PaceLaws
 pub mod PartLaws
 pub mod ReuseLaws
@@ -9,7 +9,8 @@ pub mod DifferingLaws
 pub mod NextLaws
 pub mod CourseLaws
 pub mod FreshLaws
-pub mod EditLaws
+pub mod ChangeLaws
 pub mod WriteLaws
 pub mod AfterLaws
 pub mod MemberLaws
+pub mod RewriteLaws

@@ -1,13 +1,13 @@
--- Which places stand in the list before thinning, and in which order.
+-- Which points stand in the list before thinning, and in which order.
 use Rattle.std.proofs.Common.{◌≡◌, ℕ, zero, suc, ◌+◌, ◌-◌, ◌*◌, ◌/◌, ◌<◌, ◌≤◌, min, true, List, [], ◌∷◌, ◌++◌, length, map, refl, ap, sym, arith, inl, inr, ◌⊎◌, Option, Some, None, subst}
 use Rattle.std.specs.Prelude.{Contains, filter, nat_lt, nat_le, ◌↔◌}
 use Rattle.std.proofs.lemmas.Bool.{cases_lt, le-leb}
 use Rattle.std.proofs.lemmas.Bool.Decides.{leb_tells}
 use Rattle.std.proofs.lemmas.List.Elements.{Contains-append_left, Contains-append_right, Contains-append_cases}
 use Rattle.std.proofs.Math.Nat.{le-div_iff_mul-le, div-mul-le_self}
-use Rattle.rb_replay.specs.Places.{IsRising, every}
-use Rattle.rb_replay.specs.Reuse.{Change, start, old_place, new_place, Meets, IsFirstMeeting, IsChange, fresh_places, places_before, IsPlaceBefore}
-use Rattle.rb_replay.proofs.PlaceLaws.{Contains-head, Contains-cons}
+use Rattle.rb_replay.specs.Points.{IsRising, every}
+use Rattle.rb_replay.specs.Reuse.{Change, start, old_point, new_point, Meets, IsFirstMeeting, IsChange, fresh_points, points_before, IsPointBefore}
+use Rattle.rb_replay.proofs.PointLaws.{Contains-head, Contains-cons}
 use Rattle.rb_replay.proofs.ReadyLaws.{kept-rising, start-first}
 
 -- ---- elements of the parts
@@ -38,7 +38,7 @@ has-below b x (p ∷ ps) has =
       | inr f ↦ let ih = has-below b x ps (rw f.0 at has) in (Contains-cons ps p x ih.0, ih.1)
     ]
 
--- the places from b on, where they stand now
+-- the points from b on, where they stand now
 moved-has : (to : ℕ → ℕ) (b x : ℕ) (ps : List ℕ) → Contains ps x → b ≤ x → Contains (map to (filter (λ p. nat_le b p) ps)) (to x)
 moved-has to b x [] has le = absurd (omega (arith, has.1))
 moved-has to b x (p ∷ ps) has le =
@@ -91,60 +91,60 @@ fits-steps K d i one le = let pos : zero < K = omega arith in (le-div_iff_mul-le
 
 -- ---- the list has the members
 
-old-moved : (c : Change) (s p : ℕ) → Meets c s → s ≤ p → Contains c.places (old_place c p) → Contains (map (new_place c) (filter (λ q. nat_le (old_place c s) q) c.places)) p
+old-moved : (c : Change) (s p : ℕ) → Meets c s → s ≤ p → Contains c.points (old_point c p) → Contains (map (new_point c) (filter (λ q. nat_le (old_point c s) q) c.points)) p
 old-moved c s p m le has =
     let rest : c.new_rest ≤ s = m.in_rest in
-    let back : new_place c (old_place c p) ≡ p = omega arith in
-    subst (λ (q : ℕ). Contains (map (new_place c) (filter (λ q. nat_le (old_place c s) q) c.places)) q) back
-    (moved-has (new_place c) (old_place c s) (old_place c p) c.places has (omega arith))
+    let back : new_point c (old_point c p) ≡ p = omega arith in
+    subst (λ (q : ℕ). Contains (map (new_point c) (filter (λ q. nat_le (old_point c s) q) c.points)) q) back
+    (moved-has (new_point c) (old_point c s) (old_point c p) c.points has (omega arith))
 
-pub member-has : (c : Change) (o : Option ℕ) (p : ℕ) → IsChange c → IsFirstMeeting c o → IsPlaceBefore c o p → Contains (places_before c o) p
+pub member-has : (c : Change) (o : Option ℕ) (p : ℕ) → IsChange c → IsFirstMeeting c o → IsPointBefore c o p → Contains (points_before c o) p
 member-has c None p is first (inl front) =
-    Contains-append_left (filter (λ p. nat_lt p (start c + 1)) c.places) (fresh_places c None) p (below-has (start c + 1) p c.places front.0 (omega (arith, front.1)))
+    Contains-append_left (filter (λ p. nat_lt p (start c + 1)) c.points) (fresh_points c None) p (below-has (start c + 1) p c.points front.0 (omega (arith, front.1)))
 member-has c None p is first (inr (inl way)) =
     let j : ℕ = way.0 in
     let fits : way.0 * c.spacing ≤ length c.new.blocks - start c = omega (arith, way.2, way.3) in
-    Contains-append_right (filter (λ p. nat_lt p (start c + 1)) c.places) (fresh_places c None) p
+    Contains-append_right (filter (λ p. nat_lt p (start c + 1)) c.points) (fresh_points c None) p
     (rw (way.2) (every-has c.spacing (start c) ((length c.new.blocks - start c) / c.spacing) way.0 way.1 (fits-steps c.spacing (length c.new.blocks - start c) way.0 is.spaced fits)))
 member-has c None p is first (inr (inr old)) = absurd old
 member-has c (Some s) p is first (inl front) =
     let le : start c ≤ s = first.0.from_start in
     elim (cases_lt p s) [
       | inl lt ↦
-          Contains-append_left (filter (λ p. nat_lt p (min (start c + 1) s)) c.places) (fresh_places c (Some s) ++ map (new_place c) (filter (λ q. nat_le (old_place c s) q) c.places)) p
-          (below-has (min (start c + 1) s) p c.places front.0 (omega (arith, front.1)))
+          Contains-append_left (filter (λ p. nat_lt p (min (start c + 1) s)) c.points) (fresh_points c (Some s) ++ map (new_point c) (filter (λ q. nat_le (old_point c s) q) c.points)) p
+          (below-has (min (start c + 1) s) p c.points front.0 (omega (arith, front.1)))
       | inr ge ↦
           let same : p ≡ s = omega (arith, front.1) in
           rest-has c s p is first.0 (omega arith) (rw same first.0.is_kept)
     ]
   where
-    rest-has : (c : Change) (s p : ℕ) → IsChange c → Meets c s → s ≤ p → Contains c.places (old_place c p) → Contains (places_before c (Some s)) p
+    rest-has : (c : Change) (s p : ℕ) → IsChange c → Meets c s → s ≤ p → Contains c.points (old_point c p) → Contains (points_before c (Some s)) p
     rest-has c s p is m le has =
-        Contains-append_right (filter (λ p. nat_lt p (min (start c + 1) s)) c.places) (fresh_places c (Some s) ++ map (new_place c) (filter (λ q. nat_le (old_place c s) q) c.places)) p
-        (Contains-append_right (fresh_places c (Some s)) (map (new_place c) (filter (λ q. nat_le (old_place c s) q) c.places)) p (old-moved c s p m le has))
+        Contains-append_right (filter (λ p. nat_lt p (min (start c + 1) s)) c.points) (fresh_points c (Some s) ++ map (new_point c) (filter (λ q. nat_le (old_point c s) q) c.points)) p
+        (Contains-append_right (fresh_points c (Some s)) (map (new_point c) (filter (λ q. nat_le (old_point c s) q) c.points)) p (old-moved c s p m le has))
 member-has c (Some s) p is first (inr (inl way)) =
     let le : start c ≤ s = first.0.from_start in
     elim (cases_lt p s) [
       | inl lt ↦
           let fits : way.0 * c.spacing ≤ s - 1 - start c = omega (arith, way.2, lt) in
-          Contains-append_right (filter (λ p. nat_lt p (min (start c + 1) s)) c.places) (fresh_places c (Some s) ++ map (new_place c) (filter (λ q. nat_le (old_place c s) q) c.places)) p
-          (Contains-append_left (fresh_places c (Some s)) (map (new_place c) (filter (λ q. nat_le (old_place c s) q) c.places)) p
+          Contains-append_right (filter (λ p. nat_lt p (min (start c + 1) s)) c.points) (fresh_points c (Some s) ++ map (new_point c) (filter (λ q. nat_le (old_point c s) q) c.points)) p
+          (Contains-append_left (fresh_points c (Some s)) (map (new_point c) (filter (λ q. nat_le (old_point c s) q) c.points)) p
           (rw (way.2) (every-has c.spacing (start c) ((s - 1 - start c) / c.spacing) way.0 way.1 (fits-steps c.spacing (s - 1 - start c) way.0 is.spaced fits))))
       | inr ge ↦
           let same : p ≡ s = omega (arith, way.3) in
-          Contains-append_right (filter (λ p. nat_lt p (min (start c + 1) s)) c.places) (fresh_places c (Some s) ++ map (new_place c) (filter (λ q. nat_le (old_place c s) q) c.places)) p
-          (Contains-append_right (fresh_places c (Some s)) (map (new_place c) (filter (λ q. nat_le (old_place c s) q) c.places)) p (old-moved c s p first.0 (omega arith) (rw same first.0.is_kept)))
+          Contains-append_right (filter (λ p. nat_lt p (min (start c + 1) s)) c.points) (fresh_points c (Some s) ++ map (new_point c) (filter (λ q. nat_le (old_point c s) q) c.points)) p
+          (Contains-append_right (fresh_points c (Some s)) (map (new_point c) (filter (λ q. nat_le (old_point c s) q) c.points)) p (old-moved c s p first.0 (omega arith) (rw same first.0.is_kept)))
     ]
 member-has c (Some s) p is first (inr (inr old)) =
-    Contains-append_right (filter (λ p. nat_lt p (min (start c + 1) s)) c.places) (fresh_places c (Some s) ++ map (new_place c) (filter (λ q. nat_le (old_place c s) q) c.places)) p
-    (Contains-append_right (fresh_places c (Some s)) (map (new_place c) (filter (λ q. nat_le (old_place c s) q) c.places)) p (old-moved c s p first.0 old.0 old.1))
+    Contains-append_right (filter (λ p. nat_lt p (min (start c + 1) s)) c.points) (fresh_points c (Some s) ++ map (new_point c) (filter (λ q. nat_le (old_point c s) q) c.points)) p
+    (Contains-append_right (fresh_points c (Some s)) (map (new_point c) (filter (λ q. nat_le (old_point c s) q) c.points)) p (old-moved c s p first.0 old.0 old.1))
 
 -- ---- and no others
 
-pub has-member : (c : Change) (o : Option ℕ) (p : ℕ) → IsChange c → IsFirstMeeting c o → Contains (places_before c o) p → IsPlaceBefore c o p
+pub has-member : (c : Change) (o : Option ℕ) (p : ℕ) → IsChange c → IsFirstMeeting c o → Contains (points_before c o) p → IsPointBefore c o p
 has-member c None p is first has =
-    elim (Contains-append_cases (filter (λ p. nat_lt p (start c + 1)) c.places) (fresh_places c None) p has) [
-      | inl front ↦ let h = has-below (start c + 1) p c.places front in inl (h.0, omega (arith, h.1))
+    elim (Contains-append_cases (filter (λ p. nat_lt p (start c + 1)) c.points) (fresh_points c None) p has) [
+      | inl front ↦ let h = has-below (start c + 1) p c.points front in inl (h.0, omega (arith, h.1))
       | inr way ↦
           let h = has-every c.spacing (start c) ((length c.new.blocks - start c) / c.spacing) p way in
           let fits : h.0 * c.spacing ≤ length c.new.blocks - start c = steps-fit c.spacing (length c.new.blocks - start c) h.0 is.spaced h.2 in
@@ -152,18 +152,18 @@ has-member c None p is first has =
           inr (inl (h.0, h.1, h.3, omega (arith, h.3)))
     ]
 has-member c (Some s) p is first has =
-    elim (Contains-append_cases (filter (λ p. nat_lt p (min (start c + 1) s)) c.places) (fresh_places c (Some s) ++ map (new_place c) (filter (λ q. nat_le (old_place c s) q) c.places)) p has) [
-      | inl front ↦ let h = has-below (min (start c + 1) s) p c.places front in inl (h.0, omega (arith, h.1))
-      | inr more ↦ elim (Contains-append_cases (fresh_places c (Some s)) (map (new_place c) (filter (λ q. nat_le (old_place c s) q) c.places)) p more) [
+    elim (Contains-append_cases (filter (λ p. nat_lt p (min (start c + 1) s)) c.points) (fresh_points c (Some s) ++ map (new_point c) (filter (λ q. nat_le (old_point c s) q) c.points)) p has) [
+      | inl front ↦ let h = has-below (min (start c + 1) s) p c.points front in inl (h.0, omega (arith, h.1))
+      | inr more ↦ elim (Contains-append_cases (fresh_points c (Some s)) (map (new_point c) (filter (λ q. nat_le (old_point c s) q) c.points)) p more) [
         | inl way ↦
             let h = has-every c.spacing (start c) ((s - 1 - start c) / c.spacing) p way in
             let fits : h.0 * c.spacing ≤ s - 1 - start c = steps-fit c.spacing (s - 1 - start c) h.0 is.spaced h.2 in
             let le : start c ≤ s = first.0.from_start in
             inr (inl (h.0, h.1, h.3, omega (arith, h.3)))
         | inr old ↦
-            let h = has-moved (new_place c) (old_place c s) p c.places old in
+            let h = has-moved (new_point c) (old_point c s) p c.points old in
             let rest : c.new_rest ≤ s = first.0.in_rest in
-            let back : old_place c p ≡ h.0 = omega (arith, h.2, h.3) in
+            let back : old_point c p ≡ h.0 = omega (arith, h.2, h.3) in
             inr (inr (omega (arith, h.2, h.3), rw back h.1))
       ]
     ]
@@ -226,21 +226,21 @@ rising-moved r t a b (p ∷ ps) le rising =
         let two : nat_le (p + 1) x ≡ true = le-leb (p + 1) x (omega (arith, rising.0)) in
         rw (one, two) (ap (λ (qs : List ℕ). x ∷ qs) (all-on b p ps le (rising-more (p + 1) (x + 1) ps (omega (arith, rising.0)) rising.1)))
 
-pub before-rising : (c : Change) (o : Option ℕ) → IsChange c → IsFirstMeeting c o → IsRising 0 (places_before c o)
+pub before-rising : (c : Change) (o : Option ℕ) → IsChange c → IsFirstMeeting c o → IsRising 0 (points_before c o)
 before-rising c None is first =
-    let front = rising-filter 0 (start c + 1) c.places (kept-rising c.spacing (length c.old.blocks) c.places is.kept) in
-    rising-append 0 (start c + 1) (filter (λ p. nat_lt p (start c + 1)) c.places) (fresh_places c None) (omega arith) front.0 front.1
+    let front = rising-filter 0 (start c + 1) c.points (kept-rising c.spacing (length c.old.blocks) c.points is.kept) in
+    rising-append 0 (start c + 1) (filter (λ p. nat_lt p (start c + 1)) c.points) (fresh_points c None) (omega arith) front.0 front.1
     (rising-every c.spacing (start c) ((length c.new.blocks - start c) / c.spacing) is.spaced).0
 before-rising c (Some s) is first =
     let le : start c ≤ s = first.0.from_start in
     let rest : c.new_rest ≤ s = first.0.in_rest in
-    let kept : IsRising 0 c.places = kept-rising c.spacing (length c.old.blocks) c.places is.kept in
-    let front = rising-filter 0 (min (start c + 1) s) c.places kept in
-    let there : old_place c s - c.old_rest + c.new_rest ≡ s = omega arith in
-    let last : IsRising s (map (new_place c) (filter (λ q. nat_le (old_place c s) q) c.places)) =
-    subst (λ (n : ℕ). IsRising n (map (new_place c) (filter (λ q. nat_le (old_place c s) q) c.places))) there (rising-moved c.old_rest c.new_rest 0 (old_place c s) c.places (omega arith) kept) in
-    rising-append 0 (min (start c + 1) s) (filter (λ p. nat_lt p (min (start c + 1) s)) c.places) (fresh_places c (Some s) ++ map (new_place c) (filter (λ q. nat_le (old_place c s) q) c.places)) (omega arith) front.0 front.1
-    (way-on c.spacing (start c) s (map (new_place c) (filter (λ q. nat_le (old_place c s) q) c.places)) is.spaced le last)
+    let kept : IsRising 0 c.points = kept-rising c.spacing (length c.old.blocks) c.points is.kept in
+    let front = rising-filter 0 (min (start c + 1) s) c.points kept in
+    let there : old_point c s - c.old_rest + c.new_rest ≡ s = omega arith in
+    let last : IsRising s (map (new_point c) (filter (λ q. nat_le (old_point c s) q) c.points)) =
+    subst (λ (n : ℕ). IsRising n (map (new_point c) (filter (λ q. nat_le (old_point c s) q) c.points))) there (rising-moved c.old_rest c.new_rest 0 (old_point c s) c.points (omega arith) kept) in
+    rising-append 0 (min (start c + 1) s) (filter (λ p. nat_lt p (min (start c + 1) s)) c.points) (fresh_points c (Some s) ++ map (new_point c) (filter (λ q. nat_le (old_point c s) q) c.points)) (omega arith) front.0 front.1
+    (way-on c.spacing (start c) s (map (new_point c) (filter (λ q. nat_le (old_point c s) q) c.points)) is.spaced le last)
   where
     nothing : (K j : ℕ) → 1 ≤ K → j * K ≤ 0 → j ≡ 0
     nothing K zero one le = refl
@@ -263,5 +263,5 @@ before-rising c (Some s) is first =
               rw (b, none) last
         ]
 
-pub members : (c : Change) (o : Option ℕ) (p : ℕ) → IsChange c → IsFirstMeeting c o → Contains (places_before c o) p ↔ IsPlaceBefore c o p
+pub members : (c : Change) (o : Option ℕ) (p : ℕ) → IsChange c → IsFirstMeeting c o → Contains (points_before c o) p ↔ IsPointBefore c o p
 members c o p is first = (has-member c o p is first, member-has c o p is first)

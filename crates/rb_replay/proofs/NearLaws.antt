@@ -1,17 +1,17 @@
--- The places of a changed script are near.
+-- The points of a changed script are near.
 use Rattle.std.proofs.Common.{◌≡◌, ℕ, zero, suc, ◌+◌, ◌-◌, ◌*◌, ◌/◌, ◌<◌, ◌≤◌, max, min, List, [], ◌∷◌, ◌++◌, length, map, refl, ap, sym, ◌∙◌, arith, Option, Some, None, inl, inr, get_or, true, false, subst}
 use Rattle.std.specs.Prelude.{Contains, filter, nat_lt, nat_le}
 use Rattle.std.proofs.lemmas.Bool.{cases_lt, le-leb}
 use Rattle.std.proofs.lemmas.Bool.Decides.{nat_tests, leb_tells}
 use Rattle.std.proofs.lemmas.List.{append-nil}
 use Rattle.std.proofs.Math.Nat.{div-mul-le_self, lt-div-mul-add}
-use Rattle.rb_replay.specs.Places.{IsRising, AreNear, AreKept, AreSparse, AreSparseAfter, last_up_to, every, thin}
-use Rattle.rb_replay.specs.Reuse.{Change, start, old_place, new_place, Meets, IsFirstMeeting, IsChange, places_after}
+use Rattle.rb_replay.specs.Points.{IsRising, AreNear, AreKept, AreSparse, AreSparseAfter, last_up_to, every, thin}
+use Rattle.rb_replay.specs.Reuse.{Change, start, old_point, new_point, Meets, IsFirstMeeting, IsChange, points_after}
 use Rattle.rb_replay.proofs.RunLaws.{both}
-use Rattle.rb_replay.proofs.PlaceLaws.{thin-kept}
+use Rattle.rb_replay.proofs.PointLaws.{thin-kept}
 use Rattle.rb_replay.proofs.PartLaws.{nothing_below}
 use Rattle.rb_replay.proofs.ReuseLaws.{start-le}
-use Rattle.rb_replay.proofs.ReadyLaws.{near-rising, all-from, none_up_to, places-met}
+use Rattle.rb_replay.proofs.ReadyLaws.{near-rising, all-from, none_up_to, points-met}
 
 -- steps of at most K from a to b
 abbrev pub Leads : ℕ → ℕ → List ℕ → ℕ → Type 0
@@ -72,7 +72,7 @@ after-kept K n a x (suc k) (p ∷ ps) near lt is =
     rising-above K n p x zero (y ∷ ps) near lt is = omega (arith, near.0, is)
     rising-above K n p x (suc k) (y ∷ ps) near lt is = let t : y < x = rising-above K n y x k ps near.2 (omega arith) is in omega (arith, near.0)
 
--- the same of all the kept places
+-- the same of all the kept points
 after-first : (K n x k : ℕ) (p : ℕ) (ps : List ℕ) → AreNear K n p ps → k < suc (length ps) → get_or (p ∷ ps) k x ≡ x → AreNear K n x (filter (λ y. nat_le (x + 1) y) (p ∷ ps))
 after-first K n x zero p ps near lt is =
     let past : nat_le (x + 1) p ≡ false = grind (arith, nat_tests) in
@@ -92,7 +92,7 @@ shift-near : (K n x r t : ℕ) (ps : List ℕ) → AreNear K n x ps → r ≤ x 
 shift-near K n x r t [] near le = (omega arith, omega arith)
 shift-near K n x r t (p ∷ ps) near le = (omega (arith, near.0), omega (arith, near.0, near.1), shift-near K n p r t ps near.2 (omega (arith, near.0)))
 
--- how far the places on the way go
+-- how far the points on the way go
 on_way : (K d : ℕ) → 1 ≤ K → ((d / K) * K ≤ d) × (d < (d / K) * K + K)
 on_way K d one = let pos : zero < K = omega arith in (div-mul-le_self d K, lt-div-mul-add pos)
 
@@ -171,21 +171,21 @@ tail-near : (K n r t s x : ℕ) (ps : List ℕ) → AreKept K n ps → Contains 
 tail-near K n r t s x [] kept has le e = absurd kept
 tail-near K n r t s x (p ∷ ps) kept has le e = rw e (shift-near K n x r t (filter (λ y. nat_le (x + 1) y) (p ∷ ps)) (after-first K n x has.0 p ps kept.1 has.1 has.2) le)
 
--- the places of the changed script are near, and few
-pub places-kept : (c : Change) (o : Option ℕ) → IsChange c → IsFirstMeeting c o → AreKept c.spacing (length c.new.blocks) (places_after c o)
-places-kept c None is first =
+-- the points of the changed script are near, and few
+pub points-kept : (c : Change) (o : Option ℕ) → IsChange c → IsFirstMeeting c o → AreKept c.spacing (length c.new.blocks) (points_after c o)
+points-kept c None is first =
     let le : start c ≤ c.front = start-le c in
-    kept-end c.spacing c.front (length c.old.blocks) (length c.new.blocks) (start c) c.places is.spaced (omega (arith, is.new_from, is.new_within)) is.kept refl le
-places-kept c (Some s) is first =
+    kept-end c.spacing c.front (length c.old.blocks) (length c.new.blocks) (start c) c.points is.spaced (omega (arith, is.new_from, is.new_within)) is.kept refl le
+points-kept c (Some s) is first =
     let m : Meets c s = first.0 in
     let le : start c ≤ c.front = start-le c in
     let long : length c.old.blocks - c.old_rest + c.new_rest ≡ length c.new.blocks = omega (arith, is.lengths, is.old_within) in
-    let there : s ≡ old_place c s - c.old_rest + c.new_rest = omega (arith, m.in_rest) in
-    let near : AreNear c.spacing (length c.new.blocks) s (map (new_place c) (filter (λ p. nat_le (old_place c s + 1) p) c.places)) =
-    subst (λ (n : ℕ). AreNear c.spacing n s (map (new_place c) (filter (λ p. nat_le (old_place c s + 1) p) c.places))) long (tail-near c.spacing (length c.old.blocks) c.old_rest c.new_rest s (old_place c s) c.places is.kept m.is_kept (omega arith) there) in
-    rw (← (places-met c s is m)) (kept-met c.spacing c.front (length c.old.blocks) (length c.new.blocks) (start c) s (min (start c + 1) s) c.places (map (new_place c) (filter (λ p. nat_le (old_place c s + 1) p) c.places)) is.spaced is.kept refl le (omega (arith, is.old_from, is.old_within)) m.from_start refl near)
+    let there : s ≡ old_point c s - c.old_rest + c.new_rest = omega (arith, m.in_rest) in
+    let near : AreNear c.spacing (length c.new.blocks) s (map (new_point c) (filter (λ p. nat_le (old_point c s + 1) p) c.points)) =
+    subst (λ (n : ℕ). AreNear c.spacing n s (map (new_point c) (filter (λ p. nat_le (old_point c s + 1) p) c.points))) long (tail-near c.spacing (length c.old.blocks) c.old_rest c.new_rest s (old_point c s) c.points is.kept m.is_kept (omega arith) there) in
+    rw (← (points-met c s is m)) (kept-met c.spacing c.front (length c.old.blocks) (length c.new.blocks) (start c) s (min (start c + 1) s) c.points (map (new_point c) (filter (λ p. nat_le (old_point c s + 1) p) c.points)) is.spaced is.kept refl le (omega (arith, is.old_from, is.old_within)) m.from_start refl near)
 
--- the places that a start keeps
+-- the points that a start keeps
 every-first : (K from j : ℕ) → every K from (suc j) ≡ (from + K) ∷ every K (from + K) j
 every-first K from zero = ap (λ (x : ℕ). x ∷ []) (omega arith)
 every-first K from (suc j) = both (λ (xs : List ℕ) (x : ℕ). xs ++ x ∷ []) (every-first K from j) (omega arith)

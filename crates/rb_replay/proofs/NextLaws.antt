@@ -1,9 +1,9 @@
--- Laws of where a place stands among ascending places.
+-- Laws of where a point stands among ascending points.
 use Rattle.std.proofs.Common.{◌≡◌, ℕ, zero, suc, ◌+◌, ◌<◌, ◌≤◌, List, [], ◌∷◌, length, arith, get_or, inl, inr}
 use Rattle.std.specs.Prelude.{Contains}
 use Rattle.std.proofs.lemmas.Bool.{cases_lt}
 use Rattle.std.proofs.lemmas.List.{get_or_default}
-use Rattle.rb_replay.specs.Places.{IsRising}
+use Rattle.rb_replay.specs.Points.{IsRising}
 use Rattle.rb_replay.specs.Cuts.{IsNext}
 
 -- what stands later is greater
@@ -19,7 +19,7 @@ rising-later a zero (suc k) (p ∷ ps) rising lt within = let t : p + 1 ≤ get_
 rising-later a (suc i) zero (p ∷ ps) rising lt within = absurd (omega arith)
 rising-later a (suc i) (suc k) (p ∷ ps) rising lt within = rising-later (p + 1) i k ps rising.1 (omega arith) (omega arith)
 
--- the place stands at the index, and the next one after it
+-- the point stands at the index, and the next one after it
 pub next-on : (ps : List ℕ) (p i : ℕ) → IsRising 0 ps → IsNext ps p i → i < length ps → get_or ps i 0 ≡ p → IsNext ps (p + 1) (i + 1)
 next-on ps p i rising next lt is = record {
   within = omega arith;
@@ -30,7 +30,7 @@ next-on ps p i rising next lt is = record {
   above = λ more. let t : get_or ps i 0 < get_or ps (i + 1) 0 = rising-later 0 i (i + 1) ps rising (omega arith) more in omega (arith, is);
 }
 
--- the place does not stand there
+-- the point does not stand there
 pub next-past : (ps : List ℕ) (p i : ℕ) → IsNext ps p i → (i < length ps → get_or ps i 0 ≡ p → ⊥) → IsNext ps (p + 1) i
 next-past ps p i next differs = record {
   within = next.within;
@@ -52,7 +52,7 @@ next-none ps p i rising next differs (k, lt, is) =
       ]
     ]
 
--- a lesser place stands no later
+-- a lesser point stands no later
 pub next-order : (ps : List ℕ) (p q i j : ℕ) → p ≤ q → IsNext ps p i → IsNext ps q j → i ≤ j
 next-order ps p q i j le one two =
     elim (cases_lt j i) [

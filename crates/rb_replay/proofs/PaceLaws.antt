@@ -1,9 +1,9 @@
--- Laws of places that are kept on the way.
+-- Laws of points that are kept on the way.
 use Rattle.std.proofs.Common.{◌≡◌, ℕ, suc, ◌+◌, ◌-◌, ◌*◌, ◌/◌, ◌<◌, ◌≤◌, List, [], ◌∷◌, ◌++◌, length, refl, ap, sym, ◌∙◌, arith, inl, inr}
 use Rattle.std.proofs.lemmas.List.{length_push}
 use Rattle.std.proofs.lemmas.Nat.{div-mul-add}
 use Rattle.std.proofs.lemmas.Bool.{cases_lt}
-use Rattle.rb_replay.specs.Places.{every}
+use Rattle.rb_replay.specs.Points.{every}
 use Rattle.rb_replay.specs.Course.{IsPaced, IsPacedOn}
 use Rattle.rb_replay.proofs.RunLaws.{both}
 

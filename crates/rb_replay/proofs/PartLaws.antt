@@ -1,4 +1,4 @@
--- Laws of the plain work on places.
+-- Laws of the plain work on points.
 use Rattle.std.proofs.Common.{◌≡◌, ℕ, zero, suc, ◌+◌, ◌-◌, ◌<◌, ◌≤◌, List, [], ◌∷◌, ◌++◌, length, take, drop, map, refl, ap, sym, ◌∙◌, arith, get_or, true, false, append_assoc}
 use Rattle.std.specs.Prelude.{filter, nat_lt, nat_le, remove}
 use Rattle.std.proofs.lemmas.Bool.{le-leb}
@@ -7,7 +7,7 @@ use Rattle.std.proofs.lemmas.List.{take_at, drop_at, map-append, take-map, lengt
 use Rattle.std.proofs.Math.Seq.{take-add}
 use Rattle.rb_replay.proofs.RunLaws.{both}
 use Rattle.std.proofs.lemmas.List.Edits.{get_or-remove_below, get_or-remove_above}
-use Rattle.rb_replay.specs.Places.{thin_after, IsRising}
+use Rattle.rb_replay.specs.Points.{thin_after, IsRising}
 
 pub nothing_below : (a bound : ℕ) (ps : List ℕ) → bound ≤ a → IsRising a ps → ([] ≡ filter (λ p. nat_lt p bound) ps) × (ps ≡ filter (λ p. nat_le bound p) ps)
 nothing_below a bound [] le rising = (refl, refl)
@@ -43,14 +43,14 @@ turns {A} x f from to r a b j d le all turned cut joined back =
     take_past : {A : Type 0} (x y : List A) (r m : ℕ) → length x ≡ r → take (r + m) (x ++ y) ≡ x ++ take m y
     take_past {A} x y r m long = take-add r m (x ++ y) ∙ both (λ (s t : List A). s ++ t) (take_at x y r long) (ap (take m) (drop_at x y r long))
 
--- what thinning makes of the places, where those before the one at i are settled
+-- what thinning makes of the points, where those before the one at i are settled
 abbrev pub thinned_from : ℕ → ℕ → List ℕ → List ℕ
 thinned_from K i ps = take i ps ++ thin_after K (get_or ps (i - 1) 0) (get_or ps i 0) (drop (i + 1) ps)
 
 thinned_next : (K i : ℕ) (ps : List ℕ) → i + 1 < length ps → thinned_from K i ps ≡ take i ps ++ thin_after K (get_or ps (i - 1) 0) (get_or ps i 0) (get_or ps (i + 1) 0 ∷ drop (i + 1 + 1) ps)
 thinned_next K i ps lt = ap (λ (t : List ℕ). take i ps ++ thin_after K (get_or ps (i - 1) 0) (get_or ps i 0) t) (drop_more ps (i + 1) 0 lt)
 
--- a place that goes
+-- a point that goes
 pub thinned_drop : (K i : ℕ) (ps : List ℕ) → 1 ≤ i → i + 1 < length ps → get_or ps (i + 1) 0 - get_or ps (i - 1) 0 ≤ K → thinned_from K i ps ≡ thinned_from K i (remove ps i)
 thinned_drop K i ps one lt near =
     let within : i < length ps = omega arith in
@@ -70,14 +70,14 @@ thinned_drop K i ps one lt near =
     drop_removed i ps long =
         sym (drop-drop 1 i (remove ps i)) ∙ ap (drop 1) (drop_at (take i ps) (drop (suc i) ps) i long) ∙ drop-drop 1 (suc i) ps ∙ ap (λ (n : ℕ). drop n ps) (omega arith)
 
--- no place is left to look at
+-- no point is left to look at
 pub thinned_end : (K i : ℕ) (ps : List ℕ) → i + 1 ≡ length ps → thinned_from K i ps ≡ ps
 thinned_end K i ps all =
     let within : i < length ps = omega arith in
     let none : drop (i + 1) ps ≡ [] = drop_all (i + 1) ps (omega arith) in
     rw none (sym (take_more ps i 0 within) ∙ take_all (i + 1) ps (omega arith))
 
--- what is kept goes with its place
+-- what is kept goes with its point
 pub map-remove : {A B : Type 0} (f : A → B) (xs : List A) (i : ℕ) → map f (remove xs i) ≡ remove (map f xs) i
 map-remove f xs i = map-append f (take i xs) (drop (suc i) xs) ∙ both (λ s t. s ++ t) (sym (take-map f i xs)) (sym (drop-map f (suc i) xs))
 

@@ -10,14 +10,14 @@ use Rattle.rb_cluster.specs.Cluster.{Cluster}
 use Rattle.rb_replay.specs.declared.cut.Cut.{Cut}
 use Rattle.rb_replay.specs.declared.seam.Seam.{Seam}
 use Rattle.rb_replay.specs.Run.{directives, state, outputs}
-use Rattle.rb_replay.specs.Places.{IsRising, AreNear, AreKept, last_up_to}
-use Rattle.rb_replay.specs.Reuse.{Change, start, stop, old_place, new_place, Meets, IsFirstMeeting, IsChange, fresh_places, places_before}
-use Rattle.rb_replay.specs.Cuts.{front_bound, old_stop, run_places, IsSeam, IsMended}
+use Rattle.rb_replay.specs.Points.{IsRising, AreNear, AreKept, last_up_to}
+use Rattle.rb_replay.specs.Reuse.{Change, start, stop, old_point, new_point, Meets, IsFirstMeeting, IsChange, fresh_points, points_before}
+use Rattle.rb_replay.specs.Cuts.{front_bound, old_stop, run_points, IsSeam, IsMended}
 use Rattle.rb_replay.proofs.RunLaws.{both, outputs-front, states-front, length-outputs}
 use Rattle.rb_replay.proofs.DifferingLaws.{AreAtMost}
 use Rattle.rb_replay.proofs.ReuseLaws.{blocks-on, outputs-after, states-after, start-le, kept-within, stop-within}
 
--- kept places are rising
+-- kept points are rising
 pub near-rising : (K n before : ℕ) (ps : List ℕ) → AreNear K n before ps → IsRising (before + 1) ps
 near-rising K n before [] near = tt
 near-rising K n before (p ∷ ps) near = (omega arith, near-rising K n p ps near.2)
@@ -26,7 +26,7 @@ pub kept-rising : (K n : ℕ) (ps : List ℕ) → AreKept K n ps → IsRising 0 
 kept-rising K n [] kept = absurd kept
 kept-rising K n (p ∷ ps) kept = (omega arith, near-rising K n p ps kept.1)
 
--- clusters at the places below a bound
+-- clusters at the points below a bound
 pub same-below : (f h : ℕ → Cluster) (b : ℕ) (ps : List ℕ) → ((p : ℕ) → p < b → f p ≡ h p) → map f (filter (λ p. nat_lt p b) ps) ≡ map h (filter (λ p. nat_lt p b) ps)
 same-below f h b [] same = refl
 same-below f h b (p ∷ ps) same =
@@ -35,7 +35,7 @@ same-below f h b (p ∷ ps) same =
       | inr e ↦ rw e.0 (same-below f h b ps same)
     ]
 
--- a kept place, and those after it
+-- a kept point, and those after it
 pub all-from : (a b : ℕ) (ps : List ℕ) → b ≤ a → IsRising a ps → filter (λ p. nat_le b p) ps ≡ ps
 all-from a b [] le rising = refl
 all-from a b (p ∷ ps) le rising =
@@ -103,13 +103,13 @@ start-before q (suc k) ps rising one le below above =
     let index : suc k - 1 ≡ k = omega arith in
     ap (λ (i : ℕ). get_or ps i 0) index ∙ start-at 0 q k ps rising (omega arith) (λ i lt. below i (omega arith)) above
 
--- the places at a meeting: its own, and those after it
-pub places-met : (c : Change) (s : ℕ) → IsChange c → Meets c s → s ∷ map (new_place c) (filter (λ p. nat_le (old_place c s + 1) p) c.places) ≡ map (new_place c) (filter (λ p. nat_le (old_place c s) p) c.places)
-places-met c s is m =
-    let back : s ≡ new_place c (old_place c s) = there c s m.in_rest in
-    both (λ (q : ℕ) (qs : List ℕ). q ∷ qs) back refl ∙ sym (ap (map (new_place c)) (from-kept 0 (old_place c s) m.is_kept.0 c.places (kept-rising c.spacing (length c.old.blocks) c.places is.kept) m.is_kept.1 m.is_kept.2))
+-- the points at a meeting: its own, and those after it
+pub points-met : (c : Change) (s : ℕ) → IsChange c → Meets c s → s ∷ map (new_point c) (filter (λ p. nat_le (old_point c s + 1) p) c.points) ≡ map (new_point c) (filter (λ p. nat_le (old_point c s) p) c.points)
+points-met c s is m =
+    let back : s ≡ new_point c (old_point c s) = there c s m.in_rest in
+    both (λ (q : ℕ) (qs : List ℕ). q ∷ qs) back refl ∙ sym (ap (map (new_point c)) (from-kept 0 (old_point c s) m.is_kept.0 c.points (kept-rising c.spacing (length c.old.blocks) c.points is.kept) m.is_kept.1 m.is_kept.2))
   where
-    there : (c : Change) (s : ℕ) → c.new_rest ≤ s → s ≡ new_place c (old_place c s)
+    there : (c : Change) (s : ℕ) → c.new_rest ≤ s → s ≡ new_point c (old_point c s)
     there c s le = omega arith
 
 -- what holds anyway holds on an error
@@ -149,7 +149,7 @@ rest-first c (Some s) is first = omega arith
 
 pub old_stop-within : (c : Change) (o : Option ℕ) → IsChange c → IsFirstMeeting c o → old_stop c o ≤ length c.old.blocks
 old_stop-within c None is first = omega arith
-old_stop-within c (Some s) is first = kept-within c.spacing (length c.old.blocks) c.places (old_place c s) is.kept first.0.is_kept
+old_stop-within c (Some s) is first = kept-within c.spacing (length c.old.blocks) c.points (old_point c s) is.kept first.0.is_kept
 
 pub start-first : (c : Change) (o : Option ℕ) → IsChange c → IsFirstMeeting c o → start c ≤ stop c o
 start-first c None is first = let le : start c ≤ c.front = start-le c in omega (arith, is.new_from, is.new_within)
@@ -193,10 +193,10 @@ mended-ready c cut o os olds news is first on =
 
 -- ---- clusters that are kept
 
--- the places of what stays, of what was run, and of what is used again
-abbrev pub joined_places : Change → Option ℕ → List ℕ
-joined_places c o =
-    filter (λ p. nat_lt p (front_bound c o)) c.places ++ (run_places c o ++ map (new_place c) (filter (λ p. nat_le (old_stop c o + 1) p) c.places))
+-- the points of what stays, of what was run, and of what is used again
+abbrev pub joined_points : Change → Option ℕ → List ℕ
+joined_points c o =
+    filter (λ p. nat_lt p (front_bound c o)) c.points ++ (run_points c o ++ map (new_point c) (filter (λ p. nat_le (old_stop c o + 1) p) c.points))
 
 none-past-near : (K n before : ℕ) (ps : List ℕ) → AreNear K n before ps → filter (λ p. nat_le (n + 1) p) ps ≡ []
 none-past-near K n before [] near = refl
@@ -218,28 +218,28 @@ none-past K n (p ∷ ps) kept =
     first : (K n p : ℕ) → p ≡ 0 → nat_le (n + 1) p ≡ false
     first K n p zero_first = grind (arith, nat_tests)
 
-pub joined-before : (c : Change) (o : Option ℕ) → IsChange c → IsFirstMeeting c o → joined_places c o ≡ places_before c o
+pub joined-before : (c : Change) (o : Option ℕ) → IsChange c → IsFirstMeeting c o → joined_points c o ≡ points_before c o
 joined-before c None is first =
-    let none : filter (λ p. nat_le (length c.old.blocks + 1) p) c.places ≡ [] = none-past c.spacing (length c.old.blocks) c.places is.kept in
-    ap (λ (ps : List ℕ). filter (λ p. nat_lt p (start c + 1)) c.places ++ (fresh_places c None ++ map (new_place c) ps)) none
-    ∙ ap (λ (ps : List ℕ). filter (λ p. nat_lt p (start c + 1)) c.places ++ ps) (append-nil (fresh_places c None))
+    let none : filter (λ p. nat_le (length c.old.blocks + 1) p) c.points ≡ [] = none-past c.spacing (length c.old.blocks) c.points is.kept in
+    ap (λ (ps : List ℕ). filter (λ p. nat_lt p (start c + 1)) c.points ++ (fresh_points c None ++ map (new_point c) ps)) none
+    ∙ ap (λ (ps : List ℕ). filter (λ p. nat_lt p (start c + 1)) c.points ++ ps) (append-nil (fresh_points c None))
 joined-before c (Some s) is first =
-    ap (λ (ps : List ℕ). filter (λ p. nat_lt p (min (start c + 1) s)) c.places ++ ps)
-    (append_assoc (fresh_places c (Some s)) (s ∷ []) (map (new_place c) (filter (λ p. nat_le (old_place c s + 1) p) c.places))
-    ∙ ap (λ (ps : List ℕ). fresh_places c (Some s) ++ ps) (places-met c s is first.0))
+    ap (λ (ps : List ℕ). filter (λ p. nat_lt p (min (start c + 1) s)) c.points ++ ps)
+    (append_assoc (fresh_points c (Some s)) (s ∷ []) (map (new_point c) (filter (λ p. nat_le (old_point c s + 1) p) c.points))
+    ∙ ap (λ (ps : List ℕ). fresh_points c (Some s) ++ ps) (points-met c s is first.0))
 
 front-small : (c : Change) (o : Option ℕ) (p : ℕ) → p < front_bound c o → p ≤ c.front
 front-small c None p lt = let le : start c ≤ c.front = start-le c in omega arith
 front-small c (Some s) p lt = let le : start c ≤ c.front = start-le c in omega arith
 
-moved-states : (c : Change) (o : Option ℕ) (p : ℕ) → IsChange c → IsFirstMeeting c o → old_stop c o + 1 ≤ p → p ≤ length c.old.blocks → state c.old p ≡ state c.new (new_place c p)
+moved-states : (c : Change) (o : Option ℕ) (p : ℕ) → IsChange c → IsFirstMeeting c o → old_stop c o + 1 ≤ p → p ≤ length c.old.blocks → state c.old p ≡ state c.new (new_point c p)
 moved-states c None p is first past within = absurd (omega arith)
 moved-states c (Some s) p is first past within =
     let le : c.new_rest ≤ s = first.0.in_rest in
-    let back : old_place c (new_place c p) ≡ p = omega arith in
-    sym (states-after c s (new_place c p) is le (omega arith) first.0.same ∙ ap (state c.old) back)
+    let back : old_point c (new_point c p) ≡ p = omega arith in
+    sym (states-after c s (new_point c p) is le (omega arith) first.0.same ∙ ap (state c.old) back)
 
--- each of the places is one of the script
+-- each of the points is one of the script
 near-all : (K n before : ℕ) (ps : List ℕ) → AreNear K n before ps → (before ≤ n) × AreAtMost n ps
 near-all K n before [] near = (near.0, tt)
 near-all K n before (p ∷ ps) near = let more = near-all K n p ps near.2 in (omega (arith, near.0, more.0), (more.0, more.1))
@@ -256,19 +256,19 @@ same-past f h to b n (p ∷ ps) all same =
       | inr e ↦ rw e.0 (same-past f h to b n ps all.1 same)
     ]
 
-pub states-ready : (c : Change) (o : Option ℕ) (seam : Seam) (kept fresh : List Cluster) → IsChange c → IsFirstMeeting c o → IsSeam c o seam → kept ≡ map (state c.old) c.places → fresh ≡ map (state c.new) (run_places c o)
-    → take seam.front kept ++ (fresh ++ drop seam.rest kept) ≡ map (state c.new) (joined_places c o)
+pub states-ready : (c : Change) (o : Option ℕ) (seam : Seam) (kept fresh : List Cluster) → IsChange c → IsFirstMeeting c o → IsSeam c o seam → kept ≡ map (state c.old) c.points → fresh ≡ map (state c.new) (run_points c o)
+    → take seam.front kept ++ (fresh ++ drop seam.rest kept) ≡ map (state c.new) (joined_points c o)
 states-ready c o seam kept fresh is first at olds run =
-    let fronts : List ℕ = filter (λ p. nat_lt p (front_bound c o)) c.places in
-    let rests : List ℕ = filter (λ p. nat_le (old_stop c o + 1) p) c.places in
-    let one : take seam.front kept ≡ map (state c.new) (filter (λ p. nat_lt p (front_bound c o)) c.places) =
-    ap (take seam.front) olds ∙ take-map (state c.old) seam.front c.places ∙ ap (map (state c.old)) at.fronts
-    ∙ same-below (state c.old) (state c.new) (front_bound c o) c.places (λ p lt. states-before c p is (front-small c o p lt)) in
-    let three : drop seam.rest kept ≡ map (state c.new) (map (new_place c) (filter (λ p. nat_le (old_stop c o + 1) p) c.places)) =
-    ap (drop seam.rest) olds ∙ drop-map (state c.old) seam.rest c.places ∙ ap (map (state c.old)) at.rests
-    ∙ same-past (state c.old) (state c.new) (new_place c) (old_stop c o + 1) (length c.old.blocks) c.places (kept-all c.spacing (length c.old.blocks) c.places is.kept) (λ p le within. moved-states c o p is first le within) in
-    both (λ (a b : List Cluster). a ++ b) one (both (λ (a b : List Cluster). a ++ b) run three ∙ sym (map-append (state c.new) (run_places c o) (map (new_place c) (filter (λ p. nat_le (old_stop c o + 1) p) c.places))))
-    ∙ sym (map-append (state c.new) (filter (λ p. nat_lt p (front_bound c o)) c.places) (run_places c o ++ map (new_place c) (filter (λ p. nat_le (old_stop c o + 1) p) c.places)))
+    let fronts : List ℕ = filter (λ p. nat_lt p (front_bound c o)) c.points in
+    let rests : List ℕ = filter (λ p. nat_le (old_stop c o + 1) p) c.points in
+    let one : take seam.front kept ≡ map (state c.new) (filter (λ p. nat_lt p (front_bound c o)) c.points) =
+    ap (take seam.front) olds ∙ take-map (state c.old) seam.front c.points ∙ ap (map (state c.old)) at.fronts
+    ∙ same-below (state c.old) (state c.new) (front_bound c o) c.points (λ p lt. states-before c p is (front-small c o p lt)) in
+    let three : drop seam.rest kept ≡ map (state c.new) (map (new_point c) (filter (λ p. nat_le (old_stop c o + 1) p) c.points)) =
+    ap (drop seam.rest) olds ∙ drop-map (state c.old) seam.rest c.points ∙ ap (map (state c.old)) at.rests
+    ∙ same-past (state c.old) (state c.new) (new_point c) (old_stop c o + 1) (length c.old.blocks) c.points (kept-all c.spacing (length c.old.blocks) c.points is.kept) (λ p le within. moved-states c o p is first le within) in
+    both (λ (a b : List Cluster). a ++ b) one (both (λ (a b : List Cluster). a ++ b) run three ∙ sym (map-append (state c.new) (run_points c o) (map (new_point c) (filter (λ p. nat_le (old_stop c o + 1) p) c.points))))
+    ∙ sym (map-append (state c.new) (filter (λ p. nat_lt p (front_bound c o)) c.points) (run_points c o ++ map (new_point c) (filter (λ p. nat_le (old_stop c o + 1) p) c.points)))
 
 -- the front stays before the rest
 pub bounds-order : (c : Change) (o : Option ℕ) → IsChange c → IsFirstMeeting c o → front_bound c o ≤ old_stop c o + 1

@@ -7,39 +7,39 @@ use Rattle.std.proofs.lemmas.List.{drop-drop, drop-map}
 use Rattle.rb_script.specs.Reading.{directive_of}
 use Rattle.rb_cluster.specs.Cluster.{Cluster}
 use Rattle.rb_replay.specs.Run.{directives, state, outputs}
-use Rattle.rb_replay.specs.Places.{last_up_to, AreNear, AreKept}
-use Rattle.rb_replay.specs.Reuse.{Change, start, old_place, new_place, Meets, IsFirstMeeting, stop, IsCost, IsChange}
+use Rattle.rb_replay.specs.Points.{last_up_to, AreNear, AreKept}
+use Rattle.rb_replay.specs.Reuse.{Change, start, old_point, new_point, Meets, IsFirstMeeting, stop, IsCost, IsChange}
 use Rattle.rb_replay.proofs.RunLaws.{states-on, outputs-on}
-use Rattle.rb_replay.proofs.PlaceLaws.{last_up_to-le, last_up_to-near, near-within, near-next, Contains-cons, Contains-head}
+use Rattle.rb_replay.proofs.PointLaws.{last_up_to-le, last_up_to-near, near-within, near-next, Contains-cons, Contains-head}
 
--- from the rest's beginning on, the blocks are those of the old place, and so are the directives
-pub blocks-on : (c : Change) (s : ℕ) → IsChange c → c.new_rest ≤ s → drop s c.new.blocks ≡ drop (old_place c s) c.old.blocks
+-- from the rest's beginning on, the blocks are those of the old point, and so are the directives
+pub blocks-on : (c : Change) (s : ℕ) → IsChange c → c.new_rest ≤ s → drop s c.new.blocks ≡ drop (old_point c s) c.old.blocks
 blocks-on c s is from =
     let at : s ≡ c.new_rest + (s - c.new_rest) = omega arith in
-    let to : old_place c s ≡ c.old_rest + (s - c.new_rest) = omega arith in
+    let to : old_point c s ≡ c.old_rest + (s - c.new_rest) = omega arith in
     ap (λ (i : ℕ). drop i c.new.blocks) at
     ∙ sym (drop-drop (s - c.new_rest) c.new_rest c.new.blocks)
     ∙ ap (drop (s - c.new_rest)) is.same_rest
     ∙ drop-drop (s - c.new_rest) c.old_rest c.old.blocks
     ∙ ap (λ (i : ℕ). drop i c.old.blocks) (sym to)
 
-rest-on : (c : Change) (s : ℕ) → IsChange c → c.new_rest ≤ s → drop s (directives c.new) ≡ drop (old_place c s) (directives c.old)
-rest-on c s is from = drop-map directive_of s c.new.blocks ∙ ap (map directive_of) (blocks-on c s is from) ∙ sym (drop-map directive_of (old_place c s) c.old.blocks)
+rest-on : (c : Change) (s : ℕ) → IsChange c → c.new_rest ≤ s → drop s (directives c.new) ≡ drop (old_point c s) (directives c.old)
+rest-on c s is from = drop-map directive_of s c.new.blocks ∙ ap (map directive_of) (blocks-on c s is from) ∙ sym (drop-map directive_of (old_point c s) c.old.blocks)
 
 -- where the clusters meet, they are equal from there on
-pub states-after : (c : Change) (s t : ℕ) → IsChange c → c.new_rest ≤ s → s ≤ t → state c.new s ≡ state c.old (old_place c s) → state c.new t ≡ state c.old (old_place c t)
+pub states-after : (c : Change) (s t : ℕ) → IsChange c → c.new_rest ≤ s → s ≤ t → state c.new s ≡ state c.old (old_point c s) → state c.new t ≡ state c.old (old_point c t)
 states-after c s t is from le same =
     let at : t ≡ s + (t - s) = omega arith in
-    let to : old_place c t ≡ old_place c s + (t - s) = omega arith in
-    ap (state c.new) at ∙ states-on c.new c.old s (old_place c s) (t - s) (rest-on c s is from) same ∙ ap (state c.old) (sym to)
+    let to : old_point c t ≡ old_point c s + (t - s) = omega arith in
+    ap (state c.new) at ∙ states-on c.new c.old s (old_point c s) (t - s) (rest-on c s is from) same ∙ ap (state c.old) (sym to)
 
 -- and so are the outputs
-pub outputs-after : (c : Change) (s : ℕ) → IsChange c → c.new_rest ≤ s → state c.new s ≡ state c.old (old_place c s) → drop s (outputs c.new) ≡ drop (old_place c s) (outputs c.old)
-outputs-after c s is from same = outputs-on c.new c.old s (old_place c s) (rest-on c s is from) same
+pub outputs-after : (c : Change) (s : ℕ) → IsChange c → c.new_rest ≤ s → state c.new s ≡ state c.old (old_point c s) → drop s (outputs c.new) ≡ drop (old_point c s) (outputs c.old)
+outputs-after c s is from same = outputs-on c.new c.old s (old_point c s) (rest-on c s is from) same
 
 -- the start is at most `front`, and less than `spacing` before it
 pub start-le : (c : Change) → start c ≤ c.front
-start-le c = last_up_to-le c.front c.places
+start-le c = last_up_to-le c.front c.points
 
 start-near-of : (K n q : ℕ) (ps : List ℕ) → q ≤ n → AreKept K n ps → q < last_up_to q ps + K
 start-near-of K n q [] le kept = absurd kept
@@ -52,13 +52,13 @@ start-near-of K n q (p ∷ ps) le kept =
     start-at p q ps le near = let t : nat_le p q ≡ true = le-leb p q le in rw t near
 
 pub start-near : (c : Change) → IsChange c → c.front < start c + c.spacing
-start-near c is = start-near-of c.spacing (length c.old.blocks) c.front c.places (omega arith) is.kept
+start-near c is = start-near-of c.spacing (length c.old.blocks) c.front c.points (omega arith) is.kept
 
 near-end : (K n before : ℕ) (ps : List ℕ) → AreNear K n before ps → before ≤ n
 near-end K n before [] near = near.0
 near-end K n before (p ∷ ps) near = let t : p ≤ n = near-end K n p ps near.2 in omega arith
 
--- a kept place is one of the old script
+-- a kept point is one of the old script
 pub kept-within : (K n : ℕ) (ps : List ℕ) (p : ℕ) → AreKept K n ps → Contains ps p → p ≤ n
 kept-within K n [] p kept has = absurd kept
 kept-within K n (x ∷ ps) p kept (zero, lt, is) = let t : x ≤ n = near-end K n x ps kept.1 in omega arith
@@ -66,7 +66,7 @@ kept-within K n (x ∷ ps) p kept (suc k, lt, is) = let t : get_or ps k p ≤ n 
 
 -- the clusters meet within the new script
 pub meets-within : (c : Change) (s : ℕ) → IsChange c → Meets c s → s ≤ length c.new.blocks
-meets-within c s is m = let t : old_place c s ≤ length c.old.blocks = kept-within c.spacing (length c.old.blocks) c.places (old_place c s) is.kept m.is_kept in omega arith
+meets-within c s is m = let t : old_point c s ≤ length c.old.blocks = kept-within c.spacing (length c.old.blocks) c.points (old_point c s) is.kept m.is_kept in omega arith
 
 pub stop-within : (c : Change) (o : Option ℕ) → IsChange c → IsFirstMeeting c o → stop c o ≤ length c.new.blocks
 stop-within c None is first = omega arith
@@ -80,17 +80,17 @@ cost-le c executed is cost =
     omega (arith, cost.is_cost)
 
 -- Where the clusters agree as the rest begins, no more is executed than twice the spacing, less one.
-meets-at : (c : Change) (p : ℕ) → IsChange c → state c.new c.new_rest ≡ state c.old c.old_rest → c.old_rest ≤ p → Contains c.places p → Meets c (new_place c p)
+meets-at : (c : Change) (p : ℕ) → IsChange c → state c.new c.new_rest ≡ state c.old c.old_rest → c.old_rest ≤ p → Contains c.points p → Meets c (new_point c p)
 meets-at c p is same le has =
-    let back : old_place c (new_place c p) ≡ p = omega arith in
-    let begins : old_place c c.new_rest ≡ c.old_rest = omega arith in
+    let back : old_point c (new_point c p) ≡ p = omega arith in
+    let begins : old_point c c.new_rest ≡ c.old_rest = omega arith in
     let s : start c ≤ c.front = start-le c in
-    let same' : state c.new c.new_rest ≡ state c.old (old_place c c.new_rest) = same ∙ ap (state c.old) (sym begins) in
+    let same' : state c.new c.new_rest ≡ state c.old (old_point c c.new_rest) = same ∙ ap (state c.old) (sym begins) in
     record {
       from_start = omega arith;
       in_rest = omega arith;
       is_kept = rw back has;
-      same = states-after c c.new_rest (new_place c p) is (omega arith) (omega arith) same';
+      same = states-after c c.new_rest (new_point c p) is (omega arith) (omega arith) same';
     }
 
 next-kept : (K n r : ℕ) (ps : List ℕ) → 1 ≤ K → r ≤ n → AreKept K n ps → ((p : ℕ) × Contains ps p × (r ≤ p) × (p < r + K)) ⊎ (n + 1 < r + K)
@@ -107,15 +107,15 @@ next-kept K n r (x ∷ ps) one le kept =
 pub cost-small : (c : Change) (executed : ℕ) → IsChange c → IsCost c executed → state c.new c.new_rest ≡ state c.old c.old_rest → executed + 1 ≤ 2 * c.spacing
 cost-small c executed is cost same =
     let from : c.front < start c + c.spacing = start-near c is in
-    let to : stop c cost.meeting < c.new_rest + c.spacing = stops-soon c is same cost.meeting cost.is_first (next-kept c.spacing (length c.old.blocks) c.old_rest c.places is.spaced is.old_within is.kept) in
+    let to : stop c cost.meeting < c.new_rest + c.spacing = stops-soon c is same cost.meeting cost.is_first (next-kept c.spacing (length c.old.blocks) c.old_rest c.points is.spaced is.old_within is.kept) in
     omega (arith, cost.is_cost)
   where
-    stops-soon : (c : Change) → IsChange c → state c.new c.new_rest ≡ state c.old c.old_rest → (o : Option ℕ) → IsFirstMeeting c o → (((p : ℕ) × Contains c.places p × (c.old_rest ≤ p) × (p < c.old_rest + c.spacing)) ⊎ (length c.old.blocks + 1 < c.old_rest + c.spacing)) → stop c o < c.new_rest + c.spacing
+    stops-soon : (c : Change) → IsChange c → state c.new c.new_rest ≡ state c.old c.old_rest → (o : Option ℕ) → IsFirstMeeting c o → (((p : ℕ) × Contains c.points p × (c.old_rest ≤ p) × (p < c.old_rest + c.spacing)) ⊎ (length c.old.blocks + 1 < c.old_rest + c.spacing)) → stop c o < c.new_rest + c.spacing
     stops-soon c is same o first (inr e) = let to : stop c o ≤ length c.new.blocks = stop-within c o is first in omega arith
-    stops-soon c is same None first (inl f) = absurd (first (new_place c f.0) (meets-at c f.0 is same f.2 f.1))
+    stops-soon c is same None first (inl f) = absurd (first (new_point c f.0) (meets-at c f.0 is same f.2 f.1))
     stops-soon c is same (Some s) first (inl f) =
-        elim (cases_lt (new_place c f.0) s) [
-          | inl lt ↦ absurd (first.1 (new_place c f.0) lt (meets-at c f.0 is same f.2 f.1))
+        elim (cases_lt (new_point c f.0) s) [
+          | inl lt ↦ absurd (first.1 (new_point c f.0) lt (meets-at c f.0 is same f.2 f.1))
           | inr ge ↦ omega (arith, f.3, f.2)
         ]
 
@@ -128,7 +128,7 @@ cost-at_least c at n unmet within cost = let on : at ≤ stop c cost.meeting = g
     goes-on c at (Some s) unmet within first = elim (cases_lt s at) [ inl lt ↦ absurd (unmet s lt first.0) | inr ge ↦ ge ]
 
 -- Nothing was met up to `at`, and what is kept there is not the state.
-pub unmet_more : (c : Change) (at : ℕ) (m : Cluster) → ((t : ℕ) → t < at → Meets c t → ⊥) → m ≡ state c.new at → (c.new_rest ≤ at → Contains c.places (old_place c at) → m ≡ state c.old (old_place c at) → ⊥) → (t : ℕ) → t < at + 1 → Meets c t → ⊥
+pub unmet_more : (c : Change) (at : ℕ) (m : Cluster) → ((t : ℕ) → t < at → Meets c t → ⊥) → m ≡ state c.new at → (c.new_rest ≤ at → Contains c.points (old_point c at) → m ≡ state c.old (old_point c at) → ⊥) → (t : ℕ) → t < at + 1 → Meets c t → ⊥
 unmet_more c at m unmet here differs t lt meets =
     elim (cases_lt t at) [
       | inl before ↦ unmet t before meets

@@ -38,14 +38,14 @@ length-directives s = length-map s.blocks directive_of
 pub length-outputs : (s : PlainScript) → length (outputs s) ≡ length s.blocks
 length-outputs s = length-answers empty (directives s) ∙ length-directives s
 
--- the cluster some places on
+-- the cluster some points on
 pub state-add : (s : PlainScript) (i j : ℕ) → state s (i + j) ≡ led (state s i) (take j (drop i (directives s)))
 state-add s i j = rw take-add (led-append empty (take i (directives s)) (take j (drop i (directives s))))
 
 pub drop-outputs : (s : PlainScript) (i : ℕ) → drop i (outputs s) ≡ answers (state s i) (drop i (directives s))
 drop-outputs s i = drop-answers empty i (directives s)
 
--- Scripts whose directives agree from a place on, in equal clusters there, have equal clusters from there on.
+-- Scripts whose directives agree from a point on, in equal clusters there, have equal clusters from there on.
 pub states-on : (new old : PlainScript) (i k j : ℕ) → drop i (directives new) ≡ drop k (directives old) → state new i ≡ state old k → state new (i + j) ≡ state old (k + j)
 states-on new old i k j rest same = state-add new i j ∙ both (λ (c : Cluster) (ds : List PlainDirective). led c (take j ds)) same rest ∙ sym (state-add old k j)
 

@@ -7,22 +7,22 @@ use Rattle.rb_script.specs.Edits.{edited}
 use Rattle.rb_replay.specs.declared.session.Changed.{Changed}
 use Rattle.rb_replay.specs.Run.{outputs}
 use Rattle.rb_replay.specs.Report.{mismatches}
-use Rattle.rb_replay.specs.Held.{Held, IsFresh}
+use Rattle.rb_replay.specs.Holding.{Holding, IsFresh}
 use Rattle.rb_replay.specs.Reuse.{ReusesFor}
 
 -- An accepted edit puts its script in. What is held then is what one run of that script gives.
-pub record IsEdited (old : Held) (edit : Edit) (changed : Changed) (new : Held) : Type 0 where
+pub record IsEdited (old : Holding) (edit : Edit) (changed : Changed) (new : Holding) : Type 0 where
   pub script : edited old.script edit (outputs old.script) ≡ Ok new.script
   pub fresh : IsFresh new
   pub spacing : new.spacing ≡ old.spacing
-  pub reuse : ReusesFor old edit new.script changed.executed new.places
+  pub reuse : ReusesFor old edit new.script changed.executed new.points
   pub mismatches_are : changed.mismatches ≡ length (mismatches new.script)
 
 abbrev pub Answer : Type 0
 Answer = Result Changed EditFault
 
 -- a refused one leaves all as it was
-abbrev pub IsAnswer : Held → Edit → Answer → Held → Type 0
+abbrev pub IsAnswer : Holding → Edit → Answer → Holding → Type 0
 IsAnswer old edit (Ok changed) new = IsEdited old edit changed new
 IsAnswer old edit (Err fault) new = new ≡ old
 
@@ -31,9 +31,9 @@ abbrev pub Answered : Type 0
 Answered = List (Edit × Answer)
 
 -- these answers lead from the first session to the last
-abbrev pub Leads : Held → Answered → Held → Type 0
+abbrev pub Leads : Holding → Answered → Holding → Type 0
 Leads first [] last = last ≡ first
-Leads first (step ∷ steps) last = (next : Held) × IsAnswer first step.0 step.1 next × Leads next steps last
+Leads first (step ∷ steps) last = (next : Holding) × IsAnswer first step.0 step.1 next × Leads next steps last
 
 abbrev pub or_same : PlainScript → Result PlainScript EditFault → PlainScript
 or_same s (Ok new) = new

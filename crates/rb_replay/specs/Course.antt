@@ -4,33 +4,33 @@ use Rattle.rb_script.specs.Script.{PlainScript}
 use Rattle.rb_cluster.specs.Cluster.{Cluster}
 use Rattle.rb_replay.specs.declared.course.Course.{Course}
 use Rattle.rb_replay.specs.Run.{state, outputs}
-use Rattle.rb_replay.specs.Places.{every}
+use Rattle.rb_replay.specs.Points.{every}
 
--- How places are kept on the way: `due` directives are still to run up to the next one. Whoever comes to
+-- How points are kept on the way: `due` directives are still to run up to the next one. Whoever comes to
 -- `at` has not kept it yet.
-pub record IsPaced (K from at due : ℕ) (places : List ℕ) : Type 0 where
-  pub so_far : places ≡ every K from (length places)
-  pub next : at + due ≡ from + (length places + 1) * K
+pub record IsPaced (K from at due : ℕ) (points : List ℕ) : Type 0 where
+  pub so_far : points ≡ every K from (length points)
+  pub next : at + due ≡ from + (length points + 1) * K
   pub most : due ≤ K
   pub fresh : due ≡ K → at ≡ from
 
 -- and who goes on from `at` has kept it if it was due
-pub record IsPacedOn (K from at due : ℕ) (places : List ℕ) : Type 0 where
-  pub so_far : places ≡ every K from (length places)
-  pub next : at + due ≡ from + (length places + 1) * K
+pub record IsPacedOn (K from at due : ℕ) (points : List ℕ) : Type 0 where
+  pub so_far : points ≡ every K from (length points)
+  pub next : at + due ≡ from + (length points + 1) * K
   pub least : 1 ≤ due
   pub most : due ≤ K
 
--- what a run of a script from a place on has brought
+-- what a run of a script from a point on has brought
 pub record HasRun {M : Type 0} (meaning : M → Cluster) (s : PlainScript) (c : Course M) : Type 0 where
   pub from_first : c.from ≤ c.at
   pub within : c.at ≤ length s.blocks
   pub outputs_on : take c.from (outputs s) ++ c.outputs.items ≡ take c.at (outputs s)
-  pub states_are : map meaning c.kept.items ≡ map (state s) c.places.items
+  pub states_are : map meaning c.kept.items ≡ map (state s) c.points.items
 
--- and its places, when it comes to a place, and when it goes on from it
+-- and its points, when it comes to a point, and when it goes on from it
 abbrev pub PacedAt : {M : Type 0} → Course M → Type 0
-PacedAt c = IsPaced c.spacing c.from c.at c.due c.places.items
+PacedAt c = IsPaced c.spacing c.from c.at c.due c.points.items
 
 abbrev pub PacedOn : {M : Type 0} → Course M → Type 0
-PacedOn c = IsPacedOn c.spacing c.from c.at c.due c.places.items
+PacedOn c = IsPacedOn c.spacing c.from c.at c.due c.points.items

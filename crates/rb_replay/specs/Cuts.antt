@@ -10,27 +10,27 @@ use Rattle.rb_cluster.specs.Cluster.{Cluster}
 use Rattle.rb_replay.specs.Course.{HasRun}
 use Rattle.rb_replay.specs.Run.{state, outputs}
 use Rattle.rb_replay.specs.Report.{mismatches}
-use Rattle.rb_replay.specs.Reuse.{Change, start, stop, old_place, IsFirstMeeting, fresh_places, places_before}
+use Rattle.rb_replay.specs.Reuse.{Change, start, stop, old_point, IsFirstMeeting, fresh_points, points_before}
 
--- where a place, or the next one after it, stands in a list of places
-pub record IsNext (places : List ℕ) (place index : ℕ) : Type 0 where
-  pub within : index ≤ length places
-  pub below : (k : ℕ) → k < index → slice_index places k < place
-  pub above : index < length places → place ≤ slice_index places index
+-- where a point, or the next one after it, stands in a list of points
+pub record IsNext (points : List ℕ) (point index : ℕ) : Type 0 where
+  pub within : index ≤ length points
+  pub below : (k : ℕ) → k < index → slice_index points k < point
+  pub above : index < length points → point ≤ slice_index points index
 
--- the places of the clusters that a run brings: at a meeting its own too
-abbrev pub run_places : Change → Option ℕ → List ℕ
-run_places c None = fresh_places c None
-run_places c (Some s) = fresh_places c (Some s) ++ s ∷ []
+-- the points of the clusters that a run brings: at a meeting its own too
+abbrev pub run_points : Change → Option ℕ → List ℕ
+run_points c None = fresh_points c None
+run_points c (Some s) = fresh_points c (Some s) ++ s ∷ []
 
--- up to where old places stay, and from where on the old run is used again
+-- up to where old points stay, and from where on the old run is used again
 abbrev pub front_bound : Change → Option ℕ → ℕ
 front_bound c None = start c + 1
 front_bound c (Some s) = min (start c + 1) s
 
 abbrev pub old_stop : Change → Option ℕ → ℕ
 old_stop c None = length c.old.blocks
-old_stop c (Some s) = old_place c s
+old_stop c (Some s) = old_point c s
 
 -- what a run of an edited script brings back
 pub record IsRerun {M : Type 0} (meaning : M → Cluster) (c : Change) (r : Rerun M) : Type 0 where
@@ -39,45 +39,60 @@ pub record IsRerun {M : Type 0} (meaning : M → Cluster) (c : Change) (r : Reru
   pub at_is : r.course.at ≡ stop c r.met
   pub spacing_is : r.course.spacing ≡ c.spacing
   pub has_run : HasRun meaning c.new r.course
-  pub places_are : r.course.places.items ≡ run_places c r.met
+  pub points_are : r.course.points.items ≡ run_points c r.met
 
--- Where the old run goes on: which of its places stay, and which are used again.
+-- Where the old run goes on: which of its points stay, and which are used again.
 pub record IsSeam (c : Change) (meeting : Option ℕ) (seam : Seam) : Type 0 where
   pub old_stop_is : seam.old_stop ≡ old_stop c meeting
-  pub fronts : take seam.front c.places ≡ filter (λ p. nat_lt p (front_bound c meeting)) c.places
-  pub rests : drop seam.rest c.places ≡ filter (λ p. nat_le (old_stop c meeting + 1) p) c.places
+  pub fronts : take seam.front c.points ≡ filter (λ p. nat_lt p (front_bound c meeting)) c.points
+  pub rests : drop seam.rest c.points ≡ filter (λ p. nat_le (old_stop c meeting + 1) p) c.points
   pub order : seam.front ≤ seam.rest
-  pub within : seam.rest ≤ length c.places
+  pub within : seam.rest ≤ length c.points
 
 abbrev pub no_cut : Cut
 no_cut = record { front = 0; old_rest = 0; new_rest = 0 }
 
--- Blocks and outputs of two scripts are the same up to a place, and from an old place on, but that they
+-- Blocks and outputs of two scripts are the same up to a point, and from an old point on, but that they
 -- move.
 pub record IsMended (old new : PlainScript) (cut : Cut) (from : ℕ) (os : List (List Line)) (stop : ℕ) : Type 0 where
+  -- up to `from` both scripts have the same blocks
   pub same_front : take from new.blocks ≡ take from old.blocks
+  -- and answer the same
   pub same_answers : take from (outputs new) ≡ take from (outputs old)
+  -- the outputs `os` are those of the new script from there on
   pub answers_on : take from (outputs new) ++ os ≡ take (from + length os) (outputs new)
+  -- behind them the blocks are those behind `stop` in the old script
   pub same_rest : drop (from + length os) new.blocks ≡ drop stop old.blocks
+  -- and so are the outputs
   pub same_end : drop (from + length os) (outputs new) ≡ drop stop (outputs old)
+  -- as far as the cut moves the rest, so far `stop` was moved
   pub moved : from + length os ≡ stop - cut.old_rest + cut.new_rest
+  -- `stop` lies in the rest that the cut leaves
   pub in_rest : cut.old_rest ≤ stop
+  -- and not before `from`
   pub order : from ≤ stop
+  -- both ends lie within their scripts
   pub old_within : stop ≤ length old.blocks
   pub new_within : from + length os ≤ length new.blocks
 
 -- What stands ready for a change: with what of the old stays it makes up the new.
 pub record IsReady {M : Type 0} (meaning : M → Cluster) (c : Change) (kept : List Cluster) (r : Ready M) : Type 0 where
+  -- where an old cluster was met, if one was
   pub meeting : Option ℕ
   pub is_first : IsFirstMeeting c meeting
+  -- the run went from the start to the stop, and kept clusters as far apart as the session does
   pub from_is : r.course.from ≡ start c
   pub at_is : r.course.at ≡ stop c meeting
   pub spacing_is : r.course.spacing ≡ c.spacing
-  pub places_are : r.places.items ≡ places_before c meeting
+  -- the new points, before thinning, and the new mismatches stand ready whole
+  pub points_are : r.points.items ≡ points_before c meeting
   pub mismatches_are : r.mismatches.items ≡ mismatches c.new
+  -- old outputs, those that were run, and old ones again are the outputs of the new script
   pub outputs_are : take r.course.from (outputs c.old) ++ (r.course.outputs.items ++ drop r.seam.old_stop (outputs c.old)) ≡ outputs c.new
-  pub states_are : take r.seam.front kept ++ (map meaning r.course.kept.items ++ drop r.seam.rest kept) ≡ map (state c.new) r.places.items
+  -- and in the same way kept clusters those of the new points
+  pub states_are : take r.seam.front kept ++ (map meaning r.course.kept.items ++ drop r.seam.rest kept) ≡ map (state c.new) r.points.items
+  -- what stays and what is used again don't overlap, and lie within what there was
   pub order : r.course.from ≤ r.seam.old_stop
   pub old_within : r.seam.old_stop ≤ length c.old.blocks
   pub front_first : r.seam.front ≤ r.seam.rest
-  pub rest_within : r.seam.rest ≤ length c.places
+  pub rest_within : r.seam.rest ≤ length c.points

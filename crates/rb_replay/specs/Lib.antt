@@ -1,7 +1,7 @@
 pub mod Run
 pub mod Report
-pub mod Places
-pub mod Held
+pub mod Points
+pub mod Holding
 pub mod Reuse
 pub mod After
 pub mod Start

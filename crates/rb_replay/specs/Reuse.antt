@@ -8,11 +8,11 @@ use Rattle.rb_replay.specs.declared.cut.Effect.{Effect}
 use Rattle.rb_replay.specs.declared.cut.Effect.TheVariants.{Splice}
 use Rattle.rb_replay.specs.declared.cut.Effect.TheVariants as effects
 use Rattle.rb_replay.specs.Run.{state}
-use Rattle.rb_replay.specs.Places.{last_up_to, every, thin, AreKept}
-use Rattle.rb_replay.specs.Held.{Held}
+use Rattle.rb_replay.specs.Points.{last_up_to, every, thin, AreKept}
+use Rattle.rb_replay.specs.Holding.{Holding}
 
--- Two scripts and what they share: the first `front` blocks, and those after old place `old_rest`, which
--- stand after new place `new_rest`. Clusters of the old script are kept at `places`, `spacing` directives
+-- Two scripts and what they share: the first `front` blocks, and those after old point `old_rest`, which
+-- stand after new point `new_rest`. Clusters of the old script are kept at `points`, `spacing` directives
 -- apart.
 pub record Change : Type 0 where
   pub old : PlainScript
@@ -21,11 +21,11 @@ pub record Change : Type 0 where
   pub old_rest : ℕ
   pub new_rest : ℕ
   pub spacing : ℕ
-  pub places : List ℕ
+  pub points : List ℕ
 
-abbrev pub change : Held → PlainScript → ℕ → ℕ → ℕ → Change
+abbrev pub change : Holding → PlainScript → ℕ → ℕ → ℕ → Change
 change h new front old_rest new_rest =
-    record { old = h.script; new = new; front = front; old_rest = old_rest; new_rest = new_rest; spacing = h.spacing; places = h.places }
+    record { old = h.script; new = new; front = front; old_rest = old_rest; new_rest = new_rest; spacing = h.spacing; points = h.points }
 
 -- what an edit changes of a run: the directives between a front and a rest that stay, or only expectations
 abbrev pub effect_of : Edit → Effect
@@ -35,37 +35,37 @@ effect_of (Remove k) = Splice (record { front = k - 1; old_rest = k; new_rest = 
 effect_of (Expect k lines) = effects.Expect k
 effect_of Accept = effects.Accept
 
-abbrev pub change_by : Held → PlainScript → Cut → Change
+abbrev pub change_by : Holding → PlainScript → Cut → Change
 change_by h new cut = change h new cut.front cut.old_rest cut.new_rest
 
-abbrev pub change_for : Held → PlainScript → Effect → Option Change
+abbrev pub change_for : Holding → PlainScript → Effect → Option Change
 change_for h new (Splice cut) = Some (change_by h new cut)
 change_for h new (effects.Expect k) = None
 change_for h new effects.Accept = None
 
 -- the change that an edit makes of a session, where it may change a cluster
-abbrev pub change_of : Held → PlainScript → Edit → Option Change
+abbrev pub change_of : Holding → PlainScript → Edit → Option Change
 change_of h new edit = change_for h new (effect_of edit)
 
--- the place to run on from
+-- the point to run on from
 abbrev pub start : Change → ℕ
-start c = last_up_to c.front c.places
+start c = last_up_to c.front c.points
 
--- the old place of a new place in the rest, and the new place of an old one
-abbrev pub old_place : Change → ℕ → ℕ
-old_place c s = s - c.new_rest + c.old_rest
+-- the old place of a new point in the rest, and the new place of an old one
+abbrev pub old_point : Change → ℕ → ℕ
+old_point c s = s - c.new_rest + c.old_rest
 
-abbrev pub new_place : Change → ℕ → ℕ
-new_place c p = p - c.old_rest + c.new_rest
+abbrev pub new_point : Change → ℕ → ℕ
+new_point c p = p - c.old_rest + c.new_rest
 
--- At this new place the new cluster is the one that is kept for the old place.
+-- At this new point the new cluster is the one that is kept for the old point.
 pub record Meets (c : Change) (s : ℕ) : Type 0 where
   pub from_start : start c ≤ s
   pub in_rest : c.new_rest ≤ s
-  pub is_kept : Contains c.places (old_place c s)
-  pub same : state c.new s ≡ state c.old (old_place c s)
+  pub is_kept : Contains c.points (old_point c s)
+  pub same : state c.new s ≡ state c.old (old_point c s)
 
--- the least place where they meet, or none
+-- the least point where they meet, or none
 abbrev pub IsFirstMeeting : Change → Option ℕ → Type 0
 IsFirstMeeting c (Some s) = Meets c s × ((t : ℕ) → t < s → Meets c t → ⊥)
 IsFirstMeeting c None = (t : ℕ) → Meets c t → ⊥
@@ -75,31 +75,31 @@ abbrev pub stop : Change → Option ℕ → ℕ
 stop c (Some s) = s
 stop c None = length c.new.blocks
 
--- the places on the way: start + K, start + 2 * K and so on, before a meeting or up to the end
-abbrev pub fresh_places : Change → Option ℕ → List ℕ
-fresh_places c None = every c.spacing (start c) ((length c.new.blocks - start c) / c.spacing)
-fresh_places c (Some s) = every c.spacing (start c) ((s - 1 - start c) / c.spacing)
+-- the points on the way: start + K, start + 2 * K and so on, before a meeting or up to the end
+abbrev pub fresh_points : Change → Option ℕ → List ℕ
+fresh_points c None = every c.spacing (start c) ((length c.new.blocks - start c) / c.spacing)
+fresh_points c (Some s) = every c.spacing (start c) ((s - 1 - start c) / c.spacing)
 
--- The places before thinning: up to the start, those on the way, and from a meeting on those of the old
+-- The points before thinning: up to the start, those on the way, and from a meeting on those of the old
 -- script.
-abbrev pub places_before : Change → Option ℕ → List ℕ
-places_before c None = filter (λ p. nat_lt p (start c + 1)) c.places ++ fresh_places c None
-places_before c (Some s) =
-    filter (λ p. nat_lt p (min (start c + 1) s)) c.places ++ (fresh_places c (Some s) ++ map (new_place c) (filter (λ p. nat_le (old_place c s) p) c.places))
+abbrev pub points_before : Change → Option ℕ → List ℕ
+points_before c None = filter (λ p. nat_lt p (start c + 1)) c.points ++ fresh_points c None
+points_before c (Some s) =
+    filter (λ p. nat_lt p (min (start c + 1) s)) c.points ++ (fresh_points c (Some s) ++ map (new_point c) (filter (λ p. nat_le (old_point c s) p) c.points))
 
-abbrev pub places_after : Change → Option ℕ → List ℕ
-places_after c meeting = thin c.spacing (places_before c meeting)
+abbrev pub points_after : Change → Option ℕ → List ℕ
+points_after c meeting = thin c.spacing (points_before c meeting)
 
--- which places stand in that list
-abbrev pub IsOldPlace : Change → Option ℕ → ℕ → Type 0
-IsOldPlace c None p = ⊥
-IsOldPlace c (Some s) p = (s ≤ p) × Contains c.places (old_place c p)
+-- which points stand in that list
+abbrev pub IsOldPoint : Change → Option ℕ → ℕ → Type 0
+IsOldPoint c None p = ⊥
+IsOldPoint c (Some s) p = (s ≤ p) × Contains c.points (old_point c p)
 
-abbrev pub IsPlaceBefore : Change → Option ℕ → ℕ → Type 0
-IsPlaceBefore c meeting p =
-    (Contains c.places p × (p ≤ start c))
+abbrev pub IsPointBefore : Change → Option ℕ → ℕ → Type 0
+IsPointBefore c meeting p =
+    (Contains c.points p × (p ≤ start c))
     ⊎ ((j : ℕ) × (1 ≤ j) × (p ≡ start c + j * c.spacing) × (p ≤ stop c meeting))
-    ⊎ IsOldPlace c meeting p
+    ⊎ IsOldPoint c meeting p
 
 -- what the change of an edit is like
 pub record IsChange (c : Change) : Type 0 where
@@ -113,7 +113,7 @@ pub record IsChange (c : Change) : Type 0 where
   pub new_within : c.new_rest ≤ length c.new.blocks
   pub lengths : length c.new.blocks + c.old_rest ≡ length c.old.blocks + c.new_rest
   pub spaced : 1 ≤ c.spacing
-  pub kept : AreKept c.spacing (length c.old.blocks) c.places
+  pub kept : AreKept c.spacing (length c.old.blocks) c.points
 
 -- how many directives are executed
 pub record IsCost (c : Change) (executed : ℕ) : Type 0 where
@@ -121,23 +121,23 @@ pub record IsCost (c : Change) (executed : ℕ) : Type 0 where
   pub is_first : IsFirstMeeting c meeting
   pub is_cost : executed ≡ stop c meeting - start c
 
--- What is used again, exactly: where running stops, how much was executed, and which places are kept then.
-pub record Reuses (c : Change) (executed : ℕ) (places : List ℕ) : Type 0 where
+-- What is used again, exactly: where running stops, how much was executed, and which points are kept then.
+pub record Reuses (c : Change) (executed : ℕ) (points : List ℕ) : Type 0 where
   pub cost : IsCost c executed
-  pub are_places : places ≡ places_after c cost.meeting
+  pub are_points : points ≡ points_after c cost.meeting
 
--- the same of an edit: one that changes no cluster executes nothing and leaves the places
+-- the same of an edit: one that changes no cluster executes nothing and leaves the points
 abbrev pub ReusesIf : Option Change → List ℕ → ℕ → List ℕ → Type 0
-ReusesIf (Some c) old_places executed places = Reuses c executed places
-ReusesIf None old_places executed places = (executed ≡ 0) × (places ≡ old_places)
+ReusesIf (Some c) old_points executed points = Reuses c executed points
+ReusesIf None old_points executed points = (executed ≡ 0) × (points ≡ old_points)
 
-abbrev pub ReusesFor : Held → Edit → PlainScript → ℕ → List ℕ → Type 0
-ReusesFor h edit new executed places = ReusesIf (change_of h new edit) h.places executed places
+abbrev pub ReusesFor : Holding → Edit → PlainScript → ℕ → List ℕ → Type 0
+ReusesFor h edit new executed points = ReusesIf (change_of h new edit) h.points executed points
 
 abbrev pub IsCostIf : Option Change → ℕ → Type 0
 IsCostIf (Some c) executed = IsCost c executed
 IsCostIf None executed = executed ≡ 0
 
 -- how many directives an edit of a session executes, where it makes this script
-abbrev pub IsCostFor : Held → Edit → PlainScript → ℕ → Type 0
+abbrev pub IsCostFor : Holding → Edit → PlainScript → ℕ → Type 0
 IsCostFor h edit new executed = IsCostIf (change_of h new edit) executed

@@ -21,7 +21,7 @@ abbrev pub answers : Cluster → List PlainDirective → List (List Line)
 answers c [] = []
 answers c (d ∷ ds) = (outcome c d).output ∷ answers (outcome c d).cluster ds
 
--- the cluster at place i of a script, after its first i directives
+-- the cluster at point i of a script, after its first i directives
 abbrev pub state : PlainScript → ℕ → Cluster
 state s i = led empty (take i (directives s))
 

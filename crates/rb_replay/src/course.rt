@@ -11,15 +11,15 @@ use rb_cluster::{Count, Machine};
 use rb_script::{Lines, Script};
 use std::alloc::{AllocError, Global};
 
-/// What a run of a script from a place on has brought so far.
+/// What a run of a script from a point on has brought so far.
 #[derive(Drop)]
 pub(crate) struct Course<M> {
     pub(crate) outputs: Vec<Lines>,
-    // the places at which the machine was kept on the way, and what was kept
-    pub(crate) places: Vec<usize>,
+    // the points at which the machine was kept on the way, and what was kept
+    pub(crate) points: Vec<usize>,
     pub(crate) kept: Vec<M>,
     pub(crate) spacing: usize,
-    // the place that it began at, and the one that it has come to
+    // the point that it began at, and the one that it has come to
     pub(crate) from: usize,
     pub(crate) at: usize,
     // how many directives are to run before the machine is kept again
@@ -30,7 +30,7 @@ impl<M: Machine> Course<M> {
     /// Nothing has run yet.
     pub(crate) fn new(alloc: Global, spacing: usize, from: usize) -> Course<M>
         ensures outputs { result.outputs.items ≡ [] }
-        ensures places { result.places.items ≡ [] }
+        ensures points { result.points.items ≡ [] }
         ensures kept { result.kept.items ≡ [] }
         ensures spacing { result.spacing ≡ spacing }
         ensures from { result.from ≡ from }
@@ -39,7 +39,7 @@ impl<M: Machine> Course<M> {
     {
         Course {
             outputs: Vec::new(alloc),
-            places: Vec::new(alloc),
+            points: Vec::new(alloc),
             kept: Vec::new(alloc),
             spacing,
             from,
@@ -48,7 +48,7 @@ impl<M: Machine> Course<M> {
         }
     }
 
-    /// Keeps the machine if its place is due.
+    /// Keeps the machine if its point is due.
     pub(crate) fn keep_due(&mut self, machine: &M) -> Result<(), AllocError>
         requires spaced { 1 ≤ self.old.spacing }
         requires paced { PacedAt self.old }
@@ -62,7 +62,7 @@ impl<M: Machine> Course<M> {
             return Ok(());
         }
         self.kept.push(machine.try_copy()?)?;
-        self.places.push(self.at)?;
+        self.points.push(self.at)?;
         self.due = self.spacing;
         Ok(())
     }

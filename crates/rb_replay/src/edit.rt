@@ -13,7 +13,7 @@ impl<M: Machine> Session<M> {
     ghost use Rattle.rb_script.specs.Script.{PlainScript};
     ghost use Rattle.rb_script.specs.Edits.{edited, EditFails};
     ghost use Rattle.rb_replay.specs.Run.{outputs};
-    ghost use Rattle.rb_replay.specs.Held.{Held, IsFresh};
+    ghost use Rattle.rb_replay.specs.Holding.{Holding, IsFresh};
     ghost use Rattle.rb_replay.specs.Reuse.{change_by, IsChange, IsCost, Reuses, IsCostFor};
     ghost use Rattle.rb_replay.specs.After.{IsAnswer};
 
@@ -54,7 +54,7 @@ impl<M: Machine> Session<M> {
         requires meter { M.Meter.count_of meter.old ≤ 2 ^ 62 }
         ensures script { OnOk result (self.new.script ≡ new) }
         ensures spacing { self.new.spacing ≡ self.old.spacing }
-        ensures reuse { IfOk result (λ changed. Reuses (change_by self.old new cut) changed.executed self.new.places) }
+        ensures reuse { IfOk result (λ changed. Reuses (change_by self.old new cut) changed.executed self.new.points) }
         ensures counted { IfOk result (λ changed. M.Meter.count_of meter.new ≡ M.Meter.count_of meter.old + changed.executed) }
         ensures mismatches { IfOk result (λ changed. changed.mismatches ≡ length self.new.mismatches) }
         ensures fresh { IsFresh self.new }
@@ -68,14 +68,14 @@ impl<M: Machine> Session<M> {
         // From here on nothing can fail.
         let executed = (ready.course.at - ready.course.from) as u64;
         let mismatches = ready.mismatches.len();
-        self.places = ready.places;
+        self.points = ready.points;
         self.mismatches = ready.mismatches;
         self.script = new;
         take_over(
             ready.course,
             ready.seam,
             &mut self.outputs,
-            &mut self.places,
+            &mut self.points,
             &mut self.kept,
         );
         Ok(Changed {

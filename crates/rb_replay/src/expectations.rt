@@ -11,7 +11,7 @@ impl<M: Machine> Session<M> {
     ghost use Rattle.rb_script.specs.declared.limits.TheConstants.{MAX_DIRECTIVES};
     ghost use Rattle.rb_replay.specs.Run.{directives, outputs};
     ghost use Rattle.rb_replay.specs.Report.{mismatches};
-    ghost use Rattle.rb_replay.specs.Held.{Held, IsFresh};
+    ghost use Rattle.rb_replay.specs.Holding.{Holding, IsFresh};
     ghost use Rattle.rb_replay.specs.Cuts.{IsMended, no_cut};
 
     /// Puts in a script whose directive at the place expects other lines.
@@ -22,7 +22,7 @@ impl<M: Machine> Session<M> {
         requires mended { IsMended self.old.script new no_cut (place - 1) (take 1 (drop (place - 1) (outputs self.old.script))) place }
         ensures script { OnOk result (self.new.script ≡ new) }
         ensures spacing { self.new.spacing ≡ self.old.spacing }
-        ensures places { self.new.places ≡ self.old.places }
+        ensures points { self.new.points ≡ self.old.points }
         ensures executed { IfOk result (λ changed. changed.executed ≡ 0) }
         ensures mismatches { IfOk result (λ changed. changed.mismatches ≡ length self.new.mismatches) }
         ensures fresh { IsFresh self.new }
@@ -48,7 +48,7 @@ impl<M: Machine> Session<M> {
         requires none { mismatches new ≡ [] }
         ensures script { self.new.script ≡ new }
         ensures spacing { self.new.spacing ≡ self.old.spacing }
-        ensures places { self.new.places ≡ self.old.places }
+        ensures points { self.new.points ≡ self.old.points }
         ensures executed { result.executed ≡ 0 }
         ensures mismatches { result.mismatches ≡ length self.new.mismatches }
         ensures fresh { IsFresh self.new }

@@ -14,7 +14,7 @@ mod edit;
 mod expectations;
 mod fault;
 mod laws;
-mod places;
+mod points;
 mod prepare;
 mod ready;
 mod report;
@@ -27,7 +27,7 @@ mod start;
 pub use fault::StartFault;
 pub use laws::{
     cost_is_bounded, cost_is_one, cost_is_small, edits_answer_as_one_run, edits_are_changes,
-    places_are_few, places_are_members, places_are_near,
+    points_are_few, points_are_members, points_are_near, rewritten_scripts_match,
 };
 pub use session::{Changed, Session};
 pub use spacing::{MAX_SPACING, is_spacing, spacing_limit_is};

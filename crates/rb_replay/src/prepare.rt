@@ -2,7 +2,7 @@
 
 use crate::cut::Cut;
 use crate::differing::list_differing;
-use crate::places::{count_below, joined};
+use crate::points::{count_below, joined};
 use crate::ready::Ready;
 use crate::rerun::Rerun;
 use crate::seam::Seam;
@@ -15,7 +15,7 @@ impl<M: Machine> Session<M> {
     ghost use Rattle.std.specs.Prelude.{◌≡◌, ◌+◌, ◌-◌, ◌≤◌, ◌^◌, ℕ, length, IfOk, OnErr};
     ghost use Rattle.rb_script.specs.declared.limits.TheConstants.{MAX_DIRECTIVES};
     ghost use Rattle.rb_replay.specs.Report.{mismatches};
-    ghost use Rattle.rb_replay.specs.Held.{Held};
+    ghost use Rattle.rb_replay.specs.Holding.{Holding};
     ghost use Rattle.rb_replay.specs.Reuse.{change_by, IsChange, IsCost};
     ghost use Rattle.rb_replay.specs.Cuts.{IsRerun, IsSeam, IsMended, IsReady};
 
@@ -61,11 +61,11 @@ impl<M: Machine> Session<M> {
         ensures ready { IfOk result (IsReady M.meaning (change_by self.now new.now cut) self.now.kept) }
         ensures course { IfOk result (λ ready. ready.course ≡ run.course) }
     {
-        let places = joined(
+        let points = joined(
             self.alloc,
-            &self.places[..seam.front],
-            &run.course.places,
-            &self.places[seam.rest..],
+            &self.points[..seam.front],
+            &run.course.points,
+            &self.points[seam.rest..],
             cut,
         )?;
         let mismatches = self.mended(
@@ -78,7 +78,7 @@ impl<M: Machine> Session<M> {
         Ok(Ready {
             course: run.course,
             seam,
-            places,
+            points,
             mismatches,
         })
     }

@@ -2,22 +2,22 @@
 
 ghost use Rattle.std.specs.Prelude.{◌≡◌, ◌+◌, ◌≤◌, ℕ, ◌++◌, length, take, drop, map, OnOk, vec_len, vec_capacity};
 ghost use Rattle.rb_cluster.specs.Cluster.{Cluster};
-ghost use Rattle.rb_replay.specs.Places.{thin};
+ghost use Rattle.rb_replay.specs.Points.{thin};
 
 use crate::course::Course;
-use crate::places::{put_between, thin};
+use crate::points::{put_between, thin};
 use crate::seam::Seam;
 use rb_cluster::Machine;
 use rb_script::Lines;
 use std::alloc::AllocError;
 
-/// What stands ready: what was run, where the old run goes on, and the places and mismatches that there
+/// What stands ready: what was run, where the old run goes on, and the points and mismatches that there
 /// will be.
 #[derive(Drop)]
 pub(crate) struct Ready<M> {
     pub(crate) course: Course<M>,
     pub(crate) seam: Seam,
-    pub(crate) places: Vec<usize>,
+    pub(crate) points: Vec<usize>,
     pub(crate) mismatches: Vec<usize>,
 }
 
@@ -42,7 +42,7 @@ pub(crate) fn take_over<M: Machine>(
     mut course: Course<M>,
     seam: Seam,
     outputs: &mut Vec<Lines>,
-    places: &mut Vec<usize>,
+    points: &mut Vec<usize>,
     kept: &mut Vec<M>,
 )
     requires outputs_order { course.from ≤ seam.old_stop }
@@ -51,12 +51,12 @@ pub(crate) fn take_over<M: Machine>(
     requires kept_order { seam.front ≤ seam.rest }
     requires kept_within { seam.rest ≤ vec_len kept.old }
     requires kept_room { vec_len kept.old + vec_len course.kept ≤ vec_capacity kept.old }
-    requires paired { length (take seam.front kept.old.items ++ (course.kept.items ++ drop seam.rest kept.old.items)) ≡ length places.old.items }
+    requires paired { length (take seam.front kept.old.items ++ (course.kept.items ++ drop seam.rest kept.old.items)) ≡ length points.old.items }
     ensures outputs { outputs.new.items ≡ take course.from outputs.old.items ++ (course.outputs.items ++ drop seam.old_stop outputs.old.items) }
-    ensures places { places.new.items ≡ thin course.spacing places.old.items }
-    ensures kept { (f : ℕ → Cluster) → map M.meaning (take seam.front kept.old.items ++ (course.kept.items ++ drop seam.rest kept.old.items)) ≡ map f places.old.items → map M.meaning kept.new.items ≡ map f places.new.items }
+    ensures points { points.new.items ≡ thin course.spacing points.old.items }
+    ensures kept { (f : ℕ → Cluster) → map M.meaning (take seam.front kept.old.items ++ (course.kept.items ++ drop seam.rest kept.old.items)) ≡ map f points.old.items → map M.meaning kept.new.items ≡ map f points.new.items }
 {
     put_between(outputs, course.from, seam.old_stop, &mut course.outputs);
     put_between(kept, seam.front, seam.rest, &mut course.kept);
-    thin(places, kept, course.spacing);
+    thin(points, kept, course.spacing);
 }

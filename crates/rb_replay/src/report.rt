@@ -75,7 +75,7 @@ impl<M: Machine> Session<M> {
     ghost use Rattle.rb_script.specs.Writes.{Writes};
     ghost use Rattle.rb_replay.specs.Run.{outputs};
     ghost use Rattle.rb_replay.specs.Report.{report, rewritten, mismatch_lines};
-    ghost use Rattle.rb_replay.specs.Held.{Held};
+    ghost use Rattle.rb_replay.specs.Holding.{Holding};
 
     /// Writes each mismatch, and how many directives and mismatches there are. Takes no memory. On a
     /// failure what went out is a beginning of the text.

@@ -2,12 +2,12 @@
 
 ghost use Rattle.std.specs.Prelude.{◌≡◌, ◌+◌, ◌-◌, ◌<◌, ◌≤◌, ◌^◌, ℕ, length, map, IsTrue, false, Contains, slice_index};
 ghost use Rattle.rb_cluster.specs.Cluster.{Cluster};
-ghost use Rattle.rb_replay.specs.Places.{IsRising};
+ghost use Rattle.rb_replay.specs.Points.{IsRising};
 ghost use Rattle.rb_replay.specs.Cuts.{IsNext};
 
 use crate::course::Course;
 use crate::cut::Cut;
-use crate::places::{count_below, find_start};
+use crate::points::{count_below, find_start};
 use crate::session::Session;
 use rb_cluster::{Count, Machine};
 use rb_script::Script;
@@ -20,42 +20,42 @@ pub(crate) struct Rerun<M> {
     pub(crate) met: Option<usize>,
 }
 
-/// Whether something is kept at the place. The index is that of the place, or of the next one that is kept.
-fn is_kept(places: &[usize], index: usize, place: usize) -> bool
-    requires rising { IsRising 0 places.now }
-    requires next { IsNext places.now place index }
-    ensures kept { IsTrue result → (index < length places.now) × (slice_index places.now index ≡ place) × Contains places.now place }
-    ensures none { result ≡ false → (Contains places.now place → ⊥) × IsNext places.now (place + 1) index }
+/// Whether something is kept at the point. The index is that of the point, or of the next one that is kept.
+fn is_kept(points: &[usize], index: usize, point: usize) -> bool
+    requires rising { IsRising 0 points.now }
+    requires next { IsNext points.now point index }
+    ensures kept { IsTrue result → (index < length points.now) × (slice_index points.now index ≡ point) × Contains points.now point }
+    ensures none { result ≡ false → (Contains points.now point → ⊥) × IsNext points.now (point + 1) index }
 {
-    match places.get(index) {
-        Some(kept) => *kept == place,
+    match points.get(index) {
+        Some(kept) => *kept == point,
         None => false,
     }
 }
 
 /// Whether the machine's cluster is the one that is kept for this place of the new script. Where it is
-/// not, the index moves on to the next place.
+/// not, the index moves on to the next point.
 fn meets<M: Machine>(
     cut: Cut,
-    places: &[usize],
+    points: &[usize],
     kept: &[M],
     index: &mut usize,
     machine: &M,
     at: usize,
 ) -> bool
-    requires paired { length kept.now ≡ length places.now }
-    requires rising { IsRising 0 places.now }
+    requires paired { length kept.now ≡ length points.now }
+    requires rising { IsRising 0 points.now }
     requires small { at + cut.old_rest < 2 ^ 63 }
-    requires next { IsNext places.now (at - cut.new_rest + cut.old_rest) index.old }
-    ensures met { (f : ℕ → Cluster) → map M.meaning kept.now ≡ map f places.now → IsTrue result → (cut.new_rest ≤ at) × Contains places.now (at - cut.new_rest + cut.old_rest) × (M.meaning machine.now ≡ f (at - cut.new_rest + cut.old_rest)) }
-    ensures unmet { (f : ℕ → Cluster) → map M.meaning kept.now ≡ map f places.now → result ≡ false → cut.new_rest ≤ at → Contains places.now (at - cut.new_rest + cut.old_rest) → M.meaning machine.now ≡ f (at - cut.new_rest + cut.old_rest) → ⊥ }
-    ensures next { result ≡ false → IsNext places.now (at + 1 - cut.new_rest + cut.old_rest) index.new }
+    requires next { IsNext points.now (at - cut.new_rest + cut.old_rest) index.old }
+    ensures met { (f : ℕ → Cluster) → map M.meaning kept.now ≡ map f points.now → IsTrue result → (cut.new_rest ≤ at) × Contains points.now (at - cut.new_rest + cut.old_rest) × (M.meaning machine.now ≡ f (at - cut.new_rest + cut.old_rest)) }
+    ensures unmet { (f : ℕ → Cluster) → map M.meaning kept.now ≡ map f points.now → result ≡ false → cut.new_rest ≤ at → Contains points.now (at - cut.new_rest + cut.old_rest) → M.meaning machine.now ≡ f (at - cut.new_rest + cut.old_rest) → ⊥ }
+    ensures next { result ≡ false → IsNext points.now (at + 1 - cut.new_rest + cut.old_rest) index.new }
 {
     if at < cut.new_rest {
         return false;
     }
     let here = *index;
-    if !is_kept(places, here, at - cut.new_rest + cut.old_rest) {
+    if !is_kept(points, here, at - cut.new_rest + cut.old_rest) {
         return false;
     }
     *index = here + 1;
@@ -66,20 +66,20 @@ impl<M: Machine> Session<M> {
     ghost use Rattle.std.specs.Prelude.{◌≡◌, ◌+◌, ◌-◌, ◌≤◌, ◌^◌, ℕ, length, IfOk, OnErr};
     ghost use Rattle.rb_script.specs.declared.limits.TheConstants.{MAX_DIRECTIVES};
     ghost use Rattle.rb_replay.specs.Run.{state};
-    ghost use Rattle.rb_replay.specs.Places.{last_up_to};
-    ghost use Rattle.rb_replay.specs.Held.{Held};
+    ghost use Rattle.rb_replay.specs.Points.{last_up_to};
+    ghost use Rattle.rb_replay.specs.Holding.{Holding};
     ghost use Rattle.rb_replay.specs.Reuse.{change_by, IsChange, IsCost};
     ghost use Rattle.rb_replay.specs.Cuts.{IsRerun};
 
-    /// The last kept cluster before the change, and its place.
+    /// The last kept cluster before the change, and its point.
     fn last_kept(&self, front: usize) -> Result<(usize, M), AllocError>
         requires { front ≤ MAX_DIRECTIVES }
-        ensures place { IfOk result (λ found. found.0 ≡ last_up_to front self.now.places) }
+        ensures point { IfOk result (λ found. found.0 ≡ last_up_to front self.now.points) }
         ensures machine { IfOk result (λ found. M.meaning found.1 ≡ state self.now.script found.0) }
     {
-        let index = find_start(&self.places, front);
+        let index = find_start(&self.points, front);
         let machine = self.kept[index].try_copy()?;
-        Ok((self.places[index], machine))
+        Ok((self.points[index], machine))
     }
 
     /// Runs the new script on from the last kept cluster, up to where the old ones are met or to its end.
@@ -100,10 +100,10 @@ impl<M: Machine> Session<M> {
     {
         let (from, mut machine) = self.last_kept(cut.front)?;
         let mut course = Course::new(self.alloc, self.spacing, from);
-        let mut index = count_below(&self.places, cut.old_rest);
+        let mut index = count_below(&self.points, cut.old_rest);
         'steps: while !meets(
             cut,
-            &self.places,
+            &self.points,
             &self.kept,
             &mut index,
             &machine,
@@ -117,7 +117,7 @@ impl<M: Machine> Session<M> {
         }
         let at = course.at;
         course.kept.push(machine)?;
-        course.places.push(at)?;
+        course.points.push(at)?;
         Ok(Rerun {
             course,
             met: Some(at),

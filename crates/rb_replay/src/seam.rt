@@ -1,7 +1,7 @@
 //! Where the old run goes on in the new one.
 
 use crate::cut::Cut;
-use crate::places::count_below;
+use crate::points::count_below;
 use crate::rerun::Rerun;
 use crate::session::Session;
 use rb_cluster::Machine;
@@ -10,14 +10,14 @@ use rb_script::Script;
 /// Up to where the old run stays, and from where on it is used again.
 #[derive(Clone, Copy)]
 pub(crate) struct Seam {
-    // the old place from which on outputs are used again
+    // the old point from which on outputs are used again
     pub(crate) old_stop: usize,
-    // how many of the old places stay, and the index of the first that is used again
+    // how many of the old points stay, and the index of the first that is used again
     pub(crate) front: usize,
     pub(crate) rest: usize,
 }
 
-/// Where the old run goes on, in old places.
+/// Where the old run goes on, in old points.
 #[derive(Clone, Copy)]
 struct Bounds {
     // from here on the old run is used again
@@ -29,7 +29,7 @@ struct Bounds {
 impl<M: Machine> Session<M> {
     ghost use Rattle.std.specs.Prelude.{◌≡◌, ◌≤◌, length};
     ghost use Rattle.rb_script.specs.declared.limits.TheConstants.{MAX_DIRECTIVES};
-    ghost use Rattle.rb_replay.specs.Held.{Held};
+    ghost use Rattle.rb_replay.specs.Holding.{Holding};
     ghost use Rattle.rb_replay.specs.Reuse.{change_by, IsChange};
     ghost use Rattle.rb_replay.specs.Cuts.{old_stop, front_bound, IsRerun, IsSeam};
 
@@ -54,7 +54,7 @@ impl<M: Machine> Session<M> {
         }
     }
 
-    /// The same by the indices of the places.
+    /// The same by the indices of the points.
     pub(crate) fn seam(&self, new: &Script, cut: Cut, run: &Rerun<M>) -> Seam
         requires change { IsChange (change_by self.now new.now cut) }
         requires few { length new.now.blocks ≤ MAX_DIRECTIVES }
@@ -64,8 +64,8 @@ impl<M: Machine> Session<M> {
         let bounds = self.bounds(new, cut, run);
         Seam {
             old_stop: bounds.old_stop,
-            front: count_below(&self.places, bounds.front),
-            rest: count_below(&self.places, bounds.old_stop + 1),
+            front: count_below(&self.points, bounds.front),
+            rest: count_below(&self.points, bounds.old_stop + 1),
         }
     }
 }

@@ -14,19 +14,19 @@ pub struct Session<M: Machine> {
     pub(crate) outputs: Vec<Lines>,
     pub(crate) mismatches: Vec<usize>,
     // where clusters are kept, and those clusters
-    pub(crate) places: Vec<usize>,
+    pub(crate) points: Vec<usize>,
     pub(crate) kept: Vec<M>,
 }
 
 impl<M: Machine> Model for Session<M> {
     ghost use Rattle.std.specs.Prelude.{map};
-    ghost use Rattle.rb_replay.specs.Held.{Held, IsFresh};
+    ghost use Rattle.rb_replay.specs.Holding.{Holding, IsFresh};
 
-    ghost Value = { Held };
+    ghost Value = { Holding };
 
-    ghost view = { λ s. record { script = s.script; spacing = s.spacing; outputs = s.outputs.items; mismatches = s.mismatches.items; places = s.places.items; kept = map M.meaning s.kept.items } };
+    ghost view = { λ s. record { script = s.script; spacing = s.spacing; outputs = s.outputs.items; mismatches = s.mismatches.items; points = s.points.items; kept = map M.meaning s.kept.items } };
 
-    ghost invariant = { λ s. IsFresh (record { script = s.script; spacing = s.spacing; outputs = s.outputs.items; mismatches = s.mismatches.items; places = s.places.items; kept = map M.meaning s.kept.items }) };
+    ghost invariant = { λ s. IsFresh (record { script = s.script; spacing = s.spacing; outputs = s.outputs.items; mismatches = s.mismatches.items; points = s.points.items; kept = map M.meaning s.kept.items }) };
 }
 
 /// What an edit came to.
@@ -40,7 +40,7 @@ pub struct Changed {
 
 impl<M: Machine> Session<M> {
     ghost use Rattle.std.specs.Prelude.{◌≡◌, ◌==◌, length, option_copied};
-    ghost use Rattle.rb_replay.specs.Held.{Held, IsFresh};
+    ghost use Rattle.rb_replay.specs.Holding.{Holding, IsFresh};
     ghost use Rattle.rb_replay.specs.Run.{at_place, output_at};
     ghost use Rattle.rb_replay.specs.Report.{mismatches};
 
@@ -84,11 +84,11 @@ impl<M: Machine> Session<M> {
         self.mismatches.as_slice()
     }
 
-    /// The places at which clusters are kept, in order. Place `i` is the one after the first `i`
+    /// The points at which clusters are kept, in order. Point `i` is the one after the first `i`
     /// directives.
     pub fn checkpoints(&self) -> &[usize]
-        ensures { result.now ≡ self.now.places }
+        ensures { result.now ≡ self.now.points }
     {
-        self.places.as_slice()
+        self.points.as_slice()
     }
 }

@@ -6,8 +6,8 @@ ghost use Rattle.rb_script.specs.Script.{PlainScript};
 ghost use Rattle.rb_script.specs.Reads.{Reads};
 ghost use Rattle.rb_script.specs.Reading.{read_of, early_fault};
 ghost use Rattle.rb_replay.specs.Run.{state, outputs};
-ghost use Rattle.rb_replay.specs.Places.{start_places};
-ghost use Rattle.rb_replay.specs.Start.{IsRefused};
+ghost use Rattle.rb_replay.specs.Points.{start_points};
+ghost use Rattle.rb_replay.specs.Start.{TellsStartFault};
 
 use crate::course::Course;
 use crate::differing::list_differing;
@@ -33,7 +33,7 @@ fn refusal(fault: ScriptFault) -> StartFault
 fn read(alloc: Global, bytes: &[u8]) -> Result<Script, StartFault>
     ensures found { IfOk result (λ s. Reads bytes.now s) }
     ensures only { (s : PlainScript) → Reads bytes.now s → IfErr result (λ fault. fault ≡ StartFault.OutOfMemory) }
-    ensures refused { IfErr result (λ fault. IsRefused fault (read_of bytes.now)) }
+    ensures refused { IfErr result (λ fault. TellsStartFault (read_of bytes.now) fault) }
     ensures spaced { result ≢ Err StartFault.BadSpacing }
     ensures early { IfSome (early_fault bytes.now) (λ fault. result ≡ Err (StartFault.Script fault)) }
 {
@@ -49,9 +49,9 @@ impl<M: Machine> Session<M> {
     ghost use Rattle.rb_script.specs.Script.{PlainScript};
     ghost use Rattle.rb_script.specs.Reads.{Reads};
     ghost use Rattle.rb_script.specs.Reading.{read_of, early_fault};
-    ghost use Rattle.rb_replay.specs.Places.{start_places};
-    ghost use Rattle.rb_replay.specs.Held.{Held, IsFresh};
-    ghost use Rattle.rb_replay.specs.Start.{is_spacing, IsRefused, RisesFor};
+    ghost use Rattle.rb_replay.specs.Points.{start_points};
+    ghost use Rattle.rb_replay.specs.Holding.{Holding, IsFresh};
+    ghost use Rattle.rb_replay.specs.Start.{is_spacing, TellsStartFault, RisesFor};
 
     /// Reads the script of the bytes and runs it whole. Clusters are kept every so many directives: each
     /// 1 to 64, which is looked at first.
@@ -67,7 +67,7 @@ impl<M: Machine> Session<M> {
         ensures fresh { IfOk result IsFresh }
         ensures spacing { IfOk result (λ s. s.spacing ≡ every) }
         // Clusters are kept at 0, `every`, twice `every` and so on, up to the end.
-        ensures places { IfOk result (λ s. s.places ≡ start_places every (length s.script.blocks)) }
+        ensures points { IfOk result (λ s. s.points ≡ start_points every (length s.script.blocks)) }
         // Each directive is executed once.
         ensures counted { IfOk result (λ s. M.Meter.count_of meter.new ≡ M.Meter.count_of meter.old + length s.script.blocks) }
         // The spacing is looked at before anything else.
@@ -76,7 +76,7 @@ impl<M: Machine> Session<M> {
         // What is the script of the bytes is started, unless memory runs out.
         ensures only { (s : PlainScript) → Reads bytes.now s → is_spacing every ≡ true → IfErr result (λ fault. fault ≡ StartFault.OutOfMemory) }
         // Which fault of reading it is; these are found whether or not there is memory.
-        ensures refused { IfErr result (λ fault. IsRefused fault (read_of bytes.now)) }
+        ensures refused { IfErr result (λ fault. TellsStartFault (read_of bytes.now) fault) }
         ensures early { is_spacing every ≡ true → IfSome (early_fault bytes.now) (λ fault. result ≡ Err (StartFault.Script fault)) }
         // A refused start has executed nothing, or for want of memory at most the directives of the script.
         ensures risen { IfErr result (λ fault. RisesFor fault bytes.now (M.Meter.count_of meter.old) (M.Meter.count_of meter.new)) }
@@ -100,7 +100,7 @@ impl<M: Machine> Session<M> {
         requires meter { M.Meter.count_of meter.old ≤ 2 ^ 62 }
         ensures script { IfOk result (λ s. s.script ≡ script) }
         ensures spacing { IfOk result (λ s. s.spacing ≡ spacing) }
-        ensures places { IfOk result (λ s. s.places ≡ start_places spacing (length script.blocks)) }
+        ensures points { IfOk result (λ s. s.points ≡ start_points spacing (length script.blocks)) }
         ensures fresh { IfOk result IsFresh }
         ensures counted { OnOk result (M.Meter.count_of meter.new ≡ M.Meter.count_of meter.old + length script.blocks) }
         ensures refused { OnErr result (M.Meter.count_of meter.new ≤ M.Meter.count_of meter.old + length script.blocks) }
@@ -113,7 +113,7 @@ impl<M: Machine> Session<M> {
             spacing,
             outputs: course.outputs,
             mismatches,
-            places: course.places,
+            points: course.points,
             kept: course.kept,
         })
     }
@@ -130,21 +130,21 @@ fn run_whole<M: Machine>(
     requires few { length script.now.blocks ≤ MAX_DIRECTIVES }
     requires meter { M.Meter.count_of meter.old ≤ 2 ^ 62 }
     ensures outputs { IfOk result (λ c. c.outputs.items ≡ outputs script.now) }
-    ensures places { IfOk result (λ c. c.places.items ≡ start_places spacing (length script.now.blocks)) }
-    ensures states { IfOk result (λ c. map M.meaning c.kept.items ≡ map (state script.now) c.places.items) }
+    ensures points { IfOk result (λ c. c.points.items ≡ start_points spacing (length script.now.blocks)) }
+    ensures states { IfOk result (λ c. map M.meaning c.kept.items ≡ map (state script.now) c.points.items) }
     ensures counted { OnOk result (M.Meter.count_of meter.new ≡ M.Meter.count_of meter.old + length script.now.blocks) }
     ensures refused { OnErr result (M.Meter.count_of meter.new ≤ M.Meter.count_of meter.old + length script.now.blocks) }
 {
     let mut machine = M::empty(alloc)?;
-    // A step takes the machine away, so what is kept at place 0 is copied before the first.
+    // A step takes the machine away, so what is kept at point 0 is copied before the first.
     let first = machine.try_copy()?;
     let mut course = Course::new(alloc, spacing, 0);
     while course.at < script.len() {
         machine = course.step(machine, script, meter)?;
         course.keep_due(&machine)?;
     }
-    // It comes in now, since a course counts its places from the first that it keeps on the way.
+    // It comes in now, since a course counts its points from the first that it keeps on the way.
     course.kept.insert(0, first)?;
-    course.places.insert(0, 0)?;
+    course.points.insert(0, 0)?;
     Ok(course)
 }

@@ -1,11 +1,18 @@
--- What is read was consumed, and is no more than is wanted.
-use Rattle.std.proofs.Common.{◌≤◌, ◌-◌, vec_len}
+-- What is read was consumed, is no more than is wanted, and was asked for in no more calls than it has bytes.
+use Rattle.std.proofs.Common.{ℕ, ◌≤◌, ◌-◌, vec_len}
 use Rattle.std.specs.Io.KnownBytes.{Consumes}
+use Rattle.rb_line.specs.Asked.{Asks}
 use Rattle.rb_bench.proofs.reading.read_up_to.Given as goal
 
-abbrev pub invariant-loop-reader : goal.invariant-loop-reader
-invariant-loop-reader g l = (vec_len l.bytes ≤ l.most)
-    × Consumes (g.R.Read.remaining l.initial.reader) (g.R.Read.remaining l.reader) l.bytes.items
+abbrev pub invariant-loop-source : goal.invariant-loop-source
+invariant-loop-source g l = record {
+  within : vec_len l.bytes ≤ l.most;
+  consumed : Consumes (g.S.Source.left l.initial.source) (g.S.Source.left l.source) l.bytes.items;
+  calls : ℕ;
+  asks : Asks (g.S.Source.asked l.initial.source) (g.S.Source.asked l.source) calls;
+  few : calls ≤ vec_len l.bytes;
+  all : g.S.Source.gives_all l.initial.source → g.S.Source.gives_all l.source;
+}
 
-abbrev pub decreases-loop-reader : goal.decreases-loop-reader
-decreases-loop-reader g l = l.most - vec_len l.bytes
+abbrev pub decreases-loop-source : goal.decreases-loop-source
+decreases-loop-source g l = l.most - vec_len l.bytes

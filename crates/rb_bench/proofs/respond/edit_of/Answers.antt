@@ -1,6 +1,6 @@
 use Rattle.std.proofs.lemmas.Result.{err_from_is_err_and}
 use Rattle.rb_script.specs.declared.edit.Edit.TheVariants as edits
-use Rattle.rb_bench.proofs.EditLaws.{insert_of, replace_of, expect_of, block_fails, block_made}
+use Rattle.rb_bench.proofs.MakeLaws.{insert_of, replace_of, expect_of, block_fails, block_made}
 use Rattle.rb_bench.proofs.respond.edit_of.Goals as goal
 
 pub returns-in_err-read-in-Insert : goal.returns-in_err-read-in-Insert

@@ -1,7 +1,7 @@
 use Rattle.std.proofs.Common.{List, ap, sym, ◌∙◌, length}
 use Rattle.rb_script.specs.Lines.{Line, text_of}
-use Rattle.rb_bench.specs.Commands.{edit_of}
-use Rattle.rb_bench.proofs.EditLaws.{short_text, given_made}
+use Rattle.rb_bench.specs.Responses.{edit_of}
+use Rattle.rb_bench.proofs.MakeLaws.{short_text, given_made}
 use Rattle.rb_bench.proofs.respond.make_given.Goals as goal
 
 pub returns-in-Ok : goal.returns-in-Ok

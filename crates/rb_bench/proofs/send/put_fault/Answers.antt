@@ -1,6 +1,6 @@
 use Rattle.std.proofs.Common.{◌≡◌, ◌++◌, ap, sym, ◌∙◌}
 use Rattle.rb_bench.specs.Names.{script_name, script_line}
-use Rattle.rb_bench.specs.Commands.{at_line, fault_text}
+use Rattle.rb_bench.specs.Responses.{at_line, fault_text}
 use Rattle.rb_bench.proofs.PieceLaws.{sent_none, sent_piece, piece_exit, piece_last}
 use Rattle.rb_bench.proofs.send.put_fault.Goals as goal
 

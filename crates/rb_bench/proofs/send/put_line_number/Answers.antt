@@ -1,6 +1,6 @@
 use Rattle.std.proofs.Common.{◌++◌, decimal, ap}
 use Rattle.std.specs.Prelude.{codes}
-use Rattle.rb_bench.specs.Commands.{at_line}
+use Rattle.rb_bench.specs.Responses.{at_line}
 use Rattle.rb_bench.proofs.PieceLaws.{sent_none, sent_piece, piece_exit, piece_last}
 use Rattle.rb_bench.proofs.send.put_line_number.Goals as goal
 

@@ -1,7 +1,7 @@
 use Rattle.std.proofs.Common.{[], ◌∷◌, ◌++◌, length, decimal}
 use Rattle.std.specs.Prelude.{codes}
 use Rattle.rb_script.specs.Lines.{text_of}
-use Rattle.rb_bench.specs.Commands.{output_text}
+use Rattle.rb_bench.specs.Responses.{output_text}
 use Rattle.rb_bench.proofs.PieceLaws.{sent_none, sent_piece, piece_exit, piece_last, output_pieces}
 use Rattle.rb_bench.proofs.send.put_output.Goals as goal
 

@@ -1,40 +1,49 @@
+use Rattle.std.proofs.Common.{refl, arith}
 use Rattle.rb_line.specs.Left.{left_of}
-use Rattle.rb_bench.specs.declared.fault.BenchFault.TheVariants.{Io}
-use Rattle.rb_bench.proofs.TurnLaws.{gone_none, gone_more, gone_closed, gone_failed, gone_out}
+use Rattle.rb_line.proofs.AskedLaws.{goes_none, goes_then, goes_stops, going_stops, goes_enough}
+use Rattle.rb_bench.proofs.TurnLaws.{gone_none, gone_more, gone_closed, gone_failed}
 use Rattle.rb_bench.proofs.session.converse.Goals as goal
 
-pub loop-turn-init : goal.loop-turn-init
-loop-turn-init g c = gone_none _ c.args.session.now _
+pub turns-init : goal.turns-init
+turns-init g c = record { gone = gone_none _ c.args.session.now _; handed = λ h. h; goes = goes_none _ _ _ _ refl refl (omega arith); all = λ gives has takes. (gives, takes) }
 
 pub returns-in-Ok-Some-clause-out : goal.returns-in-Ok-Some-clause-out
 returns-in-Ok-Some-clause-out g c =
-    let left = left_of c.loop-turn.input (g.R.Read.remaining c.loop-turn.reader) in
-    let rest = left_of c.turn.new.input (g.R.Read.remaining c.turn.new.reader) in
-    let old = g.W.Write.contents c.args.writer.now.0 in
-    let mid = g.W.Write.contents c.loop-turn.writer.0 in
-    let new = g.W.Write.contents c.turn.new.writer.0 in
-    let all = left_of c.args.input.now (g.R.Read.remaining c.args.reader.now) in
-    gone_closed all left rest c.args.session.now c.loop-turn.session c.turn.new.session c.in-Ok-Some.status old mid new c.loop-turn.invariant (rw c.in-Ok-Some.field-0-is at c.in-Ok-Some.ensures.out)
+    let left = left_of c.turns.input (g.S.Source.left c.turns.source) in
+    let rest = left_of c.turn.new.input (g.S.Source.left c.turn.new.source) in
+    let old = g.W.Sink.held c.args.writer.now in
+    let mid = g.W.Sink.held c.turns.writer in
+    let new = g.W.Sink.held c.turn.new.writer in
+    let all = left_of c.args.input.now (g.S.Source.left c.args.source.now) in
+    gone_closed all left rest c.args.session.now c.turns.session c.turn.new.session c.in-Ok-Some.status old mid new c.turns.invariant.gone (rw c.in-Ok-Some.field-0-is at c.in-Ok-Some.ensures.out)
 
 pub returns-in-Err-clause-out : goal.returns-in-Err-clause-out
 returns-in-Err-clause-out g c =
-    let left = left_of c.loop-turn.input (g.R.Read.remaining c.loop-turn.reader) in
-    let rest = left_of c.turn.new.input (g.R.Read.remaining c.turn.new.reader) in
-    let old = g.W.Write.contents c.args.writer.now.0 in
-    let mid = g.W.Write.contents c.loop-turn.writer.0 in
-    let new = g.W.Write.contents c.turn.new.writer.0 in
-    let all = left_of c.args.input.now (g.R.Read.remaining c.args.reader.now) in
-    gone_failed all left rest c.args.session.now c.loop-turn.session c.turn.new.session c.in-Err.fault old mid new c.loop-turn.invariant c.in-Err.ensures.out
+    let left = left_of c.turns.input (g.S.Source.left c.turns.source) in
+    let rest = left_of c.turn.new.input (g.S.Source.left c.turn.new.source) in
+    let old = g.W.Sink.held c.args.writer.now in
+    let mid = g.W.Sink.held c.turns.writer in
+    let new = g.W.Sink.held c.turn.new.writer in
+    let all = left_of c.args.input.now (g.S.Source.left c.args.source.now) in
+    gone_failed all left rest c.args.session.now c.turns.session c.turn.new.session c.in-Err.fault old mid new c.turns.invariant.gone c.in-Err.ensures.out
 
-pub loop-turn-preserved : goal.loop-turn-preserved
-loop-turn-preserved g c =
-    let left = left_of c.loop-turn.input (g.R.Read.remaining c.loop-turn.reader) in
-    let rest = left_of c.turn.new.input (g.R.Read.remaining c.turn.new.reader) in
-    let old = g.W.Write.contents c.args.writer.now.0 in
-    let mid = g.W.Write.contents c.loop-turn.writer.0 in
-    let new = g.W.Write.contents c.turn.new.writer.0 in
-    let all = left_of c.args.input.now (g.R.Read.remaining c.args.reader.now) in
-    gone_more all left rest c.args.session.now c.loop-turn.session c.turn.new.session old mid new c.loop-turn.invariant (rw c.in-Ok-None.field-0-is at c.in-Ok-None.ensures.out)
+pub turns-preserved : goal.turns-preserved
+turns-preserved g c =
+    let left = left_of c.turns.input (g.S.Source.left c.turns.source) in
+    let rest = left_of c.turn.new.input (g.S.Source.left c.turn.new.source) in
+    let old = g.W.Sink.held c.args.writer.now in
+    let mid = g.W.Sink.held c.turns.writer in
+    let new = g.W.Sink.held c.turn.new.writer in
+    let all = left_of c.args.input.now (g.S.Source.left c.args.source.now) in
+    let i = c.turns.invariant in record {
+      gone = gone_more all left rest c.args.session.now c.turns.session c.turn.new.session old mid new i.gone (rw c.in-Ok-None.field-0-is at c.in-Ok-None.ensures.out);
+      handed = λ h. c.in-Ok-None.ensures.handed (i.handed h);
+      goes = goes_then _ _ _ _ _ _ _ _ _ i.goes c.in-Ok-None.ensures.goes;
+      all = λ gives has takes. let now = i.all gives has takes in let then = c.in-Ok-None.ensures.all now.0 (goes_enough _ _ _ _ _ _ i.goes has) now.1 in (then.1, then.2);
+    }
 
-pub returns-clause-out : goal.returns-clause-out
-returns-clause-out g c = gone_out _ _ c.args.session.now c.loop-turn.session Io _ _ c.loop-turn.invariant
+pub returns-in-Ok-Some-clause-stops : goal.returns-in-Ok-Some-clause-stops
+returns-in-Ok-Some-clause-stops g c = going_stops _ _ _ _ _ _ (goes_then _ _ _ _ _ _ _ _ _ c.turns.invariant.goes c.in-Ok-Some.ensures.goes)
+
+pub returns-in-Err-clause-stops : goal.returns-in-Err-clause-stops
+returns-in-Err-clause-stops g c = goes_stops _ _ _ _ _ _ _ c.turns.invariant.goes c.in-Err.ensures.stops

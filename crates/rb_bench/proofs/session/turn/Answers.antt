@@ -5,10 +5,10 @@ use Rattle.rb_bench.proofs.session.turn.Goals as goal
 
 pub returns-clause-out : goal.returns-clause-out
 returns-clause-out g c =
-    turned _ _ c.in-Ok.heard c.args.session.now c.reply_to-reply.new.session _ c.reply_to-reply.result.1 _ _ c.in-Ok.ensures c.reply_to-reply.ensures c.in_ok-send.ensures
+    turned _ _ c.in-Ok.heard c.args.session.now c.reply_to-reply.new.session _ c.reply_to-reply.result.1 _ _ c.in-Ok.ensures.heard c.reply_to-reply.ensures.turn c.in_ok-send.ensures.wrote
 
 pub returns-in_err-send-clause-out : goal.returns-in_err-send-clause-out
 returns-in_err-send-clause-out g c =
     let p = err_from_is_err_and c.from_residual.result c.from_residual.ensures.1 in
-    let left = left_of c.hear.new.input (g.R.Read.remaining c.hear.new.reader) in
-    rw p.1 (turn_failed _ left c.in-Ok.heard c.args.session.now c.reply_to-reply.new.session _ c.reply_to-reply.result.1 p.0 _ _ c.in-Ok.ensures c.reply_to-reply.ensures c.in_err-send.ensures)
+    let left = left_of c.hear.new.input (g.S.Source.left c.hear.new.source) in
+    rw p.1 (turn_failed _ left c.in-Ok.heard c.args.session.now c.reply_to-reply.new.session _ c.reply_to-reply.result.1 p.0 _ _ c.in-Ok.ensures.heard c.reply_to-reply.ensures.turn c.in_err-send.ensures.wrote)

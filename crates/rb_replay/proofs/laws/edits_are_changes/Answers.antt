@@ -1,4 +1,4 @@
-use Rattle.rb_replay.proofs.EditLaws.{edit-change}
+use Rattle.rb_replay.proofs.ChangeLaws.{edit-change}
 use Rattle.rb_replay.proofs.laws.edits_are_changes.Goals as goal
 
 pub returns : goal.returns

@@ -5,7 +5,7 @@ use Rattle.rb_replay.proofs.rerun.is_kept.Goals as goal
 
 pub returns-in-Some-clause-none : goal.returns-in-Some-clause-none
 returns-in-Some-clause-none c = λ no.
-    let at : c.in-Some.kept.now ≡ get_or c.args.places.now c.args.index c.in-Some.kept.now = c.in-Some.ensures.lookup.1 in
-    let differs : c.args.index < length c.args.places.now → get_or c.args.places.now c.args.index 0 ≡ c.args.place → ⊥ = λ lt is.
-    let yes = eq-eqb c.in-Some.kept.now c.args.place (at ∙ get_or_default c.args.places.now c.args.index c.in-Some.kept.now 0 lt ∙ is) in absurd (cc (no, yes)) in
-    (next-none c.args.places.now c.args.place c.args.index c.requires.rising c.requires.next differs, next-past c.args.places.now c.args.place c.args.index c.requires.next differs)
+    let at : c.in-Some.kept.now ≡ get_or c.args.points.now c.args.index c.in-Some.kept.now = c.in-Some.ensures.lookup.1 in
+    let differs : c.args.index < length c.args.points.now → get_or c.args.points.now c.args.index 0 ≡ c.args.point → ⊥ = λ lt is.
+    let yes = eq-eqb c.in-Some.kept.now c.args.point (at ∙ get_or_default c.args.points.now c.args.index c.in-Some.kept.now 0 lt ∙ is) in absurd (cc (no, yes)) in
+    (next-none c.args.points.now c.args.point c.args.index c.requires.rising c.requires.next differs, next-past c.args.points.now c.args.point c.args.index c.requires.next differs)

@@ -13,10 +13,10 @@ returns-clause-outputs g c =
     let on = rw (c.loop-course.invariant.begins, at) at run.outputs_on in
     on ∙ take_all (length c.args.script.now.blocks) (outputs c.args.script.now) (omega (arith, length-outputs c.args.script.now))
 
-pub returns-clause-places : goal.returns-clause-places
-returns-clause-places g c =
+pub returns-clause-points : goal.returns-clause-points
+returns-clause-points g c =
     let at : c.loop-course.course.at ≡ length c.args.script.now.blocks = omega (arith, c.len.ensures, c.loop-course-test.false, c.loop-course.invariant.run.within) in
     let all : length c.args.script.now.blocks - 0 ≡ length c.args.script.now.blocks = omega arith in
-    let paced = rw (c.loop-course.invariant.begins, c.loop-course.invariant.spaced, at, all) at (paced_end c.loop-course.course.spacing c.loop-course.course.from c.loop-course.course.at c.loop-course.course.due c.loop-course.course.places.items c.loop-course.invariant.paced) in
-    let first : c.insert-2.new.self.items ≡ 0 ∷ c.loop-course.course.places.items = grind (arith, common_steps) in
+    let paced = rw (c.loop-course.invariant.begins, c.loop-course.invariant.spaced, at, all) at (paced_end c.loop-course.course.spacing c.loop-course.course.from c.loop-course.course.at c.loop-course.course.due c.loop-course.course.points.items c.loop-course.invariant.paced) in
+    let first : c.insert-2.new.self.items ≡ 0 ∷ c.loop-course.course.points.items = grind (arith, common_steps) in
     first ∙ ap (λ (ps : List ℕ). 0 ∷ ps) paced

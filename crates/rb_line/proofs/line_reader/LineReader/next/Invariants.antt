@@ -1,14 +1,20 @@
--- What was lost so far begins the line.
-use Rattle.std.proofs.Common.{◌≤◌, ℕ, List}
+-- What was lost so far begins the line, and what was asked for it is counted.
+use Rattle.std.proofs.Common.{ℕ, List, ◌+◌, ◌≤◌, length}
 use Rattle.std.specs.Io.KnownBytes.{Consumes}
 use Rattle.rb_line.specs.Begun.{Holds}
 use Rattle.rb_line.specs.Left.{left_of}
+use Rattle.rb_line.specs.Asked.{GoesOn, HasCallsFor, size_of}
 use Rattle.rb_line.proofs.line_reader.LineReader.next.Given as goal
 
 abbrev pub invariant-loop-self : goal.invariant-loop-self
-invariant-loop-self g l = (begun : List ℕ) × Holds begun l.self.line
-    × Consumes (left_of l.initial.self (g.R.Read.remaining l.initial.reader)) (left_of l.self (g.R.Read.remaining l.reader)) begun
-    × (l.self.calls ≤ l.initial.self.calls)
+invariant-loop-self g l = record {
+  begun : List ℕ;
+  held : Holds begun l.self.line;
+  lost : Consumes (left_of l.initial.self (g.S.Source.left l.initial.source)) (left_of l.self (g.S.Source.left l.source)) begun;
+  goes : GoesOn l.initial.self l.self (g.S.Source.left l.initial.source) (g.S.Source.left l.source) (g.S.Source.asked l.initial.source) (g.S.Source.asked l.source);
+  size : size_of l.self + length begun ≤ size_of l.initial.self;
+  all : g.S.Source.gives_all l.initial.source → HasCallsFor l.initial.self (g.S.Source.left l.initial.source) → g.S.Source.gives_all l.source;
+}
 
 abbrev pub decreases-loop-self : goal.decreases-loop-self
 decreases-loop-self g l = l.self.calls

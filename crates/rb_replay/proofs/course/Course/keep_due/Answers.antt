@@ -5,5 +5,5 @@ use Rattle.rb_replay.proofs.course.Course.keep_due.Goals as goal
 
 pub returns-clause-paced : goal.returns-clause-paced
 returns-clause-paced g c =
-    let grown : c.push-2.new.self.items ≡ c.args.self.now.places.items ++ c.args.self.now.at ∷ [] = grind (arith, common_steps) in
-    rw grown (paced_push c.args.self.now.spacing c.args.self.now.from c.args.self.now.at c.args.self.now.due c.args.self.now.places.items c.requires.spaced (omega arith) c.requires.paced)
+    let grown : c.push-2.new.self.items ≡ c.args.self.now.points.items ++ c.args.self.now.at ∷ [] = grind (arith, common_steps) in
+    rw grown (paced_push c.args.self.now.spacing c.args.self.now.from c.args.self.now.at c.args.self.now.due c.args.self.now.points.items c.requires.spaced (omega arith) c.requires.paced)

@@ -3,7 +3,7 @@ use Rattle.std.specs.Prelude.{filter, nat_lt, nat_le}
 use Rattle.std.proofs.lemmas.List.{take_rest}
 use Rattle.rb_script.specs.declared.limits.TheConstants.{MAX_DIRECTIVES}
 use Rattle.rb_replay.specs.Report.{mismatches, differing}
-use Rattle.rb_replay.specs.Held.{Held, IsFresh}
+use Rattle.rb_replay.specs.Holding.{Holding, IsFresh}
 use Rattle.rb_replay.proofs.RunLaws.{both}
 use Rattle.rb_replay.proofs.DifferingLaws.{mismatches-rising, mismatches-within, at_most-rest, mended-differing}
 use Rattle.rb_replay.proofs.ReadyLaws.{ok-along}
@@ -31,7 +31,7 @@ parts ms one three five front rest a b f fresh made first third fifth new fronts
 pub returns : goal.returns
 returns g c =
     let fresh : IsFresh c.args.self.now = subst IsFresh c.self.view_is c.self.invariant in
-    let held : c.self.inside.mismatches.items ≡ mismatches c.args.self.now.script = ap (λ (h : Held). h.mismatches) c.self.view_is ∙ fresh.compared in
+    let held : c.self.inside.mismatches.items ≡ mismatches c.args.self.now.script = ap (λ (h : Holding). h.mismatches) c.self.view_is ∙ fresh.compared in
     let rests : drop c.count_below-rest.result c.deref-5.result.now ≡ filter (λ p. nat_le (c.args.old_stop + 1) p) c.deref-5.result.now =
     rw (c.deref-2.ensures.value ∙ sym c.deref-5.ensures.value) at c.count_below-rest.ensures.rest in
     ok-along c.joined.result _ _ (λ v e. e ∙ parts (mismatches c.args.self.now.script) c.deref-3.result.now c.deref.result.now c.deref-5.result.now c.count_below-front.result c.count_below-rest.result (c.args.from + 1) (c.args.old_stop + 1)

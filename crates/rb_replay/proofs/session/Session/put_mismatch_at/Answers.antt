@@ -9,7 +9,7 @@ use Rattle.rb_script.specs.Script.{PlainBlock, PlainScript}
 use Rattle.rb_script.specs.Writes.{Writes}
 use Rattle.rb_replay.specs.Run.{outputs, at_place, output_at}
 use Rattle.rb_replay.specs.Report.{marked, mismatch_line, mismatch_lines, expected_at}
-use Rattle.rb_replay.specs.Held.{Held, IsFresh}
+use Rattle.rb_replay.specs.Holding.{Holding, IsFresh}
 use Rattle.rb_replay.proofs.RunLaws.{both, length-outputs}
 use Rattle.rb_replay.proofs.session.Session.put_mismatch_at.Goals as goal
 
@@ -29,15 +29,15 @@ output-found s k first = sym (ap (λ (o : Option (List Line)). unwrap_or o []) (
 pub index-requires : goal.index-requires
 index-requires g c =
     let fresh : IsFresh c.args.self.now = subst IsFresh c.self.view_is c.self.invariant in
-    let held : c.self.inside.outputs.items ≡ outputs c.args.self.now.script = ap (λ (h : Held). h.outputs) c.self.view_is ∙ fresh.answered in
+    let held : c.self.inside.outputs.items ≡ outputs c.args.self.now.script = ap (λ (h : Holding). h.outputs) c.self.view_is ∙ fresh.answered in
     omega (arith, ap length held, length-outputs c.args.self.now.script, c.self.inside.outputs.ok.0, c.requires.first, c.requires.within)
 
 pub returns-clause-wrote : goal.returns-clause-wrote
 returns-clause-wrote g c =
     let fresh : IsFresh c.args.self.now = subst IsFresh c.self.view_is c.self.invariant in
-    let held : c.self.inside.outputs.items ≡ outputs c.args.self.now.script = ap (λ (h : Held). h.outputs) c.self.view_is ∙ fresh.answered in
+    let held : c.self.inside.outputs.items ≡ outputs c.args.self.now.script = ap (λ (h : Holding). h.outputs) c.self.view_is ∙ fresh.answered in
     let within : c.args.place - 1 < length c.self.inside.outputs.items = omega (arith, ap length held, length-outputs c.args.self.now.script, c.requires.first, c.requires.within) in
-    let blocks : (c.self.inside.script).blocks ≡ c.args.self.now.script.blocks = ap (λ (h : Held). h.script.blocks) c.self.view_is in
+    let blocks : (c.self.inside.script).blocks ≡ c.args.self.now.script.blocks = ap (λ (h : Holding). h.script.blocks) c.self.view_is in
     let block : (c.block_at-block.result.now).expected ≡ expected_at c.args.self.now.script c.args.place =
     expected-found c.args.self.now.script c.args.place c.block_at-block.result.now c.requires.first (ap (λ (bs : List PlainBlock). slice_get bs (c.args.place - 1)) (sym blocks) ∙ c.block_at-block.ensures) in
     let output : c.index.result.now ≡ unwrap_or (output_at c.args.self.now.script c.args.place) [] =

@@ -4,48 +4,48 @@ use Rattle.std.proofs.lemmas.Bool.{cases_lt}
 use Rattle.std.proofs.lemmas.Grind.{common_steps}
 use Rattle.rb_cluster.specs.Cluster.{Cluster}
 use Rattle.rb_replay.specs.Run.{state}
-use Rattle.rb_replay.specs.Held.{Held, IsFresh}
-use Rattle.rb_replay.specs.Reuse.{change_by, start, old_place, Meets}
+use Rattle.rb_replay.specs.Holding.{Holding, IsFresh}
+use Rattle.rb_replay.specs.Reuse.{change_by, start, old_point, Meets}
 use Rattle.rb_replay.proofs.ReuseLaws.{cost-at_least, unmet_more, start-le, meets-within}
 use Rattle.rb_replay.proofs.ReadyLaws.{kept-rising, states-before, on_err_always}
 use Rattle.rb_replay.proofs.CourseLaws.{course-run, course-paced, course-end, course-meeting, states-more, same-length}
 use Rattle.rb_replay.proofs.session.Session.run_on.Goals as goal
 
 pub count_below-index-requires : goal.count_below-index-requires
-count_below-index-requires g c = rw c.deref.ensures.value (kept-rising c.self.inside.spacing _ c.self.inside.places.items c.self.invariant.near)
+count_below-index-requires g c = rw c.deref.ensures.value (kept-rising c.self.inside.spacing _ c.self.inside.points.items c.self.invariant.near)
 
 pub steps-init : goal.steps-init
 steps-init g c =
     let le : start (change_by c.args.self.now c.args.new.now c.args.cut) ≤ c.args.cut.front = start-le (change_by c.args.self.now c.args.new.now c.args.cut) in
-    let begins : c.new-course.result.from ≡ start (change_by c.args.self.now c.args.new.now c.args.cut) = c.new-course.ensures.from ∙ c.in_ok-from.ensures.place in
+    let begins : c.new-course.result.from ≡ start (change_by c.args.self.now c.args.new.now c.args.cut) = c.new-course.ensures.from ∙ c.in_ok-from.ensures.point in
     let at : c.new-course.result.at ≡ c.new-course.result.from = c.new-course.ensures.at ∙ sym c.new-course.ensures.from in
-    let before : c.in_ok-from.from ≤ c.args.cut.front = omega (arith, c.in_ok-from.ensures.place, le) in
+    let before : c.in_ok-from.from ≤ c.args.cut.front = omega (arith, c.in_ok-from.ensures.point, le) in
     let first : c.new-course.result.at - c.args.cut.new_rest + c.args.cut.old_rest ≡ c.args.cut.old_rest = omega (arith, at, begins, le, c.requires.change.new_from) in
-    let places : c.deref.result.now ≡ c.args.self.now.places = c.deref.ensures.value ∙ ap (λ (h : Held). h.places) c.self.view_is in
+    let points : c.deref.result.now ≡ c.args.self.now.points = c.deref.ensures.value ∙ ap (λ (h : Holding). h.points) c.self.view_is in
     record {
       begins = begins;
-      spaced = c.new-course.ensures.spacing ∙ ap (λ (h : Held). h.spacing) c.self.view_is;
-      run = course-run g.M.Machine.meaning c.args.new.now c.new-course.result c.new-course.ensures.outputs c.new-course.ensures.places c.new-course.ensures.kept at (omega (arith, begins, le, c.requires.change.new_from, c.requires.change.new_within));
-      paced = course-paced c.new-course.result c.new-course.ensures.places at (c.new-course.ensures.due ∙ sym c.new-course.ensures.spacing);
+      spaced = c.new-course.ensures.spacing ∙ ap (λ (h : Holding). h.spacing) c.self.view_is;
+      run = course-run g.M.Machine.meaning c.args.new.now c.new-course.result c.new-course.ensures.outputs c.new-course.ensures.points c.new-course.ensures.kept at (omega (arith, begins, le, c.requires.change.new_from, c.requires.change.new_within));
+      paced = course-paced c.new-course.result c.new-course.ensures.points at (c.new-course.ensures.due ∙ sym c.new-course.ensures.spacing);
       here = c.in_ok-from.ensures.machine ∙ states-before (change_by c.args.self.now c.args.new.now c.args.cut) c.in_ok-from.from c.requires.change before ∙ ap (state c.args.new.now) (sym c.new-course.ensures.at);
-      next = rw (first, ← places) c.count_below-index.ensures.next;
+      next = rw (first, ← points) c.count_below-index.ensures.next;
       unmet = λ t lt m. absurd (omega (arith, m.from_start, at, begins));
       counted = omega (arith, at);
     }
 
 pub meets-requires-clause-paired : goal.meets-requires-clause-paired
-meets-requires-clause-paired g c = rw (c.deref-in-steps.ensures.value, c.deref-in-steps-2.ensures.value) (same-length g.M.Machine.meaning (state c.self.inside.script) c.self.inside.kept.items c.self.inside.places.items c.self.invariant.states)
+meets-requires-clause-paired g c = rw (c.deref-in-steps.ensures.value, c.deref-in-steps-2.ensures.value) (same-length g.M.Machine.meaning (state c.self.inside.script) c.self.inside.kept.items c.self.inside.points.items c.self.invariant.states)
 
 pub meets-requires-clause-rising : goal.meets-requires-clause-rising
-meets-requires-clause-rising g c = rw c.deref-in-steps.ensures.value (kept-rising c.self.inside.spacing _ c.self.inside.places.items c.self.invariant.near)
+meets-requires-clause-rising g c = rw c.deref-in-steps.ensures.value (kept-rising c.self.inside.spacing _ c.self.inside.points.items c.self.invariant.near)
 
 -- what a test that failed says
-differs : {M : Type 0} (meaning : M → Cluster) (h : Held) (inside : Held) (ps : List ℕ) (kept : List M) (x : Cluster) (at r t : ℕ) → inside ≡ h → IsFresh inside → ps ≡ inside.places → map meaning kept ≡ inside.kept
+differs : {M : Type 0} (meaning : M → Cluster) (h : Holding) (inside : Holding) (ps : List ℕ) (kept : List M) (x : Cluster) (at r t : ℕ) → inside ≡ h → IsFresh inside → ps ≡ inside.points → map meaning kept ≡ inside.kept
     → ((f : ℕ → Cluster) → map meaning kept ≡ map f ps → t ≤ at → Contains ps (at - t + r) → x ≡ f (at - t + r) → ⊥)
-    → t ≤ at → Contains h.places (at - t + r) → x ≡ state h.script (at - t + r) → ⊥
-differs meaning h inside ps kept x at r t view fresh places states unmet le has same =
-    let placed : ps ≡ h.places = places ∙ ap (λ (h : Held). h.places) view in
-    let stated : map meaning kept ≡ map (state h.script) ps = states ∙ ap (λ (h : Held). h.kept) view ∙ (subst IsFresh view fresh).states ∙ ap (map (state h.script)) (sym placed) in
+    → t ≤ at → Contains h.points (at - t + r) → x ≡ state h.script (at - t + r) → ⊥
+differs meaning h inside ps kept x at r t view fresh points states unmet le has same =
+    let placed : ps ≡ h.points = points ∙ ap (λ (h : Holding). h.points) view in
+    let stated : map meaning kept ≡ map (state h.script) ps = states ∙ ap (λ (h : Holding). h.kept) view ∙ (subst IsFresh view fresh).states ∙ ap (map (state h.script)) (sym placed) in
     unmet (state h.script) stated le (subst (λ (l : List ℕ). Contains l (at - t + r)) (sym placed) has) same
 
 pub returns-in_err-keep_due-clause-refused : goal.returns-in_err-keep_due-clause-refused
@@ -69,7 +69,7 @@ returns-then-course-len-clause-run g c =
       at_is = end;
       spacing_is = spacing;
       has_run = c.in_ok-keep_due.ensures.run c.args.new.now c.steps.invariant.run c.steps.invariant.here;
-      places_are = course-end c.keep_due.new.self (change_by c.args.self.now c.args.new.now c.args.cut) c.in_ok-keep_due.ensures.paced spacing from end;
+      points_are = course-end c.keep_due.new.self (change_by c.args.self.now c.args.new.now c.args.cut) c.in_ok-keep_due.ensures.paced spacing from end;
     }
 
 pub returns-in_err-machine-clause-refused : goal.returns-in_err-machine-clause-refused
@@ -89,7 +89,7 @@ pub steps-preserved : goal.steps-preserved
 steps-preserved g c =
     let at : c.step.new.self.at ≡ c.steps.course.at + 1 = c.in_ok-machine.ensures.at ∙ ap (λ (n : ℕ). n + 1) c.keep_due.ensures.at in
     let from : c.step.new.self.from ≡ c.steps.course.from = c.step.ensures.from ∙ c.keep_due.ensures.from in
-    let places : c.deref-in-steps.result.now ≡ c.args.self.now.places = c.deref-in-steps.ensures.value ∙ ap (λ (h : Held). h.places) c.self.view_is in
+    let points : c.deref-in-steps.result.now ≡ c.args.self.now.points = c.deref-in-steps.ensures.value ∙ ap (λ (h : Holding). h.points) c.self.view_is in
     let unmet : (t : ℕ) → t < c.steps.course.at + 1 → Meets (change_by c.args.self.now c.args.new.now c.args.cut) t → ⊥ =
     unmet_more (change_by c.args.self.now c.args.new.now c.args.cut) c.steps.course.at (g.M.Machine.meaning c.steps.machine) c.steps.invariant.unmet c.steps.invariant.here
     (differs g.M.Machine.meaning c.args.self.now _ c.deref-in-steps.result.now c.deref-in-steps-2.result.now (g.M.Machine.meaning c.steps.machine) c.steps.course.at c.args.cut.old_rest c.args.cut.new_rest c.self.view_is c.self.invariant c.deref-in-steps.ensures.value (ap (map g.M.Machine.meaning) c.deref-in-steps-2.ensures.value) (λ f s. c.meets.ensures.unmet f s c.steps-test.true)) in
@@ -99,26 +99,26 @@ steps-preserved g c =
       run = c.in_ok-machine.ensures.run;
       paced = c.in_ok-machine.ensures.paced;
       here = c.in_ok-machine.ensures.machine;
-      next = rw (at, ← places) (c.meets.ensures.next c.steps-test.true);
+      next = rw (at, ← points) (c.meets.ensures.next c.steps-test.true);
       unmet = λ t lt m. unmet t (omega (arith, at)) m;
       counted = omega (arith, at, from, c.step.ensures.counted, c.steps.invariant.counted, c.steps.invariant.run.from_first);
     }
 
 pub returns-clause-run : goal.returns-clause-run
 returns-clause-run g c =
-    let placed : c.deref-in-steps.result.now ≡ c.args.self.now.places = c.deref-in-steps.ensures.value ∙ ap (λ (h : Held). h.places) c.self.view_is in
+    let placed : c.deref-in-steps.result.now ≡ c.args.self.now.points = c.deref-in-steps.ensures.value ∙ ap (λ (h : Holding). h.points) c.self.view_is in
     let stated : map g.M.Machine.meaning c.deref-in-steps-2.result.now ≡ map (state c.args.self.now.script) c.deref-in-steps.result.now =
-    ap (map g.M.Machine.meaning) c.deref-in-steps-2.ensures.value ∙ ap (λ (h : Held). h.kept) c.self.view_is ∙ (let fresh : IsFresh c.args.self.now = subst IsFresh c.self.view_is c.self.invariant in fresh.states) ∙ ap (map (state c.args.self.now.script)) (sym placed) in
+    ap (map g.M.Machine.meaning) c.deref-in-steps-2.ensures.value ∙ ap (λ (h : Holding). h.kept) c.self.view_is ∙ (let fresh : IsFresh c.args.self.now = subst IsFresh c.self.view_is c.self.invariant in fresh.states) ∙ ap (map (state c.args.self.now.script)) (sym placed) in
     let met = c.meets.ensures.met (state c.args.self.now.script) stated c.steps-test.false in
     let kept : c.push.new.self.items ≡ c.steps.course.kept.items ++ c.steps.machine ∷ [] = grind (arith, common_steps) in
-    let places : c.push-2.new.self.items ≡ c.steps.course.places.items ++ c.steps.course.at ∷ [] = grind (arith, common_steps) in
+    let points : c.push-2.new.self.items ≡ c.steps.course.points.items ++ c.steps.course.at ∷ [] = grind (arith, common_steps) in
     let one : 1 ≤ c.steps.course.spacing = omega (arith, c.steps.invariant.spaced, c.requires.change.spaced) in
     record {
       is_first = (
         record {
           from_start = omega (arith, c.steps.invariant.begins, c.steps.invariant.run.from_first);
           in_rest = met.0;
-          is_kept = subst (λ (ps : List ℕ). Contains ps (old_place (change_by c.args.self.now c.args.new.now c.args.cut) c.steps.course.at)) placed met.1;
+          is_kept = subst (λ (ps : List ℕ). Contains ps (old_point (change_by c.args.self.now c.args.new.now c.args.cut) c.steps.course.at)) placed met.1;
           same = sym c.steps.invariant.here ∙ met.2;
         },
         c.steps.invariant.unmet,
@@ -130,7 +130,7 @@ returns-clause-run g c =
         from_first = c.steps.invariant.run.from_first;
         within = c.steps.invariant.run.within;
         outputs_on = c.steps.invariant.run.outputs_on;
-        states_are = rw (kept, places) (states-more g.M.Machine.meaning c.args.new.now c.steps.course.kept.items c.steps.course.places.items c.steps.machine c.steps.course.at c.steps.invariant.run.states_are c.steps.invariant.here);
+        states_are = rw (kept, points) (states-more g.M.Machine.meaning c.args.new.now c.steps.course.kept.items c.steps.course.points.items c.steps.machine c.steps.course.at c.steps.invariant.run.states_are c.steps.invariant.here);
       };
-      places_are = places ∙ ap (λ (ps : List ℕ). ps ++ c.steps.course.at ∷ []) (course-meeting c.steps.course (change_by c.args.self.now c.args.new.now c.args.cut) c.steps.course.at one c.steps.invariant.run.from_first c.steps.invariant.paced c.steps.invariant.spaced c.steps.invariant.begins refl);
+      points_are = points ∙ ap (λ (ps : List ℕ). ps ++ c.steps.course.at ∷ []) (course-meeting c.steps.course (change_by c.args.self.now c.args.new.now c.args.cut) c.steps.course.at one c.steps.invariant.run.from_first c.steps.invariant.paced c.steps.invariant.spaced c.steps.invariant.begins refl);
     }

@@ -12,7 +12,7 @@ invariant-steps g l = record {
   run : HasRun g.M.Machine.meaning l.new l.course;
   paced : PacedAt l.course;
   here : g.M.Machine.meaning l.machine ≡ state l.new l.course.at;
-  next : IsNext l.self.places (l.course.at - l.cut.new_rest + l.cut.old_rest) l.index;
+  next : IsNext l.self.points (l.course.at - l.cut.new_rest + l.cut.old_rest) l.index;
   unmet : (t : ℕ) → t < l.course.at → Meets (change_by l.self l.new l.cut) t → ⊥;
   counted : g.M.Meter.Count.count_of l.meter ≡ g.M.Meter.Count.count_of l.fn.meter + (l.course.at - l.course.from);
 }

@@ -11,10 +11,10 @@ list_differing-requires-clause-within g c =
 
 pub invariant_of-result : goal.invariant_of-result
 invariant_of-result g c =
-    fresh-whole c.args.script c.args.spacing c.in_ok-course.course.outputs.items c.in_ok-mismatches.mismatches.items c.in_ok-course.course.places.items (map g.M.Machine.meaning c.in_ok-course.course.kept.items)
-    c.requires.spacing c.requires.few c.in_ok-course.ensures.outputs (c.in_ok-mismatches.ensures ∙ ap (differing (0 + 1) (drop 0 (c.args.script).blocks)) c.deref.ensures.value) c.in_ok-course.ensures.places c.in_ok-course.ensures.states
+    fresh-whole c.args.script c.args.spacing c.in_ok-course.course.outputs.items c.in_ok-mismatches.mismatches.items c.in_ok-course.course.points.items (map g.M.Machine.meaning c.in_ok-course.course.kept.items)
+    c.requires.spacing c.requires.few c.in_ok-course.ensures.outputs (c.in_ok-mismatches.ensures ∙ ap (differing (0 + 1) (drop 0 (c.args.script).blocks)) c.deref.ensures.value) c.in_ok-course.ensures.points c.in_ok-course.ensures.states
 
 pub returns-clause-fresh : goal.returns-clause-fresh
 returns-clause-fresh g c =
-    fresh-whole c.args.script c.args.spacing c.in_ok-course.course.outputs.items c.in_ok-mismatches.mismatches.items c.in_ok-course.course.places.items (map g.M.Machine.meaning c.in_ok-course.course.kept.items)
-    c.requires.spacing c.requires.few c.in_ok-course.ensures.outputs (c.in_ok-mismatches.ensures ∙ ap (differing (0 + 1) (drop 0 (c.args.script).blocks)) c.deref.ensures.value) c.in_ok-course.ensures.places c.in_ok-course.ensures.states
+    fresh-whole c.args.script c.args.spacing c.in_ok-course.course.outputs.items c.in_ok-mismatches.mismatches.items c.in_ok-course.course.points.items (map g.M.Machine.meaning c.in_ok-course.course.kept.items)
+    c.requires.spacing c.requires.few c.in_ok-course.ensures.outputs (c.in_ok-mismatches.ensures ∙ ap (differing (0 + 1) (drop 0 (c.args.script).blocks)) c.deref.ensures.value) c.in_ok-course.ensures.points c.in_ok-course.ensures.states

@@ -1,0 +1,35 @@
+//! How the program ends.
+
+ghost use Rattle.std.specs.Prelude.{◌≡◌};
+ghost use Rattle.rb_bench.specs.Statuses.{code_of};
+
+/// The statuses by which the program ends.
+#[derive(Clone, Copy, Debug, PartialEq, Eq)]
+pub enum Status {
+    /// What was asked for was done. In a report, and at the end of a session, each output was the expected one.
+    Done,
+    /// Some output was not the expected one.
+    Mismatches,
+    /// The words of the command line ask for nothing that there is.
+    BadUsage,
+    /// The script is none, or more than one may be.
+    BadScript,
+    /// Reading or writing failed, or the input of a session broke off.
+    Failed,
+    /// Memory was refused.
+    OutOfMemory,
+}
+
+/// The number that stands for the status.
+pub fn status_code(status: Status) -> u8
+    ensures { result ≡ code_of status }
+{
+    match status {
+        Status::Done => 0,
+        Status::Mismatches => 1,
+        Status::BadUsage => 2,
+        Status::BadScript => 3,
+        Status::Failed => 4,
+        Status::OutOfMemory => 5,
+    }
+}

@@ -1,5 +1,0 @@
-use Rattle.std.proofs.Common.{◌≡◌, ◌+◌, ◌-◌, ◌++◌, map, take, ℕ}
-use Rattle.rb_replay.proofs.places.joined.Given as goal
-
-abbrev pub invariant-loop-p : goal.invariant-loop-p
-invariant-loop-p l = l.places.items ≡ (l.front ++ l.fresh) ++ map (λ (p : ℕ). p - l.cut.old_rest + l.cut.new_rest) (take l.p-index l.rest)

@@ -1,0 +1,28 @@
+-- What a session holds. (This project's.)
+use Rattle.std.specs.Prelude.{◌≡◌, ℕ, ◌≤◌, true, List, map, length}
+use Rattle.rb_script.specs.declared.limits.TheConstants.{MAX_DIRECTIVES}
+use Rattle.rb_script.specs.Lines.{Line}
+use Rattle.rb_script.specs.Script.{PlainScript}
+use Rattle.rb_cluster.specs.Cluster.{Cluster}
+use Rattle.rb_replay.specs.Run.{state, outputs}
+use Rattle.rb_replay.specs.Report.{mismatches}
+use Rattle.rb_replay.specs.Points.{AreKept}
+use Rattle.rb_replay.specs.Start.{is_spacing}
+
+pub record Holding : Type 0 where
+  pub script : PlainScript
+  pub spacing : ℕ
+  pub outputs : List (List Line)
+  pub mismatches : List ℕ
+  -- where clusters are kept, and those clusters
+  pub points : List ℕ
+  pub kept : List Cluster
+
+-- All that is held is what one run of the script gives.
+pub record IsFresh (h : Holding) : Type 0 where
+  pub answered : h.outputs ≡ outputs h.script
+  pub compared : h.mismatches ≡ mismatches h.script
+  pub states : h.kept ≡ map (state h.script) h.points
+  pub near : AreKept h.spacing (length h.script.blocks) h.points
+  pub spaced : is_spacing h.spacing ≡ true
+  pub few : length h.script.blocks ≤ MAX_DIRECTIVES

@@ -1,0 +1,95 @@
+//! The plain work on points, and on what is kept at them.
+
+ghost use Rattle.std.specs.Prelude.{◌≡◌, ◌+◌, ◌-◌, ◌<◌, ◌≤◌, ℕ, ◌++◌, length, take, drop, filter, map, nat_lt, nat_le, vec_len, vec_capacity, slice_index, IfOk, All};
+ghost use Rattle.rb_script.specs.declared.limits.TheConstants.{MAX_DIRECTIVES};
+ghost use Rattle.rb_cluster.specs.Cluster.{Cluster};
+ghost use Rattle.rb_replay.specs.Points.{thin, IsRising, last_up_to};
+ghost use Rattle.rb_replay.specs.Cuts.{IsNext};
+
+use crate::cut::Cut;
+use std::alloc::{AllocError, Global};
+
+/// How many of the points are below the bound.
+pub(crate) fn count_below(points: &[usize], bound: usize) -> usize
+    requires { IsRising 0 points.now }
+    ensures next { IsNext points.now bound result }
+    ensures front { take result points.now ≡ filter (λ p. nat_lt p bound) points.now }
+    ensures rest { drop result points.now ≡ filter (λ p. nat_le bound p) points.now }
+{
+    for (i, p) in points.iter().enumerate() {
+        if *p >= bound {
+            return i;
+        }
+    }
+    points.len()
+}
+
+/// Where the greatest point that is at most `front` stands among the points.
+pub(crate) fn find_start(points: &[usize], front: usize) -> usize
+    requires rising { IsRising 0 points.now }
+    requires some { 0 < length points.now }
+    requires zero { slice_index points.now 0 ≡ 0 }
+    requires few { front ≤ MAX_DIRECTIVES }
+    ensures within { result < length points.now }
+    ensures start { slice_index points.now result ≡ last_up_to front points.now }
+{
+    count_below(points, front + 1) - 1
+}
+
+/// Puts the fresh items in place of those from `from` to `to`. It takes no memory.
+pub(crate) fn put_between<T: Drop>(items: &mut Vec<T>, from: usize, to: usize, fresh: &mut Vec<T>)
+    requires order { from ≤ to }
+    requires within { to ≤ vec_len items.old }
+    requires room { vec_len items.old + vec_len fresh.old ≤ vec_capacity items.old }
+    ensures { items.new.items ≡ take from items.old.items ++ (fresh.old.items ++ drop to items.old.items) }
+{
+    let rest = items.len() - to;
+    // Turned by `to`, the rest stands first and what goes last: that is cut off, and the fresh items come in its place.
+    // Turned back, the rest follows them. So it is never set aside, which would take memory.
+    items.rotate_left(to);
+    items.truncate(rest + from);
+    items.append(fresh).unwrap();
+    items.rotate_left(rest);
+}
+
+/// Thins the points, and drops what is kept at those that go.
+pub(crate) fn thin<M: Drop>(points: &mut Vec<usize>, kept: &mut Vec<M>, spacing: usize)
+    requires { vec_len kept.old ≡ vec_len points.old }
+    ensures points { points.new.items ≡ thin spacing points.old.items }
+    ensures kept { (f : M → Cluster) (g : ℕ → Cluster) → map f kept.old.items ≡ map g points.old.items → map f kept.new.items ≡ map g points.new.items }
+{
+    if points.len() < 2 {
+        return;
+    }
+    let mut i = 1;
+    while i + 1 < points.len() {
+        if points[i + 1].saturating_sub(points[i - 1]) <= spacing {
+            points.remove(i);
+            let _ = kept.remove(i);
+        } else {
+            i += 1;
+        }
+    }
+}
+
+/// The points of the front, those that were run to, and those of the rest where they stand now.
+pub(crate) fn joined(
+    alloc: Global,
+    front: &[usize],
+    fresh: &[usize],
+    rest: &[usize],
+    cut: Cut,
+) -> Result<Vec<usize>, AllocError>
+    requires small { All (λ p. p ≤ MAX_DIRECTIVES) rest.now }
+    requires new_small { cut.new_rest ≤ MAX_DIRECTIVES }
+    ensures { IfOk result (λ v. v.items ≡ front.now ++ (fresh.now ++ map (λ p. p - cut.old_rest + cut.new_rest) rest.now)) }
+{
+    let mut points = Vec::with_capacity(alloc, front.len())?;
+    points.extend_from_slice(front)?;
+    points.extend_from_slice(fresh)?;
+    points.reserve(rest.len())?;
+    for p in rest {
+        points.push(p.saturating_sub(cut.old_rest) + cut.new_rest)?;
+    }
+    Ok(points)
+}

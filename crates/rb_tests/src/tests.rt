@@ -1,4 +1,0 @@
-mod bench;
-mod fakes;
-mod line;
-mod replay;
