@@ -1,6 +1,0 @@
-//! Tests of rb_tracker: tables that were worked out by hand from the definitions, and slow plain counts beside what the
-//! crate answers. There is nothing here but tests.
-#![tactic(auto)]
-
-#[cfg(test)]
-mod tests;
