@@ -103,7 +103,7 @@ fn arguments_and_values(rt: HostRuntime) -> Result<(), Fail> {
 fn directives(rt: HostRuntime) -> Result<(), Fail> {
     let block = b"raft-state\n----\nok\n\n";
     let most = Long::new(b"", block, MAX_DIRECTIVES, b"");
-    let count = blocks_of(&rt, rt.alloc(), most, 200_000)?;
+    let count = blocks_of(&rt, rt.alloc(), most, 400_000)?;
     is_count(&rt, count, 20_000);
     // the next head is one too many, and it isn't looked at
     let more = Long::new(b"", block, MAX_DIRECTIVES, b"a (\n");
