@@ -86,7 +86,17 @@ changed c transition words =
     else (if is_auto transition && length words == 1 then simple c words
     else enter_joint c (not (is_explicit transition)) words)
 
--- what a call gives, if it has the memory
+-- what is told before any memory is asked for
+abbrev pub is_early : Result Config ChangeFault → Bool
+is_early (Ok c) = false
+is_early (Err fault.AlreadyJoint) = true
+is_early (Err fault.NotJoint) = true
+is_early (Err fault.SimpleWhileJoint) = true
+is_early (Err fault.MoreThanOneVoter) = false
+is_early (Err fault.NoVoters) = false
+is_early (Err fault.OutOfMemory) = false
+
+-- what a call gives: for want of memory another fault, unless that is told before any is asked for
 abbrev pub Gives : Result Config ChangeFault → Result Config ChangeFault → Type 0
 Gives (Ok c) is = is ≡ Ok c
 Gives (Err fault.AlreadyJoint) is = is ≡ Err fault.AlreadyJoint
@@ -94,7 +104,7 @@ Gives (Err fault.NotJoint) is = is ≡ Err fault.NotJoint
 Gives (Err fault.SimpleWhileJoint) is = is ≡ Err fault.SimpleWhileJoint
 Gives (Err fault.MoreThanOneVoter) is = is ≡ Err fault.MoreThanOneVoter
 Gives (Err fault.NoVoters) is = is ≡ Err fault.NoVoters
-Gives (Err fault.OutOfMemory) is = Unit {0}
+Gives (Err fault.OutOfMemory) is = is_early is ≡ false
 
 -- what holds of each configuration that comes of changes: its sets are sets, no voter of either half learns, and who is
 -- to learn later is an outgoing voter and no incoming one
