@@ -1,5 +1,5 @@
 -- The calls of a node that are no ticks and no readies
-use Rattle.std.specs.Prelude.{ℕ, ◌≡◌, min, Result, Ok, Err, Option, Some, None, List, [], ◌∷◌, ◌++◌, if◌then◌else◌}
+use Rattle.std.specs.Prelude.{ℕ, ◌≡◌, min, Result, Option, Some, None, List, [], ◌∷◌, ◌++◌, if◌then◌else◌}
 use Rattle.rb_raftlog.specs.declared.raft_log.CompactFault.{CompactFault}
 use Rattle.rb_raftlog.specs.declared.snapshot.Snapshot.{Snapshot}
 use Rattle.rb_raftlog.specs.Log.{IsCompacted}
@@ -11,7 +11,7 @@ use Rattle.rb_message.specs.declared.kind.MessageKind.{MessageKind}
 use Rattle.rb_message.specs.declared.role.Role.{Role}
 use Rattle.rb_message.specs.declared.role.Role.TheVariants as role
 use Rattle.rb_step.specs.declared.options.Options.{Options}
-use Rattle.rb_step.specs.Node.{PlainNode, Turn, turn, told, message, is_leader, started}
+use Rattle.rb_step.specs.Node.{PlainNode, Turn, turn, message, is_leader, started}
 use Rattle.rb_step.specs.Sends.{viewed, is_replicating}
 use Rattle.rb_step.specs.Step.{stepped}
 

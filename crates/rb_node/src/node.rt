@@ -3,6 +3,7 @@
 ghost use Rattle.std.specs.Prelude.{◌≡◌, ◌≤◌, ◌↔◌, IsTrue, IfOk, OnOk};
 ghost use Rattle.rb_raftlog.specs.declared.limits.TheConstants.{MAX_INDEX};
 ghost use Rattle.rb_step.specs.Node.{PlainNode, turn};
+ghost use Rattle.rb_step.specs.Comparing.{HaveSameNumbers};
 ghost use Rattle.rb_node.specs.Calls.{node_started};
 
 use rb_message::Event;
@@ -62,6 +63,13 @@ impl<L: RaftLog> Node<L> {
         Ok(Node {
             state: self.state.try_copy()?,
         })
+    }
+
+    /// Whether both have the same numbers, and lists of the same lengths. It costs the same however long the lists are.
+    pub fn has_numbers_of(&self, other: &Node<L>) -> bool
+        ensures { IsTrue result ↔ HaveSameNumbers self.now other.now }
+    {
+        self.state.has_numbers_of(&other.state)
     }
 
     /// Whether both are the same in all that a node knows. It takes no memory.

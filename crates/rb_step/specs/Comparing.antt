@@ -1,5 +1,6 @@
 -- Comparing two nodes: what is a number or a flag, and the rest
-use Rattle.std.specs.Prelude.{◌≡◌}
+use Rattle.std.specs.Prelude.{◌≡◌, length}
+use Rattle.rb_raftlog.specs.Log.{last}
 use Rattle.rb_step.specs.Node.{PlainNode}
 
 abbrev pub HaveSameRole : PlainNode → PlainNode → Type 0
@@ -14,6 +15,14 @@ abbrev pub HaveSameCounters : PlainNode → PlainNode → Type 0
 HaveSameCounters a b =
     (a.elapsed ≡ b.elapsed) × (a.heartbeat_elapsed ≡ b.heartbeat_elapsed) × (a.timeout ≡ b.timeout)
     × (a.saved ≡ b.saved) × (a.options ≡ b.options)
+
+abbrev pub HaveSameLengths : PlainNode → PlainNode → Type 0
+HaveSameLengths a b =
+    (length a.sent ≡ length b.sent) × (length a.waiting ≡ length b.waiting)
+    × (length a.content ≡ length b.content) × (last a.log ≡ last b.log)
+
+abbrev pub HaveSameNumbers : PlainNode → PlainNode → Type 0
+HaveSameNumbers a b = HaveSameRole a b × HaveSameIndexes a b × HaveSameCounters a b × HaveSameLengths a b
 
 abbrev pub HaveSameLists : PlainNode → PlainNode → Type 0
 HaveSameLists a b =

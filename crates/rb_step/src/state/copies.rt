@@ -1,7 +1,7 @@
 //! Copies of a state, and comparison.
 
 ghost use Rattle.std.specs.Prelude.{◌≡◌, ◌↔◌, IsTrue, IfOk};
-ghost use Rattle.rb_step.specs.Comparing.{HaveSameRole, HaveSameIndexes, HaveSameCounters, HaveSameLists};
+ghost use Rattle.rb_step.specs.Comparing.{HaveSameRole, HaveSameIndexes, HaveSameCounters, HaveSameLengths, HaveSameNumbers, HaveSameLists};
 
 use super::State;
 use rb_message::{Message, copies_of, same_messages};
@@ -107,6 +107,26 @@ impl<L: RaftLog> State<L> {
             && self.options == other.options
     }
 
+    fn same_lengths(&self, other: &State<L>) -> bool
+        ensures { IsTrue result ↔ HaveSameLengths self.now other.now }
+    {
+        self.sent.len() == other.sent.len()
+            && self.waiting.len() == other.waiting.len()
+            && self.content.len() == other.content.len()
+            && self.log.last_index() == other.log.last_index()
+    }
+
+    /// Whether both have the same numbers, and lists of the same lengths. It costs the same however long the lists are, so who
+    /// compares many nodes asks for this of all of them first.
+    pub fn has_numbers_of(&self, other: &State<L>) -> bool
+        ensures { IsTrue result ↔ HaveSameNumbers self.now other.now }
+    {
+        self.same_role(other)
+            && self.same_indexes(other)
+            && self.same_counters(other)
+            && self.same_lengths(other)
+    }
+
     fn same_lists(&self, other: &State<L>) -> bool
         ensures { IsTrue result ↔ HaveSameLists self.now other.now }
     {
@@ -122,9 +142,6 @@ impl<L: RaftLog> State<L> {
     pub fn same(&self, other: &State<L>) -> bool
         ensures { IsTrue result ↔ (self.now ≡ other.now) }
     {
-        self.same_role(other)
-            && self.same_indexes(other)
-            && self.same_counters(other)
-            && self.same_lists(other)
+        self.has_numbers_of(other) && self.same_lists(other)
     }
 }

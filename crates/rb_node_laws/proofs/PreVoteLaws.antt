@@ -1,0 +1,62 @@
+-- The question before the vote
+use Rattle.std.proofs.Common.{◌≡◌, ℕ, Bool, true, false, not, ◌&&◌, ◌||◌, Option, Some, None, refl, ap, ◌∙◌, nat_lt, ◌==◌, if◌then◌else◌}
+use Rattle.rb_tracker.proofs.SetLaws.{if_both}
+use Rattle.rb_message.specs.Messages.{has_term}
+use Rattle.rb_message.specs.declared.event.WhyNoCampaign.{WhyNoCampaign}
+use Rattle.rb_message.specs.declared.kind.MessageKind.{MessageKind}
+use Rattle.rb_message.specs.declared.kind.MessageKind.TheVariants as kind
+use Rattle.rb_message.specs.declared.message.Message.{Message}
+use Rattle.rb_step.specs.Node.{PlainNode, Turn, ignored}
+use Rattle.rb_step.specs.Terms.{raised, raised_by, lowered, is_disturbed_by}
+use Rattle.rb_step.specs.Campaigns.{why_no_campaign, campaigned_unless, campaigned, stood, sounded_out}
+use Rattle.rb_step.specs.Step.{at_term_by, at_term, stepped}
+use Rattle.rb_node_laws.specs.Sound.{HasSameVote}
+use Rattle.rb_node_laws.proofs.Goes.{Core, core}
+use Rattle.rb_node_laws.proofs.TermLaws.{sounded_out_core, lowered_same}
+use Rattle.rb_node_laws.proofs.VoteLaws.{pre_vote_same}
+
+same_vote_of : (a b : PlainNode) → core b ≡ core a → HasSameVote a b
+same_vote_of a b e = record { term = ap (λ (c : Core). c.term) e; vote = ap (λ (c : Core). c.vote) e; log = ap (λ (c : Core). c.log) e }
+
+sounding_same : (t : Turn) → HasSameVote t.node (sounded_out t).node
+sounding_same t =
+    let e = sounded_out_core t in
+    record { term = ap (λ (c : Core). c.term) e; vote = ap (λ (c : Core). c.vote) e; log = ap (λ (c : Core). c.log) e }
+
+itself : (n : PlainNode) → HasSameVote n n
+itself n = record { term = refl; vote = refl; log = refl }
+
+asks_first : (b : Bool) → b ≡ true → (b && not false) ≡ false → ⊥
+asks_first true e f = cc
+asks_first false e f = cc
+
+pre_campaign_unless : (o : Option WhyNoCampaign) (t : Turn) → t.node.options.pre_vote ≡ true → HasSameVote t.node (campaigned_unless o t false).node
+pre_campaign_unless (Some reason) t on = itself t.node
+pre_campaign_unless None t on =
+    if_both (λ (u : Turn). HasSameVote t.node u.node) (t.node.options.pre_vote && not false) (sounded_out t) (stood t false)
+    (λ _. sounding_same t) (λ off. absurd (asks_first t.node.options.pre_vote on off))
+
+pub pre_campaign : (t : Turn) → t.node.options.pre_vote ≡ true → HasSameVote t.node (campaigned t false).node
+unfolding campaigned
+pre_campaign t on = pre_campaign_unless (why_no_campaign t.node) t on
+
+answers_same : (t : Turn) (m : Message) (k : MessageKind) (last_term last_index : ℕ) → k ≡ kind.PreVote last_term last_index → core (at_term_by k t m).node ≡ core t.node
+answers_same t m k last_term last_index e = ap (λ (x : MessageKind). core (at_term_by x t m).node) e ∙ pre_vote_same t.node m last_term last_index
+
+raised_same : (t : Turn) (m : Message) (k : MessageKind) (last_term last_index : ℕ) → k ≡ kind.PreVote last_term last_index → core (raised_by k t m).node ≡ core t.node
+raised_same t m k last_term last_index e = ap (λ (x : MessageKind). core (raised_by x t m).node) e
+
+pub pre_answer : (t : Turn) (m : Message) (last_term last_index : ℕ) → m.kind ≡ kind.PreVote last_term last_index → HasSameVote t.node (stepped t m).node
+unfolding stepped
+pre_answer t m last_term last_index e =
+    let P : Turn → Type 0 = λ u. core u.node ≡ core t.node in
+    let all : core (stepped t m).node ≡ core t.node =
+    if_both P (not (has_term m.kind) || m.term == t.node.term) (at_term t m)
+    (if nat_lt m.term t.node.term then lowered t m else (if is_disturbed_by m.kind t.node then ignored t m else at_term (raised t m) m))
+    (λ _. answers_same t m m.kind last_term last_index e)
+    (λ _. if_both P (nat_lt m.term t.node.term) (lowered t m) (if is_disturbed_by m.kind t.node then ignored t m else at_term (raised t m) m)
+    (λ _. lowered_same m.kind t m)
+    (λ _. if_both P (is_disturbed_by m.kind t.node) (ignored t m) (at_term (raised t m) m)
+    (λ _. refl)
+    (λ _. answers_same (raised t m) m m.kind last_term last_index e ∙ raised_same t m m.kind last_term last_index e))) in
+    same_vote_of t.node (stepped t m).node all

@@ -1,0 +1,115 @@
+//! What a node keeps, whatever is done with it.
+ghost use Rattle.std.specs.Prelude.{◌≡◌, ◌≤◌, ◌<◌, ◌⊎◌, ℕ, true, false, List, Result, Ok, Err};
+ghost use Rattle.rb_raftlog.specs.declared.raft_log.CompactFault.TheVariants.{AlreadyCompacted, PastApplied};
+ghost use Rattle.rb_raftlog.specs.declared.snapshot.Snapshot.{Snapshot};
+ghost use Rattle.rb_raftlog.specs.Log.{entry_at, term_at, is_term};
+ghost use Rattle.rb_message.specs.declared.role.Role.TheVariants.{Leader, Candidate};
+ghost use Rattle.rb_message.specs.declared.message.Message.{Message};
+ghost use Rattle.rb_message.specs.declared.kind.MessageKind.TheVariants.{PreVote};
+ghost use Rattle.rb_step.specs.declared.options.Options.{Options};
+ghost use Rattle.rb_step.specs.Node.{PlainNode, Turn, started};
+ghost use Rattle.rb_step.specs.Campaigns.{campaigned};
+ghost use Rattle.rb_raftlog.specs.declared.entry.Transition.{Transition};
+ghost use Rattle.rb_raftlog.specs.declared.entry.Word.{Word};
+ghost use Rattle.rb_tracker.specs.Commits.{is_held};
+ghost use Rattle.rb_step.specs.Changing.{change_applied};
+ghost use Rattle.rb_step.specs.Step.{stepped};
+ghost use Rattle.rb_node.specs.Calls.{IsCompactedTo};
+ghost use Rattle.rb_node_laws.specs.Calling.{Call, compacted_to, after, run};
+ghost use Rattle.rb_node_laws.specs.Elections.{VotesOnly, LeadsOnly, Granted, Elected};
+ghost use Rattle.rb_node_laws.specs.Sound.{IsSound, IsGrown, HasSameVote, HasSoundViews, HasViewsOfMembers};
+
+/// A node that starts is sound, and after each call and any list of calls it still is: base, applied, durable, commit and last stay
+/// in order.
+pub fn nodes_stay_sound()
+    ensures started { (id : ℕ) (start : Snapshot) (options : Options) → IsSound (started id start options) }
+    ensures called { (c : Call) (t : Turn) → IsSound t.node → IsSound (after c t).node }
+    ensures run { (cs : List Call) (t : Turn) → IsSound t.node → IsSound (run cs t).node }
+{}
+
+/// The calls of the laws are the calls of a node: compacting, whose contract is a relation, gives what the laws say, unless memory is
+/// refused.
+pub fn calls_are_these()
+    ensures compacted { (old new : PlainNode) (index : ℕ) (done : Unit {0}) → IsCompactedTo old index (Ok done) new → new ≡ compacted_to old index }
+    ensures already { (old new : PlainNode) (index : ℕ) → IsCompactedTo old index (Err AlreadyCompacted) new → new ≡ compacted_to old index }
+    ensures past { (old new : PlainNode) (index : ℕ) → IsCompactedTo old index (Err PastApplied) new → new ≡ compacted_to old index }
+{}
+
+/// The term never falls, and the id stays.
+pub fn terms_never_fall()
+    ensures term { (cs : List Call) (t : Turn) → IsSound t.node → t.node.term ≤ (run cs t).node.term }
+    ensures id { (cs : List Call) (t : Turn) → IsSound t.node → (run cs t).node.id ≡ t.node.id }
+{}
+
+/// In one term a vote that was given stays.
+pub fn votes_are_given_once()
+    ensures { (cs : List Call) (t : Turn) → IsSound t.node → (run cs t).node.term ≡ t.node.term → 0 < t.node.vote → (run cs t).node.vote ≡ t.node.vote }
+{}
+
+/// A campaign by pre-vote changes no term, no vote and no log, and neither does the answer to its question.
+pub fn pre_votes_bind_nobody()
+    ensures campaign { (t : Turn) → t.node.options.pre_vote ≡ true → HasSameVote t.node (campaigned t false).node }
+    ensures answer { (t : Turn) (m : Message) (last_term last_index : ℕ) → m.kind ≡ PreVote last_term last_index → HasSameVote t.node (stepped t m).node }
+{}
+
+/// A node gives its vote to nobody else but by a message of its term that asks for it, for a log at least as new as its own.
+pub fn votes_go_to_new_logs()
+    ensures { (c : Call) (t : Turn) → IsSound t.node → VotesOnly t.node (after c t).node (Granted c t (after c t).node.vote (after c t).node.term) }
+{}
+
+/// A node becomes leader only as a candidate, in its term, by an answer with which a quorum has granted.
+pub fn leaders_are_elected()
+    ensures { (c : Call) (t : Turn) → IsSound t.node → LeadsOnly t.node (after c t).node (Elected c t (after c t).node.term) }
+{}
+
+/// Commit and applied never fall.
+pub fn commit_never_falls()
+    ensures commit { (cs : List Call) (t : Turn) → IsSound t.node → t.node.commit ≤ (run cs t).node.commit }
+    ensures applied { (cs : List Call) (t : Turn) → IsSound t.node → t.node.applied ≤ (run cs t).node.applied }
+    ensures base { (cs : List Call) (t : Turn) → IsSound t.node → t.node.log.base ≤ (run cs t).node.log.base }
+{}
+
+/// No entry that is committed is ever changed or lost but into the base, by compacting or by a snapshot past it; and where it is
+/// durable, it stays so.
+pub fn committed_entries_stay()
+    ensures entries { (cs : List Call) (t : Turn) (i : ℕ) → IsSound t.node → i ≤ t.node.commit → (run cs t).node.log.base < i → entry_at (run cs t).node.log i ≡ entry_at t.node.log i }
+    ensures durable { (cs : List Call) (t : Turn) (i : ℕ) → IsSound t.node → i ≤ t.node.commit → i ≤ t.node.log.durable → i ≤ (run cs t).node.log.durable }
+{}
+
+/// A leader that leads on in its term only appends to its log, but for what is compacted.
+pub fn leaders_append_only()
+    ensures { (cs : List Call) (t : Turn) → IsSound t.node → t.node.role ≡ Leader → (run cs t).node.role ≡ Leader → (run cs t).node.term ≡ t.node.term → IsGrown t.node.log (run cs t).node.log }
+{}
+
+/// In one term nobody becomes leader but a candidate, and nobody becomes a candidate.
+pub fn leaders_were_candidates()
+    ensures leader { (cs : List Call) (t : Turn) → IsSound t.node → (run cs t).node.role ≡ Leader → (run cs t).node.term ≡ t.node.term → (t.node.role ≡ Leader) ⊎ (t.node.role ≡ Candidate) }
+    ensures candidate { (cs : List Call) (t : Turn) → IsSound t.node → (run cs t).node.role ≡ Candidate → (run cs t).node.term ≡ t.node.term → t.node.role ≡ Candidate }
+{}
+
+/// Where the commit of a leader that leads on in its term moves, it moves to an entry of that term.
+pub fn leaders_commit_own_terms()
+    ensures { (cs : List Call) (t : Turn) → IsSound t.node → t.node.role ≡ Leader → (run cs t).node.role ≡ Leader → (run cs t).node.term ≡ t.node.term → ((run cs t).node.commit ≡ t.node.commit) ⊎ (is_term (term_at (run cs t).node.log (run cs t).node.commit) t.node.term ≡ true) }
+{}
+
+/// Where a leader's commit moves by a message, in the term that it leads, and where a node's moves by a change that takes effect, a
+/// quorum of the configuration holds what it moves to, by the views after it.
+pub fn leaders_commit_what_a_quorum_holds()
+    ensures step { (t : Turn) (m : Message) → IsSound t.node → t.node.role ≡ Leader → (stepped t m).node.term ≡ t.node.term → ((stepped t m).node.commit ≡ t.node.commit) ⊎ (is_held (stepped t m).node.tracker (stepped t m).node.commit ≡ true) }
+    ensures change { (t : Turn) (transition : Transition) (words : List Word) → ((change_applied t transition words).node.commit ≡ t.node.commit) ⊎ (is_held (change_applied t transition words).node.tracker (change_applied t transition words).node.commit ≡ true) }
+{}
+
+/// A leader's views stay sound: what a member is sent next is past what it is known to hold, and no more is in flight to it than may
+/// be. Who doesn't lead has no views.
+pub fn views_stay_sound()
+    ensures started { (id : ℕ) (start : Snapshot) (options : Options) → HasSoundViews (started id start options) }
+    ensures called { (c : Call) (t : Turn) → IsSound t.node → HasSoundViews t.node → HasSoundViews (after c t).node }
+    ensures run { (cs : List Call) (t : Turn) → IsSound t.node → HasSoundViews t.node → HasSoundViews (run cs t).node }
+{}
+
+/// A leader has a view of each member of its configuration, and of nobody else. Who doesn't lead has none.
+pub fn leaders_view_the_members()
+    ensures started { (id : ℕ) (start : Snapshot) (options : Options) → HasViewsOfMembers (started id start options) }
+    ensures called { (c : Call) (t : Turn) → HasViewsOfMembers t.node → HasViewsOfMembers (after c t).node }
+    ensures run { (cs : List Call) (t : Turn) → HasViewsOfMembers t.node → HasViewsOfMembers (run cs t).node }
+{}

@@ -1,0 +1,15 @@
+//! Laws of a Raft node, in Raft's own words, over the definitions of its calls alone.
+//!
+//! The contracts of `rb_node` say what each call of a node gives, by the definitions of `rb_step` and `rb_node`. The laws say why that
+//! is what Raft asks of a single node, whatever messages it gets and in whatever order it is called. None of them is run. They are
+//! about one node: that a cluster of nodes is safe does not follow from them alone (docs/NODE.md).
+#![tactic(auto)]
+
+mod laws;
+
+pub use laws::{
+    calls_are_these, commit_never_falls, committed_entries_stay, leaders_append_only,
+    leaders_are_elected, leaders_commit_own_terms, leaders_commit_what_a_quorum_holds,
+    leaders_view_the_members, leaders_were_candidates, nodes_stay_sound, pre_votes_bind_nobody,
+    terms_never_fall, views_stay_sound, votes_are_given_once, votes_go_to_new_logs,
+};
