@@ -8,12 +8,12 @@ use Rattle.rb_script.specs.Lines.{Line}
 use Rattle.rb_command.specs.declared.command.TheConstants.{MAX_GIVEN}
 use Rattle.rb_command.specs.declared.command.Command.{Command}
 use Rattle.rb_command.specs.declared.command.Command.TheVariants.{Blank, Bad, Given, Remove, Accept, Show, Report, Script, Rewrite}
-use Rattle.rb_command.specs.declared.command.Kind.{Kind}
-use Rattle.rb_command.specs.declared.command.Kind.TheVariants.{Insert, Replace, Expect}
+use Rattle.rb_command.specs.declared.command.Purpose.{Purpose}
+use Rattle.rb_command.specs.declared.command.Purpose.TheVariants.{Insert, Replace, Expect}
 use Rattle.rb_words.specs.Words.{words}
 use Rattle.rb_number.specs.Numbers.{number_of}
-use Rattle.rb_command.specs.Commands.{alone, placed, kind_of, given, spelled, command_of}
-use Rattle.rb_command.specs.Spelling.{kind_name, Spells}
+use Rattle.rb_command.specs.Commands.{alone, placed, purpose_of, given, spelled, command_of}
+use Rattle.rb_command.specs.Spelling.{purpose_name, Spells}
 
 -- one of two commands
 one_of : (P : Command → Type 0) (b : Bool) (c rest : Command) → (b ≡ true → P c) → (rest ≢ Bad → P rest) → cond b c rest ≢ Bad → P (cond b c rest)
@@ -44,17 +44,17 @@ placed_means name digits (Some place) e ne =
     one_of P (bytes_eq name (codes "remove")) (Remove place) _ (λ same. record { digits = digits; words_are = placed_named name (codes "remove") digits same; place_is = e })
     (one_of P (bytes_eq name (codes "show")) (Show place) Bad (λ same. record { digits = digits; words_are = placed_named name (codes "show") digits same; place_is = e }) (λ no. absurd (no refl))) ne
 
--- one of two kinds
-kind_or : (P : Option Kind → Type 0) (b : Bool) (k rest : Option Kind) → (b ≡ true → P k) → P rest → P (cond b k rest)
-kind_or P true k rest f g = f refl
-kind_or P false k rest f g = g
+-- one of two purposes
+purpose_or : (P : Option Purpose → Type 0) (b : Bool) (k rest : Option Purpose) → (b ≡ true → P k) → P rest → P (cond b k rest)
+purpose_or P true k rest f g = f refl
+purpose_or P false k rest f g = g
 
-kind_means : (name : Line) → IfSome (kind_of name) (λ kind. name ≡ kind_name kind)
-kind_means name =
-    let P : Option Kind → Type 0 = λ o. IfSome o (λ kind. name ≡ kind_name kind) in
-    kind_or P (bytes_eq name (codes "insert")) (Some Insert) _ (named name (codes "insert"))
-    (kind_or P (bytes_eq name (codes "replace")) (Some Replace) _ (named name (codes "replace"))
-    (kind_or P (bytes_eq name (codes "expect")) (Some Expect) None (named name (codes "expect")) tt))
+purpose_means : (name : Line) → IfSome (purpose_of name) (λ purpose. name ≡ purpose_name purpose)
+purpose_means name =
+    let P : Option Purpose → Type 0 = λ o. IfSome o (λ purpose. name ≡ purpose_name purpose) in
+    purpose_or P (bytes_eq name (codes "insert")) (Some Insert) _ (named name (codes "insert"))
+    (purpose_or P (bytes_eq name (codes "replace")) (Some Replace) _ (named name (codes "replace"))
+    (purpose_or P (bytes_eq name (codes "expect")) (Some Expect) None (named name (codes "expect")) tt))
 
 few : (count : ℕ) → nat_lt MAX_GIVEN count ≡ false → count ≤ MAX_GIVEN
 few count h = grind (arith, nat_tests)
@@ -62,10 +62,10 @@ few count h = grind (arith, nat_tests)
 not_many : (count : ℕ) → count ≤ MAX_GIVEN → nat_lt MAX_GIVEN count ≡ false
 not_many count le = grind (arith, nat_tests)
 
-few_means : (kind : Kind) (place count : ℕ) (name ds cs : Line) (many : Bool) → nat_lt MAX_GIVEN count ≡ many → name ≡ kind_name kind → number_of ds ≡ Some place → number_of cs ≡ Some count
-    → cond many Bad (Given kind place count) ≢ Bad → Spells (cond many Bad (Given kind place count)) (name ∷ ds ∷ cs ∷ [])
-few_means kind place count name ds cs true h e p c ne = absurd (ne refl)
-few_means kind place count name ds cs false h e p c ne = record {
+few_means : (purpose : Purpose) (place count : ℕ) (name ds cs : Line) (many : Bool) → nat_lt MAX_GIVEN count ≡ many → name ≡ purpose_name purpose → number_of ds ≡ Some place → number_of cs ≡ Some count
+    → cond many Bad (Given purpose place count) ≢ Bad → Spells (cond many Bad (Given purpose place count)) (name ∷ ds ∷ cs ∷ [])
+few_means purpose place count name ds cs true h e p c ne = absurd (ne refl)
+few_means purpose place count name ds cs false h e p c ne = record {
   digits = ds;
   count_digits = cs;
   words_are = ap (λ (l : Line). l ∷ ds ∷ cs ∷ []) e;
@@ -74,17 +74,17 @@ few_means kind place count name ds cs false h e p c ne = record {
   few = few count h;
 }
 
-given_means : (kind : Option Kind) (place count : Option ℕ) (name ds cs : Line) → IfSome kind (λ k. name ≡ kind_name k) → number_of ds ≡ place → number_of cs ≡ count → given kind place count ≢ Bad → Spells (given kind place count) (name ∷ ds ∷ cs ∷ [])
+given_means : (purpose : Option Purpose) (place count : Option ℕ) (name ds cs : Line) → IfSome purpose (λ k. name ≡ purpose_name k) → number_of ds ≡ place → number_of cs ≡ count → given purpose place count ≢ Bad → Spells (given purpose place count) (name ∷ ds ∷ cs ∷ [])
 given_means None place count name ds cs e p c ne = absurd (ne refl)
-given_means (Some kind) None count name ds cs e p c ne = absurd (ne refl)
-given_means (Some kind) (Some place) None name ds cs e p c ne = absurd (ne refl)
-given_means (Some kind) (Some place) (Some count) name ds cs e p c ne = few_means kind place count name ds cs (nat_lt MAX_GIVEN count) refl e p c ne
+given_means (Some purpose) None count name ds cs e p c ne = absurd (ne refl)
+given_means (Some purpose) (Some place) None name ds cs e p c ne = absurd (ne refl)
+given_means (Some purpose) (Some place) (Some count) name ds cs e p c ne = few_means purpose place count name ds cs (nat_lt MAX_GIVEN count) refl e p c ne
 
 spelled_means : (ws : List Line) → spelled ws ≢ Bad → Spells (spelled ws) ws
 spelled_means [] ne = refl
 spelled_means (name ∷ []) ne = alone_means name ne
 spelled_means (name ∷ ds ∷ []) ne = placed_means name ds (number_of ds) refl ne
-spelled_means (name ∷ ds ∷ cs ∷ []) ne = given_means (kind_of name) (number_of ds) (number_of cs) name ds cs (kind_means name) refl refl ne
+spelled_means (name ∷ ds ∷ cs ∷ []) ne = given_means (purpose_of name) (number_of ds) (number_of cs) name ds cs (purpose_means name) refl refl ne
 spelled_means (name ∷ ds ∷ cs ∷ more ∷ ws) ne = absurd (ne refl)
 
 -- What a line is, its words spell.

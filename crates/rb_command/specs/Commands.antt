@@ -5,8 +5,8 @@ use Rattle.rb_script.specs.Lines.{Line}
 use Rattle.rb_command.specs.declared.command.TheConstants.{MAX_GIVEN}
 use Rattle.rb_command.specs.declared.command.Command.{Command}
 use Rattle.rb_command.specs.declared.command.Command.TheVariants.{Blank, Bad, Given, Remove, Accept, Show, Report, Script, Rewrite}
-use Rattle.rb_command.specs.declared.command.Kind.{Kind}
-use Rattle.rb_command.specs.declared.command.Kind.TheVariants.{Insert, Replace, Expect}
+use Rattle.rb_command.specs.declared.command.Purpose.{Purpose}
+use Rattle.rb_command.specs.declared.command.Purpose.TheVariants.{Insert, Replace, Expect}
 use Rattle.rb_words.specs.Words.{words}
 use Rattle.rb_number.specs.Numbers.{number_of}
 
@@ -27,28 +27,28 @@ placed name (Some place) =
     else if bytes_eq name (codes "show") then Show place
     else Bad
 
-abbrev pub kind_of : Line → Option Kind
-kind_of name =
+abbrev pub purpose_of : Line → Option Purpose
+purpose_of name =
     if bytes_eq name (codes "insert") then Some Insert
     else if bytes_eq name (codes "replace") then Some Replace
     else if bytes_eq name (codes "expect") then Some Expect
     else None
 
-abbrev pub if_few : Kind → ℕ → ℕ → Command
-if_few kind place count = if nat_lt MAX_GIVEN count then Bad else Given kind place count
+abbrev pub if_few : Purpose → ℕ → ℕ → Command
+if_few purpose place count = if nat_lt MAX_GIVEN count then Bad else Given purpose place count
 
 -- a command with a place, and how many lines follow
-abbrev pub given : Option Kind → Option ℕ → Option ℕ → Command
+abbrev pub given : Option Purpose → Option ℕ → Option ℕ → Command
 given None place count = Bad
-given (Some kind) None count = Bad
-given (Some kind) (Some place) None = Bad
-given (Some kind) (Some place) (Some count) = if_few kind place count
+given (Some purpose) None count = Bad
+given (Some purpose) (Some place) None = Bad
+given (Some purpose) (Some place) (Some count) = if_few purpose place count
 
 abbrev pub spelled : List Line → Command
 spelled [] = Blank
 spelled (name ∷ []) = alone name
 spelled (name ∷ place ∷ []) = placed name (number_of place)
-spelled (name ∷ place ∷ count ∷ []) = given (kind_of name) (number_of place) (number_of count)
+spelled (name ∷ place ∷ count ∷ []) = given (purpose_of name) (number_of place) (number_of count)
 spelled (name ∷ place ∷ count ∷ more ∷ words) = Bad
 
 -- the command of a line

@@ -4,14 +4,14 @@ use Rattle.rb_script.specs.Lines.{Line}
 use Rattle.rb_command.specs.declared.command.TheConstants.{MAX_GIVEN}
 use Rattle.rb_command.specs.declared.command.Command.{Command}
 use Rattle.rb_command.specs.declared.command.Command.TheVariants.{Blank, Bad, Given, Remove, Accept, Show, Report, Script, Rewrite}
-use Rattle.rb_command.specs.declared.command.Kind.{Kind}
-use Rattle.rb_command.specs.declared.command.Kind.TheVariants.{Insert, Replace, Expect}
+use Rattle.rb_command.specs.declared.command.Purpose.{Purpose}
+use Rattle.rb_command.specs.declared.command.Purpose.TheVariants.{Insert, Replace, Expect}
 use Rattle.rb_number.specs.Numbers.{number_of}
 
-abbrev pub kind_name : Kind → Line
-kind_name Insert = codes "insert"
-kind_name Replace = codes "replace"
-kind_name Expect = codes "expect"
+abbrev pub purpose_name : Purpose → Line
+purpose_name Insert = codes "insert"
+purpose_name Replace = codes "replace"
+purpose_name Expect = codes "expect"
 
 -- a name and a place
 pub record IsPlaced (name : Line) (place : ℕ) (words : List Line) : Type 0 where
@@ -32,7 +32,7 @@ pub record IsGiven (name : Line) (place count : ℕ) (words : List Line) : Type 
 abbrev pub Spells : Command → List Line → Type 0
 Spells Blank words = words ≡ []
 Spells Bad words = ⊥
-Spells (Given kind place count) words = IsGiven (kind_name kind) place count words
+Spells (Given purpose place count) words = IsGiven (purpose_name purpose) place count words
 Spells (Remove place) words = IsPlaced (codes "remove") place words
 Spells Accept words = words ≡ codes "accept" ∷ []
 Spells (Show place) words = IsPlaced (codes "show") place words

@@ -6,7 +6,7 @@ ghost use Rattle.rb_number.specs.Numbers.{number_of};
 ghost use Rattle.rb_words.specs.Words.{words};
 ghost use Rattle.rb_command.specs.Spelling.{Spells};
 ghost use Rattle.rb_command.specs.declared.command.Command.{Command};
-ghost use Rattle.rb_command.specs.Commands.{command_of, alone, placed, given, kind_of};
+ghost use Rattle.rb_command.specs.Commands.{command_of, alone, placed, given, purpose_of};
 
 use rb_number::number_of;
 use rb_words::first_word;
@@ -21,7 +21,7 @@ pub fn limits_are()
 
 /// What a command does with the lines that follow it.
 #[derive(Clone, Copy, Debug, PartialEq, Eq)]
-pub enum Kind {
+pub enum Purpose {
     /// They are a block to put in.
     Insert,
     /// They are a block that takes another's place.
@@ -38,7 +38,7 @@ pub enum Command {
     /// The line is no command.
     Bad,
     /// An edit at a place, and how many lines follow for it.
-    Given(Kind, usize, usize),
+    Given(Purpose, usize, usize),
     /// Take out the directive at a place.
     Remove(usize),
     /// Take every output for its expectation.
@@ -80,7 +80,7 @@ fn spelled(line: &[u8]) -> Command
     if first_word(rest).is_some() {
         return Command::Bad;
     }
-    given(kind_of(name), number(place), number(count))
+    given(purpose_of(name), number(place), number(count))
 }
 
 /// The number that a word is, as a place or a count.
@@ -131,25 +131,25 @@ fn placed(name: &[u8], place: Option<usize>) -> Command
 }
 
 /// What a command with a place and a count does.
-fn kind_of(name: &[u8]) -> Option<Kind>
-    ensures { result ≡ kind_of name.now }
+fn purpose_of(name: &[u8]) -> Option<Purpose>
+    ensures { result ≡ purpose_of name.now }
 {
     if is_word(name, b"insert") {
-        Some(Kind::Insert)
+        Some(Purpose::Insert)
     } else if is_word(name, b"replace") {
-        Some(Kind::Replace)
+        Some(Purpose::Replace)
     } else if is_word(name, b"expect") {
-        Some(Kind::Expect)
+        Some(Purpose::Expect)
     } else {
         None
     }
 }
 
 /// A command that lines follow.
-fn given(kind: Option<Kind>, place: Option<usize>, count: Option<usize>) -> Command
-    ensures { result ≡ given kind place count }
+fn given(purpose: Option<Purpose>, place: Option<usize>, count: Option<usize>) -> Command
+    ensures { result ≡ given purpose place count }
 {
-    let Some(kind) = kind else {
+    let Some(purpose) = purpose else {
         return Command::Bad;
     };
     let Some(place) = place else {
@@ -161,5 +161,5 @@ fn given(kind: Option<Kind>, place: Option<usize>, count: Option<usize>) -> Comm
     if count > MAX_GIVEN {
         return Command::Bad;
     }
-    Command::Given(kind, place, count)
+    Command::Given(purpose, place, count)
 }

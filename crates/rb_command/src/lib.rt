@@ -6,7 +6,7 @@
 
 mod command;
 
-pub use command::{Command, Kind, MAX_GIVEN, command_of, limits_are};
+pub use command::{Command, MAX_GIVEN, Purpose, command_of, limits_are};
 
 #[cfg(test)]
 mod tests;

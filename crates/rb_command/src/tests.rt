@@ -1,21 +1,21 @@
 //! What no clause says: examples, and the limits.
 
-use crate::{Command, Kind, command_of};
+use crate::{Command, Purpose, command_of};
 use std::test::Fail;
 
 #[test]
 fn reads_each_command(rt: HostRuntime) -> Result<(), Fail> {
     assert_eq!(rt;
         command_of(b"insert 99 3"),
-        Command::Given(Kind::Insert, 99, 3)
+        Command::Given(Purpose::Insert, 99, 3)
     );
     assert_eq!(rt;
         command_of(b"replace 1 5"),
-        Command::Given(Kind::Replace, 1, 5)
+        Command::Given(Purpose::Replace, 1, 5)
     );
     assert_eq!(rt;
         command_of(b"expect 1 0"),
-        Command::Given(Kind::Expect, 1, 0)
+        Command::Given(Purpose::Expect, 1, 0)
     );
     assert_eq!(rt; command_of(b"remove 4"), Command::Remove(4));
     assert_eq!(rt; command_of(b"show 0"), Command::Show(0));
@@ -32,7 +32,7 @@ fn blanks_part_words(rt: HostRuntime) -> Result<(), Fail> {
     assert_eq!(rt; command_of(b" \t "), Command::Blank);
     assert_eq!(rt;
         command_of(b"\t insert \t 7  \t2 "),
-        Command::Given(Kind::Insert, 7, 2)
+        Command::Given(Purpose::Insert, 7, 2)
     );
     assert_eq!(rt; command_of(b"accept "), Command::Accept);
     assert_eq!(rt; command_of(b"accept\r"), Command::Bad);
@@ -72,7 +72,7 @@ fn numbers_have_one_to_ten_digits(rt: HostRuntime) -> Result<(), Fail> {
 fn a_command_takes_so_many_lines_at_most(rt: HostRuntime) -> Result<(), Fail> {
     assert_eq!(rt;
         command_of(b"expect 1 65536"),
-        Command::Given(Kind::Expect, 1, 65_536)
+        Command::Given(Purpose::Expect, 1, 65_536)
     );
     assert_eq!(rt; command_of(b"expect 1 65537"), Command::Bad);
     assert_eq!(rt; command_of(b"expect one 1"), Command::Bad);

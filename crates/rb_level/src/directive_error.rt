@@ -28,3 +28,26 @@ pub enum DirectiveError<'a> {
     /// A change of the first version is one word, and has no transition of its own.
     FirstVersionTakesOne,
 }
+
+impl<'a> DirectiveError<'a> {
+    ghost use Rattle.std.specs.Prelude.{◌≡◌};
+
+    /// The same once more. Words stay lent.
+    pub fn copy(&self) -> DirectiveError<'a>
+        ensures { result ≡ self.now }
+    {
+        match self {
+            DirectiveError::UnknownDirective(name) => DirectiveError::UnknownDirective(name.copy()),
+            DirectiveError::UnsupportedOption(key) => DirectiveError::UnsupportedOption(key.copy()),
+            DirectiveError::BadArgument(word) => DirectiveError::BadArgument(word.copy()),
+            DirectiveError::MissingArgument(name) => DirectiveError::MissingArgument(name.copy()),
+            DirectiveError::NoSuchNode(id) => DirectiveError::NoSuchNode(*id),
+            DirectiveError::TooManyNodes => DirectiveError::TooManyNodes,
+            DirectiveError::IndexTooLow => DirectiveError::IndexTooLow,
+            DirectiveError::AlreadyCompacted => DirectiveError::AlreadyCompacted,
+            DirectiveError::IndexPastApplied => DirectiveError::IndexPastApplied,
+            DirectiveError::BadChange(word) => DirectiveError::BadChange(word.copy()),
+            DirectiveError::FirstVersionTakesOne => DirectiveError::FirstVersionTakesOne,
+        }
+    }
+}

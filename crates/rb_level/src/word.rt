@@ -32,4 +32,11 @@ impl<'a> Word<'a> {
     {
         self.bytes
     }
+
+    /// The same word: bytes that stay lent.
+    pub fn copy(&self) -> Word<'a>
+        ensures { result ≡ self.now }
+    {
+        Word { bytes: self.bytes }
+    }
 }

@@ -23,7 +23,7 @@ pub enum Next {
     End,
 }
 
-/// GivesNext the lines of a source, one at a time.
+/// Gives the lines of a source, one at a time.
 #[derive(Drop)]
 pub struct LineReader {
     line: LineBuffer,

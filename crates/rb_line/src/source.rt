@@ -14,7 +14,7 @@ use std::io::Read;
 #[derive(Clone, Copy, Debug, PartialEq, Eq)]
 pub struct InputFault;
 
-/// GivesNext bytes. Unlike a `Read` it can be known to give all that it has.
+/// Gives bytes. Unlike a `Read` it can be known to give all that it has.
 pub trait Source {
     // the bytes that are left, where they are known
     ghost left: { Self → Option (List ℕ) };

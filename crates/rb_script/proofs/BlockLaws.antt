@@ -204,13 +204,13 @@ block_sound end lead ls rest b e leads first =
 -- ---- a block in the relation is read
 
 -- where the head begins
-record Cut (ls lead from : List Line) : Type 0 where
-  lead_is : lead_of ls ≡ lead
-  from_is : from_head ls ≡ from
-  some : is_empty from ≡ false
+pub record Cut (ls lead from : List Line) : Type 0 where
+  pub lead_is : lead_of ls ≡ lead
+  pub from_is : from_head ls ≡ from
+  pub some : is_empty from ≡ false
 
 -- the lead lines stop at the head
-cut_lead : (ls lead head more : List Line) → ls ≡ lead ++ (head ++ more) → list_all is_lead lead ≡ true → begins_lead head ≡ false → Cut ls lead (head ++ more)
+pub cut_lead : (ls lead head more : List Line) → ls ≡ lead ++ (head ++ more) → list_all is_lead lead ≡ true → begins_lead head ≡ false → Cut ls lead (head ++ more)
 cut_lead ls lead [] more e leads first = absurd cc
 cut_lead ls lead (line ∷ head) more e leads first =
     let run = upto-run (stops Head) lead line (head ++ more) (sym (leads_none lead) ∙ leads) (ap not first) in

@@ -16,6 +16,7 @@ pub mod ScriptLaws
 pub mod TextLaws
 pub mod ValidLaws
 pub mod FaultLaws
+pub mod HeadLineLaws
 pub mod WriteLaws
 pub mod LengthLaws
 pub mod SharedLaws

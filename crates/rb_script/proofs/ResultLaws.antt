@@ -72,6 +72,18 @@ fails_ok faults.NotOneBlock x h ne = cc
 fails_ok (faults.TooManyArguments n) x h ne = cc
 fails_ok faults.OutOfMemory x h ne = ne refl
 
+-- a fault of an answer is want of memory
+pub memory_is : {X : Type 0} (e : ScriptFault) (x : X) → Fails e (done x) → e ≡ faults.OutOfMemory
+memory_is faults.TooLong x h = absurd cc
+memory_is (faults.LineTooLong n) x h = absurd cc
+memory_is (faults.BadLine n) x h = absurd cc
+memory_is (faults.NoSeparator n) x h = absurd cc
+memory_is (faults.NotClosed n) x h = absurd cc
+memory_is faults.TooManyDirectives x h = absurd cc
+memory_is faults.NotOneBlock x h = absurd cc
+memory_is (faults.TooManyArguments n) x h = absurd cc
+memory_is faults.OutOfMemory x h = refl
+
 module _ {X : Type 0} (Fits : X → Type 0) (read : Result X ScriptFault) (sound : (x : X) → read ≡ Ok x → Fits x) (complete : (x : X) → Fits x → read ≡ Ok x) where
   -- what is answered fits
   pub answer_fits : (result : Result X ScriptFault) → Gives {X = X} {Y = X} (λ x. x) result read → IfOk result Fits

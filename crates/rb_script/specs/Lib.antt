@@ -18,6 +18,7 @@ pub mod Expectations
 pub mod Blocks
 pub mod Reading
 pub mod Faults
+pub mod HeadLines
 pub mod Cursor
 pub mod Parsed
 pub mod Fronts

@@ -19,5 +19,5 @@ Gives view (Ok x) read = read ≡ Ok (view x)
 Gives view (Err e) read = Fails e read
 
 -- what is read is refused for this fault, and not for want of memory
-abbrev pub Refuses : {Y : Type 0} → Result Y ScriptFault → ScriptFault → Type 0
-Refuses read fault = (read ≡ Err fault) × (fault ≢ OutOfMemory)
+abbrev pub Refuses : {Y : Type 0} → ScriptFault → Result Y ScriptFault → Type 0
+Refuses fault read = (read ≡ Err fault) × (fault ≢ OutOfMemory)

@@ -2,9 +2,9 @@
 //!
 //! The other contracts speak of functions on lists of lines, as `Reading.read_of` and `Edits.edited`, and of the relation
 //! `Reads`. The laws say what those mean, by what lines are made of: which lines are blank, comments, separators or
-//! continued; where an expectation ends; why bytes are refused, and an edit; and that a text reads back.
+//! continued; where an expectation ends; on which lines heads stand; why bytes are refused, and an edit; and that a text reads back.
 
-ghost use Rattle.std.specs.Prelude.{◌≡◌, ◌↔◌, ℕ, ◌⊎◌, true, false, List, [], ◌∷◌, ◌++◌, Ok, Err};
+ghost use Rattle.std.specs.Prelude.{◌≡◌, ◌↔◌, ℕ, ◌<◌, ◌⊎◌, true, false, List, [], ◌∷◌, ◌++◌, length, slice_get, slice_index, Some, Ok, Err};
 ghost use Rattle.std.specs.List.{AllByRecursion};
 ghost use Rattle.rb_script.specs.declared.fault.ScriptFault.{ScriptFault};
 ghost use Rattle.rb_script.specs.declared.fault.EditFault.{EditFault};
@@ -19,6 +19,7 @@ ghost use Rattle.rb_script.specs.Reads.{begins_blank, ReadsBlock, Reads};
 ghost use Rattle.rb_script.specs.Heads.{directive_of};
 ghost use Rattle.rb_script.specs.Reading.{read_of, block_of};
 ghost use Rattle.rb_script.specs.Faults.{IsScriptFault, IsBlockFault};
+ghost use Rattle.rb_script.specs.HeadLines.{AreHeadLines, StandsOn};
 ghost use Rattle.rb_script.specs.Valid.{IsLine, IsBlock, IsScript};
 ghost use Rattle.rb_script.specs.Edits.{is_text_line, is_expectation, edited};
 ghost use Rattle.rb_script.specs.LineParts.{AreBlanks, IsComment, IsRuleWithin, AsksForNext, IsSolid};
@@ -75,6 +76,15 @@ pub fn reads_once()
 pub fn faults_are()
     ensures script { (bytes : List ℕ) (fault : ScriptFault) → read_of bytes ≡ Err fault → IsScriptFault bytes fault }
     ensures block { (bytes : List ℕ) (fault : ScriptFault) → block_of bytes ≡ Err fault → IsBlockFault bytes fault }
+{}
+
+/// On the line that is told for a block stands the first line of its head, with the head's other lines below it. The
+/// lines ascend, one a block, and no others are those of the same blocks in the same lines.
+pub fn head_lines_are()
+    ensures stands { (ls : List Line) (bs : List PlainBlock) (ns : List ℕ) → AreHeadLines 1 ls bs ns → (k : ℕ) (b : PlainBlock) → slice_get bs k ≡ Some b → StandsOn ls b.head (slice_index ns k) }
+    ensures ascend { (ls : List Line) (bs : List PlainBlock) (ns : List ℕ) → AreHeadLines 1 ls bs ns → (i j : ℕ) → i < j → j < length ns → slice_index ns i < slice_index ns j }
+    ensures count { (ls : List Line) (bs : List PlainBlock) (ns : List ℕ) → AreHeadLines 1 ls bs ns → length ns ≡ length bs }
+    ensures once { (ls : List Line) (bs : List PlainBlock) (ns ms : List ℕ) → AreHeadLines 1 ls bs ns → AreHeadLines 1 ls bs ms → ns ≡ ms }
 {}
 
 /// The directive of a valid block is the one that the grammar derives from its head, and no other is.

@@ -3,7 +3,8 @@
 //! A script is a list of blocks and a tail of lines. A block is a directive with its expectation: lead lines
 //! (blank lines and comments), the head (a name and arguments), input lines, a line `----`, and the expected
 //! lines. [`Script::read`] reads the bytes of a script, [`Script::edited`] makes an edit of it, and
-//! [`Script::write_to`] writes its canonical text, which reads as the same script.
+//! [`Script::write_to`] writes its canonical text, which reads as the same script. [`head_lines`] tells on which lines of
+//! the bytes the directives begin.
 #![tactic(auto)]
 
 mod argument;
@@ -14,6 +15,7 @@ mod edit;
 mod edits;
 mod fault;
 mod head_cursor;
+mod heading;
 mod laws;
 mod limits;
 mod lines;
@@ -29,10 +31,11 @@ pub use block::Block;
 pub use directive::DirectiveRef;
 pub use edit::Edit;
 pub use fault::{EditFault, ScriptFault};
+pub use heading::head_lines;
 pub use laws::{
     blanks_are, directive_is_derived, double_expectations_end, expectations_are, faults_are,
-    heads_are_joined, lead_lines_are, plain_expectations_end, read_is_valid, reads_once,
-    refusals_are, separators_are, solid_lines_can_be_expected, text_reads_back,
+    head_lines_are, heads_are_joined, lead_lines_are, plain_expectations_end, read_is_valid,
+    reads_once, refusals_are, separators_are, solid_lines_can_be_expected, text_reads_back,
 };
 pub use limits::{MAX_ARGUMENTS, MAX_DIRECTIVES, MAX_LINE, MAX_SCRIPT, MAX_VALUES, limits_are};
 pub use lines::{Lines, without_returns};
@@ -40,6 +43,3 @@ pub use marks::{is_space, without_front};
 pub use script::Script;
 pub use sink::{Sink, Through, WriteFault};
 pub use span::Span;
-
-#[cfg(test)]
-mod tests;

@@ -1,9 +1,12 @@
 //! Lines of bytes, in one buffer.
 
-ghost use Rattle.std.specs.Prelude.{◌≡◌, ◌↔◌, ◌+◌, ◌<◌, ◌≤◌, ◌^◌, [], ◌∷◌, ◌++◌, length, slice_get, OnOk, IfOk, OnErr, MatchOption, take, ◌-◌, slice_set, vec_len, IfSome, IfNone, IsTrue, Some, ℕ, ◌≢◌, slice_index};
+ghost use Rattle.std.specs.Prelude.{◌≡◌, ◌↔◌, ◌+◌, ◌<◌, ◌≤◌, ◌^◌, [], ◌∷◌, ◌++◌, length, slice_get, OnOk, IfOk, OnErr, MatchOption, take, ◌-◌, slice_set, IfSome, IfNone, IsTrue, Some, ℕ, ◌≢◌, slice_index};
+ghost use Rattle.smallvec.specs.SmallVec.{small_vec_len};
 ghost use Rattle.rb_script.specs.Flat.{parted, line_start, IsFlat};
 ghost use Rattle.rb_script.specs.Lines.{lines, text_of, extended, line_text, without_returns};
 
+use memchr::memchr;
+use smallvec::SmallVec;
 use std::alloc::{AllocError, Global};
 use std::marker::Model;
 
@@ -12,8 +15,8 @@ use std::marker::Model;
 pub struct Lines {
     // each line, with one LF after it
     text: Vec<u8>,
-    // where each line with its LF ends in the text
-    ends: Vec<usize>,
+    // where each line with its LF ends in the text; most lists are short
+    ends: SmallVec<usize, 4>,
 }
 
 impl Model for Lines {
@@ -34,7 +37,7 @@ impl Lines {
     {
         Lines {
             text: Vec::new(alloc),
-            ends: Vec::new(alloc),
+            ends: SmallVec::new(alloc),
         }
     }
 
@@ -74,7 +77,7 @@ impl Lines {
         requires { i < length self.now }
         ensures { slice_get self.now i ≡ Some result.now }
     {
-        line_of(&self.text, &self.ends, i)
+        line_of(&self.text, self.ends.as_slice(), i)
     }
 
     /// The lines as one text, each with one LF.
@@ -88,9 +91,10 @@ impl Lines {
     pub fn try_copy(&self) -> Result<Lines, AllocError>
         ensures { IfOk result (λ copy. copy ≡ self.now) }
     {
+        let alloc = *self.text.allocator();
         Ok(Lines {
-            text: self.text.clone()?,
-            ends: self.ends.clone()?,
+            text: Vec::from_slice(alloc, self.text.as_slice())?,
+            ends: SmallVec::from_slice(alloc, self.ends.as_slice())?,
         })
     }
 
@@ -112,7 +116,11 @@ impl Lines {
 }
 
 // Adds the line with its LF, and its end. Room comes first, so that a refusal changes nothing.
-fn append_line(text: &mut Vec<u8>, ends: &mut Vec<usize>, line: &[u8]) -> Result<(), AllocError>
+fn append_line(
+    text: &mut Vec<u8>,
+    ends: &mut SmallVec<usize, 4>,
+    line: &[u8],
+) -> Result<(), AllocError>
     ensures text { OnOk result (text.new.items ≡ text.old.items ++ line_text line.now) }
     ensures ends { OnOk result (ends.new.items ≡ ends.old.items ++ length text.new.items ∷ []) }
     ensures err { OnErr result ((text.new.items ≡ text.old.items) × (ends.new.items ≡ ends.old.items)) }
@@ -126,8 +134,12 @@ fn append_line(text: &mut Vec<u8>, ends: &mut Vec<usize>, line: &[u8]) -> Result
 }
 
 // Puts the bytes before the last LF, and moves the last end.
-fn extend_text(text: &mut Vec<u8>, ends: &mut Vec<usize>, bytes: &[u8]) -> Result<(), AllocError>
-    requires { 0 < vec_len ends.old }
+fn extend_text(
+    text: &mut Vec<u8>,
+    ends: &mut SmallVec<usize, 4>,
+    bytes: &[u8],
+) -> Result<(), AllocError>
+    requires { 0 < small_vec_len ends.old }
     ensures text { OnOk result (text.new.items ≡ take (length text.old.items - 1) text.old.items ++ line_text bytes.now) }
     ensures ends { OnOk result (ends.new.items ≡ slice_set ends.old.items (length ends.old.items - 1) (length text.new.items)) }
     ensures err { OnErr result ((text.new.items ≡ text.old.items) × (ends.new.items ≡ ends.old.items)) }
@@ -137,7 +149,7 @@ fn extend_text(text: &mut Vec<u8>, ends: &mut Vec<usize>, bytes: &[u8]) -> Resul
     text.extend_from_slice(bytes)?;
     text.push(b'\n')?;
     let last = ends.len() - 1;
-    ends[last] = text.len();
+    ends.as_mut_slice()[last] = text.len();
     Ok(())
 }
 
@@ -181,7 +193,7 @@ fn line_feed(bytes: &[u8]) -> Option<usize>
     ensures found { IfSome result (λ end. (end < length bytes.now) × (slice_index bytes.now end ≡ 10)) }
     ensures first { IfSome result (λ end. (k : ℕ) → k < end → slice_index bytes.now k ≢ 10) }
 {
-    bytes.iter().position(|b| *b == b'\n')
+    memchr(b'\n', bytes)
 }
 
 /// The first line of the bytes, and what follows it.

@@ -17,6 +17,7 @@ ghost use Rattle.rb_script.specs.Cursor.{seen, end_of};
 ghost use Rattle.rb_script.specs.Script.{text};
 ghost use Rattle.rb_script.specs.Valid.{IsLine};
 ghost use Rattle.rb_script.specs.Shared.{parts_view};
+ghost use Rattle.rb_script.specs.HeadLines.{AreHeadLines, TellsHeads};
 
 use crate::block::{Block, Front};
 use crate::cursor::Cursor;
@@ -204,34 +205,40 @@ fn block<'a>(
     Ok((Block::new(front, expected), at))
 }
 
-/// The blocks and the tail.
+/// The blocks with the lines on which their heads begin, and the tail.
 #[derive(Drop)]
 struct Parts {
     blocks: Vec<Rc<Block>>,
+    heads: Vec<usize>,
     tail: Lines,
 }
 
 /// The blocks and the tail of the lines.
 fn blocks(alloc: Global, start: Cursor<'_>) -> Result<Parts, ScriptFault>
     requires { AllByRecursion IsLine (lines start.rest.now) }
-    ensures { Gives parts_view result (blocks_at MAX_DIRECTIVES (end_of start.entry) (lines start.entry.rest.now)) }
+    ensures gives { Gives parts_view result (blocks_at MAX_DIRECTIVES (end_of start.entry) (lines start.entry.rest.now)) }
+    ensures heads { IfOk result (λ p. AreHeadLines start.entry.number (lines start.entry.rest.now) (parts_view p).blocks p.heads.items) }
 {
     let mut room = Lines::new(alloc);
     let mut found = Vec::new(alloc);
+    let mut heads = Vec::new(alloc);
     let mut at = start;
     loop {
         let (lead, after) = run(&mut room, at, Stop::Head)?;
         if after.rest.is_empty() {
             return Ok(Parts {
                 blocks: found,
+                heads,
                 tail: lead,
             });
         }
         if found.len() == MAX_DIRECTIVES {
             return Err(ScriptFault::TooManyDirectives);
         }
+        let number = after.number;
         let (block, after) = block(alloc, &mut room, lead, after)?;
         found.push(Rc::new(alloc, block)?)?;
+        heads.push(number)?;
         at = after;
     }
 }
@@ -254,6 +261,7 @@ fn check_lines(start: Cursor<'_>) -> Result<(), ScriptFault>
 #[tactic(auto, using(crate::proofs::ValidLaws::checked_lines), unfolding(crate::specs::Reading::parts_of))]
 fn read_parts(alloc: Global, bytes: &[u8]) -> Result<Parts, ScriptFault>
     ensures exact { Gives parts_view result (parts_of bytes.now) }
+    ensures heads { IfOk result (λ p. AreHeadLines 1 (lines bytes.now) (parts_view p).blocks p.heads.items) }
     ensures early { IfSome (early_fault bytes.now) (λ fault. result ≡ Err fault) }
 {
     if bytes.len() > MAX_SCRIPT {
@@ -295,6 +303,20 @@ pub(crate) fn script(alloc: Global, bytes: &[u8]) -> Result<Script, ScriptFault>
         tail: Rc::new(alloc, parts.tail)?,
         text_len,
     })
+}
+
+/// The lines on which the heads of the blocks of the bytes begin, or the first fault.
+#[tactic(auto, unfolding(crate::specs::Reading::read_of, crate::specs::Reading::fits_text))]
+pub(crate) fn head_lines(alloc: Global, bytes: &[u8]) -> Result<Vec<usize>, ScriptFault>
+    ensures found { IfOk result (λ found. TellsHeads bytes.now found.items) }
+    ensures refused { IfErr result (λ fault. Fails fault (read_of bytes.now)) }
+    ensures early { IfSome (early_fault bytes.now) (λ fault. result ≡ Err fault) }
+{
+    let parts = read_parts(alloc, bytes)?;
+    if text_len(&parts) > MAX_SCRIPT {
+        return Err(ScriptFault::TooLong);
+    }
+    Ok(parts.heads)
 }
 
 /// The block behind the pointer, or a copy of it where others share it.

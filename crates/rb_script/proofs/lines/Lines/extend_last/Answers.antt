@@ -3,7 +3,7 @@ use Rattle.rb_script.proofs.FlatLaws.{parted_len, flat_extended, parted_extended
 use Rattle.rb_script.proofs.lines.Lines.extend_last.Goals as goal
 
 pub extend_text-requires : goal.extend_text-requires
-extend_text-requires c = omega (arith, c.self.inside.ends.ok.0, ap length c.self.view_is, parted_len 0 c.self.inside.ends.items c.self.inside.text.items)
+extend_text-requires c = omega (arith, ap length c.self.view_is, parted_len 0 c.self.inside.ends.items c.self.inside.text.items)
 
 pub invariant_of-self : goal.invariant_of-self
 invariant_of-self c =
