@@ -1,3 +1,11 @@
 pub mod ListLaws
 pub mod IdLaws
+pub mod ViewLaws
+pub mod JoinLaws
+pub mod SolidLaws
 pub mod OutcomeLaws
+pub mod SendLaws
+pub mod MailLaws
+pub mod RoundLaws
+pub mod ReadyLaws
+pub mod TickLaws

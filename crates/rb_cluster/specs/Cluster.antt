@@ -1,30 +1,38 @@
--- A cluster: nodes, and the least level that is shown. Messages on their way join it with the node that sends them.
-use Rattle.std.specs.Prelude.{◌≡◌, ◌≤◌, ℕ, Bool, ◌==◌, List, [], length, map}
-use Rattle.std.specs.List.{range_with_len, list_any}
+-- A cluster: nodes, the messages on their way between them, and the least level that is shown. (etcd raft's interaction tests have such an
+-- environment.)
+use Rattle.std.specs.Prelude.{ℕ, ◌-◌, Bool, ◌&&◌, nat_le, List, [], length, Option, Some, None, slice_get, slice_set}
 use Rattle.rb_level.specs.declared.level.Level.{Level}
 use Rattle.rb_level.specs.declared.level.Level.TheVariants as levels
-use Rattle.rb_texts.specs.Items.{PlainItem}
-use Rattle.rb_directive.specs.declared.limits.TheConstants.{MAX_NODES}
-use Rattle.rb_cluster.specs.Nodes.{Node}
+use Rattle.rb_message.specs.declared.message.Message.{Message}
+use Rattle.rb_step.specs.Node.{PlainNode}
 
--- the nodes, and the least level that is shown
 pub record Cluster : Type 0 where
-  pub nodes : List Node
+  -- the node with id 1, that with id 2, and so on
+  pub nodes : List PlainNode
+  -- messages that were sent and have reached nobody yet, in the order in which they were sent
+  pub pending : List Message
+  -- the least level that is shown
   pub level : Level
 
--- what a directive does: the cluster after it, and what it prints
-pub record Effect : Type 0 where
-  pub cluster : Cluster
-  pub items : List PlainItem
-
 unfoldable pub empty : Cluster
-empty = record { nodes = []; level = levels.Debug }
+empty = record { nodes = []; pending = []; level = levels.Debug }
 
 -- a node has this id
-abbrev pub is_node : List Node → ℕ → Bool
-is_node nodes id = list_any (λ (n : Node). n.id == id) nodes
+abbrev pub is_node : List PlainNode → ℕ → Bool
+is_node nodes id = nat_le 1 id && nat_le id (length nodes)
 
--- the nodes have the ids from 1 on, in their order, and are no more than a cluster may have
-pub record IsNumbered (c : Cluster) : Type 0 where
-  pub ids : map (λ n. n.id) c.nodes ≡ range_with_len 1 (length c.nodes)
-  pub few : length c.nodes ≤ MAX_NODES
+-- the node with this id
+abbrev pub node_at : Cluster → ℕ → Option PlainNode
+node_at c id = slice_get c.nodes (id - 1)
+
+-- the node with this id becomes this one
+abbrev pub with_node : Cluster → ℕ → PlainNode → Cluster
+with_node c id n = record c { nodes = slice_set c.nodes (id - 1) n }
+
+abbrev pub changed_by : Option PlainNode → Cluster → ℕ → (PlainNode → PlainNode) → Cluster
+changed_by None c id change = c
+changed_by (Some n) c id change = with_node c id (change n)
+
+-- the node with this id changes
+abbrev pub changed : Cluster → ℕ → (PlainNode → PlainNode) → Cluster
+changed c id change = changed_by (node_at c id) c id change

@@ -1,19 +1,21 @@
 //! `add-nodes`: nodes with the ids that follow, which start at a base.
 
-ghost use Rattle.std.specs.Prelude.{◌≡◌, ◌+◌, ◌-◌, ◌≤◌, ◌++◌, OnOk, IfOk, [], length, map};
-ghost use Rattle.std.specs.List.{flat_map, range_with_len};
-ghost use Rattle.rb_texts.specs.Texts.{line_of};
+ghost use Rattle.std.specs.Prelude.{◌≡◌, ◌+◌, ◌-◌, ◌≤◌, ◌++◌, OnOk, IfOk, [], length};
+ghost use Rattle.std.specs.List.{range_with_len};
 ghost use Rattle.std.specs.Option.{unwrap_or};
+ghost use Rattle.rb_raftlog.specs.declared.limits.TheConstants.{MAX_INDEX};
 ghost use Rattle.rb_directive.specs.declared.limits.TheConstants.{MAX_NODES};
-ghost use Rattle.rb_cluster.specs.AddNodes.{id_set, config, node_options, needs_index, is_low, add_nodes_fault, new_node, new_nodes, started_item};
+ghost use Rattle.rb_node.specs.Calls.{node_started};
+ghost use Rattle.rb_cluster.specs.AddNodes.{id_set, config, options, base_term, start, needs_index, is_low, add_nodes_fault, began, added_each, nodes_added};
+ghost use Rattle.rb_cluster.specs.Scenes.{scene};
 
-use crate::config::Config;
-use crate::node::{Node, Options};
-use crate::shared::{Content, IdSet};
+use crate::cluster::Cluster;
+use crate::screen::Screen;
 use rb_directive::{AddNodes, IdList, MAX_ID, MAX_NODES};
-use rb_level::{DirectiveError, Level, Word};
-use rb_script::Lines;
-use rb_texts::{Item, put};
+use rb_level::{DirectiveError, Word};
+use rb_node::Node;
+use rb_raftlog::{ConfState, Content, RaftLog, Shared, Snapshot};
+use rb_step::Options;
 use std::alloc::{AllocError, Global};
 
 // Whether something is asked for that needs an index.
@@ -33,11 +35,11 @@ fn is_low(asked: &AddNodes<'_>) -> bool
     }
 }
 
-/// Why the nodes can't join these.
+/// Why the nodes can't join as many as there are.
 #[tactic(auto, unfolding(crate::specs::AddNodes::add_nodes_fault))]
-pub(crate) fn add_nodes_fault(
+pub(crate) fn add_nodes_fault<L: RaftLog>(
     asked: &AddNodes<'_>,
-    nodes: &[Node],
+    nodes: &[Node<L>],
 ) -> Option<DirectiveError<'static>>
     ensures { result ≡ add_nodes_fault asked.now nodes.now }
 {
@@ -57,7 +59,7 @@ fn push_ids(set: &mut Vec<u64>, ids: &IdList) -> Result<(), AllocError>
     ensures { OnOk result (set.new.items ≡ set.old.items ++ id_set ids.now) }
 {
     for id in 1..MAX_ID + 1 {
-        if ids.holds(id as u8) {
+        if ids.holds(id) {
             set.push(id)?;
         }
     }
@@ -66,106 +68,122 @@ fn push_ids(set: &mut Vec<u64>, ids: &IdList) -> Result<(), AllocError>
 
 // The ids of a list that may be left out.
 #[tactic(auto, using(crate::proofs::IdLaws::none_named))]
-fn set_of(alloc: Global, ids: &Option<IdList>) -> Result<IdSet, AllocError>
+fn set_of(alloc: Global, ids: &Option<IdList>) -> Result<Shared<u64>, AllocError>
     ensures { IfOk result (λ s. s ≡ id_set (unwrap_or ids.now [])) }
 {
     let mut set = Vec::new(alloc);
     if let Some(ids) = ids {
         push_ids(&mut set, ids)?;
     }
-    IdSet::new(set)
+    Shared::new(set)
 }
 
-fn config(alloc: Global, asked: &AddNodes<'_>) -> Result<Config, AllocError>
+fn config(alloc: Global, asked: &AddNodes<'_>) -> Result<ConfState, AllocError>
     ensures { IfOk result (λ c. c ≡ config asked.now) }
 {
-    let voters = set_of(alloc, &asked.voters)?;
-    let learners = set_of(alloc, &asked.learners)?;
-    Ok(Config::new(voters, learners))
+    Ok(ConfState {
+        incoming: set_of(alloc, &asked.voters)?,
+        outgoing: Shared::new(Vec::new(alloc))?,
+        learners: set_of(alloc, &asked.learners)?,
+        next: Shared::new(Vec::new(alloc))?,
+        auto: false,
+    })
 }
 
 fn content(alloc: Global, given: &Option<Word<'_>>) -> Result<Content, AllocError>
     ensures { IfOk result (λ c. c ≡ unwrap_or given.now []) }
 {
-    let mut bytes = Vec::new(alloc);
-    if let Some(word) = given {
-        bytes.extend_from_slice(word.bytes())?;
+    match given {
+        Some(word) => Content::from_slice(alloc, word.bytes()),
+        None => Ok(Content::new(alloc)),
     }
-    Content::new(bytes)
 }
 
-fn node_options(asked: &AddNodes<'_>) -> Options
-    ensures { result ≡ node_options asked.now }
+fn options(asked: &AddNodes<'_>) -> Options
+    ensures { result ≡ options asked.now }
 {
     Options {
-        inflight: asked.inflight,
-        prevote: asked.prevote,
+        pre_vote: asked.prevote,
         check_quorum: asked.check_quorum,
-        step_down: asked.step_down,
+        step_down_on_removal: asked.step_down,
+        inflight: asked.inflight as usize,
     }
 }
 
-// A node as it is asked for, with this id. Without an index the base is at 0, with term 0.
-fn node_with(
-    index: Option<u64>,
-    config: &Config,
-    content: &Content,
-    options: Options,
-    id: u64,
-) -> Result<Node, AllocError>
-    ensures { IfOk result (λ n. n ≡ new_node index config.now content.now options id) }
+fn base_term(index: Option<u64>) -> u64
+    ensures { result ≡ base_term index }
 {
-    let config = config.try_copy()?;
-    let content = content.try_copy()?;
-    Ok(match index {
-        Some(index) => Node::new(id, index, 1, config, content, options),
-        None => Node::new(id, 0, 0, config, content, options),
+    match index {
+        Some(_) => 1,
+        None => 0,
+    }
+}
+
+// Where the nodes start.
+#[tactic(auto, unfolding(crate::specs::AddNodes::start))]
+fn start(alloc: Global, asked: &AddNodes<'_>) -> Result<Snapshot, AllocError>
+    requires { unwrap_or asked.now.index 0 ≤ MAX_INDEX }
+    ensures value { IfOk result (λ s. s ≡ start asked.now) }
+    ensures within { IfOk result (λ s. s.index ≤ MAX_INDEX) }
+{
+    Ok(Snapshot {
+        index: asked.index.unwrap_or(0),
+        term: base_term(asked.index),
+        content: content(alloc, &asked.content)?,
+        config: config(alloc, asked)?,
     })
 }
 
-// Adds the nodes with the ids from `first` on, up to `end`.
-fn push_nodes(
-    nodes: &mut Vec<Node>,
-    first: u64,
-    end: u64,
-    index: Option<u64>,
-    config: &Config,
-    content: &Content,
-    options: Options,
-) -> Result<(), AllocError>
-    requires { first ≤ end }
-    ensures { OnOk result (nodes.new.items ≡ nodes.old.items ++ map (new_node index config.now content.now options) (range_with_len first (end - first))) }
-{
-    for id in first..end {
-        nodes.push(node_with(index, config, content, options, id)?)?;
+impl<L: RaftLog> Cluster<L> {
+    // A new node, which tells that it started.
+    fn begin(
+        &mut self,
+        id: u64,
+        start: &Snapshot,
+        options: Options,
+        screen: &mut Screen,
+    ) -> Result<(), AllocError>
+        requires { start.now.index ≤ MAX_INDEX }
+        ensures { OnOk result (scene self.new screen.new ≡ began (scene self.old screen.old) (node_started id start.now options [])) }
+    {
+        let mut events = Vec::new(self.alloc);
+        let node = Node::new(self.alloc, id, start, options, &mut events)?;
+        self.nodes.push(node)?;
+        screen.show_events(&events)
     }
-    Ok(())
-}
 
-/// Adds the nodes that are asked for.
-#[tactic(auto, unfolding(crate::specs::AddNodes::new_nodes))]
-pub(crate) fn add_nodes(
-    alloc: Global,
-    asked: &AddNodes<'_>,
-    nodes: &mut Vec<Node>,
-) -> Result<(), AllocError>
-    requires { length nodes.old.items + asked.now.count ≤ MAX_NODES }
-    ensures { OnOk result (nodes.new.items ≡ nodes.old.items ++ new_nodes asked.now nodes.old.items) }
-{
-    let config = config(alloc, asked)?;
-    let content = content(alloc, &asked.content)?;
-    let options = node_options(asked);
-    let first = nodes.len() as u64 + 1;
-    let end = first + asked.count;
-    push_nodes(nodes, first, end, asked.index, &config, &content, options)
-}
-
-/// Adds that each of the nodes started.
-pub(crate) fn put_started(lines: &mut Lines, level: Level, nodes: &[Node]) -> Result<(), AllocError>
-    ensures { OnOk result (lines.new ≡ lines.old ++ flat_map (line_of level) (map started_item nodes.now)) }
-{
-    for node in nodes {
-        put(lines, level, &Item::Event(node.start()))?;
+    // New nodes with the ids from `first` on, up to `end`.
+    fn begin_each(
+        &mut self,
+        first: u64,
+        end: u64,
+        start: &Snapshot,
+        options: Options,
+        screen: &mut Screen,
+    ) -> Result<(), AllocError>
+        requires { start.now.index ≤ MAX_INDEX }
+        ensures { OnOk result (scene self.new screen.new ≡ added_each start.now options (scene self.old screen.old) (range_with_len first (end - first))) }
+    {
+        for id in first..end {
+            self.begin(id, start, options, screen)?;
+        }
+        Ok(())
     }
-    Ok(())
+
+    /// Adds the nodes that are asked for.
+    #[tactic(auto, unfolding(crate::specs::AddNodes::nodes_added))]
+    pub(crate) fn add_nodes(
+        &mut self,
+        asked: &AddNodes<'_>,
+        screen: &mut Screen,
+    ) -> Result<(), AllocError>
+        requires room { length self.old.nodes + asked.now.count ≤ MAX_NODES }
+        requires index { unwrap_or asked.now.index 0 ≤ MAX_INDEX }
+        ensures { OnOk result (scene self.new screen.new ≡ nodes_added asked.now (scene self.old screen.old)) }
+    {
+        let start = start(self.alloc, asked)?;
+        let first = self.nodes.len() as u64 + 1;
+        let end = first + asked.count;
+        self.begin_each(first, end, &start, options(asked), screen)
+    }
 }

@@ -1,30 +1,34 @@
-//! A cluster, and what directives do to it.
+//! A cluster of Raft nodes in memory, and what directives do to it.
 //!
 //! [`Cluster`] is a [`Machine`]: it runs one directive after another, and gives the lines that each prints. What a
 //! directive asks for is read by rb_directive; here are the nodes that must exist, what this cluster refuses, and one
-//! effect a request.
+//! effect a request. What a node does is rb_node's, how it is printed rb_texts'.
 #![tactic(auto)]
 
+mod acts;
 mod add_nodes;
+mod changes;
 mod cluster;
-mod config;
+mod deliveries;
 mod laws;
+mod letter;
 mod limits;
 mod machine;
+mod message_types;
 mod meter;
-mod node;
-mod printing;
-mod raft_state;
-mod shared;
+mod outcome;
+mod pending;
+mod readies;
+mod rounds;
+mod screen;
+mod snapshots;
+mod views;
 
 pub use cluster::Cluster;
 pub use laws::{
-    add_nodes_keeps_nodes, nodes_are_numbered, outputs_have_lines, raft_state_changes_nothing,
-    reading_is_the_same_everywhere, refused_changes_nothing,
+    add_nodes_keeps_nodes, log_level_sets_the_level, outputs_can_be_expected, outputs_have_lines,
+    reading_is_the_same_everywhere, refused_changes_nothing, views_change_nothing,
 };
 pub use limits::limits_are;
 pub use machine::{Count, Machine};
 pub use meter::Meter;
-
-#[cfg(test)]
-mod tests;

@@ -1,12 +1,12 @@
-//! How much of a content is shown. What a directive may ask for is limited by rb_directive.
+//! How many messages may be pending. What a directive may ask for is limited by rb_directive.
 
 ghost use Rattle.std.specs.Prelude.{◌≡◌};
-ghost use Rattle.rb_cluster.specs.declared.limits.TheConstants.{CONTENT_SHOWN};
+ghost use Rattle.rb_cluster.specs.declared.limits.TheConstants.{MAX_PENDING};
 
-/// How many bytes of a content are shown, the last ones.
-pub(crate) const CONTENT_SHOWN: usize = 32;
+/// The most messages that may be pending. A further one is given up.
+pub(crate) const MAX_PENDING: usize = 4_096;
 
 /// The limit that definitions name is this number.
 pub fn limits_are()
-    ensures { CONTENT_SHOWN ≡ 32 }
+    ensures { MAX_PENDING ≡ 4096 }
 {}

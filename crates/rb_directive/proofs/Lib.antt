@@ -3,3 +3,7 @@ pub mod ReadLaws
 pub mod ChangeLaws
 pub mod TableLaws
 pub mod SpellingLaws
+pub mod KeepLaws
+pub mod BuildLaws
+pub mod BoundLaws
+pub mod ApartLaws

@@ -1,6 +1,6 @@
 -- The arguments that are left, one by one.
 use Rattle.std.proofs.Common.{◌≡◌, ℕ, ◌+◌, ◌<◌, Bool, true, false, List, [], ◌∷◌, ◌++◌, length, get_or, drop, Option, Some, None, Ok, Err, refl, ap, sym, ◌∙◌}
-use Rattle.std.specs.Prelude.{Result, nat_lt, if◌then◌else◌}
+use Rattle.std.specs.Prelude.{nat_lt, if◌then◌else◌}
 use Rattle.rb_script.specs.Directive.{PlainArgument, no_argument}
 use Rattle.rb_level.specs.declared.directive_error.DirectiveError.{DirectiveError}
 use Rattle.rb_directive.specs.declared.table.Row.{Row}
@@ -49,7 +49,7 @@ pub ruleset naming = (types_named, types_unnamed)
 
 -- ---- ids
 
-ids_none : (words : List Word) → with_ids words None ≡ None
+pub ids_none : (words : List Word) → with_ids words None ≡ None
 ids_none [] = refl
 ids_none (w ∷ words) = ids_none words
 

@@ -1,6 +1,6 @@
 -- What the table has, and what is read by it.
-use Rattle.std.proofs.Common.{◌≡◌, ℕ, Bool, true, false, List, [], ◌∷◌, Option, Some, None, Ok, Err, refl, ap, sym, ◌∙◌, subst, inl, inr}
-use Rattle.std.specs.Prelude.{Result, is_some, not, ◌||◌, ◌&&◌, if◌then◌else◌}
+use Rattle.std.proofs.Common.{◌≡◌, ℕ, Bool, true, false, List, [], ◌∷◌, Option, Some, None, Ok, Err, refl, ap, sym, ◌∙◌, subst}
+use Rattle.std.specs.Prelude.{Result, is_some, not, ◌||◌, if◌then◌else◌}
 use Rattle.std.specs.List.{list_all}
 use Rattle.std.specs.Option.{option_map}
 use Rattle.std.specs.Str.{bytes_eq}
@@ -18,7 +18,7 @@ use Rattle.rb_directive.specs.Names.{name_text}
 use Rattle.rb_directive.specs.Table.{directives, row_in, option_of, word_of, has_option}
 use Rattle.rb_directive.specs.Givens.{nothing}
 use Rattle.rb_directive.specs.Reading.{with_option, with_word, with_argument, with_arguments}
-use Rattle.rb_directive.specs.Requests.{and_then, built, asked_of, request_of, request}
+use Rattle.rb_directive.specs.Requests.{and_then, built, request_of, request}
 
 -- each row is the first with its name
 pub names_found : (name : Name) → option_map (λ (row : Row). row.name) (row_in directives (name_text name)) ≡ Some name
@@ -54,7 +54,7 @@ option_has row a g after true h = with_option_has (option_of (name_text row.name
 option_has row a g after false h = refl
 
 -- what is read with a fault is no reading
-faulty : (row : Row) (args : List PlainArgument) (e : DirectiveError) (after : Given) → with_arguments row args (Err e) ≡ Ok after → ⊥
+pub faulty : (row : Row) (args : List PlainArgument) (e : DirectiveError) (after : Given) → with_arguments row args (Err e) ≡ Ok after → ⊥
 faulty row [] e after h = cc
 faulty row (a ∷ args) e after h = cc
 
@@ -73,7 +73,7 @@ asked_has row d a (Err e) is h = absurd (cc)
 asked_has row d a (Ok g) is h = all_have row d.args nothing g is
 
 -- the row that is found has the name
-row_named : (rows : List Row) (name : List ℕ) (row : Row) → row_in rows name ≡ Some row → name_text row.name ≡ name
+pub row_named : (rows : List Row) (name : List ℕ) (row : Row) → row_in rows name ≡ Some row → name_text row.name ≡ name
 row_named [] name row h = absurd (cc)
 row_named (other ∷ rows) name row h =
     elim (bytes_eq (name_text other.name) name) as (λ b. bytes_eq (name_text other.name) name ≡ b → (if b then Some other else row_in rows name) ≡ Some row → name_text row.name ≡ name) [

@@ -8,3 +8,4 @@ pub mod Givens
 pub mod Reading
 pub mod Changes
 pub mod Requests
+pub mod Whole

@@ -12,8 +12,6 @@ use Rattle.rb_directive.specs.declared.table.Row.{Row}
 use Rattle.rb_directive.specs.declared.given.Given.{Given}
 use Rattle.rb_directive.specs.declared.argument.Argument.{Argument}
 use Rattle.rb_directive.specs.declared.argument.Argument.TheVariants as arguments
-use Rattle.rb_directive.specs.declared.argument.Number.{Number}
-use Rattle.rb_directive.specs.declared.argument.Bytes.{Bytes}
 use Rattle.rb_directive.specs.declared.argument.Ids.{Ids}
 use Rattle.rb_directive.specs.Names.{name_text}
 use Rattle.rb_directive.specs.Table.{option_of, after, word_of}

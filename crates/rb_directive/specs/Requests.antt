@@ -1,6 +1,7 @@
 -- What a directive asks for: one variant a directive, of what its arguments say, or what is missing. (etcd raft's
 -- interaction tests have most of the directives; what each may leave out is this project's.)
-use Rattle.std.specs.Prelude.{ℕ, Bool, false, codes, List, [], ◌∷◌, Option, Some, None, Result, Ok, Err}
+use Rattle.std.specs.Prelude.{ℕ, ◌≤◌, false, codes, List, [], length, Option, Some, None, IfSome, Result, Ok, Err, ⊤}
+use Rattle.std.specs.List.{All}
 use Rattle.std.specs.Option.{unwrap_or}
 use Rattle.rb_script.specs.Lines.{Line}
 use Rattle.rb_script.specs.Directive.{PlainDirective}
@@ -11,12 +12,13 @@ use Rattle.rb_directive.specs.declared.name.Name.TheVariants as names
 use Rattle.rb_directive.specs.declared.form.Transition.TheVariants as transitions
 use Rattle.rb_directive.specs.declared.table.Row.{Row}
 use Rattle.rb_directive.specs.declared.given.Given.{Given}
+use Rattle.rb_directive.specs.declared.asking.AddNodes.{AddNodes}
 use Rattle.rb_directive.specs.declared.asking.Request.{Request}
 use Rattle.rb_directive.specs.declared.asking.Request.TheVariants as requests
 use Rattle.rb_directive.specs.declared.asking.Named.{Named}
 use Rattle.rb_directive.specs.declared.asking.Named.TheVariants as named
 use Rattle.rb_directive.specs.declared.build.Asked.{Asked}
-use Rattle.rb_directive.specs.declared.limits.TheConstants.{WINDOW, ROUNDS}
+use Rattle.rb_directive.specs.declared.limits.TheConstants.{MAX_ID, MAX_NODES, MAX_INDEX, MAX_COMPACTED, MAX_BYTES, MAX_WINDOW, MAX_ROUNDS, MAX_TIMEOUT, MAX_IDS, WINDOW, ROUNDS}
 use Rattle.rb_directive.specs.Forms.{Word}
 use Rattle.rb_directive.specs.Table.{directives, row_in}
 use Rattle.rb_directive.specs.Givens.{nothing}
@@ -149,3 +151,45 @@ nodes_of (requests.LogLevel level) = named.None
 nodes_of (requests.RaftLog id) = named.One id
 nodes_of (requests.Status id) = named.One id
 nodes_of requests.RaftState = named.None
+
+-- ---- the limits of what is asked for
+
+abbrev pub IsFrom : ℕ → ℕ → ℕ → Type 0
+IsFrom low high n = (low ≤ n) × (n ≤ high)
+
+abbrev pub IsId : ℕ → Type 0
+IsId id = IsFrom 1 MAX_ID id
+
+abbrev pub AreIds : List ℕ → Type 0
+AreIds ids = All IsId ids × (length ids ≤ MAX_IDS)
+
+-- nodes that `add-nodes` can make
+pub record AreNodes (r : AddNodes) : Type 0 where
+  pub count : IsFrom 1 MAX_NODES r.count
+  pub voters : IfSome r.voters AreIds
+  pub learners : IfSome r.learners AreIds
+  pub index : unwrap_or r.index 0 ≤ MAX_INDEX
+  pub content : IfSome r.content (λ w. length w ≤ MAX_BYTES)
+  pub inflight : IsFrom 1 MAX_WINDOW r.inflight
+
+-- what is asked for is within the limits
+unfoldable pub IsWithin : Request → Type 0
+IsWithin (requests.AddNodes r) = AreNodes r
+IsWithin (requests.Campaign id) = IsId id
+IsWithin (requests.Propose id payload) = IsId id × IsFrom 1 MAX_BYTES (length payload)
+IsWithin (requests.ProposeConfChange r) = IsId r.id
+IsWithin (requests.ProcessReady ids) = AreIds ids
+IsWithin (requests.DeliverMsgs r) = AreIds r.nodes × AreIds r.drop
+IsWithin (requests.Stabilize ids rounds) = AreIds ids × IsFrom 1 MAX_ROUNDS rounds
+IsWithin (requests.TickElection id) = IsId id
+IsWithin (requests.TickHeartbeat id) = IsId id
+IsWithin (requests.SetRandomizedElectionTimeout id timeout) = IsId id × IsFrom 1 MAX_TIMEOUT timeout
+IsWithin (requests.TransferLeadership from to) = IsId from × IsId to
+IsWithin (requests.ForgetLeader id) = IsId id
+IsWithin (requests.ReportUnreachable id peer) = IsId id × IsId peer
+IsWithin (requests.SendSnapshot from to) = IsId from × IsId to
+IsWithin (requests.Compact id index) = IsId id × (index ≤ MAX_COMPACTED)
+IsWithin (requests.LogLevel level) = ⊤
+IsWithin (requests.RaftLog id) = IsId id
+IsWithin (requests.Status id) = IsId id
+IsWithin requests.RaftState = ⊤

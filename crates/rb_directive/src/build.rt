@@ -2,10 +2,10 @@
 //!
 //! A directive takes what must be given in a fixed order, and the first that is missing is told.
 
-ghost use Rattle.std.specs.Prelude.{◌≡◌, [], codes};
+ghost use Rattle.std.specs.Prelude.{◌≡◌, [], codes, IfOk};
 ghost use Rattle.std.specs.Option.{unwrap_or};
 ghost use Rattle.rb_script.specs.Tokens.{plain};
-ghost use Rattle.rb_directive.specs.Requests.{wanted, add_nodes, propose, propose_conf_change, process_ready, deliver_msgs, stabilize, set_timeout, transfer_leadership, report_unreachable, send_snapshot, compact, built, asked_of, request};
+ghost use Rattle.rb_directive.specs.Requests.{wanted, add_nodes, propose, propose_conf_change, process_ready, deliver_msgs, stabilize, set_timeout, transfer_leadership, report_unreachable, send_snapshot, compact, built, asked_of, request, IsWithin};
 
 use crate::asking::{AddNodes, DeliverMsgs, ProposeConfChange, Request};
 use crate::change::{Inputs, change_fault};
@@ -203,7 +203,8 @@ fn asked_of<'d>(row: &Row, directive: &'d DirectiveRef<'d>) -> Result<Asked<'d>,
 /// first that is wrong; or what is missing. No cluster is looked at, and no memory is taken.
 #[tactic(auto, unfolding(crate::specs::Requests::request))]
 pub fn request<'d>(directive: &'d DirectiveRef<'d>) -> Result<Asked<'d>, DirectiveError<'d>>
-    ensures { result ≡ request (plain directive.now) }
+    ensures exact { result ≡ request (plain directive.now) }
+    ensures within { IfOk result (λ a. IsWithin a.request) }
 {
     let name = directive.name();
     match row_of(name) {

@@ -70,10 +70,10 @@ impl IdList {
     }
 
     /// Whether the id is one of these.
-    pub fn holds(&self, id: u8) -> bool
+    pub fn holds(&self, id: u64) -> bool
         ensures { result ≡ holds self.now id }
     {
-        self.as_slice().iter().any(|other| *other == id)
+        self.as_slice().iter().any(|other| u64::from(*other) == id)
     }
 
     /// Whether an id stands in both lists.
@@ -81,7 +81,7 @@ impl IdList {
         ensures { result ≡ share self.now other.now }
     {
         for id in self.as_slice() {
-            if other.holds(*id) {
+            if other.holds(u64::from(*id)) {
                 return true;
             }
         }

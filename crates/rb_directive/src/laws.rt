@@ -1,18 +1,21 @@
 //! The laws of reading, as calls: each holds of every directive that a script can have.
 
-ghost use Rattle.std.specs.Prelude.{◌≡◌, ◌<◌, ◌≤◌, ◌^◌, ◌∷◌, [], decimal, Some, None, Ok, Err, true, false, ℕ};
-ghost use Rattle.std.specs.Option.{option_map};
+ghost use Rattle.std.specs.Prelude.{◌≡◌, ◌≢◌, ◌<◌, ◌≤◌, ◌^◌, ◌∷◌, [], decimal, Some, None, Ok, Err, true, false, ℕ};
+ghost use Rattle.std.specs.Option.{option_map, unwrap_or};
 ghost use Rattle.std.specs.List.{list_all};
 ghost use Rattle.rb_script.specs.Directive.{PlainArgument, PlainDirective};
 ghost use Rattle.rb_level.specs.declared.directive_error.DirectiveError.TheVariants as errors;
 ghost use Rattle.rb_directive.specs.declared.name.Name.{Name};
+ghost use Rattle.rb_directive.specs.declared.asking.AddNodes.{AddNodes};
+ghost use Rattle.rb_directive.specs.declared.asking.Request.TheVariants as requests;
 ghost use Rattle.rb_directive.specs.declared.build.Asked.{Asked};
 ghost use Rattle.rb_directive.specs.declared.given.Given.{Given};
 ghost use Rattle.rb_directive.specs.declared.table.Row.{Row};
 ghost use Rattle.rb_directive.specs.Names.{name_text};
 ghost use Rattle.rb_directive.specs.Table.{directives, row_in, option_of, has_option};
 ghost use Rattle.rb_directive.specs.Reading.{number_said, with_argument};
-ghost use Rattle.rb_directive.specs.Requests.{request};
+ghost use Rattle.rb_directive.specs.Requests.{request, IsWithin};
+ghost use Rattle.rb_directive.specs.Whole.{name_of, AreApart};
 
 /// Each directive is found under its name, and so no two have the same.
 pub fn names_are_apart()
@@ -28,4 +31,20 @@ pub fn options_are_those_of_the_table()
 /// A number in decimal digits is read as itself, where it is one that the argument takes.
 pub fn numbers_are_read()
     ensures { (low high n : ℕ) → low ≤ n → n ≤ high → n < 10 ^ 10 → number_said low high (decimal n ∷ []) ≡ Some n }
+{}
+
+/// What a directive asks for is within its limits.
+pub fn requests_are_within()
+    ensures { (d : PlainDirective) (a : Asked) → request d ≡ Ok a → IsWithin a.request }
+{}
+
+/// What a directive asks for is what its name says, and a name that no directive has is refused.
+pub fn names_say_what_is_asked_for()
+    ensures known { (d : PlainDirective) (a : Asked) → request d ≡ Ok a → name_text (name_of a.request) ≡ d.name }
+    ensures unknown { (d : PlainDirective) → ((name : Name) → name_text name ≢ d.name) → request d ≡ Err (errors.UnknownDirective d.name) }
+{}
+
+/// No id of an `add-nodes` that is read is a voter and a learner.
+pub fn voters_and_learners_are_apart()
+    ensures { (d : PlainDirective) (a : Asked) (r : AddNodes) → request d ≡ Ok a → a.request ≡ requests.AddNodes r → AreApart (unwrap_or r.voters []) (unwrap_or r.learners []) }
 {}

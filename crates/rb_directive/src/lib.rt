@@ -26,7 +26,10 @@ pub use build::{Asked, request};
 pub use change::{Change, ChangeKind, Inputs, change_of};
 pub use form::Transition;
 pub use id_list::IdList;
-pub use laws::{names_are_apart, numbers_are_read, options_are_those_of_the_table};
+pub use laws::{
+    names_are_apart, names_say_what_is_asked_for, numbers_are_read, options_are_those_of_the_table,
+    requests_are_within, voters_and_learners_are_apart,
+};
 pub use limits::{MAX_ID, MAX_NODES, limits_are};
 pub use message_type::{MessageType, TypeSet};
 pub use name::Name;

@@ -2,5 +2,6 @@ pub mod ExtendLaws
 pub mod PieceLaws
 pub mod QuotedLaws
 pub mod TextLaws
+pub mod OneLineLaws
 pub mod ShownLaws
 pub mod PrintedLaws

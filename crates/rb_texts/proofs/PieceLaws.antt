@@ -4,7 +4,7 @@ use Rattle.std.proofs.lemmas.List.{take_more}
 use Rattle.std.proofs.lemmas.List.Concat.{flat_map-append}
 use Rattle.std.specs.List.{flat_map}
 use Rattle.rb_texts.specs.Lines.{Line, extended}
-use Rattle.rb_texts.specs.Texts.{ids_text}
+use Rattle.rb_texts.specs.Configs.{ids_text}
 use Rattle.rb_texts.proofs.ExtendLaws.{extended_twice}
 
 -- a further id

@@ -1,16 +1,16 @@
 -- Printed lines can be expected.
-use Rattle.std.proofs.Common.{◌≡◌, ℕ, ◌≤◌, Bool, true, false, List, [], ◌∷◌, length, ap, sym, ◌∙◌}
-use Rattle.std.specs.Prelude.{not, ◌&&◌, nat_le}
+use Rattle.std.proofs.Common.{◌≡◌, ◌≤◌, true, false, List, [], ◌∷◌, length, refl, sym, ◌∙◌}
+use Rattle.std.specs.Prelude.{not, ◌&&◌, ◌||◌, nat_le}
 use Rattle.std.specs.List.{list_all, AllByRecursion}
-use Rattle.std.proofs.lemmas.Bool.{and_parts, not-true, leb-true}
+use Rattle.std.proofs.lemmas.Bool.{and_parts, or_from, not-true, leb-true}
 use Rattle.rb_script.specs.declared.limits.TheConstants.{MAX_LINE}
 use Rattle.rb_script.specs.Lines.{Line}
-use Rattle.rb_script.specs.Marks.{is_blank, is_rule, rule}
+use Rattle.rb_script.specs.Marks.{is_blank, is_rule}
 use Rattle.rb_script.specs.Script.{needs_double}
 use Rattle.rb_script.specs.Edits.{is_expectation}
 use Rattle.rb_script.specs.LineParts.{IsSolid}
 use Rattle.rb_script.proofs.LinePartLaws.{rule_passes}
-use Rattle.rb_script.proofs.SolidLaws.{solid_expected, solid_plain}
+use Rattle.rb_script.proofs.SolidLaws.{solid_expected}
 use Rattle.rb_texts.specs.Quoted.{is_printable}
 use Rattle.rb_texts.specs.Shapes.{is_one_line, is_solid}
 
@@ -44,6 +44,11 @@ all_solid (line ∷ ls) h k = let p = and_parts (is_solid line) (list_all is_sol
 pub printed_expected : (ls : List Line) → list_all is_solid ls ≡ true → AllByRecursion (λ line. length line ≤ MAX_LINE) ls → is_expectation ls ≡ true
 printed_expected ls h k = solid_expected ls (all_solid ls h k)
 
--- in the plain form
-pub printed_plain : (ls : List Line) → list_all is_solid ls ≡ true → AllByRecursion (λ line. length line ≤ MAX_LINE) ls → needs_double ls ≡ false
-printed_plain ls h k = solid_plain ls (all_solid ls h k)
+-- and in the plain form, however long they are
+pub printed_plain : (ls : List Line) → list_all is_solid ls ≡ true → needs_double ls ≡ false
+printed_plain [] h = refl
+printed_plain (line ∷ ls) h =
+    let p = and_parts (is_solid line) (list_all is_solid ls) h in
+    let q = and_parts (not (is_blank line) && not (is_rule line)) (is_one_line line) p.0 in
+    let r = and_parts (not (is_blank line)) (not (is_rule line)) q.0 in
+    or_from (is_blank line || is_rule line) (needs_double ls) (or_from (is_blank line) (is_rule line) (not-true (is_blank line) r.0) (not-true (is_rule line) r.1)) (printed_plain ls p.1)

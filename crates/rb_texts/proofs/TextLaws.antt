@@ -1,30 +1,16 @@
 -- The text of each item as the texts of its pieces.
-use Rattle.std.proofs.Common.{◌≡◌, ℕ, Bool, true, List, length, min, [], ◌∷◌, ◌++◌, take, decimal, codes, ap, sym, ◌∙◌, append_assoc, append-nil, arith}
+use Rattle.std.proofs.Common.{◌≡◌, ℕ, Bool, true, List, length, min, [], ◌∷◌, ◌++◌, take, codes, ap, sym, ◌∙◌, append-nil, arith}
 use Rattle.std.specs.Prelude.{if◌then◌else◌}
 use Rattle.std.proofs.lemmas.List.{take_min}
-use Rattle.rb_texts.specs.Lines.{Line, extended}
 use Rattle.rb_level.specs.declared.level.Level.{Level}
+use Rattle.rb_tracker.specs.declared.config.Config.{Config}
+use Rattle.rb_texts.specs.Lines.{Line, extended}
 use Rattle.rb_texts.specs.Quoted.{quoted}
-use Rattle.rb_texts.specs.Items.{PlainConfig, PlainNode, started, PlainItem}
-use Rattle.rb_texts.specs.Texts.{ids_text, part_text, config_text, role_text, node_text, event_text, item_text, is_shown, line_of, word_text, WORD_SHOWN}
+use Rattle.rb_texts.specs.Items.{PlainItem}
+use Rattle.rb_texts.specs.Configs.{ids_text, part_text, config_text}
+use Rattle.rb_texts.specs.Errors.{word_text, WORD_SHOWN}
+use Rattle.rb_texts.specs.Texts.{item_text, is_shown, line_of}
 use Rattle.rb_texts.proofs.ExtendLaws.{extended-push, extended_twice}
-
--- the text of a node, piece by piece
-pub node_pieces : (n : PlainNode) (role : List ℕ) → role ≡ role_text n.role → decimal n.id ++ (codes " " ++ (role
-    ++ (codes " term=" ++ (decimal n.term ++ (codes " vote=" ++ (decimal n.vote ++ (codes " lead=" ++ (decimal n.lead
-    ++ (codes " commit=" ++ (decimal n.commit ++ (codes " applied=" ++ (decimal n.applied
-    ++ (codes " content=" ++ (decimal n.content_len ++ (codes ":" ++ (quoted n.content_end ++ [])))))))))))))))) ≡ node_text n
-unfolding node_text
-node_pieces n role e = rw e (simp (append_assoc, append-nil))
-
--- the pieces of a started node and its configuration joined the line
-pub started_joined : (before now after : List Line) (id term index : ℕ) (config : PlainConfig)
-    → now ≡ extended before (codes "INFO " ++ (decimal id ++ (codes " started at " ++ (decimal term ++ (codes "/" ++ (decimal index ++ (codes " with " ++ [])))))))
-    → after ≡ extended now (config_text config) → after ≡ extended before (event_text (started id term index config))
-unfolding event_text
-started_joined before now after id term index config first second =
-    extended_twice before now after (codes "INFO " ++ (decimal id ++ (codes " started at " ++ (decimal term ++ (codes "/" ++ (decimal index ++ (codes " with " ++ []))))))) (config_text config) first second
-    ∙ ap (extended before) (simp (append_assoc, append-nil))
 
 -- a word's first bytes in quotes, after a text
 pub word_pieces : (text word : List ℕ) (n : ℕ) → n ≡ min (length word) WORD_SHOWN → text ++ (quoted (take n word) ++ []) ≡ text ++ word_text word
@@ -39,11 +25,11 @@ line_joined before now after level item shown push add =
     ∙ ap (λ (b : Bool). before ++ (if b then item_text item ∷ [] else [])) (sym shown)
 
 -- the parts of a configuration joined the line one after the other
-pub config_joined : (before one two three four after : List Line) (c : PlainConfig) → one ≡ extended before (codes "voters=(" ++ (ids_text c.voters ++ (codes ")" ++ [])))
+pub config_joined : (before one two three four after : List Line) (c : Config) → one ≡ extended before (codes "voters=(" ++ (ids_text c.incoming ++ (codes ")" ++ [])))
     → two ≡ extended one (part_text (codes " outgoing=(") c.outgoing) → three ≡ extended two (part_text (codes " learners=(") c.learners) → four ≡ extended three (part_text (codes " next=(") c.next)
     → after ≡ extended four (if c.auto then codes " auto" else []) → after ≡ extended before (config_text c)
 unfolding config_text
 config_joined before one two three four after c voters outgoing learners next auto =
-    let to_two = extended_twice before one two (codes "voters=(" ++ (ids_text c.voters ++ (codes ")" ++ []))) _ voters outgoing in
+    let to_two = extended_twice before one two (codes "voters=(" ++ (ids_text c.incoming ++ (codes ")" ++ []))) _ voters outgoing in
     let to_three = extended_twice before two three _ _ to_two learners in
     extended_twice before four after _ _ (extended_twice before three four _ _ to_three next) auto

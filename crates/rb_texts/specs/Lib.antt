@@ -4,5 +4,11 @@ pub use Rattle.rb_level.specs.Levels
 pub mod Quoted
 pub mod Shapes
 pub mod Items
+pub mod Configs
+pub mod Entries
+pub mod Messages
+pub mod States
+pub mod Events
+pub mod Errors
 pub mod Texts
 pub mod Pieces

@@ -4,11 +4,13 @@ use Rattle.std.specs.List.{flat_map}
 use Rattle.rb_texts.specs.declared.piece.Piece.{Piece}
 use Rattle.rb_texts.specs.declared.piece.Piece.TheVariants as pieces
 use Rattle.rb_texts.specs.Quoted.{quoted}
-use Rattle.rb_texts.specs.Texts.{ids_text}
+use Rattle.rb_texts.specs.Configs.{ids_text}
+use Rattle.rb_texts.specs.Entries.{place_text}
 
 abbrev pub piece_text : Piece → List ℕ
 piece_text (pieces.Bytes bytes) = bytes.now
 piece_text (pieces.Number n) = decimal n
+piece_text (pieces.Place term index) = place_text term index
 piece_text (pieces.Quoted bytes) = quoted bytes.now
 piece_text (pieces.Ids ids) = ids_text ids.now
 

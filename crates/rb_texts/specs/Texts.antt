@@ -1,85 +1,46 @@
 -- The line of each item, and at which levels it is shown. (This project's texts.)
-use Rattle.std.specs.Prelude.{ℕ, Bool, true, nat_le, if◌then◌else◌, codes, decimal, List, [], ◌∷◌, ◌++◌, take, map}
-use Rattle.std.specs.List.{join_with_byte}
+use Rattle.std.specs.Prelude.{ℕ, Bool, true, nat_le, if◌then◌else◌, codes, decimal, List, [], ◌∷◌, ◌++◌}
 use Rattle.rb_level.specs.declared.level.Level.{Level}
 use Rattle.rb_level.specs.declared.level.Level.TheVariants as levels
-use Rattle.rb_texts.specs.declared.item.Role.{Role}
-use Rattle.rb_texts.specs.declared.item.Role.TheVariants as roles
 use Rattle.rb_level.specs.Levels.{rank}
-use Rattle.rb_texts.specs.Quoted.{quoted}
-use Rattle.rb_texts.specs.Items.{PlainConfig, PlainNode, PlainEvent, started, PlainItem, nothing_else, raft_state, event, error}
-use Rattle.rb_level.specs.declared.directive_error.DirectiveError.{DirectiveError}
-use Rattle.rb_level.specs.declared.directive_error.DirectiveError.TheVariants as errors
+use Rattle.rb_texts.specs.Configs.{config_text}
+use Rattle.rb_texts.specs.Entries.{place_text, entry_text}
+use Rattle.rb_texts.specs.Errors.{error_text}
+use Rattle.rb_texts.specs.Events.{event_level, event_text}
+use Rattle.rb_texts.specs.Items.{PlainItem, nothing_else, ready, hard_state, snapshot, save, apply, send, nothing_ready, moved, no_messages, stopped, raft_state, raft_log, entry, config, progress, event, error}
+use Rattle.rb_texts.specs.Messages.{message_text, verb_text}
+use Rattle.rb_texts.specs.States.{hard_state_text, log_text, node_text, progress_text}
 
--- numbers with a comma between each two
-unfoldable pub ids_text : List ℕ → List ℕ
-ids_text ids = join_with_byte 44 (map decimal ids)
-
--- a part of a configuration that is shown only where it isn't empty
-abbrev pub part_text : List ℕ → List ℕ → List ℕ
-part_text name [] = []
-part_text name (id ∷ ids) = name ++ ids_text (id ∷ ids) ++ codes ")"
-
-unfoldable pub config_text : PlainConfig → List ℕ
-config_text c =
-    codes "voters=(" ++ ids_text c.voters ++ codes ")"
-    ++ part_text (codes " outgoing=(") c.outgoing
-    ++ part_text (codes " learners=(") c.learners
-    ++ part_text (codes " next=(") c.next
-    ++ (if c.auto then codes " auto" else [])
-
-abbrev pub role_text : Role → List ℕ
-role_text roles.Follower = codes "follower"
-role_text roles.Precandidate = codes "precandidate"
-role_text roles.Candidate = codes "candidate"
-role_text roles.Leader = codes "leader"
-
-unfoldable pub node_text : PlainNode → List ℕ
-node_text n =
-    decimal n.id ++ codes " " ++ role_text n.role
-    ++ codes " term=" ++ decimal n.term ++ codes " vote=" ++ decimal n.vote ++ codes " lead=" ++ decimal n.lead
-    ++ codes " commit=" ++ decimal n.commit ++ codes " applied=" ++ decimal n.applied
-    ++ codes " content=" ++ decimal n.content_len ++ codes ":" ++ quoted n.content_end
-
--- how many bytes of a word an error shows at the most
-abbrev pub WORD_SHOWN : ℕ
-WORD_SHOWN = 64
-
-abbrev pub word_text : List ℕ → List ℕ
-word_text word = quoted (take WORD_SHOWN word)
-
-unfoldable pub error_text : DirectiveError → List ℕ
-error_text (errors.UnknownDirective name) = codes "error: unknown directive " ++ word_text name
-error_text (errors.UnsupportedOption key) = codes "error: unsupported option " ++ word_text key
-error_text (errors.BadArgument word) = codes "error: bad argument " ++ word_text word
-error_text (errors.MissingArgument name) = codes "error: missing argument " ++ word_text name
-error_text (errors.NoSuchNode id) = codes "error: no node " ++ decimal id
-error_text errors.TooManyNodes = codes "error: too many nodes"
-error_text errors.IndexTooLow = codes "error: index must be above 1"
-error_text errors.AlreadyCompacted = codes "error: already compacted"
-error_text errors.IndexPastApplied = codes "error: index past applied"
-error_text (errors.BadChange word) = codes "error: bad change " ++ word_text word
-error_text errors.FirstVersionTakesOne = codes "error: v1 takes one change and no transition"
-
-unfoldable pub event_text : PlainEvent → List ℕ
-event_text (started id term index config) =
-    codes "INFO " ++ decimal id ++ codes " started at " ++ decimal term ++ codes "/" ++ decimal index ++ codes " with " ++ config_text config
-
-abbrev pub event_level : PlainEvent → Level
-event_level (started id term index config) = levels.Info
+-- the mark of an entry that isn't durable yet
+abbrev pub unsaved_text : Bool → List ℕ
+unsaved_text unsaved = if unsaved then codes " unsaved" else []
 
 unfoldable pub item_text : PlainItem → List ℕ
 item_text nothing_else = codes "ok"
+item_text (ready id) = decimal id ++ codes " ready"
+item_text (hard_state hard) = hard_state_text hard
+item_text (snapshot term index) = codes "  snapshot " ++ place_text term index
+item_text (save index e) = codes "  save " ++ entry_text index e
+item_text (apply index e) = codes "  apply " ++ entry_text index e
+item_text (send message) = codes "  send " ++ message_text message
+item_text (nothing_ready id) = decimal id ++ codes " has nothing ready"
+item_text (moved verb message) = verb_text verb ++ message_text message
+item_text no_messages = codes "no messages"
+item_text (stopped rounds) = codes "stopped after " ++ decimal rounds ++ codes " rounds"
 item_text (raft_state node) = node_text node
+item_text (raft_log log) = log_text log
+item_text (entry index e unsaved) = entry_text index e ++ unsaved_text unsaved
+item_text (config c) = config_text c
+item_text (progress id view) = progress_text id view
 item_text (event e) = event_text e
 item_text (error e) = error_text e
 
 -- Errors and `ok` are shown always, an event where its level is at or above the one that is set, and all else but at none.
 abbrev pub is_shown : Level → PlainItem → Bool
 is_shown level nothing_else = true
-is_shown level (raft_state node) = nat_le (rank level) (rank levels.Fatal)
 is_shown level (event e) = nat_le (rank level) (rank (event_level e))
 is_shown level (error e) = true
+is_shown level _ = nat_le (rank level) (rank levels.Fatal)
 
 -- the line of an item at a level, or no line
 abbrev pub line_of : Level → PlainItem → List (List ℕ)

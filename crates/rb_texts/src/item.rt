@@ -1,33 +1,24 @@
-//! What a line can show. An item borrows what it shows.
+//! What a line can show.
+//!
+//! A directive prints what it did and saw, a line an item: what a node has ready for its application (etcd raft documentation, "Usage"),
+//! where messages go, what a node is, what its log holds, and what happened in it. An item borrows what it shows.
 
 use rb_level::DirectiveError;
+use rb_message::{Event, HardState, Message, Role};
+use rb_raftlog::Entry;
+use rb_tracker::{Config, Progress};
 
-/// What a node is in its term.
+/// How a message is shown to move.
 #[derive(Clone, Copy, Debug, PartialEq, Eq)]
-pub enum Role {
-    /// It follows a leader, or waits for one.
-    Follower,
-    /// It asks whether it would be elected, before it takes a new term.
-    Precandidate,
-    /// It asks for votes in its term.
-    Candidate,
-    /// It was elected in its term.
-    Leader,
-}
-
-/// A configuration: ids in ascending lists, and whether a joint one is left by itself.
-#[derive(Clone, Copy)]
-pub struct ConfigView<'a> {
-    /// Who votes; in a joint configuration, in the new half.
-    pub voters: &'a [u64],
-    /// Who votes in the old half of a joint configuration. Empty where it isn't joint.
-    pub outgoing: &'a [u64],
-    /// Who gets the log and has no vote.
-    pub learners: &'a [u64],
-    /// The voters of the old half that are to be learners once it is left.
-    pub next: &'a [u64],
-    /// Whether the leader leaves a joint configuration by itself.
-    pub auto: bool,
+pub enum Verb {
+    /// It reaches the node that it is for.
+    Deliver,
+    /// It is lost on its way.
+    Drop,
+    /// It joins the pending messages.
+    Queue,
+    /// It is given up, since too many messages are pending.
+    NoRoomFor,
 }
 
 /// A node in one line.
@@ -50,11 +41,19 @@ pub struct NodeLine<'a> {
     pub content_end: &'a [u8],
 }
 
-/// What happened in a node.
+/// A node's log in one line.
 #[derive(Clone, Copy)]
-pub enum Event<'a> {
-    /// It was made: its id, base term and base index, and its configuration.
-    Started(u64, u64, u64, ConfigView<'a>),
+pub struct LogLine {
+    /// The term of the entry below the first.
+    pub base_term: u64,
+    /// The index of the entry below the first.
+    pub base: u64,
+    /// The last index that is durable.
+    pub durable: u64,
+    /// The last index that the node knows to be committed.
+    pub commit: u64,
+    /// The last index that it has applied.
+    pub applied: u64,
 }
 
 /// What a line shows.
@@ -62,10 +61,38 @@ pub enum Event<'a> {
 pub enum Item<'a> {
     /// The directive printed no other line: `ok`.
     NothingElse,
+    /// The node with this id has something ready. What it has follows, a line each.
+    Ready(u64),
+    /// The hard state, where it has changed.
+    HardState(HardState),
+    /// A snapshot was restored: its term and its index.
+    Snapshot(u64, u64),
+    /// The entry at this index is to become durable.
+    Save(u64, &'a Entry),
+    /// The entry at this index is to be applied.
+    Apply(u64, &'a Entry),
+    /// The message is to be sent.
+    Send(&'a Message),
+    /// The node with this id has nothing ready.
+    NothingReady(u64),
+    /// The message moves.
+    Moved(Verb, &'a Message),
+    /// No message was met.
+    NoMessages,
+    /// The rounds ran out, after this many.
+    Stopped(u64),
     /// The state of one node.
     RaftState(NodeLine<'a>),
+    /// The numbers of a node's log. Its entries follow, a line each.
+    RaftLog(LogLine),
+    /// The entry at this index in a log, and whether it is not yet durable.
+    Entry(u64, &'a Entry, bool),
+    /// A node's configuration. A leader's views follow, a line each.
+    Config(&'a Config),
+    /// A leader's view of the member with this id.
+    Progress(u64, &'a Progress),
     /// Something that happened in a node.
-    Event(Event<'a>),
+    Event(&'a Event),
     /// The directive is refused.
     Error(DirectiveError<'a>),
 }

@@ -1,15 +1,18 @@
 //! The lines that directives print: levels, and the text of each item.
 #![tactic(auto)]
 
+mod configs;
+mod entries;
+mod errors;
+mod events;
 mod item;
 mod laws;
+mod messages;
 mod piece;
+mod states;
 mod texts;
 
-pub use item::{ConfigView, Event, Item, NodeLine, Role};
-pub use laws::printed_lines_can_be_expected;
+pub use item::{Item, LogLine, NodeLine, Verb};
+pub use laws::{lines_are_solid, printed_lines_can_be_expected, printed_plain};
 pub use rb_level::{DirectiveError, Level, Word, level_of};
-pub use texts::{lines_are_solid, put};
-
-#[cfg(test)]
-mod tests;
+pub use texts::put;

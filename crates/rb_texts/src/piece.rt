@@ -1,10 +1,11 @@
 //! The pieces that a line is put together of.
 
-ghost use Rattle.std.specs.Prelude.{◌≡◌, ◌<◌, ◌≤◌, ◌++◌, ℕ, true, false, length, OnOk, take, slice_index_or, decimal};
+ghost use Rattle.std.specs.Prelude.{◌≡◌, ◌<◌, ◌≤◌, ◌++◌, [], ℕ, true, false, if◌then◌else◌, length, OnOk, take, slice_index_or, decimal};
 ghost use Rattle.std.specs.List.{flat_map};
 ghost use Rattle.rb_texts.specs.Lines.{extended};
 ghost use Rattle.rb_texts.specs.Quoted.{is_plain, begins_numbered, numbered, escaped, hex_digit, quoted};
-ghost use Rattle.rb_texts.specs.Texts.{ids_text};
+ghost use Rattle.rb_texts.specs.Configs.{ids_text};
+ghost use Rattle.rb_texts.specs.Entries.{place_text};
 ghost use Rattle.rb_texts.specs.Pieces.{piece_text, pieces_text};
 
 use itoa::Buffer;
@@ -18,10 +19,19 @@ pub(crate) enum Piece<'a> {
     Bytes(&'a [u8]),
     /// A number in decimal digits.
     Number(u64),
+    /// A term and an index, with a slash between them.
+    Place(u64, u64),
     /// The bytes in double quotes.
     Quoted(&'a [u8]),
     /// Ids with a comma between each two.
     Ids(&'a [u64]),
+}
+
+/// The text where it is to be shown, else nothing.
+pub(crate) fn shown_if<'a>(shown: bool, text: &'a [u8]) -> &'a [u8]
+    ensures { result.now ≡ (if shown then text.now else []) }
+{
+    if shown { text } else { b"" }
 }
 
 /// Adds the pieces to the last line.
@@ -43,6 +53,7 @@ fn add_piece(lines: &mut Lines, piece: Piece<'_>) -> Result<(), AllocError>
     match piece {
         Piece::Bytes(bytes) => lines.extend_last(bytes),
         Piece::Number(n) => add_number(lines, n),
+        Piece::Place(term, index) => add_place(lines, term, index),
         Piece::Quoted(bytes) => add_quoted(lines, bytes),
         Piece::Ids(ids) => add_ids(lines, ids),
     }
@@ -54,6 +65,16 @@ fn add_number(lines: &mut Lines, n: u64) -> Result<(), AllocError>
 {
     let mut digits = Buffer::new();
     lines.extend_last(digits.format(n).as_bytes())
+}
+
+#[tactic(auto, using(crate::proofs::ExtendLaws::extending))]
+fn add_place(lines: &mut Lines, term: u64, index: u64) -> Result<(), AllocError>
+    requires { 0 < length lines.old }
+    ensures { OnOk result (lines.new ≡ extended lines.old (place_text term index)) }
+{
+    add_number(lines, term)?;
+    lines.extend_last(b"/")?;
+    add_number(lines, index)
 }
 
 #[tactic(auto, using(crate::proofs::ExtendLaws::extending))]

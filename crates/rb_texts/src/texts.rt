@@ -1,15 +1,23 @@
 //! The line of each item.
 
-ghost use Rattle.std.specs.Prelude.{◌≡◌, ◌<◌, ◌++◌, true, length, OnOk};
-ghost use Rattle.std.specs.List.{list_all};
+ghost use Rattle.std.specs.Prelude.{◌≡◌, ◌<◌, ◌++◌, codes, decimal, length, OnOk};
 ghost use Rattle.rb_texts.specs.Lines.{extended};
-ghost use Rattle.rb_texts.specs.Items.{plain_item, plain_node, plain_event, plain_config, started, PlainItem};
-ghost use Rattle.rb_texts.specs.Shapes.{is_solid};
-ghost use Rattle.rb_texts.specs.Texts.{line_of, is_shown, event_level, item_text, node_text, event_text, error_text, config_text, role_text, part_text, word_text};
+ghost use Rattle.rb_texts.specs.Entries.{entry_text, place_text};
+ghost use Rattle.rb_texts.specs.Items.{plain_item};
+ghost use Rattle.rb_texts.specs.Messages.{message_text, verb_text};
+ghost use Rattle.rb_texts.specs.Texts.{line_of, is_shown, item_text, unsaved_text};
 
-use crate::item::{ConfigView, Event, Item, NodeLine, Role};
-use crate::piece::{Piece, add_pieces};
-use rb_level::{DirectiveError, Level};
+use crate::configs::add_config;
+use crate::entries::add_entry;
+use crate::errors::add_error;
+use crate::events::{add_event, event_level};
+use crate::item::{Item, Verb};
+use crate::messages::{add_message, verb_name};
+use crate::piece::{Piece, add_pieces, shown_if};
+use crate::states::{add_hard_state, add_log, add_node, add_progress};
+use rb_level::Level;
+use rb_message::Message;
+use rb_raftlog::Entry;
 use rb_script::Lines;
 use std::alloc::AllocError;
 
@@ -25,27 +33,91 @@ pub fn put(lines: &mut Lines, level: Level, item: &Item<'_>) -> Result<(), Alloc
     add_item(lines, item)
 }
 
-/// No line that [`put`] adds is blank or `----`, and each of its bytes is from 32 to 126.
-pub fn lines_are_solid()
-    ensures { (level : Level) (item : PlainItem) → list_all is_solid (line_of level item) ≡ true }
-{}
-
 fn is_shown(level: Level, item: &Item<'_>) -> bool
     ensures { result ≡ is_shown level (plain_item item.now) }
 {
     match item {
         Item::NothingElse | Item::Error(_) => true,
-        Item::RaftState(_) => level.rank() <= Level::Fatal.rank(),
         Item::Event(event) => level.rank() <= event_level(event).rank(),
+        _ => level.rank() <= Level::Fatal.rank(),
     }
 }
 
-fn event_level(event: &Event<'_>) -> Level
-    ensures { result ≡ event_level (plain_event event.now) }
+// Adds a number between two texts.
+fn add_counted<'a>(
+    lines: &mut Lines,
+    before: &'a [u8],
+    n: u64,
+    after: &'a [u8],
+) -> Result<(), AllocError>
+    requires { 0 < length lines.old }
+    ensures { OnOk result (lines.new ≡ extended lines.old (before.now ++ decimal n ++ after.now)) }
 {
-    match event {
-        Event::Started(..) => Level::Info,
-    }
+    add_pieces(
+        lines,
+        &[Piece::Bytes(before), Piece::Number(n), Piece::Bytes(after)],
+    )
+}
+
+fn add_snapshot(lines: &mut Lines, term: u64, index: u64) -> Result<(), AllocError>
+    requires { 0 < length lines.old }
+    ensures { OnOk result (lines.new ≡ extended lines.old (codes "  snapshot " ++ place_text term index)) }
+{
+    add_pieces(
+        lines,
+        &[Piece::Bytes(b"  snapshot "), Piece::Place(term, index)],
+    )
+}
+
+// Adds a text, and an entry.
+#[tactic(auto, using(crate::proofs::ExtendLaws::extending))]
+fn add_entry_after<'a>(
+    lines: &mut Lines,
+    text: &'a [u8],
+    index: u64,
+    entry: &'a Entry,
+) -> Result<(), AllocError>
+    requires { 0 < length lines.old }
+    ensures { OnOk result (lines.new ≡ extended lines.old (text.now ++ entry_text index entry.now)) }
+{
+    lines.extend_last(text)?;
+    add_entry(lines, index, entry)
+}
+
+// Adds an entry of a log, and its mark where it isn't durable.
+#[tactic(auto, using(crate::proofs::ExtendLaws::extending))]
+fn add_log_entry(
+    lines: &mut Lines,
+    index: u64,
+    entry: &Entry,
+    unsaved: bool,
+) -> Result<(), AllocError>
+    requires { 0 < length lines.old }
+    ensures { OnOk result (lines.new ≡ extended lines.old (entry_text index entry.now ++ unsaved_text unsaved)) }
+{
+    add_entry(lines, index, entry)?;
+    lines.extend_last(shown_if(unsaved, b" unsaved"))
+}
+
+// Adds a text, and a message.
+#[tactic(auto, using(crate::proofs::ExtendLaws::extending))]
+fn add_message_after<'a>(
+    lines: &mut Lines,
+    text: &'a [u8],
+    message: &'a Message,
+) -> Result<(), AllocError>
+    requires { 0 < length lines.old }
+    ensures { OnOk result (lines.new ≡ extended lines.old (text.now ++ message_text message.now)) }
+{
+    lines.extend_last(text)?;
+    add_message(lines, message)
+}
+
+fn add_moved(lines: &mut Lines, verb: Verb, message: &Message) -> Result<(), AllocError>
+    requires { 0 < length lines.old }
+    ensures { OnOk result (lines.new ≡ extended lines.old (verb_text verb ++ message_text message.now)) }
+{
+    add_message_after(lines, verb_name(verb), message)
 }
 
 #[tactic(auto, unfolding(crate::specs::Texts::item_text))]
@@ -55,160 +127,22 @@ fn add_item(lines: &mut Lines, item: &Item<'_>) -> Result<(), AllocError>
 {
     match item {
         Item::NothingElse => lines.extend_last(b"ok"),
+        Item::Ready(id) => add_counted(lines, b"", *id, b" ready"),
+        Item::HardState(hard) => add_hard_state(lines, hard),
+        Item::Snapshot(term, index) => add_snapshot(lines, *term, *index),
+        Item::Save(index, entry) => add_entry_after(lines, b"  save ", *index, entry),
+        Item::Apply(index, entry) => add_entry_after(lines, b"  apply ", *index, entry),
+        Item::Send(message) => add_message_after(lines, b"  send ", message),
+        Item::NothingReady(id) => add_counted(lines, b"", *id, b" has nothing ready"),
+        Item::Moved(verb, message) => add_moved(lines, *verb, message),
+        Item::NoMessages => lines.extend_last(b"no messages"),
+        Item::Stopped(rounds) => add_counted(lines, b"stopped after ", *rounds, b" rounds"),
         Item::RaftState(node) => add_node(lines, node),
+        Item::RaftLog(log) => add_log(lines, log),
+        Item::Entry(index, entry, unsaved) => add_log_entry(lines, *index, entry, *unsaved),
+        Item::Config(config) => add_config(lines, config),
+        Item::Progress(id, view) => add_progress(lines, *id, view),
         Item::Event(event) => add_event(lines, event),
         Item::Error(error) => add_error(lines, error),
     }
-}
-
-fn role_name(role: Role) -> &'static [u8]
-    ensures { result.now ≡ role_text role }
-{
-    match role {
-        Role::Follower => b"follower",
-        Role::Precandidate => b"precandidate",
-        Role::Candidate => b"candidate",
-        Role::Leader => b"leader",
-    }
-}
-
-fn add_node(lines: &mut Lines, node: &NodeLine<'_>) -> Result<(), AllocError>
-    requires { 0 < length lines.old }
-    ensures { OnOk result (lines.new ≡ extended lines.old (node_text (plain_node node.now))) }
-{
-    let pieces = [
-        Piece::Number(node.id),
-        Piece::Bytes(b" "),
-        Piece::Bytes(role_name(node.role)),
-        Piece::Bytes(b" term="),
-        Piece::Number(node.term),
-        Piece::Bytes(b" vote="),
-        Piece::Number(node.vote),
-        Piece::Bytes(b" lead="),
-        Piece::Number(node.lead),
-        Piece::Bytes(b" commit="),
-        Piece::Number(node.commit),
-        Piece::Bytes(b" applied="),
-        Piece::Number(node.applied),
-        Piece::Bytes(b" content="),
-        Piece::Number(node.content_len as u64),
-        Piece::Bytes(b":"),
-        Piece::Quoted(node.content_end),
-    ];
-    add_pieces(lines, &pieces)
-}
-
-fn add_event(lines: &mut Lines, event: &Event<'_>) -> Result<(), AllocError>
-    requires { 0 < length lines.old }
-    ensures { OnOk result (lines.new ≡ extended lines.old (event_text (plain_event event.now))) }
-{
-    match event {
-        Event::Started(id, term, index, config) => {
-            add_started(lines, *id, *term, *index, config)
-        }
-    }
-}
-
-#[tactic(auto, using(crate::proofs::ExtendLaws::extending))]
-fn add_started(
-    lines: &mut Lines,
-    id: u64,
-    term: u64,
-    index: u64,
-    config: &ConfigView<'_>,
-) -> Result<(), AllocError>
-    requires { 0 < length lines.old }
-    ensures { OnOk result (lines.new ≡ extended lines.old (event_text (started id term index (plain_config config.now)))) }
-{
-    let pieces = [
-        Piece::Bytes(b"INFO "),
-        Piece::Number(id),
-        Piece::Bytes(b" started at "),
-        Piece::Number(term),
-        Piece::Bytes(b"/"),
-        Piece::Number(index),
-        Piece::Bytes(b" with "),
-    ];
-    add_pieces(lines, &pieces)?;
-    add_config(lines, config)
-}
-
-#[tactic(auto, using(crate::proofs::ExtendLaws::extending))]
-fn add_config(lines: &mut Lines, config: &ConfigView<'_>) -> Result<(), AllocError>
-    requires { 0 < length lines.old }
-    ensures { OnOk result (lines.new ≡ extended lines.old (config_text (plain_config config.now))) }
-{
-    let voters = [
-        Piece::Bytes(b"voters=("),
-        Piece::Ids(config.voters),
-        Piece::Bytes(b")"),
-    ];
-    add_pieces(lines, &voters)?;
-    add_part(lines, b" outgoing=(", config.outgoing)?;
-    add_part(lines, b" learners=(", config.learners)?;
-    add_part(lines, b" next=(", config.next)?;
-    if config.auto {
-        lines.extend_last(b" auto")?;
-    }
-    Ok(())
-}
-
-// Adds a part of a configuration, which is shown only where it isn't empty.
-#[tactic(auto, using(crate::proofs::ExtendLaws::extending))]
-fn add_part<'a>(lines: &mut Lines, name: &'a [u8], ids: &'a [u64]) -> Result<(), AllocError>
-    requires { 0 < length lines.old }
-    ensures { OnOk result (lines.new ≡ extended lines.old (part_text name.now ids.now)) }
-{
-    if ids.is_empty() {
-        return Ok(());
-    }
-    let pieces = [Piece::Bytes(name), Piece::Ids(ids), Piece::Bytes(b")")];
-    add_pieces(lines, &pieces)
-}
-
-// How many bytes of a word an error shows.
-const WORD_SHOWN: usize = 64;
-
-#[tactic(auto, unfolding(crate::specs::Texts::error_text))]
-fn add_error(lines: &mut Lines, error: &DirectiveError<'_>) -> Result<(), AllocError>
-    requires { 0 < length lines.old }
-    ensures { OnOk result (lines.new ≡ extended lines.old (error_text error.now)) }
-{
-    match error {
-        DirectiveError::UnknownDirective(name) => {
-            add_word(lines, b"error: unknown directive ", name.bytes())
-        }
-        DirectiveError::UnsupportedOption(key) => {
-            add_word(lines, b"error: unsupported option ", key.bytes())
-        }
-        DirectiveError::BadArgument(word) => {
-            add_word(lines, b"error: bad argument ", word.bytes())
-        }
-        DirectiveError::MissingArgument(name) => {
-            add_word(lines, b"error: missing argument ", name.bytes())
-        }
-        DirectiveError::NoSuchNode(id) => {
-            add_pieces(
-                lines,
-                &[Piece::Bytes(b"error: no node "), Piece::Number(*id)],
-            )
-        }
-        DirectiveError::TooManyNodes => lines.extend_last(b"error: too many nodes"),
-        DirectiveError::IndexTooLow => lines.extend_last(b"error: index must be above 1"),
-        DirectiveError::AlreadyCompacted => lines.extend_last(b"error: already compacted"),
-        DirectiveError::IndexPastApplied => lines.extend_last(b"error: index past applied"),
-        DirectiveError::BadChange(word) => add_word(lines, b"error: bad change ", word.bytes()),
-        DirectiveError::FirstVersionTakesOne => {
-            lines.extend_last(b"error: v1 takes one change and no transition")
-        }
-    }
-}
-
-// Adds a text, and the first bytes of a word in quotes.
-fn add_word<'a>(lines: &mut Lines, text: &'a [u8], word: &'a [u8]) -> Result<(), AllocError>
-    requires { 0 < length lines.old }
-    ensures { OnOk result (lines.new ≡ extended lines.old (text.now ++ word_text word.now)) }
-{
-    let shown = &word[..word.len().min(WORD_SHOWN)];
-    add_pieces(lines, &[Piece::Bytes(text), Piece::Quoted(shown)])
 }

@@ -3,4 +3,4 @@ use Rattle.std.proofs.Common.{◌≡◌, take}
 use Rattle.rb_cluster.proofs.cluster.same_nodes.Given as goal
 
 abbrev pub invariant-loop-i : goal.invariant-loop-i
-invariant-loop-i l = take l.i l.nodes ≡ take l.i l.others
+invariant-loop-i g l = take l.i l.nodes ≡ take l.i l.others

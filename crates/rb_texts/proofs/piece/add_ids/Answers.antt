@@ -2,7 +2,7 @@ use Rattle.std.proofs.Common.{◌∷◌, [], sym, ap, ◌∙◌, decimal}
 use Rattle.std.specs.List.{flat_map}
 use Rattle.std.proofs.lemmas.List.{nil_from_length, take_all}
 use Rattle.rb_texts.specs.Lines.{extended}
-use Rattle.rb_texts.specs.Texts.{ids_text}
+use Rattle.rb_texts.specs.Configs.{ids_text}
 use Rattle.rb_texts.proofs.ExtendLaws.{extended-nil, some_extended, extended_twice}
 use Rattle.rb_texts.proofs.PieceLaws.{comma_before, ids_text-nil, ids_text-cons, extended_more}
 use Rattle.rb_texts.proofs.piece.add_ids.Goals as goal

@@ -5,4 +5,4 @@ use Rattle.rb_cluster.proofs.OutcomeLaws.{outcome_is_output}
 use Rattle.rb_cluster.proofs.cluster.ClusterMachine.run.Goals as goal
 
 pub returns-clause-shape : goal.returns-clause-shape
-returns-clause-shape c = ap is_output c.in_ok-output.ensures.output ∙ outcome_is_output c.args.self (plain c.args.directive)
+returns-clause-shape g c = ap is_output c.in_ok-output.ensures.output ∙ outcome_is_output c.args.self (plain c.args.directive)

@@ -1,9 +1,0 @@
--- The lines of the nodes so far, and of those that are left.
-use Rattle.std.proofs.Common.{◌≡◌, ◌++◌, map, drop}
-use Rattle.std.specs.List.{flat_map}
-use Rattle.rb_texts.specs.Texts.{line_of}
-use Rattle.rb_cluster.specs.AddNodes.{started_item}
-use Rattle.rb_cluster.proofs.add_nodes.put_started.Given as goal
-
-abbrev pub invariant-loop-node : goal.invariant-loop-node
-invariant-loop-node l = l.lines ++ flat_map (line_of l.level) (map started_item (drop l.node-index l.nodes)) ≡ l.initial.lines ++ flat_map (line_of l.level) (map started_item l.nodes)

@@ -1,0 +1,9 @@
+-- From here the messages that are left do what all were to do.
+use Rattle.std.proofs.Common.{◌≡◌, drop}
+use Rattle.rb_cluster.specs.Deliveries.{all_received}
+use Rattle.rb_cluster.specs.Scenes.{scene}
+use Rattle.rb_cluster.proofs.cluster.Cluster.receive_all.Given as goal
+
+abbrev pub invariant-loop-letter : goal.invariant-loop-letter
+invariant-loop-letter g l =
+    all_received (scene l.initial.self l.initial.screen) l.id l.letters ≡ all_received (scene l.self l.screen) l.id (drop l.letter-index l.letters)

@@ -1,0 +1,7 @@
+-- One of those that are left is met, or none is.
+use Rattle.std.proofs.Common.{◌≡◌, drop}
+use Rattle.rb_cluster.specs.Deliveries.{meets_any}
+use Rattle.rb_cluster.proofs.deliveries.meets_any.Given as goal
+
+abbrev pub invariant-loop-letter : goal.invariant-loop-letter
+invariant-loop-letter l = meets_any l.asked l.pending ≡ meets_any l.asked (drop l.letter-index l.pending)

@@ -1,0 +1,52 @@
+-- What a directive has done so far: the cluster that it leaves, and what it prints. (This project's.)
+use Rattle.std.specs.Prelude.{ℕ, List, [], ◌++◌, map, Option, Some, None}
+use Rattle.std.specs.List.{flat_map}
+use Rattle.rb_message.specs.declared.event.Event.{Event}
+use Rattle.rb_step.specs.Node.{PlainNode, Turn, turn}
+use Rattle.rb_texts.specs.Items.{PlainItem, event}
+use Rattle.rb_texts.specs.Texts.{line_of}
+use Rattle.rb_cluster.specs.declared.screen.Screen.{Screen}
+use Rattle.rb_cluster.specs.Cluster.{Cluster, node_at, with_node}
+
+-- ---- printing
+
+-- one more item is printed, where the level shows it
+abbrev pub showing : Screen → PlainItem → Screen
+showing screen item = record screen { lines = screen.lines ++ line_of screen.level item }
+
+abbrev pub showing_all : Screen → List PlainItem → Screen
+showing_all screen items = record screen { lines = screen.lines ++ flat_map (line_of screen.level) items }
+
+-- ---- acting
+
+pub record Scene : Type 0 where
+  pub cluster : Cluster
+  pub screen : Screen
+
+abbrev pub scene : Cluster → Screen → Scene
+scene cluster screen = record { cluster = cluster; screen = screen }
+
+abbrev pub shown : Scene → PlainItem → Scene
+shown s item = record s { screen = showing s.screen item }
+
+abbrev pub all_shown : Scene → List PlainItem → Scene
+all_shown s items = record s { screen = showing_all s.screen items }
+
+-- what a node told
+abbrev pub events_shown : Scene → List Event → Scene
+events_shown s events = all_shown s (map event events)
+
+abbrev pub with_cluster : Scene → Cluster → Scene
+with_cluster s c = record s { cluster = c }
+
+-- the node with this id becomes what its turn makes of it, and what it tells is printed
+abbrev pub took : Scene → ℕ → Turn → Scene
+took s id t = events_shown (with_cluster s (with_node s.cluster id t.node)) t.events
+
+abbrev pub acted_by : Option PlainNode → Scene → ℕ → (Turn → Turn) → Scene
+acted_by None s id act = s
+acted_by (Some n) s id act = took s id (act (turn n []))
+
+-- the node with this id acts
+abbrev pub acted : Scene → ℕ → (Turn → Turn) → Scene
+acted s id act = acted_by (node_at s.cluster id) s id act

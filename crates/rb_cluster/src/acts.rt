@@ -1,0 +1,130 @@
+//! Directives by which one node acts.
+
+ghost use Rattle.std.specs.Prelude.{◌≡◌, OnOk};
+ghost use Rattle.rb_step.specs.Node.{turn};
+ghost use Rattle.rb_cluster.specs.Acts.{campaign, propose, ticked_times, tick_election, tick_heartbeat, set_timeout, transfer, forget_leader, report_unreachable};
+ghost use Rattle.rb_cluster.specs.Scenes.{scene};
+
+use crate::cluster::{Cluster, place_of};
+use crate::screen::Screen;
+use rb_level::Word;
+use rb_message::Event;
+use rb_node::Node;
+use rb_raftlog::{RaftLog, Shared};
+use rb_step::ELECTION_TICKS;
+use std::alloc::AllocError;
+
+// So many ticks pass at a node.
+#[tactic(auto, using(crate::proofs::TickLaws::ticked_on, crate::proofs::TickLaws::ticked_out))]
+fn tick_times<L: RaftLog>(
+    node: &mut Node<L>,
+    times: u64,
+    events: &mut Vec<Event>,
+) -> Result<(), AllocError>
+    ensures { OnOk result (turn node.new events.new.items ≡ ticked_times times (turn node.old events.old.items)) }
+{
+    for _tick in 0..times {
+        node.tick(events)?;
+    }
+    Ok(())
+}
+
+impl<L: RaftLog> Cluster<L> {
+    /// A node campaigns.
+    pub(crate) fn campaign(&mut self, id: u64, screen: &mut Screen) -> Result<(), AllocError>
+        ensures { OnOk result (scene self.new screen.new ≡ campaign id (scene self.old screen.old)) }
+    {
+        let mut events = Vec::new(self.alloc);
+        let Some(node) = self.nodes.get_mut(place_of(id)) else {
+            return Ok(());
+        };
+        node.campaign(&mut events)?;
+        screen.show_events(&events)
+    }
+
+    /// A payload is proposed at a node.
+    pub(crate) fn propose(
+        &mut self,
+        id: u64,
+        payload: &Word<'_>,
+        screen: &mut Screen,
+    ) -> Result<(), AllocError>
+        ensures { OnOk result (scene self.new screen.new ≡ propose id payload.now (scene self.old screen.old)) }
+    {
+        let bytes = Shared::new(Vec::from_slice(self.alloc, payload.bytes())?)?;
+        let mut events = Vec::new(self.alloc);
+        let Some(node) = self.nodes.get_mut(place_of(id)) else {
+            return Ok(());
+        };
+        node.propose(bytes, &mut events)?;
+        screen.show_events(&events)
+    }
+
+    /// As many ticks pass at a node as an election timeout has at first.
+    pub(crate) fn tick_election(&mut self, id: u64, screen: &mut Screen) -> Result<(), AllocError>
+        ensures { OnOk result (scene self.new screen.new ≡ tick_election id (scene self.old screen.old)) }
+    {
+        let mut events = Vec::new(self.alloc);
+        let Some(node) = self.nodes.get_mut(place_of(id)) else {
+            return Ok(());
+        };
+        tick_times(node, ELECTION_TICKS, &mut events)?;
+        screen.show_events(&events)
+    }
+
+    /// One tick passes at a node.
+    pub(crate) fn tick_heartbeat(&mut self, id: u64, screen: &mut Screen) -> Result<(), AllocError>
+        ensures { OnOk result (scene self.new screen.new ≡ tick_heartbeat id (scene self.old screen.old)) }
+    {
+        let mut events = Vec::new(self.alloc);
+        let Some(node) = self.nodes.get_mut(place_of(id)) else {
+            return Ok(());
+        };
+        node.tick(&mut events)?;
+        screen.show_events(&events)
+    }
+
+    /// A node's election timeout is to have so many ticks.
+    pub(crate) fn set_timeout(&mut self, id: u64, ticks: u64)
+        ensures { self.new ≡ set_timeout id ticks self.old }
+    {
+        if let Some(node) = self.nodes.get_mut(place_of(id)) {
+            node.set_timeout(ticks);
+        }
+    }
+
+    /// A node is asked to hand the lead over to another.
+    pub(crate) fn transfer(
+        &mut self,
+        from: u64,
+        to: u64,
+        screen: &mut Screen,
+    ) -> Result<(), AllocError>
+        ensures { OnOk result (scene self.new screen.new ≡ transfer from to (scene self.old screen.old)) }
+    {
+        let mut events = Vec::new(self.alloc);
+        let Some(node) = self.nodes.get_mut(place_of(from)) else {
+            return Ok(());
+        };
+        node.transfer(to, &mut events)?;
+        screen.show_events(&events)
+    }
+
+    /// A follower forgets its leader.
+    pub(crate) fn forget_leader(&mut self, id: u64)
+        ensures { self.new ≡ forget_leader id self.old }
+    {
+        if let Some(node) = self.nodes.get_mut(place_of(id)) {
+            node.forget_leader();
+        }
+    }
+
+    /// It is reported to a node that another can't be reached.
+    pub(crate) fn report_unreachable(&mut self, id: u64, peer: u64)
+        ensures { self.new ≡ report_unreachable id peer self.old }
+    {
+        if let Some(node) = self.nodes.get_mut(place_of(id)) {
+            node.report_unreachable(peer);
+        }
+    }
+}

@@ -1,0 +1,79 @@
+//! `propose-conf-change`: a change of the configuration, whose words stand in its input.
+
+ghost use Rattle.std.specs.Prelude.{◌≡◌, IfOk, OnOk};
+ghost use Rattle.rb_directive.specs.Changes.{input_words};
+ghost use Rattle.rb_cluster.specs.Changes.{transition_of, kind_of, word_of, words_of, propose_change};
+ghost use Rattle.rb_cluster.specs.Scenes.{scene};
+
+use crate::cluster::{Cluster, place_of};
+use crate::screen::Screen;
+use rb_directive::{Change, ChangeKind, Inputs, ProposeConfChange, change_of};
+use rb_raftlog::{RaftLog, Shared, Transition, Word, WordKind};
+use std::alloc::{AllocError, Global};
+
+fn transition_of(transition: rb_directive::Transition) -> Transition
+    ensures { result ≡ transition_of transition }
+{
+    match transition {
+        rb_directive::Transition::Auto => Transition::Auto,
+        rb_directive::Transition::Explicit => Transition::Explicit,
+        rb_directive::Transition::Implicit => Transition::Implicit,
+    }
+}
+
+fn kind_of(kind: ChangeKind) -> WordKind
+    ensures { result ≡ kind_of kind }
+{
+    match kind {
+        ChangeKind::Voter => WordKind::Voter,
+        ChangeKind::Learner => WordKind::Learner,
+        ChangeKind::Removed => WordKind::Remove,
+        ChangeKind::Updated => WordKind::Update,
+    }
+}
+
+fn word_of(change: Change) -> Word
+    ensures { result ≡ word_of change }
+{
+    Word {
+        kind: kind_of(change.kind),
+        id: u64::from(change.id),
+    }
+}
+
+// The changes that the words of the input are.
+#[tactic(auto, using(rb_directive::proofs::ChangeLaws::all_words))]
+fn words_of(alloc: Global, inputs: &Inputs<'_>) -> Result<Vec<Word>, AllocError>
+    ensures { IfOk result (λ words. words.items ≡ words_of (input_words inputs.now)) }
+{
+    let mut words = Vec::new(alloc);
+    let mut from: usize = 0;
+    let mut rest: &[u8] = &[];
+    while let Some((word, line, after)) = inputs.next_word(from, rest) {
+        if let Some(change) = change_of(word) {
+            words.push(word_of(change))?;
+        }
+        from = line;
+        rest = after;
+    }
+    Ok(words)
+}
+
+impl<L: RaftLog> Cluster<L> {
+    /// A change of the configuration is proposed at a node.
+    pub(crate) fn propose_change(
+        &mut self,
+        asked: &ProposeConfChange<'_>,
+        screen: &mut Screen,
+    ) -> Result<(), AllocError>
+        ensures { OnOk result (scene self.new screen.new ≡ propose_change asked.now (scene self.old screen.old)) }
+    {
+        let words = Shared::new(words_of(self.alloc, &asked.inputs)?)?;
+        let mut events = Vec::new(self.alloc);
+        let Some(node) = self.nodes.get_mut(place_of(asked.id)) else {
+            return Ok(());
+        };
+        node.propose_change(transition_of(asked.transition), words, &mut events)?;
+        screen.show_events(&events)
+    }
+}

@@ -1,0 +1,168 @@
+//! `deliver-msgs`: pending messages reach their nodes, or are dropped.
+
+ghost use Rattle.std.specs.Prelude.{◌≡◌, [], OnOk, map};
+ghost use Rattle.rb_cluster.specs.Pending.{with_pending};
+ghost use Rattle.rb_cluster.specs.Deliveries.{received, all_received, delivered, delivered_each, drop_item, dropped, dropped_each, is_for_any, meets_any, msgs_delivered};
+ghost use Rattle.rb_cluster.specs.Scenes.{scene, showing_all};
+
+use crate::cluster::{Cluster, place_of};
+use crate::letter::Letter;
+use crate::pending::{is_for, split};
+use crate::screen::Screen;
+use rb_directive::{DeliverMsgs, TypeSet};
+use rb_message::Message;
+use rb_raftlog::RaftLog;
+use rb_texts::{Item, Verb};
+use std::alloc::AllocError;
+use std::mem;
+
+// Prints that each of the messages is dropped.
+fn show_dropped(screen: &mut Screen, letters: &[Letter]) -> Result<(), AllocError>
+    ensures { OnOk result (screen.new ≡ showing_all screen.old (map drop_item letters.now)) }
+{
+    for letter in letters {
+        screen.show(&Item::Moved(Verb::Drop, letter.message()))?;
+    }
+    Ok(())
+}
+
+// Whether a message is for one of the nodes.
+fn is_for_any(ids: &[u8], types: &Option<TypeSet>, message: &Message) -> bool
+    ensures { result ≡ is_for_any ids.now types.now message.now }
+{
+    for id in ids {
+        if is_for(u64::from(*id), types, message) {
+            return true;
+        }
+    }
+    false
+}
+
+// Whether a pending message is to be delivered or dropped.
+fn meets_any(asked: &DeliverMsgs, pending: &[Letter]) -> bool
+    ensures { result ≡ meets_any asked.now pending.now }
+{
+    let nodes = asked.nodes.as_slice();
+    let dropped = asked.drop.as_slice();
+    for letter in pending {
+        let message = letter.message();
+        if is_for_any(nodes, &asked.types, message) || is_for_any(dropped, &asked.types, message) {
+            return true;
+        }
+    }
+    false
+}
+
+impl<L: RaftLog> Cluster<L> {
+    // A message reaches its node.
+    fn receive(&mut self, id: u64, message: &Message, screen: &mut Screen) -> Result<(), AllocError>
+        ensures { OnOk result (scene self.new screen.new ≡ received (scene self.old screen.old) id message.now) }
+    {
+        screen.show(&Item::Moved(Verb::Deliver, message))?;
+        let mut events = Vec::new(self.alloc);
+        let Some(node) = self.nodes.get_mut(place_of(id)) else {
+            return Ok(());
+        };
+        node.step(message, &mut events)?;
+        screen.show_events(&events)
+    }
+
+    // Messages reach their node, in order.
+    fn receive_all(
+        &mut self,
+        id: u64,
+        letters: &[Letter],
+        screen: &mut Screen,
+    ) -> Result<(), AllocError>
+        ensures { OnOk result (scene self.new screen.new ≡ all_received (scene self.old screen.old) id letters.now) }
+    {
+        for letter in letters {
+            self.receive(id, letter.message(), screen)?;
+        }
+        Ok(())
+    }
+
+    // The pending messages, which are none from here on.
+    fn take_pending(&mut self) -> Vec<Letter>
+        ensures value { result.items ≡ self.old.pending }
+        ensures none { self.new ≡ with_pending self.old [] }
+    {
+        mem::replace(&mut self.pending, Vec::new(self.alloc))
+    }
+
+    /// A node gets its pending messages of the types.
+    #[tactic(auto, unfolding(crate::specs::Deliveries::delivered))]
+    pub(crate) fn deliver(
+        &mut self,
+        id: u64,
+        types: &Option<TypeSet>,
+        screen: &mut Screen,
+    ) -> Result<(), AllocError>
+        ensures { OnOk result (scene self.new screen.new ≡ delivered (scene self.old screen.old) id types.now) }
+    {
+        let pending = self.take_pending();
+        let parted = split(self.alloc, pending, id, types)?;
+        self.pending = parted.others;
+        self.receive_all(id, &parted.mail, screen)
+    }
+
+    fn deliver_each(
+        &mut self,
+        ids: &[u8],
+        types: &Option<TypeSet>,
+        screen: &mut Screen,
+    ) -> Result<(), AllocError>
+        ensures { OnOk result (scene self.new screen.new ≡ delivered_each (scene self.old screen.old) ids.now types.now) }
+    {
+        for id in ids {
+            self.deliver(u64::from(*id), types, screen)?;
+        }
+        Ok(())
+    }
+
+    // A node's pending messages of the types go.
+    #[tactic(auto, unfolding(crate::specs::Deliveries::dropped))]
+    fn drop_for(
+        &mut self,
+        id: u64,
+        types: &Option<TypeSet>,
+        screen: &mut Screen,
+    ) -> Result<(), AllocError>
+        ensures { OnOk result (scene self.new screen.new ≡ dropped (scene self.old screen.old) id types.now) }
+    {
+        let pending = self.take_pending();
+        let parted = split(self.alloc, pending, id, types)?;
+        self.pending = parted.others;
+        show_dropped(screen, &parted.mail)
+    }
+
+    fn drop_each(
+        &mut self,
+        ids: &[u8],
+        types: &Option<TypeSet>,
+        screen: &mut Screen,
+    ) -> Result<(), AllocError>
+        ensures { OnOk result (scene self.new screen.new ≡ dropped_each (scene self.old screen.old) ids.now types.now) }
+    {
+        for id in ids {
+            self.drop_for(u64::from(*id), types, screen)?;
+        }
+        Ok(())
+    }
+
+    /// Delivers messages to nodes in their order, then drops messages.
+    #[tactic(auto, unfolding(crate::specs::Deliveries::msgs_delivered))]
+    pub(crate) fn deliver_msgs(
+        &mut self,
+        asked: &DeliverMsgs,
+        screen: &mut Screen,
+    ) -> Result<(), AllocError>
+        ensures { OnOk result (scene self.new screen.new ≡ msgs_delivered asked.now (scene self.old screen.old)) }
+    {
+        if !meets_any(asked, &self.pending) {
+            return screen.show(&Item::NoMessages);
+        }
+        self.deliver_each(asked.nodes.as_slice(), &asked.types, screen)?;
+        self.drop_each(asked.drop.as_slice(), &asked.types, screen)
+    }
+}

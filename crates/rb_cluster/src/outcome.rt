@@ -1,0 +1,197 @@
+//! What becomes of a directive.
+//!
+//! A directive is refused by the first of these that holds: its name is none; what it says is wrong (rb_directive); a node that it speaks of
+//! doesn't exist; this cluster can't do it. Else it has its effect.
+
+ghost use Rattle.std.specs.Prelude.{◌≡◌, IfOk, OnOk, None};
+ghost use Rattle.rb_script.specs.Tokens.{plain};
+ghost use Rattle.rb_directive.specs.Requests.{request, IsWithin};
+ghost use Rattle.rb_step.specs.Node.{PlainNode};
+ghost use Rattle.rb_texts.specs.Items.{error};
+ghost use Rattle.rb_texts.specs.Texts.{line_of};
+ghost use Rattle.rb_cluster.specs.Cluster.{is_node};
+ghost use Rattle.rb_cluster.specs.Outcome.{absent, first_absent, missing_node, own_fault, fault, effect, level_set, unless_refused, refused, outcome_of, outcome};
+ghost use Rattle.rb_cluster.specs.Scenes.{scene};
+
+use crate::add_nodes::add_nodes_fault;
+use crate::cluster::Cluster;
+use crate::screen::Screen;
+use rb_directive::{Asked, Named, Request, request};
+use rb_level::{DirectiveError, Level};
+use rb_node::Node;
+use rb_raftlog::RaftLog;
+use rb_script::{DirectiveRef, Lines};
+use rb_texts::{Item, put};
+use std::alloc::{AllocError, Global};
+
+// Whether a node has this id.
+fn is_node<L: RaftLog>(nodes: &[Node<L>], id: u64) -> bool
+    ensures { result ≡ is_node nodes.now id }
+{
+    1 <= id && id <= nodes.len() as u64
+}
+
+fn absent<'d, L: RaftLog>(nodes: &[Node<L>], id: u64) -> Option<DirectiveError<'d>>
+    ensures { result ≡ absent nodes.now id }
+{
+    if is_node(nodes, id) {
+        return None;
+    }
+    Some(DirectiveError::NoSuchNode(id))
+}
+
+// The first of the ids that no node has.
+fn first_absent<'d, L: RaftLog>(nodes: &[Node<L>], ids: &[u8]) -> Option<DirectiveError<'d>>
+    ensures { result ≡ first_absent nodes.now ids.now }
+{
+    for id in ids {
+        let fault = absent(nodes, u64::from(*id));
+        if fault.is_some() {
+            return fault;
+        }
+    }
+    None
+}
+
+// The first node that must exist and doesn't.
+fn missing_node<'d, L: RaftLog>(nodes: &[Node<L>], named: &Named) -> Option<DirectiveError<'d>>
+    ensures { result ≡ missing_node nodes.now named.now }
+{
+    match named {
+        Named::None => None,
+        Named::One(id) => absent(nodes, *id),
+        Named::Many(ids) => first_absent(nodes, ids.as_slice()),
+    }
+}
+
+// The line of an error.
+fn error_line<'d>(
+    alloc: Global,
+    level: Level,
+    fault: DirectiveError<'d>,
+) -> Result<Lines, AllocError>
+    ensures { IfOk result (λ lines. lines ≡ line_of level (error fault.entry)) }
+{
+    let mut lines = Lines::new(alloc);
+    put(&mut lines, level, &Item::Error(fault))?;
+    Ok(lines)
+}
+
+impl<L: RaftLog> Cluster<L> {
+    // What a directive may not do in this cluster, where its nodes exist.
+    fn own_fault<'d>(&self, wanted: &Request<'d>) -> Option<DirectiveError<'d>>
+        ensures { result ≡ own_fault wanted.now self.now }
+    {
+        match wanted {
+            Request::AddNodes(asked) => add_nodes_fault(asked, &self.nodes),
+            Request::ProposeConfChange(asked) => asked.fault.as_ref().map(DirectiveError::copy),
+            Request::Compact(id, index) => self.compact_error(*id, *index),
+            Request::Campaign(_)
+            | Request::Propose(_, _)
+            | Request::ProcessReady(_)
+            | Request::DeliverMsgs(_)
+            | Request::Stabilize(_, _)
+            | Request::TickElection(_)
+            | Request::TickHeartbeat(_)
+            | Request::SetRandomizedElectionTimeout(_, _)
+            | Request::TransferLeadership(_, _)
+            | Request::ForgetLeader(_)
+            | Request::ReportUnreachable(_, _)
+            | Request::SendSnapshot(_, _)
+            | Request::LogLevel(_)
+            | Request::RaftLog(_)
+            | Request::Status(_)
+            | Request::RaftState => None,
+        }
+    }
+
+    // The first thing for which this cluster refuses a request: a node that doesn't exist, or what it can't do.
+    #[tactic(auto, unfolding(crate::specs::Outcome::fault))]
+    fn fault<'d>(&self, wanted: &Request<'d>) -> Option<DirectiveError<'d>>
+        ensures { result ≡ fault wanted.now self.now }
+    {
+        let fault = missing_node(&self.nodes, &wanted.nodes());
+        if fault.is_some() {
+            return fault;
+        }
+        self.own_fault(wanted)
+    }
+
+    // Sets the least level that is shown from the next directive on.
+    fn set_level(&mut self, level: Level)
+        ensures { self.new ≡ level_set level self.old }
+    {
+        self.level = level;
+    }
+
+    // Does what is asked for, and prints what comes of it.
+    #[tactic(auto, using(crate::proofs::OutcomeLaws::room_for, crate::proofs::OutcomeLaws::index_for))]
+    fn perform(&mut self, wanted: &Request<'_>, screen: &mut Screen) -> Result<(), AllocError>
+        requires none { fault wanted.now self.old ≡ None }
+        requires within { IsWithin wanted.now }
+        ensures { OnOk result (scene self.new screen.new ≡ effect wanted.now (scene self.old screen.old)) }
+    {
+        match wanted {
+            Request::AddNodes(asked) => self.add_nodes(asked, screen),
+            Request::Campaign(id) => self.campaign(*id, screen),
+            Request::Propose(id, payload) => self.propose(*id, payload, screen),
+            Request::ProposeConfChange(asked) => self.propose_change(asked, screen),
+            Request::ProcessReady(ids) => self.process_ready(ids.as_slice(), screen),
+            Request::DeliverMsgs(asked) => self.deliver_msgs(asked, screen),
+            Request::Stabilize(ids, rounds) => self.stabilize(ids, *rounds, screen),
+            Request::TickElection(id) => self.tick_election(*id, screen),
+            Request::TickHeartbeat(id) => self.tick_heartbeat(*id, screen),
+            Request::SetRandomizedElectionTimeout(id, ticks) => {
+                self.set_timeout(*id, *ticks);
+                Ok(())
+            }
+            Request::TransferLeadership(from, to) => self.transfer(*from, *to, screen),
+            Request::ForgetLeader(id) => {
+                self.forget_leader(*id);
+                Ok(())
+            }
+            Request::ReportUnreachable(id, peer) => {
+                self.report_unreachable(*id, *peer);
+                Ok(())
+            }
+            Request::SendSnapshot(from, to) => self.send_snapshot(*from, *to, screen),
+            Request::Compact(id, index) => self.compact(*id, *index, screen),
+            Request::LogLevel(level) => {
+                self.set_level(*level);
+                Ok(())
+            }
+            Request::RaftLog(id) => self.raft_log(*id, screen),
+            Request::Status(id) => self.status(*id, screen),
+            Request::RaftState => self.raft_state(screen),
+        }
+    }
+
+    // Carries out what is asked for, and gives what it prints.
+    fn carry_out_asked(&mut self, asked: &Asked<'_>) -> Result<Lines, AllocError>
+        requires within { IsWithin asked.now.request }
+        ensures cluster { OnOk result (self.new ≡ (unless_refused (fault asked.now.request self.old) asked.now self.old).cluster) }
+        ensures output { IfOk result (λ lines. lines ≡ (unless_refused (fault asked.now.request self.old) asked.now self.old).output) }
+    {
+        if let Some(error) = self.fault(&asked.request) {
+            return error_line(self.alloc, self.level, error);
+        }
+        let mut screen = Screen {
+            level: asked.log_level.unwrap_or(self.level),
+            lines: Lines::new(self.alloc),
+        };
+        self.perform(&asked.request, &mut screen)?;
+        screen.or_ok()
+    }
+
+    /// Runs a directive, and gives what it prints.
+    #[tactic(auto, unfolding(crate::specs::Outcome::outcome))]
+    pub(crate) fn carry_out(&mut self, directive: &DirectiveRef<'_>) -> Result<Lines, AllocError>
+        ensures cluster { OnOk result (self.new ≡ (outcome self.old (plain directive.now)).cluster) }
+        ensures output { IfOk result (λ lines. lines ≡ (outcome self.old (plain directive.now)).output) }
+    {
+        match request(directive) {
+            Ok(asked) => self.carry_out_asked(&asked),
+            Err(error) => error_line(self.alloc, self.level, error),
+        }
+    }
+}

@@ -1,0 +1,114 @@
+//! Messages on their way.
+//!
+//! They stand in one list, in the order in which they were sent. A message never changes, so a copy of the list costs a pointer a message.
+
+ghost use Rattle.std.specs.Prelude.{◌≡◌, ◌++◌, ◌∷◌, [], ◌↔◌, IsTrue, IfOk, OnOk, not, filter};
+ghost use Rattle.rb_cluster.specs.Pending.{is_for, mail, other_mail, has_room, with_pending, sent, all_sent};
+ghost use Rattle.rb_cluster.specs.Scenes.{scene};
+
+use crate::cluster::Cluster;
+use crate::letter::Letter;
+use crate::limits::MAX_PENDING;
+use crate::message_types::is_meant;
+use crate::screen::Screen;
+use rb_directive::TypeSet;
+use rb_message::Message;
+use rb_raftlog::RaftLog;
+use rb_texts::{Item, Verb};
+use std::alloc::{AllocError, Global};
+
+/// Whether a message is for this node, and of one of the types.
+pub(crate) fn is_for(id: u64, types: &Option<TypeSet>, message: &Message) -> bool
+    ensures { result ≡ is_for id types.now message.now }
+{
+    message.to == id && is_meant(types, message.kind.message_type())
+}
+
+/// Whether a message more has room.
+pub(crate) fn has_room(pending: &[Letter]) -> bool
+    ensures { result ≡ has_room pending.now }
+{
+    pending.len() < MAX_PENDING
+}
+
+/// The same messages once more.
+pub(crate) fn copies_of(alloc: Global, pending: &[Letter]) -> Result<Vec<Letter>, AllocError>
+    ensures { IfOk result (λ copies. copies.items ≡ pending.now) }
+{
+    let mut copies = Vec::with_capacity(alloc, pending.len())?;
+    for letter in pending {
+        copies.push(letter.try_copy()?)?;
+    }
+    Ok(copies)
+}
+
+/// Whether both are the same messages, in the same order. Lists of different lengths are told at once.
+pub(crate) fn same_pending(pending: &[Letter], others: &[Letter]) -> bool
+    ensures { IsTrue result ↔ (pending.now ≡ others.now) }
+{
+    if pending.len() != others.len() {
+        return false;
+    }
+    for i in 0..pending.len() {
+        if !pending[i].same(&others[i]) {
+            return false;
+        }
+    }
+    true
+}
+
+/// Pending messages, parted: those for a node, and all others, each in their order.
+#[derive(Drop)]
+pub(crate) struct Parted {
+    pub(crate) mail: Vec<Letter>,
+    pub(crate) others: Vec<Letter>,
+}
+
+/// Parts the messages of the types for a node from all others.
+pub(crate) fn split(
+    alloc: Global,
+    pending: Vec<Letter>,
+    id: u64,
+    types: &Option<TypeSet>,
+) -> Result<Parted, AllocError>
+    ensures mail { IfOk result (λ p. p.mail.items ≡ mail pending.items id types.now) }
+    ensures others { IfOk result (λ p. p.others.items ≡ other_mail pending.items id types.now) }
+{
+    let mut mail = Vec::new(alloc);
+    let mut others = Vec::new(alloc);
+    for letter in pending {
+        if is_for(id, types, letter.message()) {
+            mail.push(letter)?;
+        } else {
+            others.push(letter)?;
+        }
+    }
+    Ok(Parted { mail, others })
+}
+
+impl<L: RaftLog> Cluster<L> {
+    /// Puts a message at the end of the pending ones, or gives it up where there is no room.
+    fn send(&mut self, message: Message, screen: &mut Screen) -> Result<(), AllocError>
+        ensures { OnOk result (scene self.new screen.new ≡ sent (scene self.old screen.old) message) }
+    {
+        if !has_room(&self.pending) {
+            return screen.show(&Item::Moved(Verb::NoRoomFor, &message));
+        }
+        self.pending.push(Letter::new(self.alloc, message)?)?;
+        Ok(())
+    }
+
+    /// Puts messages there, in their order.
+    pub(crate) fn send_all(
+        &mut self,
+        messages: Vec<Message>,
+        screen: &mut Screen,
+    ) -> Result<(), AllocError>
+        ensures { OnOk result (scene self.new screen.new ≡ all_sent (scene self.old screen.old) messages.items) }
+    {
+        for message in messages {
+            self.send(message, screen)?;
+        }
+        Ok(())
+    }
+}

@@ -1,0 +1,116 @@
+//! `send-snapshot` and `compact`.
+
+ghost use Rattle.std.specs.Prelude.{◌≡◌, IfOk, OnOk};
+ghost use Rattle.rb_message.specs.declared.kind.MessageKind.TheVariants as kinds;
+ghost use Rattle.rb_raftlog.specs.Log.{compact_fault};
+ghost use Rattle.rb_step.specs.Node.{message};
+ghost use Rattle.rb_step.specs.Sends.{snapshot_of};
+ghost use Rattle.rb_cluster.specs.Snapshots.{queued, snapshot_sent, error_of, compact_error, compact};
+ghost use Rattle.rb_cluster.specs.Scenes.{scene};
+
+use crate::cluster::{Cluster, place_of};
+use crate::letter::Letter;
+use crate::pending::has_room;
+use crate::screen::Screen;
+use crate::views::show_log;
+use rb_level::DirectiveError;
+use rb_message::{Install, Message, MessageKind};
+use rb_node::Node;
+use rb_raftlog::{CompactFault, RaftLog};
+use rb_texts::{Item, Verb};
+use std::alloc::AllocError;
+
+fn error_of(fault: Option<CompactFault>) -> Option<DirectiveError<'static>>
+    ensures { result ≡ error_of fault }
+{
+    match fault {
+        Some(CompactFault::AlreadyCompacted) => Some(DirectiveError::AlreadyCompacted),
+        Some(CompactFault::PastApplied) => Some(DirectiveError::IndexPastApplied),
+        Some(CompactFault::OutOfMemory) | None => None,
+    }
+}
+
+// Why a log can't be compacted to an index.
+fn compact_fault<L: RaftLog>(log: &L, index: u64, applied: u64) -> Option<CompactFault>
+    ensures { result ≡ compact_fault (L.plain log.now) index applied }
+{
+    if index < log.first_index() {
+        return Some(CompactFault::AlreadyCompacted);
+    }
+    if applied < index {
+        return Some(CompactFault::PastApplied);
+    }
+    None
+}
+
+// A node's snapshot, as a message.
+fn snapshot_message<L: RaftLog>(node: &Node<L>, from: u64, to: u64) -> Result<Message, AllocError>
+    ensures { IfOk result (λ m. m ≡ message from to node.now.term (kinds.Snapshot (snapshot_of node.now))) }
+{
+    Ok(Message {
+        from,
+        to,
+        term: node.status().term,
+        kind: MessageKind::Snapshot(Install::new(node.snapshot()?)),
+    })
+}
+
+impl<L: RaftLog> Cluster<L> {
+    // Puts a message among the pending ones by hand, where there is room.
+    #[tactic(auto, unfolding(crate::specs::Snapshots::queued))]
+    fn queue(&mut self, message: Message, screen: &mut Screen) -> Result<(), AllocError>
+        ensures { OnOk result (scene self.new screen.new ≡ queued (scene self.old screen.old) message) }
+    {
+        if !has_room(&self.pending) {
+            return screen.show(&Item::Moved(Verb::NoRoomFor, &message));
+        }
+        screen.show(&Item::Moved(Verb::Queue, &message))?;
+        self.pending.push(Letter::new(self.alloc, message)?)?;
+        Ok(())
+    }
+
+    /// Puts a node's snapshot for another among the pending messages.
+    pub(crate) fn send_snapshot(
+        &mut self,
+        from: u64,
+        to: u64,
+        screen: &mut Screen,
+    ) -> Result<(), AllocError>
+        ensures { OnOk result (scene self.new screen.new ≡ snapshot_sent from to (scene self.old screen.old)) }
+    {
+        let Some(node) = self.node_with(from) else {
+            return Ok(());
+        };
+        let message = snapshot_message(node, from, to)?;
+        self.queue(message, screen)
+    }
+
+    /// Why a node's log can't be compacted to an index.
+    #[tactic(auto, unfolding(crate::specs::Snapshots::compact_error))]
+    pub(crate) fn compact_error(&self, id: u64, index: u64) -> Option<DirectiveError<'static>>
+        ensures { result ≡ compact_error id index self.now }
+    {
+        let node = self.node_with(id)?;
+        let state = node.status();
+        let applied = state.applied.min(state.log.durable());
+        error_of(compact_fault(&state.log, index, applied))
+    }
+
+    /// Moves the base of a node's log to an index, and prints the log.
+    pub(crate) fn compact(
+        &mut self,
+        id: u64,
+        index: u64,
+        screen: &mut Screen,
+    ) -> Result<(), AllocError>
+        ensures { OnOk result (scene self.new screen.new ≡ compact id index (scene self.old screen.old)) }
+    {
+        let Some(node) = self.nodes.get_mut(place_of(id)) else {
+            return Ok(());
+        };
+        if node.compact(index).is_err() {
+            return Err(AllocError);
+        }
+        show_log(screen, node)
+    }
+}

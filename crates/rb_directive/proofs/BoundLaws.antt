@@ -1,0 +1,394 @@
+-- What a directive asks for is within its limits, since each argument is within those of the table.
+use Rattle.std.proofs.Common.{◌≡◌, ℕ, ◌<◌, ◌≤◌, Bool, true, false, List, [], ◌∷◌, ◌++◌, length, codes, Option, Some, None, IfSome, IfOk, unwrap_or, Ok, Err, refl, sym, subst, arith}
+use Rattle.std.specs.Prelude.{Result, ◌&&◌, if◌then◌else◌, nat_le, nat_lt}
+use Rattle.std.specs.List.{list_all}
+use Rattle.std.specs.Option.{option_and_then}
+use Rattle.std.proofs.lemmas.Bool.{and_parts, leb-true, ltb-true}
+use Rattle.std.proofs.lemmas.List.{length-append}
+use Rattle.std.proofs.lemmas.List.Elements.{All-nil, All-cons, All-append}
+use Rattle.rb_script.specs.Lines.{Line}
+use Rattle.rb_script.specs.Directive.{PlainDirective}
+use Rattle.rb_number.specs.Numbers.{number_of}
+use Rattle.rb_level.specs.declared.directive_error.DirectiveError.{DirectiveError}
+use Rattle.rb_directive.specs.declared.name.Name.{Name}
+use Rattle.rb_directive.specs.declared.name.Name.TheVariants as names
+use Rattle.rb_directive.specs.declared.table.Row.{Row}
+use Rattle.rb_directive.specs.declared.table.OptionRow.{OptionRow}
+use Rattle.rb_directive.specs.declared.given.Given.{Given}
+use Rattle.rb_directive.specs.declared.argument.Argument.{Argument}
+use Rattle.rb_directive.specs.declared.argument.Argument.TheVariants as arguments
+use Rattle.rb_directive.specs.declared.argument.Number.{Number}
+use Rattle.rb_directive.specs.declared.argument.Number.TheVariants as numbers
+use Rattle.rb_directive.specs.declared.argument.Bytes.{Bytes}
+use Rattle.rb_directive.specs.declared.argument.Bytes.TheVariants as bytes
+use Rattle.rb_directive.specs.declared.argument.Flag.TheVariants as flags
+use Rattle.rb_directive.specs.declared.argument.LevelFor.TheVariants as levels
+use Rattle.rb_directive.specs.declared.argument.Ids.{Ids}
+use Rattle.rb_directive.specs.declared.argument.Ids.TheVariants as lists
+use Rattle.rb_directive.specs.declared.asking.AddNodes.{AddNodes}
+use Rattle.rb_directive.specs.declared.asking.Request.{Request}
+use Rattle.rb_directive.specs.declared.asking.Request.TheVariants as requests
+use Rattle.rb_directive.specs.declared.build.Asked.{Asked}
+use Rattle.rb_directive.specs.declared.limits.TheConstants.{MAX_ID, MAX_NODES, MAX_INDEX, MAX_COMPACTED, MAX_BYTES, MAX_WINDOW, MAX_ROUNDS, MAX_TIMEOUT, MAX_IDS, WINDOW, ROUNDS}
+use Rattle.rb_directive.specs.Forms.{Word, is_within, within}
+use Rattle.rb_directive.specs.IdLists.{id_of, with_id, with_ids}
+use Rattle.rb_directive.specs.Table.{directives, options}
+use Rattle.rb_directive.specs.Givens.{nothing, number_given, bytes_given, ids_given, listed, excludes, number_set, bytes_set, ids_set}
+use Rattle.rb_directive.specs.Reading.{only, number_said, bytes_said, ids_kept}
+use Rattle.rb_directive.specs.Requests.{IsFrom, IsId, AreIds, AreNodes, IsWithin, wanted, and_then, add_nodes, at_node, propose, propose_conf_change, process_ready, deliver_msgs, stabilize, set_timeout, transfer_leadership, report_unreachable, send_snapshot, compact, built, request}
+use Rattle.rb_directive.proofs.ReadLaws.{ids_none}
+use Rattle.rb_directive.proofs.BuildLaws.{wanted_some, done, read_of}
+use Rattle.rb_directive.proofs.KeepLaws.{numbers_of, bytes_of, lists_of, rest_still, map_some, option_fits, row_fits, words_fit, word_of_fits, Keeps, AllKeep, arguments_kept}
+
+-- ---- what one argument says
+
+from_test : (low high n : ℕ) → is_within low high n ≡ true → IsFrom low high n
+from_test low high n h = let parts = and_parts (nat_le low n) (nat_le n high) h in (leb-true low n parts.0, leb-true n high parts.1)
+
+within_from : (low high : ℕ) (o : Option ℕ) (n : ℕ) → within low high o ≡ Some n → IsFrom low high n
+within_from low high None n h = absurd (cc)
+within_from low high (Some m) n h =
+    elim (is_within low high m) as (λ b. is_within low high m ≡ b → (if b then Some m else None) ≡ Some n → IsFrom low high n) [
+      | true ↦ λ e some. let is : m ≡ n = cc in subst (IsFrom low high) is (from_test low high m e)
+      | false ↦ λ e some. absurd (cc)
+    ] refl h
+
+number_from : (low high : ℕ) (o : Option Word) (n : ℕ) → option_and_then (λ w. within low high (number_of w)) o ≡ Some n → IsFrom low high n
+number_from low high None n h = absurd (cc)
+number_from low high (Some w) n h = within_from low high (number_of w) n h
+
+bytes_from : (low high : ℕ) (o : Option Word) (said : Word) → option_and_then (λ w. if is_within low high (length w) then Some w else None) o ≡ Some said → IsFrom low high (length said)
+bytes_from low high None said h = absurd (cc)
+bytes_from low high (Some w) said h =
+    elim (is_within low high (length w)) as (λ b. is_within low high (length w) ≡ b → (if b then Some w else None) ≡ Some said → IsFrom low high (length said)) [
+      | true ↦ λ e some. let is : w ≡ said = cc in subst (λ (v : Word). IsFrom low high (length v)) is (from_test low high (length w) e)
+      | false ↦ λ e some. absurd (cc)
+    ] refl h
+
+ids_more : (ids : List ℕ) (o : Option ℕ) (next : List ℕ) → ((id : ℕ) → o ≡ Some id → IsId id) → AreIds ids → with_id ids o ≡ Some next → AreIds next
+ids_more ids None next one are h = absurd (cc)
+ids_more ids (Some id) next one are h =
+    elim (nat_lt (length ids) MAX_IDS) as (λ b. nat_lt (length ids) MAX_IDS ≡ b → (if b then Some (ids ++ id ∷ []) else None) ≡ Some next → AreIds next) [
+      | true ↦ λ room some.
+          let is : ids ++ id ∷ [] ≡ next = cc in
+          let few : length ids < MAX_IDS = ltb-true (length ids) MAX_IDS room in
+          subst AreIds is (All-append IsId ids (id ∷ []) are.0 (All-cons IsId id [] (one id refl) (All-nil IsId)), omega (arith, length-append ids (id ∷ [])))
+      | false ↦ λ room some. absurd (cc)
+    ] refl h
+
+ids_are : (words : List Word) (ids last : List ℕ) → AreIds ids → with_ids words (Some ids) ≡ Some last → AreIds last
+ids_are [] ids last are h = let is : ids ≡ last = cc in subst AreIds is are
+ids_are (w ∷ words) ids last are h =
+    elim (with_id ids (id_of w)) as (λ o. with_id ids (id_of w) ≡ o → with_ids words o ≡ Some last → AreIds last) [
+      | Some next ↦ λ e more. ids_are words next last (ids_more ids (id_of w) next (λ id. within_from 1 MAX_ID (number_of w) id) are e) more
+      | None ↦ λ e more. let none = ids_none words in absurd (cc)
+    ] refl h
+
+-- ---- what the table says
+
+-- the least and the greatest number that a directive takes
+abbrev least : Number → ℕ
+least numbers.Index = 0
+least which = 1
+
+abbrev pub greatest_index : Name → ℕ
+greatest_index names.AddNodes = MAX_INDEX
+greatest_index name = MAX_COMPACTED
+
+abbrev greatest : Name → Number → ℕ
+greatest name numbers.Count = MAX_NODES
+greatest name numbers.Id = MAX_ID
+greatest name numbers.Peer = MAX_ID
+greatest name numbers.From = MAX_ID
+greatest name numbers.To = MAX_ID
+greatest name numbers.Index = greatest_index name
+greatest name numbers.Inflight = MAX_WINDOW
+greatest name numbers.Rounds = MAX_ROUNDS
+greatest name numbers.Timeout = MAX_TIMEOUT
+
+abbrev fewest : Bytes → ℕ
+fewest bytes.Payload = 1
+fewest bytes.Content = 0
+
+-- an argument has these limits, or closer ones
+abbrev is_limited : Name → Argument → Bool
+is_limited name (arguments.Number which low high) = nat_le (least which) low && nat_le high (greatest name which)
+is_limited name (arguments.Bytes which low high) = nat_le (fewest which) low && nat_le high MAX_BYTES
+is_limited name (arguments.Level which) = true
+is_limited name (arguments.Flag which) = true
+is_limited name arguments.Transition = true
+is_limited name arguments.Types = true
+is_limited name (arguments.Ids which other) = true
+
+options_limited : list_all (λ (row : OptionRow). is_limited row.name row.option) options ≡ true
+unfolding options
+options_limited = refl
+
+words_limited : list_all (words_fit is_limited) directives ≡ true
+unfolding directives
+words_limited = refl
+
+-- ---- what is given
+
+-- what is given to the directive of a name is within the limits
+abbrev IsGivenWithin : Name → Given → Type 0
+IsGivenWithin name g = record {
+  numbers : (which : Number) → IfSome (number_given which (numbers_of g)) (IsFrom (least which) (greatest name which));
+  bytes : (which : Bytes) → IfSome (bytes_given which (bytes_of g)) (λ w. IsFrom (fewest which) MAX_BYTES (length w));
+  lists : (which : Ids) → IfSome (ids_given which (lists_of g)) AreIds;
+}
+
+-- what holds of each number still does, where it holds of the one that is set
+number_still : (P : Number → ℕ → Type 0) (which : Number) (n : ℕ) (g : Given) → P which n → ((some : Number) → IfSome (number_given some (numbers_of g)) (P some))
+    → (other : Number) → IfSome (number_given other (numbers_of (number_set which n g))) (P other)
+number_still P numbers.Count n g h p numbers.Count = h
+number_still P numbers.Count n g h p other = p other
+number_still P numbers.Id n g h p numbers.Id = h
+number_still P numbers.Id n g h p other = p other
+number_still P numbers.Peer n g h p numbers.Peer = h
+number_still P numbers.Peer n g h p other = p other
+number_still P numbers.From n g h p numbers.From = h
+number_still P numbers.From n g h p other = p other
+number_still P numbers.To n g h p numbers.To = h
+number_still P numbers.To n g h p other = p other
+number_still P numbers.Index n g h p numbers.Index = h
+number_still P numbers.Index n g h p other = p other
+number_still P numbers.Inflight n g h p numbers.Inflight = h
+number_still P numbers.Inflight n g h p other = p other
+number_still P numbers.Rounds n g h p numbers.Rounds = h
+number_still P numbers.Rounds n g h p other = p other
+number_still P numbers.Timeout n g h p numbers.Timeout = h
+number_still P numbers.Timeout n g h p other = p other
+
+number_kept : (name : Name) (which : Number) (n : ℕ) (g : Given) → IsFrom (least which) (greatest name which) n → IsGivenWithin name g → IsGivenWithin name (number_set which n g)
+number_kept name which n g h p = record {
+  numbers = number_still (λ some. IsFrom (least some) (greatest name some)) which n g h p.numbers;
+  bytes = rest_still (λ some ids. (w : Bytes) → IfSome (bytes_given w some) (λ said. IsFrom (fewest w) MAX_BYTES (length said))) which n g p.bytes;
+  lists = rest_still (λ some ids. (w : Ids) → IfSome (ids_given w ids) AreIds) which n g p.lists;
+}
+
+bytes_still : (P : Bytes → Word → Type 0) (which : Bytes) (w : Word) (g : Given) → P which w → ((some : Bytes) → IfSome (bytes_given some (bytes_of g)) (P some))
+    → (other : Bytes) → IfSome (bytes_given other (bytes_of (bytes_set which w g))) (P other)
+bytes_still P bytes.Payload w g h p bytes.Payload = h
+bytes_still P bytes.Payload w g h p bytes.Content = p bytes.Content
+bytes_still P bytes.Content w g h p bytes.Payload = p bytes.Payload
+bytes_still P bytes.Content w g h p bytes.Content = h
+
+bytes_kept : (name : Name) (which : Bytes) (w : Word) (g : Given) → IsFrom (fewest which) MAX_BYTES (length w) → IsGivenWithin name g → IsGivenWithin name (bytes_set which w g)
+bytes_kept name bytes.Payload w g h p = record { numbers = p.numbers; bytes = bytes_still (λ some said. IsFrom (fewest some) MAX_BYTES (length said)) bytes.Payload w g h p.bytes; lists = p.lists }
+bytes_kept name bytes.Content w g h p = record { numbers = p.numbers; bytes = bytes_still (λ some said. IsFrom (fewest some) MAX_BYTES (length said)) bytes.Content w g h p.bytes; lists = p.lists }
+
+list_still : (P : List ℕ → Type 0) (which : Ids) (ids : List ℕ) (g : Given) → P ids → ((some : Ids) → IfSome (ids_given some (lists_of g)) P)
+    → (other : Ids) → IfSome (ids_given other (lists_of (ids_set which ids g))) P
+list_still P lists.Nodes ids g h p lists.Nodes = h
+list_still P lists.Nodes ids g h p other = p other
+list_still P lists.Voters ids g h p lists.Voters = h
+list_still P lists.Voters ids g h p other = p other
+list_still P lists.Learners ids g h p lists.Learners = h
+list_still P lists.Learners ids g h p other = p other
+list_still P lists.Drop ids g h p lists.Drop = h
+list_still P lists.Drop ids g h p other = p other
+
+list_kept : (name : Name) (which : Ids) (ids : List ℕ) (g : Given) → AreIds ids → IsGivenWithin name g → IsGivenWithin name (ids_set which ids g)
+list_kept name lists.Nodes ids g h p = record { numbers = p.numbers; bytes = p.bytes; lists = list_still AreIds lists.Nodes ids g h p.lists }
+list_kept name lists.Voters ids g h p = record { numbers = p.numbers; bytes = p.bytes; lists = list_still AreIds lists.Voters ids g h p.lists }
+list_kept name lists.Learners ids g h p = record { numbers = p.numbers; bytes = p.bytes; lists = list_still AreIds lists.Learners ids g h p.lists }
+list_kept name lists.Drop ids g h p = record { numbers = p.numbers; bytes = p.bytes; lists = list_still AreIds lists.Drop ids g h p.lists }
+
+none_are : AreIds []
+none_are = (All-nil IsId, omega arith)
+
+or_none : (o : Option (List ℕ)) → IfSome o AreIds → AreIds (unwrap_or o [])
+or_none None h = none_are
+or_none (Some ids) h = h
+
+listed_are : (name : Name) (which : Ids) (g : Given) → IsGivenWithin name g → AreIds (listed which g)
+listed_are name lists.Nodes g p = or_none g.nodes (p.lists lists.Nodes)
+listed_are name lists.Voters g p = or_none g.voters (p.lists lists.Voters)
+listed_are name lists.Learners g p = or_none g.learners (p.lists lists.Learners)
+listed_are name lists.Drop g p = or_none g.drop (p.lists lists.Drop)
+
+-- ---- what each argument keeps
+
+closer : (low high least most n : ℕ) → (nat_le least low && nat_le high most) ≡ true → IsFrom low high n → IsFrom least most n
+closer low high least most n h from =
+    let parts = and_parts (nat_le least low) (nat_le high most) h in
+    let above : least ≤ low = leb-true least low parts.0 in
+    let below : high ≤ most = leb-true high most parts.1 in
+    (omega arith, omega arith)
+
+ids_set_kept : (name : Name) (which : Ids) (other : Option Ids) (g next : Given) (o : Option (List ℕ)) → ((ids : List ℕ) → o ≡ Some ids → AreIds ids)
+    → ids_kept which other g o ≡ Some next → IsGivenWithin name g → IsGivenWithin name next
+ids_set_kept name which other g next None are h p = absurd (cc)
+ids_set_kept name which other g next (Some ids) are h p =
+    elim (excludes other ids g) as (λ b. (if b then None else Some (ids_set which ids g)) ≡ Some next → IsGivenWithin name next) [
+      | true ↦ λ e. absurd (cc)
+      | false ↦ λ e. let is : ids_set which ids g ≡ next = cc in subst (IsGivenWithin name) is (list_kept name which ids g (are ids refl) p)
+    ] h
+
+argument_within : (name : Name) (argument : Argument) → is_limited name argument ≡ true → Keeps (IsGivenWithin name) argument
+argument_within name (arguments.Number which low high) fits words g next h p =
+    let m = map_some (λ n. number_set which n g) (number_said low high words) next h in
+    subst (IsGivenWithin name) m.2 (number_kept name which m.0 g (closer low high (least which) (greatest name which) m.0 fits (number_from low high (only words) m.0 m.1)) p)
+argument_within name (arguments.Bytes which low high) fits words g next h p =
+    let m = map_some (λ w. bytes_set which w g) (bytes_said low high words) next h in
+    subst (IsGivenWithin name) m.2 (bytes_kept name which m.0 g (closer low high (fewest which) MAX_BYTES (length m.0) fits (bytes_from low high (only words) m.0 m.1)) p)
+argument_within name (arguments.Level levels.Cluster) fits words g next h p = subst (IsGivenWithin name) (map_some _ _ next h).2 p
+argument_within name (arguments.Level levels.Directive) fits words g next h p = subst (IsGivenWithin name) (map_some _ _ next h).2 p
+argument_within name (arguments.Flag flags.Prevote) fits words g next h p = subst (IsGivenWithin name) (map_some _ _ next h).2 p
+argument_within name (arguments.Flag flags.CheckQuorum) fits words g next h p = subst (IsGivenWithin name) (map_some _ _ next h).2 p
+argument_within name (arguments.Flag flags.StepDown) fits words g next h p = subst (IsGivenWithin name) (map_some _ _ next h).2 p
+argument_within name (arguments.Flag flags.FirstVersion) fits words g next h p = subst (IsGivenWithin name) (map_some _ _ next h).2 p
+argument_within name arguments.Transition fits words g next h p = subst (IsGivenWithin name) (map_some _ _ next h).2 p
+argument_within name arguments.Types fits words g next h p = subst (IsGivenWithin name) (map_some _ _ next h).2 p
+argument_within name (arguments.Ids which other) fits words g next h p =
+    ids_set_kept name which other g next (with_ids words (Some (listed which g))) (λ ids. ids_are words (listed which g) ids (listed_are name which g p)) h p
+
+arguments_within : (row : Row) → words_fit is_limited row ≡ true → AllKeep (IsGivenWithin row.name) row
+arguments_within row fits = record {
+  option = λ key argument h. argument_within row.name argument (option_fits is_limited options_limited (λ name. refl) row.name key argument h);
+  word = λ place argument h. argument_within row.name argument (word_of_fits is_limited row fits refl place argument h);
+  place = λ g place p. p;
+}
+
+-- ---- what is asked for
+
+-- what holds of what is given, where it is this
+at_some : {T : Type 0} (P : T → Type 0) (o : Option T) (x : T) → o ≡ Some x → IfSome o P → P x
+at_some P o x e h = subst (λ o. IfSome o P) e h
+
+or_else : (low high n : ℕ) (o : Option ℕ) → IsFrom low high n → IfSome o (IsFrom low high) → IsFrom low high (unwrap_or o n)
+or_else low high n None default h = default
+or_else low high n (Some m) default h = h
+
+index_most : (o : Option ℕ) → IfSome o (IsFrom 0 MAX_INDEX) → unwrap_or o 0 ≤ MAX_INDEX
+index_most None h = omega arith
+index_most (Some index) h = h.1
+
+content_most : (o : Option Word) → IfSome o (λ w. IsFrom 0 MAX_BYTES (length w)) → IfSome o (λ w. length w ≤ MAX_BYTES)
+content_most None h = tt
+content_most (Some w) h = h.1
+
+done_within : (made r : Request) → done made ≡ done r → IsWithin made → IsWithin r
+done_within made r e h = let is : made ≡ r = cc in subst IsWithin is h
+
+nodes_within : (g : Given) (r : Request) → IsGivenWithin names.AddNodes g → add_nodes g ≡ Ok r → IsWithin r
+unfolding IsWithin
+nodes_within g r p h =
+    let count = wanted_some (codes "n") g.count _ r h in
+    done_within _ r count.2 (record {
+      count = at_some (IsFrom 1 MAX_NODES) g.count count.0 count.1 (p.numbers numbers.Count);
+      voters = p.lists lists.Voters;
+      learners = p.lists lists.Learners;
+      index = index_most g.index (p.numbers numbers.Index);
+      content = content_most g.content (p.bytes bytes.Content);
+      inflight = or_else 1 MAX_WINDOW WINDOW g.inflight (omega arith, omega arith) (p.numbers numbers.Inflight);
+    })
+
+node_within : (make : ℕ → Request) → ((id : ℕ) → IsId id → IsWithin (make id)) → (name : Name) (g : Given) (r : Request) → IsGivenWithin name g → at_node make g ≡ Ok r → IsWithin r
+node_within make is name g r p h =
+    let id = wanted_some (codes "id") g.id (λ id. done (make id)) r h in
+    done_within (make id.0) r id.2 (is id.0 (at_some IsId g.id id.0 id.1 (p.numbers numbers.Id)))
+
+propose_within : (g : Given) (r : Request) → IsGivenWithin names.Propose g → propose g ≡ Ok r → IsWithin r
+unfolding IsWithin
+propose_within g r p h =
+    let id = wanted_some (codes "id") g.id _ r h in
+    let payload = wanted_some (codes "payload") g.payload _ r id.2 in
+    done_within _ r payload.2 (at_some IsId g.id id.0 id.1 (p.numbers numbers.Id), at_some (λ (w : Word). IsFrom 1 MAX_BYTES (length w)) g.payload payload.0 payload.1 (p.bytes bytes.Payload))
+
+change_within : (g : Given) (inputs : List Line) (r : Request) → IsGivenWithin names.ProposeConfChange g → propose_conf_change g inputs ≡ Ok r → IsWithin r
+unfolding IsWithin
+change_within g inputs r p h =
+    let id = wanted_some (codes "id") g.id _ r h in
+    done_within _ r id.2 (at_some IsId g.id id.0 id.1 (p.numbers numbers.Id))
+
+ready_within : (g : Given) (r : Request) → IsGivenWithin names.ProcessReady g → process_ready g ≡ Ok r → IsWithin r
+unfolding IsWithin
+ready_within g r p h =
+    let ids = wanted_some (codes "id") g.nodes _ r h in
+    done_within _ r ids.2 (at_some AreIds g.nodes ids.0 ids.1 (p.lists lists.Nodes))
+
+timeout_within : (g : Given) (r : Request) → IsGivenWithin names.SetRandomizedElectionTimeout g → set_timeout g ≡ Ok r → IsWithin r
+unfolding IsWithin
+timeout_within g r p h =
+    let id = wanted_some (codes "id") g.id _ r h in
+    let timeout = wanted_some (codes "timeout") g.timeout _ r id.2 in
+    done_within _ r timeout.2 (at_some IsId g.id id.0 id.1 (p.numbers numbers.Id), at_some (IsFrom 1 MAX_TIMEOUT) g.timeout timeout.0 timeout.1 (p.numbers numbers.Timeout))
+
+transfer_within : (g : Given) (r : Request) → IsGivenWithin names.TransferLeadership g → transfer_leadership g ≡ Ok r → IsWithin r
+unfolding IsWithin
+transfer_within g r p h =
+    let from = wanted_some (codes "from") g.from _ r h in
+    let to = wanted_some (codes "to") g.to _ r from.2 in
+    done_within _ r to.2 (at_some IsId g.from from.0 from.1 (p.numbers numbers.From), at_some IsId g.to to.0 to.1 (p.numbers numbers.To))
+
+report_within : (g : Given) (r : Request) → IsGivenWithin names.ReportUnreachable g → report_unreachable g ≡ Ok r → IsWithin r
+unfolding IsWithin
+report_within g r p h =
+    let id = wanted_some (codes "id") g.id _ r h in
+    let peer = wanted_some (codes "id") g.peer _ r id.2 in
+    done_within _ r peer.2 (at_some IsId g.id id.0 id.1 (p.numbers numbers.Id), at_some IsId g.peer peer.0 peer.1 (p.numbers numbers.Peer))
+
+snapshot_within : (g : Given) (r : Request) → IsGivenWithin names.SendSnapshot g → send_snapshot g ≡ Ok r → IsWithin r
+unfolding IsWithin
+snapshot_within g r p h =
+    let from = wanted_some (codes "from") g.from _ r h in
+    let to = wanted_some (codes "to") g.to _ r from.2 in
+    done_within _ r to.2 (at_some IsId g.from from.0 from.1 (p.numbers numbers.From), at_some IsId g.to to.0 to.1 (p.numbers numbers.To))
+
+compact_within : (g : Given) (r : Request) → IsGivenWithin names.Compact g → compact g ≡ Ok r → IsWithin r
+unfolding IsWithin
+compact_within g r p h =
+    let id = wanted_some (codes "id") g.id _ r h in
+    let index = wanted_some (codes "index") g.index _ r id.2 in
+    let most = at_some (IsFrom 0 MAX_COMPACTED) g.index index.0 index.1 (p.numbers numbers.Index) in
+    done_within _ r index.2 (at_some IsId g.id id.0 id.1 (p.numbers numbers.Id), most.1)
+
+level_within : (g : Given) (r : Request) → and_then (wanted (codes "level") g.level) (λ level. Ok (requests.LogLevel level)) ≡ Ok r → IsWithin r
+unfolding IsWithin
+level_within g r h = let level = wanted_some (codes "level") g.level _ r h in done_within _ r level.2 tt
+
+built_within : (name : Name) (g : Given) (inputs : List Line) (r : Request) → IsGivenWithin name g → built name g inputs ≡ Ok r → IsWithin r
+unfolding IsWithin
+built_within names.AddNodes g inputs r p h = nodes_within g r p h
+built_within names.Campaign g inputs r p h = node_within requests.Campaign (λ id is. is) names.Campaign g r p h
+built_within names.Propose g inputs r p h = propose_within g r p h
+built_within names.ProposeConfChange g inputs r p h = change_within g inputs r p h
+built_within names.ProcessReady g inputs r p h = ready_within g r p h
+built_within names.DeliverMsgs g inputs r p h = done_within (deliver_msgs g) r h (or_none g.nodes (p.lists lists.Nodes), or_none g.drop (p.lists lists.Drop))
+built_within names.Stabilize g inputs r p h =
+    done_within (stabilize g) r h (or_none g.nodes (p.lists lists.Nodes), or_else 1 MAX_ROUNDS ROUNDS g.rounds (omega arith, omega arith) (p.numbers numbers.Rounds))
+built_within names.TickElection g inputs r p h = node_within requests.TickElection (λ id is. is) names.TickElection g r p h
+built_within names.TickHeartbeat g inputs r p h = node_within requests.TickHeartbeat (λ id is. is) names.TickHeartbeat g r p h
+built_within names.SetRandomizedElectionTimeout g inputs r p h = timeout_within g r p h
+built_within names.TransferLeadership g inputs r p h = transfer_within g r p h
+built_within names.ForgetLeader g inputs r p h = node_within requests.ForgetLeader (λ id is. is) names.ForgetLeader g r p h
+built_within names.ReportUnreachable g inputs r p h = report_within g r p h
+built_within names.SendSnapshot g inputs r p h = snapshot_within g r p h
+built_within names.Compact g inputs r p h = compact_within g r p h
+built_within names.LogLevel g inputs r p h = level_within g r h
+built_within names.RaftLog g inputs r p h = node_within requests.RaftLog (λ id is. is) names.RaftLog g r p h
+built_within names.Status g inputs r p h = node_within requests.Status (λ id is. is) names.Status g r p h
+built_within names.RaftState g inputs r p h = done_within requests.RaftState r h tt
+
+-- ---- any directive
+
+nothing_within : (name : Name) → IsGivenWithin name nothing
+nothing_within name = record {
+  numbers = λ which. elim which as (λ w. IfSome (number_given w (numbers_of nothing)) (IsFrom (least w) (greatest name w))) [ numbers.Count ↦ tt | _ ↦ tt ];
+  bytes = λ which. elim which as (λ w. IfSome (bytes_given w (bytes_of nothing)) (λ said. IsFrom (fewest w) MAX_BYTES (length said))) [ bytes.Payload ↦ tt | _ ↦ tt ];
+  lists = λ which. elim which as (λ w. IfSome (ids_given w (lists_of nothing)) AreIds) [ lists.Nodes ↦ tt | _ ↦ tt ];
+}
+
+pub request_within : (d : PlainDirective) (a : Asked) → request d ≡ Ok a → IsWithin a.request
+request_within d a h =
+    let read = read_of d a h in
+    let fits = row_fits (words_fit is_limited) directives words_limited d.name read.row read.row_is in
+    let given = arguments_kept (IsGivenWithin read.row.name) read.row (arguments_within read.row fits) d.args nothing read.given read.given_is (nothing_within read.row.name) in
+    built_within read.row.name read.given d.inputs a.request given read.built_is
+
+-- what is within the limits, where it is what the directive asks for
+pub result_within : (d : PlainDirective) (result : Result Asked DirectiveError) → result ≡ request d → IfOk result (λ a. IsWithin a.request)
+result_within d (Err e) is = tt
+result_within d (Ok a) is = request_within d a (sym is)
