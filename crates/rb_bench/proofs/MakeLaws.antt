@@ -13,24 +13,24 @@ use Rattle.rb_script.specs.Script.{PlainBlock, PlainScript}
 use Rattle.rb_script.specs.Reading.{block_of, Fails, capped}
 use Rattle.rb_script.specs.Edits.{edited}
 use Rattle.rb_script.proofs.ResultLaws.{fails_through}
-use Rattle.rb_command.specs.declared.command.Kind.{Kind}
-use Rattle.rb_command.specs.declared.command.Kind.TheVariants.{Insert, Replace, Expect}
+use Rattle.rb_command.specs.declared.command.Purpose.{Purpose}
+use Rattle.rb_command.specs.declared.command.Purpose.TheVariants.{Insert, Replace, Expect}
 use Rattle.rb_replay.specs.Run.{outputs}
 use Rattle.rb_replay.specs.Holding.{Holding}
 use Rattle.rb_bench.specs.Names.{edit_name}
 use Rattle.rb_bench.specs.Responses.{block_edit, edit_of, refused, Says, AnswersMade, AnswersEdit, AnswersBlock, AnswersGiven}
 
-pub insert_of : (kind : Kind) (place : ℕ) (given : List Line) → kind ≡ Insert → edit_of kind place given ≡ block_edit (λ b. edits.Insert place b) (block_of (text_of given))
+pub insert_of : (purpose : Purpose) (place : ℕ) (given : List Line) → purpose ≡ Insert → edit_of purpose place given ≡ block_edit (λ b. edits.Insert place b) (block_of (text_of given))
 unfolding edit_of
-insert_of kind place given e = ap (λ k. edit_of k place given) e
+insert_of purpose place given e = ap (λ k. edit_of k place given) e
 
-pub replace_of : (kind : Kind) (place : ℕ) (given : List Line) → kind ≡ Replace → edit_of kind place given ≡ block_edit (λ b. edits.Replace place b) (block_of (text_of given))
+pub replace_of : (purpose : Purpose) (place : ℕ) (given : List Line) → purpose ≡ Replace → edit_of purpose place given ≡ block_edit (λ b. edits.Replace place b) (block_of (text_of given))
 unfolding edit_of
-replace_of kind place given e = ap (λ k. edit_of k place given) e
+replace_of purpose place given e = ap (λ k. edit_of k place given) e
 
-pub expect_of : (kind : Kind) (place : ℕ) (given : List Line) → kind ≡ Expect → edit_of kind place given ≡ Ok (edits.Expect place given)
+pub expect_of : (purpose : Purpose) (place : ℕ) (given : List Line) → purpose ≡ Expect → edit_of purpose place given ≡ Ok (edits.Expect place given)
 unfolding edit_of
-expect_of kind place given e = ap (λ k. edit_of k place given) e
+expect_of purpose place given e = ap (λ k. edit_of k place given) e
 
 -- a block's fault is the edit's
 pub block_fails : (f : PlainBlock → Edit) (fault : ScriptFault) (bytes text : List ℕ) (made : Result Edit ScriptFault) → made ≡ block_edit f (block_of text) → bytes ≡ text → Fails fault (block_of bytes) → Fails fault made
@@ -54,12 +54,12 @@ pub short_text : (n len : ℕ) → len ≡ capped n → len ≤ MAX_SCRIPT → n
 short_text n len e le = grind (arith, nat_tests)
 
 -- the edit of the lines that were given
-pub given_made : (h : Holding) (kind : Kind) (place : ℕ) (ls : List Line) (answer : List ℕ) (after : Holding) (edit : Edit) → nat_lt MAX_SCRIPT (length (text_of ls)) ≡ false → edit_of kind place ls ≡ Ok edit
-    → (no_memory : Bool) × AnswersEdit h edit no_memory answer after → (no_memory : Bool) × AnswersGiven h kind place ls no_memory answer after
-given_made h kind place ls answer after edit short e (no_memory, p) =
+pub given_made : (h : Holding) (purpose : Purpose) (place : ℕ) (ls : List Line) (answer : List ℕ) (after : Holding) (edit : Edit) → nat_lt MAX_SCRIPT (length (text_of ls)) ≡ false → edit_of purpose place ls ≡ Ok edit
+    → (no_memory : Bool) × AnswersEdit h edit no_memory answer after → (no_memory : Bool) × AnswersGiven h purpose place ls no_memory answer after
+given_made h purpose place ls answer after edit short e (no_memory, p) =
     let said = Says (refused (edit_name edit_faults.OutOfMemory)) h answer after in
     let long = Says (refused (edit_name edit_faults.TooLong)) h answer after in
     elim (made_either h edit (edited h.script edit (outputs h.script)) no_memory answer after p) [
-      | inl q ↦ (false, subst (λ (t : Bool). MatchBool t long (AnswersBlock h (edit_of kind place ls) answer after)) (sym short) (subst (λ (m : Result Edit ScriptFault). AnswersBlock h m answer after) (sym e) q))
+      | inl q ↦ (false, subst (λ (t : Bool). MatchBool t long (AnswersBlock h (edit_of purpose place ls) answer after)) (sym short) (subst (λ (m : Result Edit ScriptFault). AnswersBlock h m answer after) (sym e) q))
       | inr q ↦ (true, subst (λ (t : Bool). MatchBool t long said) (sym short) q)
     ]

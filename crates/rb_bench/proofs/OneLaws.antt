@@ -101,8 +101,8 @@ command_answer : (h : Holding) (c : Command) (given : List Line) (no_memory : Bo
     → IsOne h answer after other next
 command_answer h commands.Blank given no_memory answer after other next a b = says_once h _ answer after other next a b
 command_answer h commands.Bad given no_memory answer after other next a b = says_once h _ answer after other next a b
-command_answer h (commands.Given kind place count) given no_memory answer after other next a b =
-    given_answer h (nat_lt MAX_SCRIPT (length (text_of given))) no_memory _ _ (edit_of kind place given) answer after other next a b
+command_answer h (commands.Given purpose place count) given no_memory answer after other next a b =
+    given_answer h (nat_lt MAX_SCRIPT (length (text_of given))) no_memory _ _ (edit_of purpose place given) answer after other next a b
 command_answer h (commands.Remove place) given no_memory answer after other next a b =
     made_answer h (edits.Remove place) (edited h.script (edits.Remove place) (outputs h.script)) no_memory answer after other next a b
 command_answer h commands.Accept given no_memory answer after other next a b = made_answer h edits.Accept (edited h.script edits.Accept (outputs h.script)) no_memory answer after other next a b

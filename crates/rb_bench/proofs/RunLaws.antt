@@ -27,6 +27,9 @@ failed_once mode bytes s old new r (t, q, w) = (subst (λ (x : PlainScript). IsW
 pub none_ends : (mode : Mode) (bytes : List ℕ) (status : Status) (old new : Option (List ℕ)) → IsNoScript bytes → Answers mode bytes (Ok status) old new → ⊥
 none_ends mode bytes status old new none (t, q, w) = none t q
 
+pub none_fails : (mode : Mode) (bytes : List ℕ) (old new : Option (List ℕ)) → IsNoScript bytes → Answers mode bytes (Err faults.Io) old new → ⊥
+none_fails mode bytes old new none (t, q, w) = none t q
+
 pub some_refused : (mode : Mode) (bytes : List ℕ) (s : PlainScript) (fault : ScriptFault) (old new : Option (List ℕ)) → Reads bytes s → Answers mode bytes (Err (faults.Script fault)) old new → ⊥
 some_refused mode bytes s fault old new r a = a.0 s r
 

@@ -21,6 +21,6 @@ of_starting starts.BadSpacing = faults.Spacing
 of_starting starts.OutOfMemory = faults.OutOfMemory
 
 -- why no script was taken: what is told of the script is the fault of reading it, and never want of memory
-abbrev pub TellsFault : Result PlainScript ScriptFault → BenchFault → Type 0
-TellsFault read (faults.Script fault) = Refuses read fault
-TellsFault read fault = ⊤
+abbrev pub TellsFault : BenchFault → Result PlainScript ScriptFault → Type 0
+TellsFault (faults.Script fault) read = Refuses fault read
+TellsFault fault read = ⊤

@@ -19,7 +19,7 @@ use Rattle.rb_bench.specs.Talk.{Exchange}
 
 -- the edit that a command asks for with the lines given to it, if it asks for one
 abbrev pub edit_for : Command → List Line → Option Edit
-edit_for (commands.Given kind place count) given = result_ok (edit_of kind place given)
+edit_for (commands.Given purpose place count) given = result_ok (edit_of purpose place given)
 edit_for (commands.Remove place) given = Some (edits.Remove place)
 edit_for commands.Accept given = Some edits.Accept
 edit_for _ given = None

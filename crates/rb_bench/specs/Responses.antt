@@ -12,8 +12,8 @@ use Rattle.rb_script.specs.Reading.{block_of}
 use Rattle.rb_script.specs.Edits.{edited}
 use Rattle.rb_command.specs.declared.command.Command.{Command}
 use Rattle.rb_command.specs.declared.command.Command.TheVariants as commands
-use Rattle.rb_command.specs.declared.command.Kind.{Kind}
-use Rattle.rb_command.specs.declared.command.Kind.TheVariants.{Insert, Replace, Expect}
+use Rattle.rb_command.specs.declared.command.Purpose.{Purpose}
+use Rattle.rb_command.specs.declared.command.Purpose.TheVariants.{Insert, Replace, Expect}
 use Rattle.rb_replay.specs.declared.session.Changed.{Changed}
 use Rattle.rb_replay.specs.Run.{outputs, output_at}
 use Rattle.rb_replay.specs.Report.{report, rewritten}
@@ -57,7 +57,7 @@ block_edit f (Ok b) = Ok (f b)
 block_edit f (Err fault) = Err fault
 
 -- the edit that a command asks for with its lines, which are one block or an expectation
-unfoldable pub edit_of : Kind → ℕ → List Line → Result Edit ScriptFault
+unfoldable pub edit_of : Purpose → ℕ → List Line → Result Edit ScriptFault
 edit_of Insert place given = block_edit (λ b. edits.Insert place b) (block_of (text_of given))
 edit_of Replace place given = block_edit (λ b. edits.Replace place b) (block_of (text_of given))
 edit_of Expect place given = Ok (edits.Expect place given)
@@ -87,10 +87,10 @@ AnswersBlock h (Err fault) answer after = Says (refused (fault_text fault)) h an
 AnswersBlock h (Ok edit) answer after = AnswersEdit h edit false answer after
 
 -- More given bytes than a script may have, one LF a line, are found before anything else.
-abbrev pub AnswersGiven : Holding → Kind → ℕ → List Line → Bool → List ℕ → Holding → Type 0
-AnswersGiven h kind place given no_memory answer after =
+abbrev pub AnswersGiven : Holding → Purpose → ℕ → List Line → Bool → List ℕ → Holding → Type 0
+AnswersGiven h purpose place given no_memory answer after =
     MatchBool (nat_lt MAX_SCRIPT (length (text_of given))) (Says (refused (edit_name TooLong)) h answer after)
-    (MatchBool no_memory (Says (refused (edit_name OutOfMemory)) h answer after) (AnswersBlock h (edit_of kind place given) answer after))
+    (MatchBool no_memory (Says (refused (edit_name OutOfMemory)) h answer after) (AnswersBlock h (edit_of purpose place given) answer after))
 
 -- ---- commands
 
@@ -98,7 +98,7 @@ AnswersGiven h kind place given no_memory answer after =
 abbrev pub AnswersCommand : Holding → Command → List Line → Bool → List ℕ → Holding → Type 0
 AnswersCommand h commands.Blank given no_memory answer after = Says [] h answer after
 AnswersCommand h commands.Bad given no_memory answer after = Says (refused (codes "BadCommand")) h answer after
-AnswersCommand h (commands.Given kind place count) given no_memory answer after = AnswersGiven h kind place given no_memory answer after
+AnswersCommand h (commands.Given purpose place count) given no_memory answer after = AnswersGiven h purpose place given no_memory answer after
 AnswersCommand h (commands.Remove place) given no_memory answer after = AnswersEdit h (edits.Remove place) no_memory answer after
 AnswersCommand h commands.Accept given no_memory answer after = AnswersEdit h edits.Accept no_memory answer after
 AnswersCommand h (commands.Show place) given no_memory answer after = Says (shown (output_at h.script place)) h answer after

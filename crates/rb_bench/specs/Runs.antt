@@ -52,7 +52,7 @@ IsWritten mode s (Err fault) old new = (fault ≡ faults.Io) × AppendsFront old
 abbrev pub Answers : Mode → List ℕ → Result Status BenchFault → Option (List ℕ) → Option (List ℕ) → Type 0
 Answers mode bytes (Ok status) old new = (s : PlainScript) × Reads bytes s × IsWritten mode s (Ok status) old new
 Answers mode bytes (Err faults.Spacing) old new = ⊥
-Answers mode bytes (Err (faults.Script fault)) old new = IsNoScript bytes × Refuses (read_of bytes) fault × Keeps old new
+Answers mode bytes (Err (faults.Script fault)) old new = IsNoScript bytes × Refuses fault (read_of bytes) × Keeps old new
 Answers mode bytes (Err faults.Io) old new = (s : PlainScript) × Reads bytes s × IsWritten mode s (Err faults.Io) old new
 Answers mode bytes (Err faults.OutOfMemory) old new = Keeps old new
 

@@ -28,7 +28,7 @@ is_long line = nat_lt MAX_LINE (length line)
 
 -- how many lines are given to a command
 abbrev pub given_count : Command → ℕ
-given_count (Given kind place count) = count
+given_count (Given purpose place count) = count
 given_count _ = 0
 
 -- how many lines a line asks for, itself among them

@@ -45,6 +45,7 @@ pub fn runs_are_one()
     ensures failed { (mode : Mode) (bytes : List ℕ) (s : PlainScript) (old new : Option (List ℕ)) → Reads bytes s → Answers mode bytes (Err faults.Io) old new
         → AppendsFront old new (text_for mode s) }
     ensures none { (mode : Mode) (bytes : List ℕ) (status : Status) (old new : Option (List ℕ)) → IsNoScript bytes → Answers mode bytes (Ok status) old new → ⊥ }
+    ensures unfailed { (mode : Mode) (bytes : List ℕ) (old new : Option (List ℕ)) → IsNoScript bytes → Answers mode bytes (Err faults.Io) old new → ⊥ }
     ensures refused { (mode : Mode) (bytes : List ℕ) (s : PlainScript) (fault : ScriptFault) (old new : Option (List ℕ)) → Reads bytes s → Answers mode bytes (Err (faults.Script fault)) old new → ⊥ }
 {}
 

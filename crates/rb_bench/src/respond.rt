@@ -16,18 +16,18 @@ use crate::running::{Mode, status};
 use crate::starting::BenchSession;
 use crate::status::Status;
 use rb_cluster::Meter;
-use rb_command::{Command, Kind};
+use rb_command::{Command, Purpose};
 use rb_script::{Block, Edit, EditFault, Lines, MAX_SCRIPT, ScriptFault};
 use std::alloc::Global;
 
 /// The edit that a command asks for with its lines.
-fn edit_of(alloc: Global, kind: Kind, place: usize, lines: Lines) -> Result<Edit, ScriptFault>
-    ensures { Gives {X = Edit} {Y = Edit} (λ e. e) result (edit_of kind place lines) }
+fn edit_of(alloc: Global, purpose: Purpose, place: usize, lines: Lines) -> Result<Edit, ScriptFault>
+    ensures { Gives {X = Edit} {Y = Edit} (λ e. e) result (edit_of purpose place lines) }
 {
-    match kind {
-        Kind::Insert => Ok(Edit::Insert(place, Block::read(alloc, lines.text())?)),
-        Kind::Replace => Ok(Edit::Replace(place, Block::read(alloc, lines.text())?)),
-        Kind::Expect => Ok(Edit::Expect(place, lines)),
+    match purpose {
+        Purpose::Insert => Ok(Edit::Insert(place, Block::read(alloc, lines.text())?)),
+        Purpose::Replace => Ok(Edit::Replace(place, Block::read(alloc, lines.text())?)),
+        Purpose::Expect => Ok(Edit::Expect(place, lines)),
     }
 }
 
@@ -46,12 +46,12 @@ fn make(session: &mut BenchSession, edit: &Edit) -> Reply
 fn make_given(
     alloc: Global,
     session: &mut BenchSession,
-    kind: Kind,
+    purpose: Purpose,
     place: usize,
     given: Given,
 ) -> Reply
     ensures { (ls : List Line) → IsGiven given ls
-        → (no_memory : Bool) × AnswersGiven session.old kind place ls no_memory (reply_text session.new result) session.new }
+        → (no_memory : Bool) × AnswersGiven session.old purpose place ls no_memory (reply_text session.new result) session.new }
 {
     if given.text_len > MAX_SCRIPT {
         return Reply::BadEdit(EditFault::TooLong);
@@ -59,7 +59,7 @@ fn make_given(
     if given.has_no_memory {
         return Reply::BadEdit(EditFault::OutOfMemory);
     }
-    match edit_of(alloc, kind, place, given.lines) {
+    match edit_of(alloc, purpose, place, given.lines) {
         Ok(edit) => make(session, &edit),
         Err(fault) => Reply::BadBlock(fault),
     }
@@ -73,7 +73,7 @@ fn respond(alloc: Global, session: &mut BenchSession, command: Command, given: G
     match command {
         Command::Blank => Reply::Nothing,
         Command::Bad => Reply::BadCommand,
-        Command::Given(kind, place, _) => make_given(alloc, session, kind, place, given),
+        Command::Given(purpose, place, _) => make_given(alloc, session, purpose, place, given),
         Command::Remove(place) => make(session, &Edit::Remove(place)),
         Command::Accept => make(session, &Edit::Accept),
         Command::Show(place) => Reply::Output(place),

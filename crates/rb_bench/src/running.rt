@@ -15,7 +15,7 @@ use crate::reading::read_up_to;
 use crate::starting::{BenchSession, started};
 use crate::status::Status;
 use rb_line::Source;
-use rb_replay::is_spacing;
+use rb_replay::{MAX_SPACING, is_spacing};
 use rb_script::{MAX_SCRIPT, Sink, WriteFault};
 use std::alloc::Global;
 
@@ -28,8 +28,9 @@ pub enum Mode {
     Rewrite,
 }
 
-/// Reads a script, runs it and writes what `mode` asks for. `every` is how many directives stand from one checkpoint
-/// to the next, 1 to 64. The answer is the program's status: `Done`, or `Mismatches` where a report tells some.
+/// Reads a script, runs it and writes what `mode` asks for. The answer is the program's status: `Done`, or `Mismatches`
+/// where a report tells some. `every` is how many directives a session would have from one checkpoint to the next, 1 to 64;
+/// it changes no text, and a run, which nobody edits, keeps as few clusters as it may.
 ///
 /// # Errors
 ///
@@ -83,7 +84,11 @@ pub fn run_bytes<W: Outlet>(
     ensures handed { OnOk result (IsHandedOn (W.handed writer.new) (W.held writer.new)) }
     ensures io { W.takes_all writer.old → result ≢ Err BenchFault.Io }
 {
-    let session = started(alloc, &bytes, every)?;
+    if !is_spacing(every) {
+        return Err(BenchFault::Spacing);
+    }
+    // No edit follows, and no text depends on what is kept: so as little is kept as may be.
+    let session = started(alloc, &bytes, MAX_SPACING)?;
     drop(bytes);
     answer(&session, writer, mode)
 }

@@ -48,7 +48,7 @@ pub fn serve<S: Source, W: Outlet>(
     // Where the bytes are a script, memory is refused or a call fails.
     ensures only { (s : PlainScript) → Reads script.now s → is_spacing every ≡ true → IfErr result (λ fault. (fault ≡ BenchFault.OutOfMemory) ⊎ (fault ≡ BenchFault.Io)) }
     // Which fault of the script it is.
-    ensures refused { IfErr result (λ fault. TellsFault (read_of script.now) fault) }
+    ensures refused { IfErr result (λ fault. TellsFault fault (read_of script.now)) }
     // What is too long is found whether or not there is memory.
     ensures early { is_spacing every ≡ true → IfSome (early_fault script.now) (λ fault. result ≡ Err (BenchFault.Script fault)) }
     // But for a failed call, nothing was read or written.

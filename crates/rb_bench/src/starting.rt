@@ -10,11 +10,12 @@ ghost use Rattle.rb_bench.specs.Serves.{IsStarted};
 
 use crate::fault::BenchFault;
 use rb_cluster::{Cluster, Meter};
+use rb_raftlog::SplitLog;
 use rb_replay::Session;
 use std::alloc::Global;
 
 /// The sessions that the program holds: over the cluster of scripts.
-pub(crate) type BenchSession = Session<Cluster>;
+pub(crate) type BenchSession = Session<Cluster<SplitLog>>;
 
 /// A session on the script of the bytes, with a cluster kept every so many directives.
 pub(crate) fn started(alloc: Global, bytes: &[u8], every: u64) -> Result<BenchSession, BenchFault>
@@ -23,7 +24,7 @@ pub(crate) fn started(alloc: Global, bytes: &[u8], every: u64) -> Result<BenchSe
     ensures spacing { (result ≡ Err BenchFault.Spacing) ↔ (is_spacing every ≡ false) }
     // What is a script is refused for want of memory alone.
     ensures only { (s : PlainScript) → Reads bytes.now s → is_spacing every ≡ true → IfErr result (λ fault. fault ≡ BenchFault.OutOfMemory) }
-    ensures refused { IfErr result (λ fault. TellsFault (read_of bytes.now) fault) }
+    ensures refused { IfErr result (λ fault. TellsFault fault (read_of bytes.now)) }
     // What is too long is found whether or not there is memory.
     ensures early { is_spacing every ≡ true → IfSome (early_fault bytes.now) (λ fault. result ≡ Err (BenchFault.Script fault)) }
     // Nothing else is read or written.

@@ -2,6 +2,7 @@
 
 use anyhow::Result;
 use rb_cluster::{Cluster, Meter};
+use rb_raftlog::SplitLog;
 use rb_replay::{Changed, Session};
 use rb_script::{Block, Edit, Lines};
 use std::alloc::Global;
@@ -60,7 +61,7 @@ impl Times {
     fn take<R: Clock>(
         &mut self,
         rt: &R,
-        session: &mut Session<Cluster>,
+        session: &mut Session<Cluster<SplitLog>>,
         edit: &Edit,
     ) -> Result<()> {
         let mut meter = Meter::new();
@@ -117,7 +118,7 @@ impl Rounds {
     fn run<R: Clock>(
         &mut self,
         rt: &R,
-        session: &mut Session<Cluster>,
+        session: &mut Session<Cluster<SplitLog>>,
         edits: &Edits,
     ) -> Result<()> {
         self.inserts.take(rt, session, &edits.insert)?;
@@ -137,7 +138,7 @@ impl Rounds {
 fn measure_place<R: Clock + Print>(
     rt: &R,
     alloc: Global,
-    session: &mut Session<Cluster>,
+    session: &mut Session<Cluster<SplitLog>>,
     place: usize,
     rounds: u32,
 ) -> Result<()> {
@@ -159,7 +160,9 @@ pub(crate) fn measure<R: Clock + Print + AllocGlobal>(
     let alloc = rt.alloc();
     let bytes = script(alloc, directives)?;
     let mut meter = Meter::new();
-    let mut session: Session<Cluster> = Session::start(alloc, &bytes, SPACING, &mut meter)?;
+    let mut session: Session<Cluster<SplitLog>> = Session::start(
+        alloc, &bytes, SPACING, &mut meter,
+    )?;
     for place in [2, directives / 2, directives] {
         measure_place(rt, alloc, &mut session, place, rounds)?;
     }

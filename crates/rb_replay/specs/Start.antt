@@ -13,10 +13,10 @@ abbrev pub is_spacing : ℕ → Bool
 is_spacing every = nat_le 1 every && nat_le every MAX_SPACING
 
 -- why no script was read: its fault is that of reading, and never want of memory
-abbrev pub TellsStartFault : Result PlainScript ScriptFault → StartFault → Type 0
-TellsStartFault read (Script fault) = Refuses read fault
-TellsStartFault read BadSpacing = Unit {0}
-TellsStartFault read OutOfMemory = Unit {0}
+abbrev pub TellsStartFault : StartFault → Result PlainScript ScriptFault → Type 0
+TellsStartFault (Script fault) read = Refuses fault read
+TellsStartFault BadSpacing read = Unit {0}
+TellsStartFault OutOfMemory read = Unit {0}
 
 -- how far the meter rises before that: not at all, or for want of memory by at most the directives of the
 -- script

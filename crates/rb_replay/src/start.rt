@@ -33,7 +33,7 @@ fn refusal(fault: ScriptFault) -> StartFault
 fn read(alloc: Global, bytes: &[u8]) -> Result<Script, StartFault>
     ensures found { IfOk result (λ s. Reads bytes.now s) }
     ensures only { (s : PlainScript) → Reads bytes.now s → IfErr result (λ fault. fault ≡ StartFault.OutOfMemory) }
-    ensures refused { IfErr result (λ fault. TellsStartFault (read_of bytes.now) fault) }
+    ensures refused { IfErr result (λ fault. TellsStartFault fault (read_of bytes.now)) }
     ensures spaced { result ≢ Err StartFault.BadSpacing }
     ensures early { IfSome (early_fault bytes.now) (λ fault. result ≡ Err (StartFault.Script fault)) }
 {
@@ -76,7 +76,7 @@ impl<M: Machine> Session<M> {
         // What is the script of the bytes is started, unless memory runs out.
         ensures only { (s : PlainScript) → Reads bytes.now s → is_spacing every ≡ true → IfErr result (λ fault. fault ≡ StartFault.OutOfMemory) }
         // Which fault of reading it is; these are found whether or not there is memory.
-        ensures refused { IfErr result (λ fault. TellsStartFault (read_of bytes.now) fault) }
+        ensures refused { IfErr result (λ fault. TellsStartFault fault (read_of bytes.now)) }
         ensures early { is_spacing every ≡ true → IfSome (early_fault bytes.now) (λ fault. result ≡ Err (StartFault.Script fault)) }
         // A refused start has executed nothing, or for want of memory at most the directives of the script.
         ensures risen { IfErr result (λ fault. RisesFor fault bytes.now (M.Meter.count_of meter.old) (M.Meter.count_of meter.new)) }
