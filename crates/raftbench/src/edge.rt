@@ -1,21 +1,35 @@
 //! The words, the files and the streams.
 
+use crate::check::{Asked, check};
+use crate::colors::{colors, wish_of};
 use crate::refusal::Refusal;
 use crate::spacing::spacing;
-use rb_args::{Mode, chosen};
-use rb_bench::{Status, read_up_to, run_over, serve};
+use rb_args::{CheckChoice, Choice, Subcommand, chosen};
+use rb_bench::{Mode, Status, read_up_to, run_over, serve, status_code};
 use rb_line::Incoming;
+use rb_replay::is_spacing;
 use rb_script::{MAX_SCRIPT, Through};
 use std::fs::File;
-use std::io::BufWriter;
+use std::io::{BufWriter, Write};
 use std::rt::{Env, Files};
+use std::time::Clock;
 use std::{env, io};
 
-/// The whole program.
-pub(crate) fn status<R: Files + Input + Print + Eprint + Env + AllocGlobal>(rt: &R) -> Status {
-    match answered(rt) {
+/// Which of the streams are terminals.
+#[derive(Clone, Copy, Debug)]
+pub(crate) struct Terminals {
+    pub(crate) output: bool,
+    pub(crate) errors: bool,
+}
+
+/// The whole program. Its answer is the status.
+pub(crate) fn status<
+    R: Files + Input + Print + Eprint + Env + Clock + AllocGlobal,
+    E: Write + Drop,
+>(rt: &R, errors: E, terminals: Terminals) -> u8 {
+    match answered(rt, errors, terminals) {
         Ok(status) => status,
-        Err(refusal) => refusal.tell(rt),
+        Err(refusal) => status_code(refusal.tell(rt)),
     }
 }
 
@@ -28,22 +42,74 @@ fn words<R: Env + AllocGlobal>(rt: &R) -> Result<Vec<String>, Refusal> {
     }
 }
 
-fn answered<R: Files + Input + Print + Env + AllocGlobal>(rt: &R) -> Result<Status, Refusal> {
+fn answered<R: Files + Input + Print + Env + Clock + AllocGlobal, E: Write + Drop>(
+    rt: &R,
+    errors: E,
+    terminals: Terminals,
+) -> Result<u8, Refusal> {
     let words = words(rt)?;
     let choice = chosen(rt.alloc(), words.as_slice())?;
-    let (Some(mode), Some(file)) = (choice.mode, &choice.file) else {
+    match choice.subcommand {
+        Some(Subcommand::Check) => {
+            check_all(
+                rt,
+                &choice.check,
+                choice.every.as_deref(),
+                errors,
+                terminals,
+            )
+        }
+        Some(subcommand) => Ok(status_code(with_file(rt, subcommand, &choice)?)),
+        None => Err(Refusal::Usage),
+    }
+}
+
+// Checks scripts and folders of scripts.
+fn check_all<R: Files + Print + Env + Clock + AllocGlobal, E: Write + Drop>(
+    rt: &R,
+    choice: &CheckChoice,
+    every: Option<&str>,
+    errors: E,
+    terminals: Terminals,
+) -> Result<u8, Refusal> {
+    let (Some(every), Some(wish)) = (spacing(every), wish_of(choice.color.as_deref())) else {
         return Err(Refusal::Usage);
     };
-    if mode == Mode::Session && file.as_str() == "-" {
+    if !is_spacing(every) {
+        return Err(Refusal::Usage);
+    }
+    let asked = Asked {
+        paths: &choice.paths,
+        filter: choice.filter.as_deref(),
+        accepts: choice.accepts,
+        is_verbose: choice.is_verbose,
+        every,
+        colors: colors(rt, wish, terminals.output),
+        wants_progress: terminals.errors,
+    };
+    check(rt, asked, errors)
+}
+
+// Does what is asked for with one file.
+fn with_file<R: Files + Input + Print + AllocGlobal>(
+    rt: &R,
+    subcommand: Subcommand,
+    choice: &Choice,
+) -> Result<Status, Refusal> {
+    let Some(file) = &choice.file else {
+        return Err(Refusal::Usage);
+    };
+    if subcommand == Subcommand::Session && file.as_str() == "-" {
         return Err(Refusal::Usage);
     }
     let Some(every) = spacing(choice.every.as_deref()) else {
         return Err(Refusal::Usage);
     };
-    match mode {
-        Mode::Run => run(rt, file.as_str(), rb_bench::Mode::Run, every),
-        Mode::Rewrite => run(rt, file.as_str(), rb_bench::Mode::Rewrite, every),
-        Mode::Session => session(rt, file.as_str(), every),
+    match subcommand {
+        Subcommand::Run => run(rt, file.as_str(), Mode::Run, every),
+        Subcommand::Rewrite => run(rt, file.as_str(), Mode::Rewrite, every),
+        Subcommand::Session => session(rt, file.as_str(), every),
+        Subcommand::Check => Err(Refusal::Usage),
     }
 }
 
@@ -51,7 +117,7 @@ fn answered<R: Files + Input + Print + Env + AllocGlobal>(rt: &R) -> Result<Stat
 fn run<R: Files + Input + Print + AllocGlobal>(
     rt: &R,
     file: &str,
-    mode: rb_bench::Mode,
+    mode: Mode,
     every: u64,
 ) -> Result<Status, Refusal> {
     let alloc = rt.alloc();

@@ -1,13 +1,24 @@
-//! `raftbench run|rewrite|session FILE [--every K]`: the words, the files and the streams of the program.
+//! `raftbench check PATH..` and `raftbench run|rewrite|session FILE`: the words, the files and the streams of the program.
 #![tactic(auto)]
 
+mod check;
+mod checking;
+mod colors;
 mod edge;
+mod progress;
 mod refusal;
+mod report;
 mod spacing;
 
-use rb_bench::status_code;
+use edge::Terminals;
+use std::io::IsTerminal;
 use std::process::ExitCode;
 
 fn main(rt: HostRuntime) -> ExitCode {
-    ExitCode::from(status_code(edge::status(&rt)))
+    let errors = rt.stderr();
+    let terminals = Terminals {
+        output: rt.stdout().is_terminal(),
+        errors: errors.is_terminal(),
+    };
+    ExitCode::from(edge::status(&rt, errors, terminals))
 }

@@ -1,28 +1,44 @@
 -- What the words choose, by what clap found in them, and how a refusal is told. (This project's.)
-use Rattle.std.specs.Prelude.{◌≡◌, ◌≢◌, if◌then◌else◌, List, Option, Some, None, codes, option_map, option_and_then, string_bytes}
+use Rattle.std.specs.Prelude.{◌≡◌, ◌≢◌, if◌then◌else◌, Bool, false, List, [], Option, Some, None, codes, map, option_map, option_and_then, string_bytes, unwrap_or}
 use Rattle.std.specs.Str.{bytes_eq}
-use Rattle.clap.specs.Words.{IsAmong, Kinds, Row, Text, first_of, kind_of}
+use Rattle.clap.specs.Words.{IsAmong, Kinds, Row, Text, all_of, first_of, kind_of}
 use Rattle.clap.specs.declared.error.Error.{Error}
 use Rattle.clap.specs.declared.error.kind.ErrorKind.TheVariants as kind
-use Rattle.rb_args.specs.declared.choice.Mode.{Mode}
-use Rattle.rb_args.specs.declared.choice.Mode.TheVariants.{Run, Rewrite, Session}
+use Rattle.rb_args.specs.declared.choice.Subcommand.{Subcommand}
+use Rattle.rb_args.specs.declared.choice.Subcommand.TheVariants.{Run, Rewrite, Session, Check}
 use Rattle.rb_args.specs.declared.choice.Choice.{Choice}
+use Rattle.rb_args.specs.declared.choice.CheckChoice.{CheckChoice}
 use Rattle.rb_args.specs.declared.choice.ChoiceFault.{ChoiceFault}
 use Rattle.rb_args.specs.declared.choice.ChoiceFault.TheVariants.{Refused, OutOfMemory}
 
--- the mode that a subcommand's name says
-abbrev pub mode_of : Text → Option Mode
-mode_of name =
+-- the subcommand of this name
+abbrev pub named_by : Text → Option Subcommand
+named_by name =
     if bytes_eq name (codes "run") then Some Run
     else if bytes_eq name (codes "rewrite") then Some Rewrite
     else if bytes_eq name (codes "session") then Some Session
+    else if bytes_eq name (codes "check") then Some Check
     else None
 
--- the subcommand that was met, and the values of its FILE and its --every
+-- what is said by the text that clap gives a flag
+abbrev pub is_set : Option Text → Bool
+is_set (Some text) = bytes_eq text (codes "true")
+is_set None = false
+
+-- the PATHs, the filter, the choice of colours and the flags of `check`, by the matches of the subcommand, where one was met
+pub record IsCheckOf (rows : Option (List Row)) (check : CheckChoice) : Type 0 where
+  pub paths : map string_bytes check.paths.items ≡ unwrap_or (option_and_then (all_of (codes "path")) rows) []
+  pub filter : option_map string_bytes check.filter ≡ option_and_then (first_of (codes "filter")) rows
+  pub color : option_map string_bytes check.color ≡ option_and_then (first_of (codes "color")) rows
+  pub accepts : check.accepts ≡ is_set (option_and_then (first_of (codes "accept")) rows)
+  pub verbose : check.is_verbose ≡ is_set (option_and_then (first_of (codes "verbose")) rows)
+
+-- the subcommand that was met, and the values of its FILE and its --every; and what is said to `check`
 pub record IsChoiceOf (met : Option (Text × List Row)) (choice : Choice) : Type 0 where
-  pub mode : choice.mode ≡ option_and_then (λ p. mode_of p.0) met
+  pub subcommand : choice.subcommand ≡ option_and_then (λ p. named_by p.0) met
   pub file : option_map string_bytes choice.file ≡ option_and_then (λ p. first_of (codes "file") p.1) met
   pub every : option_map string_bytes choice.every ≡ option_and_then (λ p. first_of (codes "every") p.1) met
+  pub check : IsCheckOf (option_map (λ p. p.1) met) choice.check
 
 -- an error of one of these kinds, or that memory was refused, which no error tells
 abbrev pub RefusedFor : Kinds → ChoiceFault → Type 0

@@ -4,24 +4,43 @@ use clap::Error;
 
 /// What the program is asked to do.
 #[derive(Clone, Copy, Debug, PartialEq, Eq)]
-pub enum Mode {
+pub enum Subcommand {
     /// `run`: write the report of a script.
     Run,
     /// `rewrite`: write a script with its outputs.
     Rewrite,
     /// `session`: keep a script, and answer edits of it.
     Session,
+    /// `check`: check scripts, and folders of them.
+    Check,
 }
 
 /// What the words choose. What they don't give is `None`.
 #[derive(Debug, Drop)]
 pub struct Choice {
     /// The subcommand.
-    pub mode: Option<Mode>,
+    pub subcommand: Option<Subcommand>,
     /// Its FILE, as it was given.
     pub file: Option<String>,
     /// The text of its `--every`, as it was given.
     pub every: Option<String>,
+    /// What is said to `check` alone.
+    pub check: CheckChoice,
+}
+
+/// What the words choose of `check`. Where another subcommand is meant, nothing of it is given.
+#[derive(Debug, Drop)]
+pub struct CheckChoice {
+    /// Its PATHs, as they were given and in that order.
+    pub paths: Vec<String>,
+    /// The text of its `--filter`.
+    pub filter: Option<String>,
+    /// The text of its `--color`, as it was given.
+    pub color: Option<String>,
+    /// Whether `--accept` is given.
+    pub accepts: bool,
+    /// Whether `--verbose` is given.
+    pub is_verbose: bool,
 }
 
 /// Why the words choose nothing.

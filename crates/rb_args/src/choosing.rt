@@ -1,18 +1,16 @@
 //! Choosing by `clap`.
 
-ghost use Rattle.std.specs.Prelude.{◌≡◌, [], IfOk, IfErr, map, true, false, option_map, string_bytes};
-ghost use Rattle.clap.specs.Words.{app_of, fault_of, subcommand_of, subcommand_rows_of, takes};
-ghost use Rattle.clap.specs.declared.builder.command.Command.TheViews.{out-Command};
-ghost use Rattle.rb_args.specs.CommandLine.{command_line, mode_line};
-ghost use Rattle.rb_args.specs.Chosen.{IsChoiceOf, IsRefusal, RefusedFor, mode_of};
+ghost use Rattle.std.specs.Prelude.{◌≡◌, [], Some, None, IfOk, IfErr, map, true, option_map, string_bytes, unwrap_or};
+ghost use Rattle.clap.specs.Words.{all_of, fault_of, first_of, found_of, rows_of, subcommand_of, subcommand_rows_of, takes};
+ghost use Rattle.rb_args.specs.CommandLine.{command_line};
+ghost use Rattle.rb_args.specs.Chosen.{IsCheckOf, IsChoiceOf, IsRefusal, RefusedFor, is_set, named_by};
 
-use crate::{Choice, ChoiceFault, Mode};
+use crate::commands::raftbench_command;
+use crate::{CheckChoice, Choice, ChoiceFault, Subcommand};
 use clap::error::ErrorKind;
-use clap::{Arg, ArgMatches, Command, Error};
+use clap::{ArgMatches, Error};
 use std::alloc::{AllocError, Global};
 use std::convert::AsStr;
-
-const EVERY_HELP: &str = "Directives from one checkpoint to the next, 1 to 64 [default: 16]";
 
 /// What the words of a command line choose, the program's name first.
 ///
@@ -42,51 +40,6 @@ pub fn chosen<S: AsStr>(alloc: Global, words: &[S]) -> Result<Choice, ChoiceFaul
     }
 }
 
-fn raftbench_command<'a>(alloc: Global) -> Result<Command<'a>, AllocError>
-    ensures { IfOk result (λ command. app_of command ≡ command_line) }
-{
-    let run = mode_command(
-        alloc,
-        "run",
-        "Runs a script and reports where its output differs from what it expects",
-        "Script file; - is standard input",
-    )?;
-    let rewrite = mode_command(
-        alloc,
-        "rewrite",
-        "Runs a script and writes it with the output that it gives",
-        "Script file; - is standard input",
-    )?;
-    let session = mode_command(
-        alloc,
-        "session",
-        "Keeps a script and answers the edits that standard input asks for",
-        "Script file",
-    )?;
-    Command::new(alloc, "raftbench")
-        .about("Runs scripts of etcd raft's interaction tests")
-        .subcommand(run)?
-        .subcommand(rewrite)?
-        .subcommand(session)
-}
-
-fn mode_command<'a>(
-    alloc: Global,
-    name: &'a str,
-    about: &'a str,
-    file_help: &'a str,
-) -> Result<Command<'a>, AllocError>
-    ensures app { IfOk result (λ command. app_of command ≡ mode_line name.entry.now) }
-    ensures local { IfOk result (λ command. (out-Command command).has_globals ≡ false) }
-{
-    let file = Arg::new(alloc, "file").value_name("FILE").help(file_help);
-    let every = Arg::new(alloc, "every")
-        .long("every")
-        .value_name("K")
-        .help(EVERY_HELP);
-    Command::new(alloc, name).about(about).arg(file)?.arg(every)
-}
-
 fn refusal(error: Error) -> ChoiceFault
     ensures { IsRefusal error result }
 {
@@ -101,50 +54,115 @@ fn choice_of(alloc: Global, matches: &ArgMatches<'_>) -> Result<Choice, AllocErr
     ensures { IfOk result (IsChoiceOf (subcommand_rows_of matches.now)) }
 {
     let Some((name, inner)) = matches.subcommand() else {
-        return copied(alloc, None, None, None);
+        return Ok(no_choice(alloc));
     };
-    let file = inner.get_str("file");
-    let every = inner.get_str("every");
-    copied(alloc, mode_of(name), file, every)
+    given(alloc, name, inner)
 }
 
-// The mode that a subcommand's name says.
-fn mode_of(name: &str) -> Option<Mode>
-    ensures { result ≡ mode_of name.now }
+fn no_choice(alloc: Global) -> Choice
+    ensures { IsChoiceOf None result }
+{
+    let check = CheckChoice {
+        paths: Vec::new(alloc),
+        filter: None,
+        color: None,
+        accepts: false,
+        is_verbose: false,
+    };
+    Choice {
+        subcommand: None,
+        file: None,
+        every: None,
+        check,
+    }
+}
+
+// What the subcommand of this name is given.
+fn given(alloc: Global, name: &str, inner: &ArgMatches<'_>) -> Result<Choice, AllocError>
+    ensures { IfOk result (IsChoiceOf (Some (name.now, rows_of (found_of inner.now)))) }
+{
+    let check = check_choice(alloc, inner)?;
+    let file = text_of(alloc, inner, "file")?;
+    let every = text_of(alloc, inner, "every")?;
+    Ok(Choice {
+        subcommand: named_by(name),
+        file,
+        every,
+        check,
+    })
+}
+
+fn check_choice(alloc: Global, inner: &ArgMatches<'_>) -> Result<CheckChoice, AllocError>
+    ensures { IfOk result (IsCheckOf (Some (rows_of (found_of inner.now)))) }
+{
+    let paths = texts_of(alloc, inner, "path")?;
+    let filter = text_of(alloc, inner, "filter")?;
+    let color = text_of(alloc, inner, "color")?;
+    Ok(CheckChoice {
+        paths,
+        filter,
+        color,
+        accepts: is_given(inner, "accept"),
+        is_verbose: is_given(inner, "verbose"),
+    })
+}
+
+// The subcommand of this name.
+fn named_by(name: &str) -> Option<Subcommand>
+    ensures { result ≡ named_by name.now }
 {
     if name == "run" {
-        Some(Mode::Run)
+        Some(Subcommand::Run)
     } else if name == "rewrite" {
-        Some(Mode::Rewrite)
+        Some(Subcommand::Rewrite)
     } else if name == "session" {
-        Some(Mode::Session)
+        Some(Subcommand::Session)
+    } else if name == "check" {
+        Some(Subcommand::Check)
     } else {
         None
     }
 }
 
-fn copied(
-    alloc: Global,
-    mode: Option<Mode>,
-    file: Option<&str>,
-    every: Option<&str>,
-) -> Result<Choice, AllocError>
-    ensures mode { IfOk result (λ choice. choice.mode ≡ mode) }
-    ensures file { IfOk result (λ choice. option_map string_bytes choice.file ≡ option_map (λ s. s.now) file.entry) }
-    ensures every { IfOk result (λ choice. option_map string_bytes choice.every ≡ option_map (λ s. s.now) every.entry) }
+// The first value of an argument.
+#[tactic(auto, using(crate::proofs::ChoiceLaws::first_in_rows))]
+fn text_of(alloc: Global, inner: &ArgMatches<'_>, id: &str) -> Result<Option<String>, AllocError>
+    ensures { IfOk result (λ text. option_map string_bytes text ≡ first_of id.now (rows_of (found_of inner.now))) }
 {
-    Ok(Choice {
-        mode,
-        file: owned(alloc, file)?,
-        every: owned(alloc, every)?,
-    })
-}
-
-fn owned(alloc: Global, text: Option<&str>) -> Result<Option<String>, AllocError>
-    ensures { IfOk result (λ copy. option_map string_bytes copy ≡ option_map (λ s. s.now) text.entry) }
-{
-    match text {
+    match inner.get_str(id) {
         Some(text) => Ok(Some(String::from_str(alloc, text)?)),
         None => Ok(None),
+    }
+}
+
+// All values of an argument.
+#[tactic(auto, using(crate::proofs::ChoiceLaws::all_in_rows))]
+fn texts_of(alloc: Global, inner: &ArgMatches<'_>, id: &str) -> Result<Vec<String>, AllocError>
+    ensures { IfOk result (λ all. map string_bytes all.items ≡ unwrap_or (all_of id.now (rows_of (found_of inner.now))) []) }
+{
+    match inner.get_strs(id) {
+        Some(texts) => owned(alloc, texts),
+        None => Ok(Vec::new(alloc)),
+    }
+}
+
+fn owned(alloc: Global, texts: &[&str]) -> Result<Vec<String>, AllocError>
+    ensures { IfOk result (λ all. map string_bytes all.items ≡ map (λ t. t.now) texts.now) }
+{
+    let mut all = Vec::new(alloc);
+    for text in texts {
+        all.push(String::from_str(alloc, text)?)?;
+    }
+    Ok(all)
+}
+
+// Whether a flag is given. clap gives each flag of a subcommand a text, of which one is that it is given.
+#[tactic(auto, using(crate::proofs::ChoiceLaws::first_in_rows))]
+fn is_given(inner: &ArgMatches<'_>, id: &str) -> bool
+    ensures { result ≡ is_set (first_of id.now (rows_of (found_of inner.now))) }
+{
+    match inner.get_str(id) {
+        Some(text) => text == "true",
+        None => false,
     }
 }

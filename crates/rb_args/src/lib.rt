@@ -1,14 +1,14 @@
-//! The words of the command line: `raftbench run|rewrite|session FILE [--every K]`.
+//! The words of the command line: `raftbench run|rewrite|session FILE [--every K]`, and
+//! `raftbench check PATH.. [--accept] [--filter WORD] [--verbose] [--every K] [--color WHEN]`.
 //!
-//! [`chosen`] reads the words with `clap` and tells what they choose. What a file or a number of
-//! directives must be is for the caller to look at: here they are texts, as they were given.
+//! [`chosen`] reads the words with `clap` and tells what they choose. What a file, a number of directives or a
+//! choice of colours must be is for the caller to look at: here they are texts, as they were given.
 #![tactic(auto)]
 
 mod choice;
 mod choosing;
+mod commands;
 
-pub use choice::{Choice, ChoiceFault, Mode};
+pub use choice::{CheckChoice, Choice, ChoiceFault, Subcommand};
 pub use choosing::chosen;
-
-#[cfg(test)]
-mod tests;
+pub use commands::VERSION;

@@ -1,0 +1,61 @@
+//! `raftbench check`: scripts, and folders of scripts.
+
+use crate::checking::check_script;
+use crate::progress::Progress;
+use crate::refusal::Refusal;
+use crate::report::Report;
+use rb_check::{Colors, Failure};
+use rb_files::{Found, Trouble, find};
+use std::io;
+use std::io::Write;
+use std::rt::Files;
+use std::time::Clock;
+
+/// What is asked for.
+#[derive(Clone, Copy)]
+pub(crate) struct Asked<'a> {
+    pub(crate) paths: &'a [String],
+    pub(crate) filter: Option<&'a str>,
+    pub(crate) accepts: bool,
+    pub(crate) is_verbose: bool,
+    pub(crate) every: u64,
+    pub(crate) colors: Colors,
+    pub(crate) wants_progress: bool,
+}
+
+/// Checks the scripts of the paths, and gives the program's status.
+pub(crate) fn check<R: Files + Print + Clock + AllocGlobal, E: Write + Drop>(
+    rt: &R,
+    asked: Asked<'_>,
+    errors: E,
+) -> Result<u8, Refusal> {
+    let mut progress = Progress::from_now(rt, asked.wants_progress);
+    let mut report = Report::new(rt.alloc(), io::writer(rt), errors)?;
+    let found = find(rt, asked.paths, asked.filter);
+    tell_lost(&found, &mut report);
+    for (done, path) in found.scripts.iter().enumerate() {
+        if progress.is_due(rt) {
+            report.show_progress(done, found.scripts.len());
+        }
+        check_script(rt, asked, path.as_str(), &mut report);
+    }
+    if found.scripts.is_empty() {
+        report.fail(b"raftbench", Trouble::alone(Failure::NoScripts));
+    } else {
+        report.end(milliseconds(&progress, rt));
+    }
+    Ok(report.status_code())
+}
+
+fn tell_lost<W: Write + Drop, E: Write + Drop>(found: &Found, report: &mut Report<W, E>) {
+    for lost in &found.lost {
+        report.fail(&lost.path, lost.trouble);
+    }
+    if found.is_cut {
+        report.fail(b"raftbench", Trouble::alone(Failure::OutOfMemory));
+    }
+}
+
+fn milliseconds<C: Clock>(progress: &Progress, clock: &C) -> u64 {
+    u64::try_from(progress.elapsed(clock).as_millis()).unwrap_or(u64::MAX)
+}

@@ -1,0 +1,164 @@
+//! What is shown of a check, and what it came to.
+//!
+//! What is found out about scripts goes to standard output, failures and how far the work is to standard error. Where standard output fails,
+//! that is told once, and the work goes on without it.
+
+use crate::refusal::Refusal;
+use rb_check::{
+    Failure, Outcome, Totals, put_accepted, put_failure, put_refusal, put_totals, status_code,
+};
+use rb_files::Trouble;
+use rb_number::put_number;
+use rb_script::{ScriptFault, Sink, Through, WriteFault};
+use std::alloc::Global;
+use std::io::{BufWriter, Write};
+
+// Takes the cursor back to the line's first column, and clears the line (ECMA-48).
+const CLEARED: &[u8] = b"\r\x1b[K";
+
+/// What was shown, and what it came to.
+#[derive(Drop)]
+pub(crate) struct Report<W: Write + Drop, E: Write + Drop> {
+    output: Through<BufWriter<W>>,
+    errors: Through<BufWriter<E>>,
+    totals: Totals,
+    // Standard output has failed.
+    is_lost: bool,
+    // How far the work is stands on the terminal.
+    shows_progress: bool,
+}
+
+impl<W: Write + Drop, E: Write + Drop> Report<W, E> {
+    pub(crate) fn new(alloc: Global, output: W, errors: E) -> Result<Report<W, E>, Refusal> {
+        Ok(Report {
+            output: Through(BufWriter::new(alloc, output)?),
+            errors: Through(BufWriter::new(alloc, errors)?),
+            totals: Totals::new(),
+            is_lost: false,
+            shows_progress: false,
+        })
+    }
+
+    /// The program's status.
+    pub(crate) fn status_code(&self) -> u8 {
+        status_code(self.totals.status())
+    }
+
+    /// Where the report of a script is written; None where standard output has failed.
+    pub(crate) fn sink(&mut self) -> Option<&mut Through<BufWriter<W>>> {
+        if self.is_lost {
+            return None;
+        }
+        self.clear();
+        Some(&mut self.output)
+    }
+
+    /// Hands on what was written, and takes note of what came of it.
+    pub(crate) fn wrote(&mut self, written: Result<(), WriteFault>) {
+        let handed_on = written.is_ok() && self.output.0.flush().is_ok();
+        if !handed_on && !self.is_lost {
+            self.is_lost = true;
+            self.fail(b"raftbench", Trouble::alone(Failure::NotShown));
+        }
+    }
+
+    /// A script that ran.
+    pub(crate) fn ran(&mut self, directives: usize, mismatches: usize) {
+        self.totals.add(Outcome::Ran {
+            directives,
+            mismatches,
+        });
+    }
+
+    /// A script that ran, and whose outputs were written into it.
+    pub(crate) fn accepted(&mut self, path: &str, directives: usize, outputs: usize) {
+        self.totals.add(Outcome::Accepted {
+            directives,
+            outputs,
+        });
+        if let Some(sink) = self.sink() {
+            let written = put_accepted(sink, path.as_bytes(), outputs);
+            self.wrote(written);
+        }
+    }
+
+    /// Bytes that are no script.
+    pub(crate) fn refused(&mut self, path: &str, fault: ScriptFault) {
+        self.totals.add(Outcome::Refused(fault));
+        if let Some(sink) = self.sink() {
+            let written = put_refusal(sink, path.as_bytes(), fault);
+            self.wrote(written);
+        }
+    }
+
+    /// A path of which nothing came. That standard error fails too can be told nowhere; the status tells of the path.
+    pub(crate) fn fail(&mut self, path: &[u8], trouble: Trouble) {
+        self.totals.add(Outcome::Failed(trouble.failure));
+        self.clear();
+        let _ = self.tell(path, trouble);
+        let _ = self.errors.0.flush();
+    }
+
+    fn tell(&mut self, path: &[u8], trouble: Trouble) -> Result<(), WriteFault> {
+        put_failure(&mut self.errors, path, trouble.failure)?;
+        match trouble.cause {
+            Some(cause) if tells_too_little(trouble.failure) => {
+                self.errors.put(path)?;
+                match writeln!(self.errors.0, ": {cause}") {
+                    Ok(()) => Ok(()),
+                    Err(_) => Err(WriteFault),
+                }
+            }
+            _ => Ok(()),
+        }
+    }
+
+    /// A new file that could be neither used nor removed. That it came to this is counted where it is told why.
+    pub(crate) fn tell_left(&mut self, path: &str) {
+        self.clear();
+        let _ = writeln!(self.errors.0, "{path}: this new file could not be removed");
+        let _ = self.errors.0.flush();
+    }
+
+    /// Shows how far the work is.
+    pub(crate) fn show_progress(&mut self, done: usize, all: usize) {
+        let _ = self.put_progress(done, all);
+        let _ = self.errors.0.flush();
+        self.shows_progress = true;
+    }
+
+    fn put_progress(&mut self, done: usize, all: usize) -> Result<(), WriteFault> {
+        self.errors.put(CLEARED)?;
+        put_number(&mut self.errors, done as u64)?;
+        self.errors.put(b" of ")?;
+        put_number(&mut self.errors, all as u64)?;
+        self.errors.put(b" scripts")
+    }
+
+    // Takes away what is shown of how far the work is.
+    fn clear(&mut self) {
+        if self.shows_progress {
+            let _ = self.errors.put(CLEARED);
+            let _ = self.errors.0.flush();
+            self.shows_progress = false;
+        }
+    }
+
+    /// The last line.
+    pub(crate) fn end(&mut self, milliseconds: u64) {
+        let totals = self.totals;
+        if let Some(sink) = self.sink() {
+            let written = put_totals(sink, &totals, milliseconds);
+            self.wrote(written);
+        }
+        self.clear();
+    }
+}
+
+// Whether the system's own words say more.
+fn tells_too_little(failure: Failure) -> bool {
+    match failure {
+        Failure::NotRead | Failure::NotWritten => true,
+        _ => false,
+    }
+}

@@ -1,0 +1,142 @@
+//! The command line, made for `clap`.
+
+ghost use Rattle.std.specs.Prelude.{◌≡◌, IfOk, false};
+ghost use Rattle.clap.specs.Words.{app_of, rule_of};
+ghost use Rattle.clap.specs.declared.builder.command.Command.TheViews.{out-Command};
+ghost use Rattle.rb_args.specs.CommandLine.{command_line, subcommand_line, check_line, with_files, with_words, every_rule, flag_rule, option_rule, path_rule};
+
+use clap::{Arg, ArgAction, Command};
+use std::alloc::{AllocError, Global};
+
+/// What `--version` tells behind the program's name: its version, and the toolchain that it was proved with.
+pub const VERSION: &str = "0.1.0, proved with rattle-kit-13b logic dac8208d650f15bf";
+
+const EVERY_HELP: &str = "Directives from one checkpoint to the next, 1 to 64 [default: 16]";
+
+// raftbench, with its subcommands.
+pub(crate) fn raftbench_command<'a>(alloc: Global) -> Result<Command<'a>, AllocError>
+    ensures { IfOk result (λ command. app_of command ≡ command_line) }
+{
+    let command = Command::new(alloc, "raftbench")
+        .about("Runs scripts of etcd raft's interaction tests")
+        .version(VERSION)
+        .subcommand(check_command(alloc)?)?;
+    with_files(command, alloc)
+}
+
+// The subcommands of one script.
+fn with_files<'a>(command: Command<'a>, alloc: Global) -> Result<Command<'a>, AllocError>
+    ensures { IfOk result (λ made. app_of made ≡ with_files (app_of command.entry)) }
+{
+    let run = file_command(
+        alloc,
+        "run",
+        "Runs a script and reports where its output differs from what it expects",
+        "Script file; - is standard input",
+    )?;
+    let rewrite = file_command(
+        alloc,
+        "rewrite",
+        "Runs a script and writes it with the output that it gives",
+        "Script file; - is standard input",
+    )?;
+    let session = file_command(
+        alloc,
+        "session",
+        "Keeps a script and answers the edits that standard input asks for",
+        "Script file",
+    )?;
+    command
+        .subcommand(run)?
+        .subcommand(rewrite)?
+        .subcommand(session)
+}
+
+fn file_command<'a>(
+    alloc: Global,
+    name: &'a str,
+    about: &'a str,
+    file_help: &'a str,
+) -> Result<Command<'a>, AllocError>
+    ensures app { IfOk result (λ command. app_of command ≡ subcommand_line name.entry.now) }
+    ensures local { IfOk result (λ command. (out-Command command).has_globals ≡ false) }
+{
+    let file = Arg::new(alloc, "file").value_name("FILE").help(file_help);
+    Command::new(alloc, name)
+        .about(about)
+        .arg(file)?
+        .arg(every_argument(alloc))
+}
+
+fn check_command<'a>(alloc: Global) -> Result<Command<'a>, AllocError>
+    ensures app { IfOk result (λ command. app_of command ≡ check_line) }
+    ensures local { IfOk result (λ command. (out-Command command).has_globals ≡ false) }
+{
+    let path = Arg::new(alloc, "path")
+        .value_name("PATH")
+        .required(true)
+        .action(ArgAction::Append)
+        .help("Script, or folder whose *.txt and those of its folders are the scripts");
+    let command = Command::new(alloc, "check")
+        .about("Checks scripts and folders of scripts, and shows each line that differs")
+        .arg(path)?
+        .arg(flag_argument(
+            alloc,
+            "accept",
+            "Writes the outputs that came into the scripts",
+        ))?;
+    with_words(command, alloc)
+}
+
+// The options of `check` that change what is looked at and what is shown.
+fn with_words<'a>(command: Command<'a>, alloc: Global) -> Result<Command<'a>, AllocError>
+    ensures app { IfOk result (λ made. app_of made ≡ with_words (app_of command.entry)) }
+    ensures local { (out-Command command.entry).has_globals ≡ false → IfOk result (λ made. (out-Command made).has_globals ≡ false) }
+{
+    let filter = option_argument(
+        alloc,
+        "filter",
+        "WORD",
+        "Keeps the paths that have WORD in them",
+    );
+    let color = option_argument(
+        alloc,
+        "color",
+        "WHEN",
+        "Shows colours: auto (on a terminal), always or never [default: auto]",
+    );
+    command
+        .arg(filter)?
+        .arg(flag_argument(alloc, "verbose", "Shows each directive with its output"))?
+        .arg(every_argument(alloc))?
+        .arg(color)
+}
+
+fn every_argument<'a>(alloc: Global) -> Arg<'a>
+    ensures rule { rule_of result ≡ every_rule }
+    ensures local { result.global ≡ false }
+{
+    option_argument(alloc, "every", "K", EVERY_HELP)
+}
+
+// --NAME VALUE
+fn option_argument<'a>(alloc: Global, name: &'a str, value_name: &'a str, help: &'a str) -> Arg<'a>
+    ensures rule { rule_of result ≡ option_rule name.entry.now }
+    ensures local { result.global ≡ false }
+{
+    Arg::new(alloc, name)
+        .long(name)
+        .value_name(value_name)
+        .help(help)
+}
+
+// --NAME
+fn flag_argument<'a>(alloc: Global, name: &'a str, help: &'a str) -> Arg<'a>
+    ensures rule { rule_of result ≡ flag_rule name.entry.now }
+    ensures local { result.global ≡ false }
+{
+    Arg::new(alloc, name)
+        .long(name)
+        .action(ArgAction::SetTrue)
+        .help(help)
+}

@@ -1,0 +1,7 @@
+pub mod PieceLaws
+pub mod ShownLaws
+pub mod CommonLaws
+pub mod DiffLaws
+pub mod SentenceLaws
+pub mod CountLaws
+pub mod ToldLaws

@@ -1,0 +1,68 @@
+-- A text that is written in pieces.
+use Rattle.std.proofs.Common.{◌≡◌, ℕ, ◌+◌, Bool, cond, List, [], ◌∷◌, ◌++◌, drop, Option, Some, Result, Ok, Err, ap, sym, subst, ◌∙◌, append_assoc, append-nil}
+use Rattle.std.specs.Prelude.{IsErr, slice_get, codes, decimal}
+use Rattle.std.specs.Io.KnownBytes.{Appends}
+use Rattle.std.proofs.KnownBytes.{Appends-nil, Appends-trans}
+use Rattle.std.proofs.lemmas.Bool.{ne_eqb}
+use Rattle.std.proofs.lemmas.List.{drop_more}
+use Rattle.std.proofs.lemmas.Option.{slice_get_within, get_or_from_slice_get}
+use Rattle.rb_script.specs.declared.sink.WriteFault.{WriteFault}
+use Rattle.rb_script.specs.Writes.{AppendsFront, Writes}
+use Rattle.rb_check.specs.Pieces.{count_text}
+
+-- a front of the text went out, and the rest is still to go
+pub record Sent (old new : Option (List ℕ)) (text rest : List ℕ) : Type 0 where
+  pub front : List ℕ
+  pub parts : text ≡ front ++ rest
+  pub appended : Appends old new front
+
+-- nothing went out yet
+pub sent_none : (old : Option (List ℕ)) (text rest : List ℕ) → text ≡ rest → Sent old old text rest
+sent_none old text rest e = record { front = []; parts = e; appended = Appends-nil old }
+
+-- a piece went out
+pub sent_piece : {old mid : Option (List ℕ)} {text : List ℕ} (new : Option (List ℕ)) (a rest : List ℕ) → Sent old mid text (a ++ rest) → Appends mid new a → Sent old new text rest
+sent_piece {old} {mid} new a rest s h = record {
+  front = s.front ++ a;
+  parts = s.parts ∙ sym (append_assoc s.front a rest);
+  appended = Appends-trans old mid new s.front a s.appended h;
+}
+
+-- what is still to go, seen otherwise
+pub sent_along : {old new : Option (List ℕ)} {text rest other : List ℕ} → rest ≡ other → Sent old new text rest → Sent old new text other
+sent_along {old} {new} {text} e s = subst (λ (l : List ℕ). Sent old new text l) e s
+
+-- a beginning of a piece went out
+piece_front : {old mid : Option (List ℕ)} {text : List ℕ} (new : Option (List ℕ)) (a rest : List ℕ) → Sent old mid text (a ++ rest) → AppendsFront mid new a → AppendsFront old new text
+piece_front {old} {mid} new a rest s f = record {
+  front = s.front ++ f.front;
+  rest = f.rest ++ rest;
+  parts = s.parts ∙ ap (λ (l : List ℕ). s.front ++ (l ++ rest)) f.parts ∙ ap (λ (l : List ℕ). s.front ++ l) (append_assoc f.front f.rest rest) ∙ sym (append_assoc s.front f.front (f.rest ++ rest));
+  appended = Appends-trans old mid new s.front f.front s.appended f.appended;
+}
+
+-- the write of a piece failed, and so does the whole
+pub piece_exit : {X : Type 0} {old mid : Option (List ℕ)} {text : List ℕ} (r : Result X WriteFault) (new : Option (List ℕ)) (a rest : List ℕ) → IsErr r → Sent old mid text (a ++ rest) → AppendsFront mid new a → Writes r old new text
+piece_exit (Ok x) new a rest is s f = absurd cc
+piece_exit (Err d) new a rest is s f = piece_front new a rest s f
+
+-- the last piece, whatever its write answered
+pub piece_last : {X : Type 0} {old mid : Option (List ℕ)} {text : List ℕ} (r : Result X WriteFault) (new : Option (List ℕ)) (a : List ℕ) → Sent old mid text a → Writes r mid new a → Writes r old new text
+piece_last {old = old} {mid = mid} (Ok x) new a s h = subst (λ (l : List ℕ). Appends old new l) (sym s.parts) (Appends-trans old mid new s.front a s.appended h)
+piece_last {old = old} {mid = mid} {text = text} (Err d) new a s h = piece_front new a [] (subst (λ (l : List ℕ). Sent old mid text l) (sym (append-nil a)) s) h
+
+-- all went out
+pub sent_all : {old new : Option (List ℕ)} {text rest : List ℕ} → rest ≡ [] → Sent old new text rest → Appends old new text
+sent_all {old} {new} {text} {rest} e s = subst (λ (l : List ℕ). Appends old new l) (sym (s.parts ∙ ap (λ (l : List ℕ). s.front ++ l) e ∙ append-nil s.front)) s.appended
+
+-- the text of a number that is not 0
+pub count_some : (n : ℕ) (word : List ℕ) → (n ≡ 0 → ⊥) → count_text n word ≡ codes ", " ++ (decimal n ++ word)
+count_some n word some = ap (λ (t : Bool). cond t [] (codes ", " ++ (decimal n ++ word))) (ne_eqb n 0 some)
+
+-- the same text, seen otherwise
+pub writes_along : {X : Type 0} (r : Result X WriteFault) (old new : Option (List ℕ)) (text other : List ℕ) → text ≡ other → Writes r old new text → Writes r old new other
+writes_along r old new text other e w = subst (λ (l : List ℕ). Writes r old new l) e w
+
+-- the element at a place, and those after it
+pub drop-get : {A : Type 0} (xs : List A) (i : ℕ) (x : A) → slice_get xs i ≡ Some x → drop i xs ≡ x ∷ drop (i + 1) xs
+drop-get xs i x got = drop_more xs i x (slice_get_within xs i x got) ∙ ap (λ (y : _). y ∷ drop (i + 1) xs) (get_or_from_slice_get xs i x x got)

@@ -1,0 +1,21 @@
+-- The pieces that a text is put together of. (This project's.)
+use Rattle.std.specs.Prelude.{ℕ, ◌==◌, if◌then◌else◌, List, [], ◌++◌, codes, decimal}
+use Rattle.std.specs.List.{flat_map}
+use Rattle.rb_check.specs.declared.piece.Piece.{Piece}
+use Rattle.rb_check.specs.declared.piece.Piece.TheVariants as pieces
+
+-- how many there are of something, after a comma; nothing where there is none
+abbrev pub count_text : ℕ → List ℕ → List ℕ
+count_text n noun = if n == 0 then [] else codes ", " ++ (decimal n ++ noun)
+
+-- the word for one, or for several
+abbrev pub noun : ℕ → List ℕ → List ℕ → List ℕ
+noun n one many = if n == 1 then one else many
+
+abbrev pub piece_text : Piece → List ℕ
+piece_text (pieces.Bytes bytes) = bytes.now
+piece_text (pieces.Number n) = decimal n
+piece_text (pieces.Count n word) = count_text n word.now
+
+abbrev pub pieces_text : List Piece → List ℕ
+pieces_text ps = flat_map piece_text ps

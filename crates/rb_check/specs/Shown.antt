@@ -1,0 +1,56 @@
+-- What is shown of a line: what stands before and after it, and a mark where its end would not be seen. (This project's.)
+use Rattle.std.specs.Prelude.{ℕ, Bool, ◌==◌, ◌||◌, if◌then◌else◌, List, [], ◌∷◌, ◌++◌, codes}
+use Rattle.rb_script.specs.Bytes.{space}
+use Rattle.rb_script.specs.Lines.{Line}
+use Rattle.rb_script.specs.Marks.{is_space}
+use Rattle.rb_check.specs.declared.colors.Colors.{Colors}
+use Rattle.rb_check.specs.declared.colors.Colors.TheVariants.{Off, On}
+use Rattle.rb_check.specs.declared.side.Side.{Side}
+use Rattle.rb_check.specs.declared.side.Side.TheVariants.{Both, Expected, Output}
+
+abbrev pub dollar_sign : ℕ
+dollar_sign = 36
+
+abbrev pub escape : ℕ
+escape = 27
+
+-- the last byte of a line, or d before it where there is none
+abbrev pub last_or : ℕ → Line → ℕ
+last_or d [] = d
+last_or d (b ∷ line) = last_or b line
+
+-- a blank at its end, or none of anything, would not be seen; the mark itself is marked again, so that no two lines look alike
+abbrev pub needs_mark : Line → Bool
+needs_mark line = is_space (last_or space line) || last_or space line == dollar_sign
+
+abbrev pub end_mark : Line → List ℕ
+end_mark line = if needs_mark line then codes "$" else []
+
+-- a line with the mark of its end
+unfoldable pub marked : Line → List ℕ
+marked line = line ++ end_mark line
+
+-- what stands before a line
+abbrev pub before : Colors → Side → List ℕ
+before colors Both = codes "  "
+before Off Expected = codes "- "
+before Off Output = codes "+ "
+before On Expected = escape ∷ codes "[31m- "
+before On Output = escape ∷ codes "[32m+ "
+
+-- what stands after it
+abbrev pub after : Colors → Side → List ℕ
+after colors Both = []
+after Off Expected = []
+after Off Output = []
+after On Expected = escape ∷ codes "[0m"
+after On Output = escape ∷ codes "[0m"
+
+abbrev pub line_shown : Colors → Side → Line → List ℕ
+line_shown colors side line = before colors side ++ (line ++ (end_mark line ++ (after colors side ++ codes "\n")))
+
+-- a text in the colour of its side: put on before it, and off behind it
+abbrev pub colored : Side → List ℕ → List ℕ
+colored Both text = text
+colored Expected text = (escape ∷ codes "[31m") ++ (text ++ (escape ∷ codes "[0m"))
+colored Output text = (escape ∷ codes "[32m") ++ (text ++ (escape ∷ codes "[0m"))

@@ -1,0 +1,26 @@
+//! A script into which outputs were written.
+
+ghost use Rattle.std.specs.Prelude.{IsOk};
+ghost use Rattle.rb_script.specs.Writes.{Writes};
+ghost use Rattle.rb_check.specs.Counts.{accepted_text};
+
+use crate::piece::{Piece, noun, put_pieces};
+use rb_script::{Sink, WriteFault};
+
+/// Writes how many outputs now stand in a script: `PATH: accepted 2 outputs`. On a failure what went out is a beginning of the text.
+pub fn put_accepted<S: Sink>(sink: &mut S, path: &[u8], outputs: usize) -> Result<(), WriteFault>
+    ensures wrote { Writes result (S.held sink.old) (S.held sink.new) (accepted_text path.now outputs) }
+    ensures all { S.takes_all sink.old → IsOk result × S.takes_all sink.new }
+{
+    let count = outputs as u64;
+    put_pieces(
+        sink,
+        &[
+            Piece::Bytes(path),
+            Piece::Bytes(b": accepted "),
+            Piece::Number(count),
+            Piece::Bytes(noun(count, b" output", b" outputs")),
+            Piece::Bytes(b"\n"),
+        ],
+    )
+}

@@ -1,0 +1,63 @@
+//! Why nothing came of a path.
+
+ghost use Rattle.std.specs.Prelude.{◌≡◌, IsOk};
+ghost use Rattle.rb_script.specs.Writes.{Writes};
+ghost use Rattle.rb_check.specs.Failures.{failure_sentence, failure_text};
+
+use crate::piece::{Piece, put_pieces};
+use rb_script::{Sink, WriteFault};
+
+/// Why nothing came of a path.
+#[derive(Clone, Copy, Debug, PartialEq, Eq)]
+pub enum Failure {
+    /// Nothing has that name.
+    NotFound,
+    /// The system lets nobody of this name read it.
+    NoPermission,
+    /// It is a device, a pipe, a socket or the like.
+    NoFile,
+    /// Its links lead back to themselves.
+    LinkLoop,
+    /// Opening, listing or reading it failed otherwise.
+    NotRead,
+    /// Its new text could not be put in its place.
+    NotWritten,
+    /// What is shown could not be written.
+    NotShown,
+    /// There was no script.
+    NoScripts,
+    /// Memory was refused.
+    OutOfMemory,
+}
+
+fn sentence(failure: Failure) -> &'static [u8]
+    ensures { result.now ≡ failure_sentence failure }
+{
+    match failure {
+        Failure::NotFound => b"no such file or folder",
+        Failure::NoPermission => b"there is no permission to read it",
+        Failure::NoFile => b"it is neither a file nor a folder",
+        Failure::LinkLoop => b"its links lead round in a loop",
+        Failure::NotRead => b"it could not be read",
+        Failure::NotWritten => b"the outputs could not be accepted; the file is as it was",
+        Failure::NotShown => b"the report could not be written",
+        Failure::NoScripts => b"no script was found",
+        Failure::OutOfMemory => b"out of memory",
+    }
+}
+
+/// Writes why nothing came of a path: `PATH: ` and a sentence. On a failure what went out is a beginning of the text.
+pub fn put_failure<S: Sink>(sink: &mut S, path: &[u8], failure: Failure) -> Result<(), WriteFault>
+    ensures wrote { Writes result (S.held sink.old) (S.held sink.new) (failure_text path.now failure) }
+    ensures all { S.takes_all sink.old → IsOk result × S.takes_all sink.new }
+{
+    put_pieces(
+        sink,
+        &[
+            Piece::Bytes(path),
+            Piece::Bytes(b": "),
+            Piece::Bytes(sentence(failure)),
+            Piece::Bytes(b"\n"),
+        ],
+    )
+}

@@ -1,0 +1,41 @@
+//! What `raftbench check` shows, and how it ends: where outputs are not the expected ones, why a script is refused or a file
+//! failed, what there was of each, and the status.
+//!
+//! It opens no file, runs no script and takes no memory: it writes into any sink what it is given. Of a line that is empty or
+//! ends in a space, a tab or `$`, a `$` is shown after its end: so blanks are seen, and no two lines look alike. All other bytes
+//! go out as they are.
+#![tactic(auto)]
+
+mod accepted;
+mod colors;
+mod diff;
+mod failure;
+mod laws;
+mod line;
+mod mismatch;
+mod outcome;
+mod piece;
+mod place;
+mod refusal;
+mod side;
+mod status;
+mod totals;
+
+pub use accepted::put_accepted;
+pub use colors::Colors;
+pub use failure::{Failure, put_failure};
+pub use laws::{
+    colors_go_around, counts_are_sums, diffs_are, diffs_tell_both_sides, lines_are_told_apart,
+    same_lines_are_plain, sentences_are_distinct, shown_diffs_tell_both_sides,
+    statuses_are_greatest,
+};
+pub use mismatch::{put_directive, put_mismatch};
+pub use outcome::Outcome;
+pub use place::Place;
+pub use refusal::put_refusal;
+pub use side::Side;
+pub use status::{Status, status_code};
+pub use totals::{Totals, put_totals};
+
+#[cfg(test)]
+mod tests;

@@ -1,0 +1,69 @@
+//! A line as it is shown.
+
+ghost use Rattle.std.specs.Prelude.{◌≡◌, ◌≤◌, IsOk, length};
+ghost use Rattle.rb_script.specs.Lines.{line_text};
+ghost use Rattle.rb_script.specs.Writes.{Writes};
+ghost use Rattle.rb_check.specs.Shown.{needs_mark, end_mark, line_shown};
+ghost use Rattle.rb_check.specs.Diffs.{on_side, between, diff_text};
+
+use crate::colors::Colors;
+use crate::piece::{Piece, put_pieces};
+use crate::side::{Side, after, before};
+use rb_script::{Lines, Sink, WriteFault, is_space};
+
+// Whether the end of the line would not be seen.
+fn needs_mark(line: &[u8]) -> bool
+    ensures { result ≡ needs_mark line.now }
+{
+    match line.split_last() {
+        Some((last, _front)) => is_space(*last) || *last == b'$',
+        None => true,
+    }
+}
+
+// What is shown at the end of the line.
+fn end_mark(line: &[u8]) -> &'static [u8]
+    ensures { result.now ≡ end_mark line.now }
+{
+    if needs_mark(line) { b"$" } else { b"" }
+}
+
+fn put_line<S: Sink>(
+    sink: &mut S,
+    colors: Colors,
+    side: Side,
+    line: &[u8],
+) -> Result<(), WriteFault>
+    ensures wrote { Writes result (S.held sink.old) (S.held sink.new) (line_shown colors side line.now) }
+    ensures all { S.takes_all sink.old → IsOk result × S.takes_all sink.new }
+{
+    put_pieces(
+        sink,
+        &[
+            Piece::Bytes(before(colors, side)),
+            Piece::Bytes(line),
+            Piece::Bytes(end_mark(line)),
+            Piece::Bytes(after(colors, side)),
+            Piece::Bytes(b"\n"),
+        ],
+    )
+}
+
+/// Writes the lines from one position up to another, of one side.
+pub(crate) fn put_lines<S: Sink>(
+    sink: &mut S,
+    colors: Colors,
+    side: Side,
+    lines: &Lines,
+    start: usize,
+    stop: usize,
+) -> Result<(), WriteFault>
+    requires { stop ≤ length lines.now }
+    ensures wrote { Writes result (S.held sink.old) (S.held sink.new) (diff_text colors (on_side side (between start stop lines.now))) }
+    ensures all { S.takes_all sink.old → IsOk result × S.takes_all sink.new }
+{
+    for i in start..stop {
+        put_line(sink, colors, side, lines.line(i))?;
+    }
+    Ok(())
+}

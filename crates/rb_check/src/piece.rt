@@ -1,0 +1,60 @@
+//! The pieces that a text is put together of.
+
+ghost use Rattle.std.specs.Prelude.{◌≡◌, IsOk, decimal};
+ghost use Rattle.rb_script.specs.Writes.{Writes};
+ghost use Rattle.rb_check.specs.Pieces.{count_text, noun, piece_text, pieces_text};
+
+use rb_number::put_number;
+use rb_script::{Sink, WriteFault};
+
+/// A piece of a text.
+#[derive(Clone, Copy)]
+pub(crate) enum Piece<'a> {
+    /// The bytes as they are.
+    Bytes(&'a [u8]),
+    /// A number in decimal digits.
+    Number(u64),
+    /// How many there are of something, after a comma; nothing where there is none.
+    Count(u64, &'a [u8]),
+}
+
+/// The word for one, or for several.
+pub(crate) fn noun<'a>(n: u64, one: &'a [u8], many: &'a [u8]) -> &'a [u8]
+    ensures { result.now ≡ noun n one.now many.now }
+{
+    if n == 1 { one } else { many }
+}
+
+/// Writes the pieces.
+pub(crate) fn put_pieces<S: Sink>(sink: &mut S, pieces: &[Piece<'_>]) -> Result<(), WriteFault>
+    ensures wrote { Writes result (S.held sink.old) (S.held sink.new) (pieces_text pieces.now) }
+    ensures all { S.takes_all sink.old → IsOk result × S.takes_all sink.new }
+{
+    for piece in pieces {
+        put_piece(sink, *piece)?;
+    }
+    Ok(())
+}
+
+fn put_piece<S: Sink>(sink: &mut S, piece: Piece<'_>) -> Result<(), WriteFault>
+    ensures wrote { Writes result (S.held sink.old) (S.held sink.new) (piece_text piece.entry) }
+    ensures all { S.takes_all sink.old → IsOk result × S.takes_all sink.new }
+{
+    match piece {
+        Piece::Bytes(bytes) => sink.put(bytes),
+        Piece::Number(n) => put_number(sink, n),
+        Piece::Count(n, word) => put_count(sink, n, word),
+    }
+}
+
+fn put_count<S: Sink>(sink: &mut S, n: u64, word: &[u8]) -> Result<(), WriteFault>
+    ensures wrote { Writes result (S.held sink.old) (S.held sink.new) (count_text n word.now) }
+    ensures all { S.takes_all sink.old → IsOk result × S.takes_all sink.new }
+{
+    if n == 0 {
+        return Ok(());
+    }
+    sink.put(b", ")?;
+    put_number(sink, n)?;
+    sink.put(word)
+}

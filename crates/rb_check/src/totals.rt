@@ -1,0 +1,183 @@
+//! What came of all paths.
+
+ghost use Rattle.std.specs.Prelude.{◌≡◌, ◌==◌, IsOk};
+ghost use Rattle.rb_script.specs.Writes.{Writes};
+ghost use Rattle.rb_check.specs.Counts.{nothing, one_run, one_refusal, one_failure, of_refused, of_failed, of_outcome, together, status_of, totals_text};
+
+use crate::failure::Failure;
+use crate::outcome::Outcome;
+use crate::piece::{Piece, noun, put_pieces};
+use crate::status::Status;
+use rb_script::{ScriptFault, Sink, WriteFault};
+
+/// What came of all paths. A number that would pass [`u64::MAX`] stays there.
+#[derive(Clone, Copy, Debug, PartialEq, Eq)]
+pub struct Totals {
+    /// The scripts that ran or were refused.
+    pub scripts: u64,
+    /// The directives that ran.
+    pub directives: u64,
+    /// The outputs that are not the expected ones, and were not accepted.
+    pub mismatches: u64,
+    /// The outputs that were accepted.
+    pub accepted: u64,
+    /// The scripts that were refused.
+    pub refused: u64,
+    /// The files and folders that failed, with those that found no memory.
+    pub failed: u64,
+    /// Those that found no memory.
+    pub starved: u64,
+}
+
+impl Totals {
+    /// Of no paths.
+    pub fn new() -> Totals
+        ensures { result ≡ nothing }
+    {
+        Totals {
+            scripts: 0,
+            directives: 0,
+            mismatches: 0,
+            accepted: 0,
+            refused: 0,
+            failed: 0,
+            starved: 0,
+        }
+    }
+
+    fn one_run(directives: usize, mismatches: usize, accepted: usize) -> Totals
+        ensures { result ≡ one_run directives mismatches accepted }
+    {
+        Totals {
+            scripts: 1,
+            directives: directives as u64,
+            mismatches: mismatches as u64,
+            accepted: accepted as u64,
+            ..Totals::new()
+        }
+    }
+
+    fn one_failure(starved: u64) -> Totals
+        ensures { result ≡ one_failure starved }
+    {
+        Totals {
+            failed: 1,
+            starved,
+            ..Totals::new()
+        }
+    }
+
+    fn of_refused(fault: ScriptFault) -> Totals
+        ensures { result ≡ of_refused fault }
+    {
+        match fault {
+            ScriptFault::OutOfMemory => Totals::one_failure(1),
+            _ => Totals {
+                scripts: 1,
+                refused: 1,
+                ..Totals::new()
+            },
+        }
+    }
+
+    fn of_failed(failure: Failure) -> Totals
+        ensures { result ≡ of_failed failure }
+    {
+        match failure {
+            Failure::OutOfMemory => Totals::one_failure(1),
+            _ => Totals::one_failure(0),
+        }
+    }
+
+    fn of_outcome(outcome: Outcome) -> Totals
+        ensures { result ≡ of_outcome outcome }
+    {
+        match outcome {
+            Outcome::Ran {
+                directives,
+                mismatches,
+            } => Totals::one_run(directives, mismatches, 0),
+            Outcome::Accepted {
+                directives,
+                outputs,
+            } => Totals::one_run(directives, 0, outputs),
+            Outcome::Refused(fault) => Totals::of_refused(fault),
+            Outcome::Failed(failure) => Totals::of_failed(failure),
+        }
+    }
+
+    /// With what came of one path more.
+    pub fn add(&mut self, outcome: Outcome)
+        ensures { self.new ≡ together self.old (of_outcome outcome) }
+    {
+        let one = Totals::of_outcome(outcome);
+        *self = Totals {
+            scripts: self.scripts.saturating_add(one.scripts),
+            directives: self.directives.saturating_add(one.directives),
+            mismatches: self.mismatches.saturating_add(one.mismatches),
+            accepted: self.accepted.saturating_add(one.accepted),
+            refused: self.refused.saturating_add(one.refused),
+            failed: self.failed.saturating_add(one.failed),
+            starved: self.starved.saturating_add(one.starved),
+        };
+    }
+
+    /// The greatest status that was met.
+    pub fn status(&self) -> Status
+        ensures { result ≡ status_of self.now }
+    {
+        if self.starved != 0 {
+            Status::OutOfMemory
+        } else if self.failed != 0 {
+            Status::Failed
+        } else if self.refused != 0 {
+            Status::Refused
+        } else if self.mismatches != 0 {
+            Status::Mismatched
+        } else {
+            Status::Matched
+        }
+    }
+}
+
+impl Default for Totals {
+    ghost is_default = { λ totals. totals ≡ nothing };
+
+    fn default() -> Totals {
+        Totals::new()
+    }
+}
+
+/// Writes the last line: how many scripts, directives, mismatches and refused scripts there were, what was accepted and what failed
+/// where there is any, and the time in seconds. On a failure what went out is a beginning of the text.
+pub fn put_totals<S: Sink>(
+    sink: &mut S,
+    totals: &Totals,
+    milliseconds: u64,
+) -> Result<(), WriteFault>
+    ensures wrote { Writes result (S.held sink.old) (S.held sink.new) (totals_text totals.now milliseconds) }
+    ensures all { S.takes_all sink.old → IsOk result × S.takes_all sink.new }
+{
+    put_pieces(
+        sink,
+        &[
+            Piece::Number(totals.scripts),
+            Piece::Bytes(noun(totals.scripts, b" script, ", b" scripts, ")),
+            Piece::Number(totals.directives),
+            Piece::Bytes(noun(totals.directives, b" directive, ", b" directives, ")),
+            Piece::Number(totals.mismatches),
+            Piece::Bytes(noun(totals.mismatches, b" mismatch, ", b" mismatches, ")),
+            Piece::Number(totals.refused),
+            Piece::Bytes(b" refused"),
+            Piece::Count(totals.accepted, b" accepted"),
+            Piece::Count(totals.failed, b" failed"),
+            Piece::Bytes(b", "),
+            Piece::Number(milliseconds / 1000),
+            Piece::Bytes(b"."),
+            Piece::Number(milliseconds / 100 % 10),
+            Piece::Number(milliseconds / 10 % 10),
+            Piece::Number(milliseconds % 10),
+            Piece::Bytes(b" s\n"),
+        ],
+    )
+}

@@ -1,0 +1,3 @@
+pub mod Finds
+pub mod Places
+pub mod Troubles

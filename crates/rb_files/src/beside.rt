@@ -1,0 +1,191 @@
+//! The place of a real file.
+
+ghost use Rattle.std.specs.Prelude.{◌≡◌, None, MatchResult, option_map, string_bytes};
+ghost use Rattle.rb_files.specs.Troubles.{IsOfReading};
+
+use crate::entry::{folder_of, followed};
+use crate::place::Place;
+use crate::trouble::Trouble;
+use std::fs::{Metadata, OpenFile, OpenOptions};
+use std::io::{ErrorKind, Write};
+use std::os::unix::fs::{MetadataExt, OpenOptionsExt, chown};
+use std::path::Path;
+use std::rt::Files;
+use std::{fs, io};
+
+// How many names are tried for a new file. Those that are taken belong to other programs, or to a run that was killed.
+const MOST_NAMES: usize = 1_000;
+
+/// A script's file, and the new file beside it.
+#[derive(Drop)]
+pub struct Beside<'a, R: Files> {
+    rt: &'a R,
+    // where the script's file is, all links followed
+    target: String,
+    // what it was when it was read
+    seen: Metadata,
+    new: Option<NewFile<R::File>>,
+}
+
+// A file that is open, and its path.
+#[derive(Drop)]
+struct NewFile<F: Drop> {
+    path: String,
+    file: F,
+}
+
+impl<'a, R: Files + AllocGlobal> Beside<'a, R> {
+    /// The place of the file at the path, its links followed, which was `seen` when it was read.
+    pub fn new(rt: &'a R, path: &str, seen: Metadata) -> Result<Beside<'a, R>, Trouble>
+        // There is no new file yet.
+        ensures { MatchResult result (λ place. place.new ≡ None) IsOfReading }
+    {
+        let target = followed(rt, path)?;
+        Ok(Beside {
+            rt,
+            target,
+            seen,
+            new: None,
+        })
+    }
+
+    /// The new file's path, where there is one.
+    pub fn left(&self) -> Option<&str>
+        ensures { option_map (λ path. path.now) result ≡ option_map (λ new. string_bytes new.path) self.now.new }
+    {
+        match &self.new {
+            Some(new) => Some(new.path.as_str()),
+            None => None,
+        }
+    }
+
+    // A file that nobody else has, in the folder of the script's file. Its name begins with a dot and doesn't end in `.txt`.
+    fn new_file(&self) -> io::Result<NewFile<R::File>> {
+        for number in 0..MOST_NAMES {
+            let path = self.new_path(number)?;
+            let opened = OpenOptions::new()
+                .write(true)
+                .create_new(true)
+                .mode(0o600)
+                .open(self.rt, path.as_str());
+            match opened {
+                Ok(file) => return Ok(NewFile { path, file }),
+                Err(error) if error.kind() == ErrorKind::AlreadyExists => {}
+                Err(error) => return Err(error),
+            }
+        }
+        Err(io::Error::from(ErrorKind::AlreadyExists))
+    }
+
+    fn new_path(&self, number: usize) -> io::Result<String> {
+        let alloc = self.rt.alloc();
+        let name = format!(in alloc; ".raftbench-{number}.new")?;
+        Ok(
+            Path::new(folder_of(self.target.as_str()))
+                .join(alloc, name)?
+                .into_string(),
+        )
+    }
+
+    // What the system lets nobody write into isn't replaced, though its folder would let it.
+    fn check_rights(&self) -> io::Result<()> {
+        OpenOptions::new()
+            .write(true)
+            .open(self.rt, self.target.as_str())?;
+        Ok(())
+    }
+
+    // Whether what stands in the place is still what was read.
+    fn check_unchanged(&self) -> io::Result<()> {
+        let now = fs::symlink_metadata(self.rt, self.target.as_str())?;
+        if is_same(&now, &self.seen) {
+            Ok(())
+        } else {
+            Err(io::Error::other("the file has changed since it was read"))
+        }
+    }
+}
+
+fn is_same(now: &Metadata, seen: &Metadata) -> bool {
+    now.dev() == seen.dev()
+        && now.ino() == seen.ino()
+        && now.len() == seen.len()
+        && now.mtime() == seen.mtime()
+        && now.mtime_nsec() == seen.mtime_nsec()
+}
+
+impl<F: Write + OpenFile + Drop> NewFile<F> {
+    // The owner first, since a change of it may take rights away. Who may not give a file away keeps it.
+    fn settle<R: Files>(&self, rt: &R, seen: &Metadata) -> io::Result<()> {
+        let now = self.file.metadata()?;
+        if now.uid() != seen.uid() || now.gid() != seen.gid() {
+            let _ = chown(rt, self.path.as_str(), Some(seen.uid()), Some(seen.gid()));
+        }
+        self.file.set_permissions(seen.permissions())?;
+        self.file.sync_all()
+    }
+}
+
+fn missing() -> io::Error {
+    io::Error::from(ErrorKind::NotFound)
+}
+
+fn answered(outcome: io::Result<()>) -> Result<(), Trouble> {
+    match outcome {
+        Ok(()) => Ok(()),
+        Err(error) => Err(Trouble::of_writing(error)),
+    }
+}
+
+// What stands in a folder of the system's is not known, so of these calls nothing is claimed.
+impl<'a, R: Files + AllocGlobal> Place for Beside<'a, R> {
+    ghost stands = { λ _. None };
+
+    fn create(&mut self) -> Result<(), Trouble> {
+        answered(self.check_rights())?;
+        match self.new_file() {
+            Ok(new) => {
+                self.new = Some(new);
+                Ok(())
+            }
+            Err(error) => Err(Trouble::of_writing(error)),
+        }
+    }
+
+    fn put(&mut self, text: &[u8]) -> Result<(), Trouble> {
+        match &mut self.new {
+            Some(new) => answered(new.file.write_all(text)),
+            None => answered(Err(missing())),
+        }
+    }
+
+    fn settle(&mut self) -> Result<(), Trouble> {
+        match &self.new {
+            Some(new) => answered(new.settle(self.rt, &self.seen)),
+            None => answered(Err(missing())),
+        }
+    }
+
+    fn rename(&mut self) -> Result<(), Trouble> {
+        answered(self.check_unchanged())?;
+        let outcome = match &self.new {
+            Some(new) => answered(fs::rename(self.rt, new.path.as_str(), self.target.as_str())),
+            None => return answered(Err(missing())),
+        };
+        if outcome.is_ok() {
+            self.new = None;
+        }
+        outcome
+    }
+
+    fn remove(&mut self) -> Result<(), Trouble> {
+        let outcome = match &self.new {
+            Some(new) => answered(fs::remove_file(self.rt, new.path.as_str())),
+            None => return answered(Err(missing())),
+        };
+        if outcome.is_ok() {
+            self.new = None;
+        }
+        outcome
+    }
+}

@@ -1,0 +1,127 @@
+//! What stands at a path, its links followed.
+//!
+//! A script is known by the folder that it stands in and its name there, and a folder by its number in the file system: so each is found
+//! once, whatever paths and links lead to it. Two names of one file by hard links are two scripts, since each may be given a text of its own.
+
+ghost use Rattle.std.specs.Prelude.{IfErr};
+ghost use Rattle.rb_files.specs.Troubles.{IsOfReading};
+
+use crate::trouble::Trouble;
+use rb_check::Failure;
+use std::fs;
+use std::fs::Metadata;
+use std::os::unix::fs::MetadataExt;
+use std::path::Path;
+use std::rt::Files;
+
+/// How many links in a row are followed; the system follows as many (path_resolution of Linux).
+const MOST_LINKS: usize = 40;
+
+/// A folder, wherever its name stands.
+#[derive(Clone, Copy, PartialEq, Eq, PartialOrd, Ord)]
+pub(crate) struct FolderId {
+    device: u64,
+    number: u64,
+}
+
+impl FolderId {
+    fn of(metadata: &Metadata) -> FolderId {
+        FolderId {
+            device: metadata.dev(),
+            number: metadata.ino(),
+        }
+    }
+}
+
+/// A file: its folder, and its name there.
+#[derive(PartialEq, Eq, PartialOrd, Ord, Drop)]
+pub(crate) struct FileId {
+    folder: FolderId,
+    name: String,
+}
+
+/// What stands at a path.
+#[derive(Drop)]
+pub(crate) enum Entry {
+    Folder(FolderId),
+    File(FileId),
+    /// A device, a pipe, a socket.
+    Other,
+}
+
+/// What stands at the path, its links followed.
+pub(crate) fn entry_at<R: Files + AllocGlobal>(rt: &R, path: &str) -> Result<Entry, Trouble>
+    ensures { IfErr result IsOfReading }
+{
+    let target = followed(rt, path)?;
+    let metadata = looked_at(rt, target.as_str())?;
+    if metadata.is_dir() {
+        Ok(Entry::Folder(FolderId::of(&metadata)))
+    } else if metadata.is_file() {
+        Ok(Entry::File(file_id(rt, target.as_str())?))
+    } else {
+        Ok(Entry::Other)
+    }
+}
+
+fn file_id<R: Files + AllocGlobal>(rt: &R, target: &str) -> Result<FileId, Trouble>
+    ensures { IfErr result IsOfReading }
+{
+    let folder = FolderId::of(&looked_at(rt, folder_of(target))?);
+    let name = String::from_str(rt.alloc(), name_of(target))?;
+    Ok(FileId { folder, name })
+}
+
+// The system's answer for what the path names, a link too.
+fn looked_at<R: Files>(rt: &R, path: &str) -> Result<Metadata, Trouble>
+    ensures { IfErr result IsOfReading }
+{
+    match fs::symlink_metadata(rt, path) {
+        Ok(metadata) => Ok(metadata),
+        Err(error) => Err(Trouble::of_reading(error)),
+    }
+}
+
+/// The path that the links at the end of this one lead to.
+pub(crate) fn followed<R: Files + AllocGlobal>(rt: &R, path: &str) -> Result<String, Trouble>
+    ensures { IfErr result IsOfReading }
+{
+    let mut target = String::from_str(rt.alloc(), path)?;
+    for _ in 0..=MOST_LINKS {
+        if !looked_at(rt, target.as_str())?.is_symlink() {
+            return Ok(target);
+        }
+        target = next_link(rt, target.as_str())?;
+    }
+    Err(Trouble::alone(Failure::LinkLoop))
+}
+
+// Where the link leads: a path that doesn't begin at the root begins at the link's folder.
+fn next_link<R: Files + AllocGlobal>(rt: &R, link: &str) -> Result<String, Trouble>
+    ensures { IfErr result IsOfReading }
+{
+    match fs::read_link(rt, link) {
+        Ok(target) => Ok(
+            Path::new(folder_of(link))
+                .join(rt.alloc(), target)?
+                .into_string(),
+        ),
+        Err(error) => Err(Trouble::of_reading(error)),
+    }
+}
+
+/// The folder that the path's last name stands in.
+pub(crate) fn folder_of(path: &str) -> &str {
+    match Path::new(path).parent() {
+        Some(folder) if !folder.as_str().is_empty() => folder.as_str(),
+        _ => ".",
+    }
+}
+
+// The path's last name.
+fn name_of(path: &str) -> &str {
+    match Path::new(path).file_name() {
+        Some(name) => name,
+        None => path,
+    }
+}

@@ -1,0 +1,22 @@
+//! The files of scripts: found, opened, and given a new text.
+//!
+//! [`find`] looks for the scripts of some paths, [`opened`] opens one, and [`replace`] puts a new text in the place of an old one, so
+//! that whatever fails, one of the two stands there whole. Nothing here knows what is in a script.
+#![tactic(auto)]
+
+mod beside;
+mod entry;
+mod finding;
+mod listing;
+mod opening;
+mod place;
+mod trouble;
+
+pub use beside::Beside;
+pub use finding::{Found, Lost, find};
+pub use opening::opened;
+pub use place::{Place, Unreplaced, replace};
+pub use trouble::Trouble;
+
+#[cfg(test)]
+mod tests;

@@ -1,0 +1,87 @@
+//! The names in a folder.
+
+ghost use Rattle.std.specs.Prelude.{IfErr};
+ghost use Rattle.rb_files.specs.Troubles.{IsOfReading};
+
+use crate::trouble::Trouble;
+use std::alloc::{AllocError, Global};
+use std::io::Read;
+use std::rt::Files;
+use std::str;
+
+// How many bytes of names one call may give. A name of Linux has up to 255.
+const CHUNK: usize = 16_384;
+
+/// The names in a folder that don't begin with a dot.
+#[derive(Drop)]
+pub(crate) struct Listing {
+    /// Those that are text, in the order of their bytes.
+    pub(crate) names: Vec<String>,
+    /// Those that are no UTF-8, so that no path can have them.
+    pub(crate) strange: Vec<Vec<u8>>,
+}
+
+/// The names in the folder.
+pub(crate) fn listed<R: Files + AllocGlobal>(rt: &R, folder: &str) -> Result<Listing, Trouble>
+    ensures { IfErr result IsOfReading }
+{
+    let alloc = rt.alloc();
+    let bytes = all_names(rt, folder)?;
+    let mut listing = Listing {
+        names: Vec::new(alloc),
+        strange: Vec::new(alloc),
+    };
+    for name in bytes.split(|byte| *byte == 0) {
+        listing.add(alloc, name)?;
+    }
+    listing.names.sort_unstable();
+    Ok(listing)
+}
+
+impl Listing {
+    // Names that begin with a dot are hidden, as they are from `*`; the empty one is what follows the last name.
+    fn add(&mut self, alloc: Global, name: &[u8]) -> Result<(), AllocError> {
+        if name.is_empty() || name.starts_with(b".") {
+            return Ok(());
+        }
+        match str::from_utf8(name) {
+            Ok(text) => self.names.push(String::from_str(alloc, text)?)?,
+            Err(_) => self.strange.push(Vec::from_slice(alloc, name)?)?,
+        }
+        Ok(())
+    }
+}
+
+// The names, each ended by a NUL.
+fn all_names<R: Files + AllocGlobal>(rt: &R, folder: &str) -> Result<Vec<u8>, Trouble>
+    ensures { IfErr result IsOfReading }
+{
+    let mut path = String::from_str(rt.alloc(), folder)?;
+    path.push('/')?;
+    let mut folder = match rt.open_dir(path.as_str()) {
+        Ok(folder) => folder,
+        Err(error) => return Err(Trouble::of_reading(error)),
+    };
+    let mut bytes = Vec::new(rt.alloc());
+    for _ in 0..u64::MAX {
+        if !read_names(&mut folder, &mut bytes)? {
+            break;
+        }
+    }
+    Ok(bytes)
+}
+
+// Adds what one call gives; whether it gave some.
+fn read_names<D: Read>(folder: &mut D, bytes: &mut Vec<u8>) -> Result<bool, Trouble>
+    ensures { IfErr result IsOfReading }
+{
+    let mut chunk = [0u8; CHUNK];
+    match folder.read(&mut chunk) {
+        Ok(0) => Ok(false),
+        Ok(n) => {
+            bytes.extend_from_slice(&chunk[..n])?;
+            Ok(true)
+        }
+        Err(error) => Err(Trouble::of_reading(error)),
+    }
+}

@@ -1,0 +1,82 @@
+//! Putting a new text in a file's place.
+//!
+//! A [`Place`] is a file that has a text, beside which a new file can be made. The new text goes there first, whole and settled, and takes
+//! the old one's place by one step: so whatever fails, the old text or the new one stands in the place. This is proved of each place of which it
+//! is known what stands there and whose calls do what the trait says. Of real files nothing is known: that their place, [`crate::Beside`],
+//! is such a one is not proved but tested, with calls of the system that fail in turn.
+
+ghost use Rattle.std.specs.Prelude.{Option};
+ghost use Rattle.rb_files.specs.Places.{Standing, Turns, Puts, Fills, Removes, Replaces, IsFresh, created, settled, renamed};
+
+use crate::trouble::Trouble;
+
+/// A file with a text, and the new file beside it, where there is one.
+pub trait Place {
+    // what stands there, and what the first call that failed told; `None` where it isn't known
+    ghost stands: { Self → Option Standing };
+
+    /// Makes the new file, without a text.
+    fn create(&mut self) -> Result<(), Trouble>
+        ensures { Turns created result (stands self.old) (stands self.new) };
+
+    /// Writes behind the new file's text.
+    fn put(&mut self, bytes: &[u8]) -> Result<(), Trouble>
+        ensures { Puts bytes.now result (stands self.old) (stands self.new) };
+
+    /// Gives the new file the old one's rights, and waits until it is stored.
+    fn settle(&mut self) -> Result<(), Trouble>
+        ensures { Turns settled result (stands self.old) (stands self.new) };
+
+    /// Puts the new file in the old one's place, if that is still what it was.
+    fn rename(&mut self) -> Result<(), Trouble>
+        ensures { Turns renamed result (stands self.old) (stands self.new) };
+
+    /// Removes the new file.
+    fn remove(&mut self) -> Result<(), Trouble>
+        ensures { Removes result (stands self.old) (stands self.new) };
+}
+
+/// Why a text was not put in a place.
+#[derive(Clone, Copy, Debug)]
+pub struct Unreplaced {
+    /// What failed first.
+    pub trouble: Trouble,
+    /// Whether no new file is left.
+    pub is_removed: bool,
+}
+
+/// Puts the text in the place, where there is no new file yet.
+///
+/// # Errors
+///
+/// What failed first. The place has its old text then, and the new file is removed again, unless that fails too: then `is_removed` is
+/// false. Nothing is said of a place that had a new file before.
+pub fn replace<P: Place>(place: &mut P, text: &[u8]) -> Result<(), Unreplaced>
+    ensures { IsFresh (P.stands place.old) → Replaces text.now result (P.stands place.old) (P.stands place.new) }
+{
+    if let Err(trouble) = place.create() {
+        return Err(Unreplaced {
+            trouble,
+            is_removed: true,
+        });
+    }
+    match fill(place, text) {
+        Ok(()) => Ok(()),
+        Err(trouble) => {
+            let is_removed = place.remove().is_ok();
+            Err(Unreplaced {
+                trouble,
+                is_removed,
+            })
+        }
+    }
+}
+
+// Writes the text into the new file, and puts that in the old one's place.
+fn fill<P: Place>(place: &mut P, text: &[u8]) -> Result<(), Trouble>
+    ensures { Fills text.now result (P.stands place.old) (P.stands place.new) }
+{
+    place.put(text)?;
+    place.settle()?;
+    place.rename()
+}

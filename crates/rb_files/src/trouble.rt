@@ -1,0 +1,71 @@
+//! Why nothing came of a path.
+
+ghost use Rattle.std.specs.Prelude.{◌≡◌, Some, None};
+ghost use Rattle.std.specs.IoError.{error_kind};
+ghost use Rattle.rb_check.specs.declared.failure.Failure.TheVariants.{OutOfMemory};
+ghost use Rattle.rb_files.specs.Troubles.{reading_failure, writing_failure};
+
+use rb_check::Failure;
+use std::alloc::AllocError;
+use std::io;
+use std::io::ErrorKind;
+
+/// Why nothing came of a path, and what the system said.
+#[derive(Clone, Copy, Debug)]
+pub struct Trouble {
+    /// Why.
+    pub failure: Failure,
+    /// The system's error, where there is one.
+    pub cause: Option<io::Error>,
+}
+
+impl Trouble {
+    /// Of a path that could not be opened, listed or read.
+    pub fn of_reading(error: io::Error) -> Trouble
+        ensures { result ≡ record { failure = reading_failure (error_kind error); cause = Some error } }
+    {
+        let failure = match error.kind() {
+            ErrorKind::NotFound | ErrorKind::NotADirectory => Failure::NotFound,
+            ErrorKind::PermissionDenied => Failure::NoPermission,
+            ErrorKind::FilesystemLoop => Failure::LinkLoop,
+            ErrorKind::OutOfMemory => Failure::OutOfMemory,
+            _ => Failure::NotRead,
+        };
+        Trouble {
+            failure,
+            cause: Some(error),
+        }
+    }
+
+    /// Of a file that could not be given its new text.
+    pub fn of_writing(error: io::Error) -> Trouble
+        ensures { result ≡ record { failure = writing_failure (error_kind error); cause = Some error } }
+    {
+        let failure = match error.kind() {
+            ErrorKind::OutOfMemory => Failure::OutOfMemory,
+            _ => Failure::NotWritten,
+        };
+        Trouble {
+            failure,
+            cause: Some(error),
+        }
+    }
+
+    /// Without an error of the system's.
+    pub fn alone(failure: Failure) -> Trouble
+        ensures { result ≡ record { failure = failure; cause = None } }
+    {
+        Trouble {
+            failure,
+            cause: None,
+        }
+    }
+}
+
+impl From<AllocError> for Trouble {
+    ghost from_gives = { λ _ made. made ≡ record { failure = OutOfMemory; cause = None } };
+
+    fn from(_error: AllocError) -> Trouble {
+        Trouble::alone(Failure::OutOfMemory)
+    }
+}
