@@ -1,7 +1,9 @@
 //! What no clause says: the names, ranges and texts of all directives, by cases that stand here as data.
 
+mod changes;
 mod faults;
 mod requests;
+mod sizes;
 
 use rb_directive::request;
 use rb_level::Level;
@@ -18,6 +20,11 @@ fn refusal_of(alloc: Global, lines: &[u8]) -> Result<Vec<u8>, Fail> {
     if let Err(error) = request(&directive) {
         put(&mut told, Level::None, &Item::Error(error))?;
     }
+    bytes_of(alloc, &told)
+}
+
+/// The bytes of the lines, one after another.
+fn bytes_of(alloc: Global, told: &Lines) -> Result<Vec<u8>, Fail> {
     let mut text = Vec::new(alloc);
     for place in 0..told.len() {
         text.extend_from_slice(told.line(place))?;

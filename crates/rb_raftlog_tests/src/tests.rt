@@ -3,4 +3,5 @@ mod making;
 mod random;
 mod refusals;
 mod slow;
+mod tested;
 mod values;

@@ -4,68 +4,51 @@
 mod examples;
 mod faults;
 mod refusals;
+mod tested;
 
-use rb_cluster::{Cluster, Meter};
-use rb_replay::{Changed, Session, StartFault};
-use rb_script::{Block, Edit, EditFault, Lines, Through};
+use rb_replay::Changed;
+use rb_script::Edit;
 use std::alloc::Global;
 use std::process::Abort;
 use std::test::Fail;
+use tested::{Ask, Tested, asked};
 
 /// A session on the script of the text.
-fn start(alloc: Global, text: &[u8], every: u64) -> Result<Session<Cluster>, StartFault> {
-    Session::start(alloc, text, every, &mut Meter::new())
+fn start<T: Tested>(alloc: Global, text: &[u8], every: u64) -> Result<T, Fail> {
+    Ok(T::begin(alloc, text, every, &mut 0)?)
 }
 
-/// Makes an edit with a meter of its own.
-fn edit(session: &mut Session<Cluster>, edit: &Edit) -> Result<Changed, EditFault> {
-    session.edit(edit, &mut Meter::new())
-}
-
-fn block_of(alloc: Global, text: &[u8]) -> Result<Block, Fail> {
-    Ok(Block::read(alloc, text)?)
-}
-
-/// The lines of a text, each ended by one LF.
-fn lines_of(alloc: Global, text: &[u8]) -> Result<Lines, Fail> {
-    let mut lines = Lines::new(alloc);
-    for line in text.split_inclusive(|b| *b == b'\n') {
-        if let Some((_feed, line)) = line.split_last() {
-            lines.push(line)?;
-        }
+/// The edit that is asked for.
+fn edit_of(alloc: Global, ask: Ask) -> Result<Edit, Fail> {
+    match asked(alloc, ask) {
+        Some(edit) => Ok(edit),
+        None => Err(Fail::from("no edit")),
     }
-    Ok(lines)
 }
 
-/// The three texts of a session.
-#[derive(Drop)]
-struct Texts {
-    report: Vec<u8>,
-    script: Vec<u8>,
-    rewritten: Vec<u8>,
-}
-
-fn shown(alloc: Global, session: &Session<Cluster>) -> Result<Texts, Fail> {
-    let mut report = Vec::new(alloc);
-    session.write_report(&mut Through(&mut report))?;
-    let mut script = Vec::new(alloc);
-    session.write_script(&mut Through(&mut script))?;
-    let mut rewritten = Vec::new(alloc);
-    session.write_rewritten(&mut Through(&mut rewritten))?;
-    Ok(Texts {
-        report,
-        script,
-        rewritten,
-    })
+/// Makes the edit that is asked for.
+fn edit<T: Tested>(alloc: Global, session: &mut T, ask: Ask) -> Result<Changed, Fail> {
+    let edit = edit_of(alloc, ask)?;
+    Ok(session.change(&edit, &mut 0)?)
 }
 
 /// The session's report is this.
-fn reports<R: Abort>(
+fn reports<T: Tested, R: Abort>(
     rt: &R,
     alloc: Global,
-    session: &Session<Cluster>,
+    session: &T,
     report: &[u8],
 ) -> Result<(), Fail> {
-    assert_eq!(rt; shown(alloc, session)?.report.as_slice(), report);
+    assert_eq!(rt; session.report(alloc)?.as_slice(), report);
     Ok(())
+}
+
+/// Clusters are kept at these points.
+fn keeps<T: Tested, R: Abort>(rt: &R, session: &T, points: &[usize]) {
+    assert_eq!(rt; session.kept(), points);
+}
+
+/// These places mismatch.
+fn mismatches<T: Tested, R: Abort>(rt: &R, session: &T, places: &[usize]) {
+    assert_eq!(rt; session.wrong(), places);
 }

@@ -1,117 +1,156 @@
 //! Examples, and every call once in both logs.
 
-use super::making::{change, compact, count_from, filled, filled_at_once, payload, push};
-use rb_raftlog::{
-    Appended, CompactFault, ConfState, Content, Entries, LogFault, PlainLog, RaftLog, Shared,
-    Snapshot, SplitLog,
+use super::making::{
+    change, entries_of, filled, filled_at_once, payload, push, snapshot_of, take_items,
 };
-use std::alloc::Global;
+use super::tested::{Item, Tested};
+use rb_raftlog::{
+    Appended, CompactFault, ConfState, Content, Entries, LogFault, PlainLog, Shared, Snapshot,
+    SplitLog,
+};
+use std::alloc::{AllocError, Global};
 use std::process::Abort;
 use std::test::Fail;
 
+/// A hundred entries, of which those past 49 give way to another.
+fn of_two_terms<T: Tested>(alloc: Global) -> Result<T, AllocError> {
+    let mut log: T = filled_at_once(alloc, 0, 49)?;
+    push(alloc, &mut log, (2, 7))?;
+    log.save()?;
+    Ok(log)
+}
+
 /// An entry of a copy is replaced; the first log stays as it is. Where pages are cut is no matter.
-fn copies_share<L: RaftLog>(rt: &impl Abort, alloc: Global) -> Result<(), Fail> {
-    let log: L = filled(alloc, 0, 100)?;
-    let mut copy = log.try_copy()?;
-    let new = vec![in alloc; payload(alloc, 2, 7)?]?;
-    let told = copy.append_after(49, 1, new.as_slice(), 49)?;
-    assert!(rt; told == Appended::Matched(50) && copy.durable() == 49);
-    assert!(rt; count_from(&log, 1) == 100 && count_from(&copy, 1) == 50);
-    assert!(rt; !copy.same(&log));
-    copy.mark_durable()?;
-    let mut other: L = filled_at_once(alloc, 0, 49)?;
-    push(&mut other, payload(alloc, 2, 7)?)?;
-    other.mark_durable()?;
-    assert!(rt; copy.same(&other));
+fn copies_share<T: Tested>(rt: &impl Abort, alloc: Global) -> Result<(), Fail> {
+    let log: T = filled(alloc, 0, 100)?;
+    let mut copy = log.copied()?;
+    let told = take_items(alloc, &mut copy, (49, 1), &[(2, 7)], 49)?;
+    assert_eq!(rt; told, Some(Appended::Matched(50)));
+    assert_eq!(rt; copy.numbers(), (1, 50, 1, 2, 49));
+    assert_eq!(rt; (log.count_from(1), copy.count_from(1)), (100, 50));
+    assert!(rt; !copy.is_same(&log));
+    copy.save()?;
+    assert!(rt; copy.is_same(&of_two_terms(alloc)?));
     Ok(())
+}
+
+/// From 11 to 141, compacted to 100.
+fn is_compacted<T: Tested>(rt: &impl Abort, log: &mut T) {
+    assert_eq!(rt; log.cut(142, 0), Err(CompactFault::PastApplied));
+    assert_eq!(rt; log.cut(10, 0), Err(CompactFault::AlreadyCompacted));
+    assert_eq!(rt; log.cut(100, u64::MAX), Ok(()));
+    assert_eq!(rt; log.numbers(), (101, 141, 1, 1, 141));
+    assert_eq!(rt; (log.count_from(101), log.count_from(142)), (41, 0));
+    let terms = [log.term_of(100), log.term_of(99), log.term_of(142)];
+    assert_eq!(rt;
+        terms,
+        [Ok(1), Err(LogFault::Compacted), Err(LogFault::Unavailable)]
+    );
+    assert!(rt; !log.has_entry(100) && log.has_entry(101));
 }
 
 /// A log that was compacted is the same as one that began there.
-fn compacts<L: RaftLog>(rt: &impl Abort, alloc: Global) -> Result<(), Fail> {
-    let mut log: L = filled(alloc, 10, 131)?;
-    assert!(rt; log.compact(142, 0) == Err(CompactFault::PastApplied));
-    assert!(rt; log.compact(10, 0) == Err(CompactFault::AlreadyCompacted));
-    assert!(rt; compact(&mut log, 100));
-    assert!(rt; log.first_index() == 101 && log.last_index() == 141 && log.base_term() == 1);
-    assert!(rt; count_from(&log, 101) == 41 && count_from(&log, 142) == 0);
-    assert!(rt; log.term_at(100) == Ok(1) && log.term_at(99) == Err(LogFault::Compacted));
-    assert!(rt; log.term_at(142) == Err(LogFault::Unavailable));
-    assert!(rt; log.entry_at(100).is_err() && log.entry_at(101).is_ok());
-    let mut other: L = L::fresh(alloc, 100, 1)?;
-    let entries = log.entries_after(0)?;
-    let told = other.append_shared(100, 1, &entries, 0)?;
-    assert!(rt; told == Appended::Matched(141) && !log.same(&other));
-    other.mark_durable()?;
-    assert!(rt; log.same(&other));
+fn compacts<T: Tested>(rt: &impl Abort, alloc: Global) -> Result<(), Fail> {
+    let mut log: T = filled(alloc, 10, 131)?;
+    is_compacted(rt, &mut log);
+    let mut other = T::begin(alloc, 100, 1)?;
+    let told = other.take_shared((100, 1), &log.sent_after(0)?, 0)?;
+    assert!(rt; told == Some(Appended::Matched(141)) && !log.is_same(&other));
+    other.save()?;
+    assert!(rt; log.is_same(&other));
     Ok(())
+}
+
+/// So many entries of term 1, and one of term 2.
+fn ending_with<T: Tested>(alloc: Global, kept: u64) -> Result<T, AllocError> {
+    let mut log: T = filled(alloc, 0, kept)?;
+    push(alloc, &mut log, (2, 9))?;
+    log.save()?;
+    Ok(log)
 }
 
 /// A cut at each side of the end of a page.
-fn cuts_at<L: RaftLog>(rt: &impl Abort, alloc: Global, kept: u64) -> Result<(), Fail> {
-    let mut log: L = filled_at_once(alloc, 0, 200)?;
-    let new = vec![in alloc; payload(alloc, 2, 9)?]?;
-    let told = log.append_after(kept.min(1_000), 1, new.as_slice(), 0)?;
-    assert!(rt; told == Appended::Matched(kept.saturating_add(1)) && log.durable() == kept);
-    log.mark_durable()?;
-    let mut other: L = filled(alloc, 0, kept)?;
-    push(&mut other, payload(alloc, 2, 9)?)?;
-    other.mark_durable()?;
-    assert!(rt; log.same(&other), "cut at {kept}");
+fn cuts_at<T: Tested>(rt: &impl Abort, alloc: Global, kept: u64) -> Result<(), Fail> {
+    let mut log: T = filled_at_once(alloc, 0, 200)?;
+    let told = take_items(alloc, &mut log, (kept, 1), &[(2, 9)], 0)?;
+    let last = kept.saturating_add(1);
+    assert_eq!(rt; told, Some(Appended::Matched(last)), "cut at {kept}");
+    assert_eq!(rt; log.numbers(), (1, last, 1, 2, kept));
+    log.save()?;
+    assert!(rt; log.is_same(&ending_with(alloc, kept)?), "cut at {kept}");
     Ok(())
 }
 
+fn cuts<T: Tested>(rt: &impl Abort, alloc: Global) -> Result<(), Fail> {
+    for kept in [1, 62, 63, 64, 65, 127, 128, 129] {
+        cuts_at::<T>(rt, alloc, kept)?;
+    }
+    Ok(())
+}
+
+/// What is sent to a log that goes from 11 to 15 in term 1, where 14 is committed: after which index and term, which entries, and
+/// what it answers.
+static SENT: [(u64, u64, &'static [Item], Appended); 4] = [
+    (13, 1, &[(2, 0)], Appended::BelowCommit(14)),
+    (12, 1, &[], Appended::Matched(14)),
+    (16, 1, &[], Appended::Refused(15)),
+    (15, 0, &[], Appended::Refused(0)),
+];
+
 /// What a follower answers.
-fn answers<L: RaftLog>(rt: &impl Abort, alloc: Global) -> Result<(), Fail> {
-    let mut log: L = filled(alloc, 10, 5)?;
-    let newer = vec![in alloc; payload(alloc, 2, 0)?]?;
-    assert!(rt; log.append_after(13, 1, newer.as_slice(), 14)? == Appended::BelowCommit(14));
-    assert!(rt; log.append_after(12, 1, &[], 14)? == Appended::Matched(14));
-    assert!(rt; log.append_after(16, 1, &[], 14)? == Appended::Refused(15));
-    assert!(rt; log.append_after(15, 0, &[], 14)? == Appended::Refused(0));
-    assert!(rt; log.hint(12, 1) == 12 && log.hint(9, 1) == 0 && log.hint(15, 0) == 0);
-    assert!(rt; log.is_up_to_date(15, 1) && log.is_up_to_date(11, 2) && !log.is_up_to_date(14, 1));
-    push(&mut log, change(alloc, 3, 4)?)?;
-    assert!(rt; log.last_term() == 3 && log.not_durable().len() == 1 && log.durable() == 15);
-    assert!(rt;
-        log.has_change(15, 16)
-            && log.has_change(0, 99)
-            && !log.has_change(0, 15)
-            && !log.has_change(16, 99)
-    );
+fn answers<T: Tested>(rt: &impl Abort, alloc: Global, log: &mut T) -> Result<(), Fail> {
+    for (prev, term, items, wanted) in SENT {
+        let told = take_items(alloc, log, (prev, term), items, 14)?;
+        assert_eq!(rt; told, Some(wanted));
+    }
+    let hints = [log.hint_for(12, 1), log.hint_for(9, 1), log.hint_for(15, 0)];
+    assert_eq!(rt; hints, [12, 0, 0]);
+    let newer = [
+        log.is_no_newer(15, 1),
+        log.is_no_newer(11, 2),
+        log.is_no_newer(14, 1),
+    ];
+    assert_eq!(rt; newer, [true, true, false]);
+    Ok(())
+}
+
+/// What a change at 16 shows.
+fn has_change<T: Tested>(rt: &impl Abort, log: &T) {
+    assert_eq!(rt; log.numbers(), (11, 16, 1, 3, 15));
+    assert_eq!(rt; log.unsaved(), 1);
+    let changes = [
+        log.changes_in(15, 16),
+        log.changes_in(0, 99),
+        log.changes_in(0, 15),
+        log.changes_in(16, 99),
+    ];
+    assert_eq!(rt; changes, [true, true, false, false]);
+}
+
+fn follows<T: Tested>(rt: &impl Abort, alloc: Global) -> Result<(), Fail> {
+    let mut log: T = filled(alloc, 10, 5)?;
+    answers(rt, alloc, &mut log)?;
+    log.put(change(alloc, 3, 4)?)?;
+    has_change(rt, &log);
     Ok(())
 }
 
 /// A snapshot takes the place of all.
-fn restores<L: RaftLog>(rt: &impl Abort, alloc: Global) -> Result<(), Fail> {
-    let mut log: L = filled(alloc, 10, 70)?;
-    let ids: Shared<u64> = Shared::new(Vec::new(alloc))?;
-    let snapshot = Snapshot {
-        index: 500,
-        term: 4,
-        content: Content::from_slice(alloc, b"ab")?,
-        config: ConfState {
-            incoming: ids.try_copy()?,
-            outgoing: ids.try_copy()?,
-            learners: ids.try_copy()?,
-            next: ids,
-            auto: false,
-        },
-    };
-    assert!(rt; snapshot.same(&snapshot.try_copy()?));
-    log.restore(&snapshot);
-    let other: L = L::fresh(alloc, 500, 4)?;
-    assert!(rt; log.same(&other) && log.last_term() == 4);
+fn restores<T: Tested>(rt: &impl Abort, alloc: Global) -> Result<(), Fail> {
+    let mut log: T = filled(alloc, 10, 70)?;
+    log.put_back(&snapshot_of(alloc, 500, 4)?);
+    let other = T::begin(alloc, 500, 4)?;
+    assert!(rt; log.is_same(&other));
+    assert_eq!(rt; log.numbers(), (501, 500, 4, 4, 500));
     Ok(())
 }
 
-fn all<L: RaftLog>(rt: &impl Abort, alloc: Global) -> Result<(), Fail> {
-    copies_share::<L>(rt, alloc)?;
-    compacts::<L>(rt, alloc)?;
-    for kept in [1, 62, 63, 64, 65, 127, 128, 129] {
-        cuts_at::<L>(rt, alloc, kept)?;
-    }
-    answers::<L>(rt, alloc)?;
-    restores::<L>(rt, alloc)
+fn all<T: Tested>(rt: &impl Abort, alloc: Global) -> Result<(), Fail> {
+    copies_share::<T>(rt, alloc)?;
+    compacts::<T>(rt, alloc)?;
+    cuts::<T>(rt, alloc)?;
+    follows::<T>(rt, alloc)?;
+    restores::<T>(rt, alloc)
 }
 
 #[test]
@@ -124,22 +163,47 @@ fn split_logs(rt: HostRuntime) -> Result<(), Fail> {
     all::<SplitLog>(&rt, rt.alloc())
 }
 
-/// What a message holds of a log is the same whatever log it is of.
+/// What two logs of the entries 11 to 140 send after 60 is the same.
+fn send_alike<P: Tested, S: Tested>(
+    rt: &impl Abort,
+    plain: &P,
+    split: &S,
+) -> Result<Entries, AllocError> {
+    let sent = plain.sent_after(60)?;
+    let shared = split.sent_after(60)?;
+    assert!(rt; sent.same(&shared) && shared.same(&sent));
+    assert!(rt; shared.last_term() == Some(1) && shared.len() == 80);
+    shared.try_copy()
+}
+
+/// Whether the log sends these entries after an index.
+fn sends<T: Tested>(log: &T, index: u64, entries: &Entries) -> Result<bool, AllocError> {
+    Ok(entries.same(&log.sent_after(index)?))
+}
+
+fn one_entry(alloc: Global) -> Result<Entries, AllocError> {
+    Entries::from_vec(vec![in alloc; payload(alloc, 2, 3)?]?)
+}
+
+fn first_piece(entries: &Entries) -> usize {
+    entries.pieces().next().map_or(0, |piece| piece.len())
+}
+
+/// What a message holds of a log is the same whatever log it is of, and stays when the log goes on.
+fn share<P: Tested, S: Tested>(rt: &impl Abort, alloc: Global) -> Result<(), Fail> {
+    let plain: P = filled(alloc, 10, 130)?;
+    let mut split: S = filled(alloc, 10, 130)?;
+    let sent = send_alike(rt, &plain, &split)?;
+    push(alloc, &mut split, (2, 3))?;
+    assert!(rt; !sends(&split, 60, &sent)? && sends(&plain, 60, &sent)?);
+    assert!(rt; sends(&split, 141, &Entries::empty())?);
+    assert!(rt; sends(&split, 140, &one_entry(alloc)?)?);
+    assert!(rt; first_piece(&split.sent_after(140)?) == 1);
+    Ok(())
+}
+
 #[test]
 fn messages_share(rt: HostRuntime) -> Result<(), Fail> {
-    let alloc = rt.alloc();
-    let plain: PlainLog = filled(alloc, 10, 130)?;
-    let mut split: SplitLog = filled(alloc, 10, 130)?;
-    let sent = plain.entries_after(60)?;
-    let shared = split.entries_after(60)?;
-    assert!(rt; sent.same(&shared) && shared.same(&sent.try_copy()?));
-    assert!(rt; shared.last_term() == Some(1) && shared.len() == 80);
-    push(&mut split, payload(alloc, 2, 3)?)?;
-    assert!(rt; !sent.same(&split.entries_after(60)?) && sent.same(&shared));
-    assert!(rt; split.entries_after(141)?.is_empty() && Entries::empty().last_term().is_none());
-    let mut pieces = split.entries_after(140)?;
-    assert!(rt; pieces.pieces().next().map_or(0, |piece| piece.len()) == 1);
-    pieces = Entries::from_vec(vec![in alloc; payload(alloc, 2, 3)?]?)?;
-    assert!(rt; pieces.same(&split.entries_after(140)?));
-    Ok(())
+    assert!(rt; Entries::empty().is_empty() && Entries::empty().last_term().is_none());
+    share::<PlainLog, SplitLog>(&rt, rt.alloc())
 }

@@ -1,8 +1,9 @@
 //! Lists of calls that look random, on both logs, beside the plain slow one.
 
-use super::making::{compact, payload, push};
-use super::slow::{Item, Slow};
-use rb_raftlog::{Appended, Body, Entries, Entry, PlainLog, RaftLog, SplitLog};
+use super::making::{entries_of, push, take_items};
+use super::slow::Slow;
+use super::tested::{Item, Tested};
+use rb_raftlog::{Appended, Entries, Entry, PlainLog, SplitLog};
 use std::alloc::{AllocError, Global};
 use std::process::Abort;
 use std::test::Fail;
@@ -26,194 +27,239 @@ impl Dice {
 
 /// Both logs, and the slow one.
 #[derive(Drop)]
-struct Three {
-    plain: PlainLog,
-    split: SplitLog,
+struct Three<P: Tested, S: Tested> {
+    plain: P,
+    split: S,
     slow: Slow,
 }
 
-impl Three {
-    fn new(alloc: Global) -> Result<Three, AllocError> {
+impl<P: Tested, S: Tested> Three<P, S> {
+    fn new(alloc: Global) -> Result<Three<P, S>, AllocError> {
         Ok(Three {
-            plain: PlainLog::fresh(alloc, 10, 1)?,
-            split: SplitLog::fresh(alloc, 10, 1)?,
+            plain: P::begin(alloc, 10, 1)?,
+            split: S::begin(alloc, 10, 1)?,
             slow: Slow::new(alloc, 10, 1),
         })
     }
 }
 
-fn entries_of(alloc: Global, items: &[Item]) -> Result<Vec<Entry>, AllocError> {
-    let mut entries = Vec::new(alloc);
-    for item in items {
-        entries.push(payload(alloc, item.0, item.1)?)?;
-    }
-    Ok(entries)
-}
-
-/// Whether the log has this entry at an index.
-fn has<L: RaftLog>(log: &L, index: u64, item: Item) -> bool {
-    match log.entry_at(index) {
-        Ok(entry) => match &entry.body {
-            Body::Payload(bytes) => entry.term == item.0 && bytes.as_slice() == [item.1].as_slice(),
-            _ => false,
-        },
-        Err(_) => false,
-    }
-}
-
 /// Whether the log is the slow one.
-fn agrees<L: RaftLog>(log: &L, slow: &Slow) -> bool {
-    if log.last_index() != slow.last()
-        || log.durable() != slow.durable
-        || log.base_term() != slow.base_term
-    {
+fn agrees<T: Tested>(log: &T, slow: &Slow) -> bool {
+    let last_term = slow.items.last().map_or(slow.base_term, |item| item.0);
+    let first = slow.base.saturating_add(1);
+    if log.numbers() != (first, slow.last(), slow.base_term, last_term, slow.durable) {
         return false;
     }
     let mut index = slow.base;
     for item in slow.items.iter() {
         index = index.saturating_add(1);
-        if !has(log, index, *item) || log.term_at(index) != Ok(item.0) {
+        if log.item_at(index) != Some(*item) || log.term_of(index) != Ok(item.0) {
             return false;
         }
     }
-    log.first_index() == slow.base.saturating_add(1)
-        && log.entry_at(index.saturating_add(1)).is_err()
+    !log.has_entry(index.saturating_add(1))
 }
 
-/// Takes entries of a leader, in one log by a slice or as a message holds them.
-fn take<L: RaftLog>(
-    log: &mut L,
-    prev: u64,
-    term: u64,
-    entries: Vec<Entry>,
+/// What a leader sends: after which index and term, and what it knows to be committed.
+#[derive(Clone, Copy)]
+struct Sent {
+    after: (u64, u64),
     commit: u64,
     shared: bool,
-) -> Result<Option<Appended>, AllocError> {
-    if prev > 1_000_000 || entries.len() > 1_000 {
-        return Ok(None);
-    }
-    if shared {
-        let held = Entries::from_vec(entries)?;
-        return Ok(Some(log.append_shared(prev, term, &held, commit)?));
-    }
-    Ok(Some(log.append_after(prev, term, entries.as_slice(), commit)?))
 }
 
-/// Takes entries of a leader that look random.
-fn appends(rt: &impl Abort, alloc: Global, three: &mut Three, dice: &mut Dice) -> Result<(), Fail> {
+/// Takes entries of a leader, by a slice or as a message holds them.
+fn take<T: Tested>(
+    alloc: Global,
+    log: &mut T,
+    items: &[Item],
+    sent: Sent,
+) -> Result<Option<Appended>, AllocError> {
+    if !sent.shared {
+        return take_items(alloc, log, sent.after, items, sent.commit);
+    }
+    let Some(held) = held(alloc, items)? else {
+        return Ok(None);
+    };
+    log.take_shared(sent.after, &held, sent.commit)
+}
+
+/// Entries as a message holds them.
+fn held(alloc: Global, items: &[Item]) -> Result<Option<Entries>, AllocError> {
+    let entries = entries_of(alloc, items)?;
+    if entries.len() > 1_000 {
+        return Ok(None);
+    }
+    Ok(Some(Entries::from_vec(entries)?))
+}
+
+/// Entries of terms that ascend now and then.
+fn items_of(alloc: Global, dice: &mut Dice) -> Result<Vec<Item>, AllocError> {
     let mut items = Vec::new(alloc);
     let mut term = 1u64.saturating_add(dice.below(3));
     for _ in 0..dice.below(70) {
         term = term.saturating_add(dice.below(20) / 19);
         items.push((term, (dice.below(3) % 3) as u8))?;
     }
-    let last = three.slow.last();
-    let prev = last
+    Ok(items)
+}
+
+fn sent_to(slow: &Slow, dice: &mut Dice) -> Sent {
+    let prev = slow
+        .last()
         .saturating_sub(dice.below(140))
         .saturating_add(dice.below(3));
-    let prev_term = three
-        .slow
+    let term = slow
         .term(prev)
         .unwrap_or(1)
         .saturating_add(dice.below(12) / 11);
-    let commit = three.slow.base.saturating_add(dice.below(60));
-    let want = Some(three.slow.append(prev, prev_term, &items, commit)?);
-    let shared = dice.below(2) == 0;
-    let plain = take(
-        &mut three.plain,
-        prev,
-        prev_term,
-        entries_of(alloc, &items)?,
-        commit,
-        shared,
-    )?;
-    let split = take(
-        &mut three.split,
-        prev,
-        prev_term,
-        entries_of(alloc, &items)?,
-        commit,
-        !shared,
-    )?;
-    assert!(rt; plain == want && split == want);
+    Sent {
+        after: (prev, term),
+        commit: slow.base.saturating_add(dice.below(60)),
+        shared: dice.below(2) == 0,
+    }
+}
+
+/// Takes entries of a leader that look random.
+fn appends<P: Tested, S: Tested>(
+    rt: &impl Abort,
+    alloc: Global,
+    three: &mut Three<P, S>,
+    dice: &mut Dice,
+) -> Result<(), Fail> {
+    let items = items_of(alloc, dice)?;
+    let sent = sent_to(&three.slow, dice);
+    let other = Sent {
+        shared: !sent.shared,
+        ..sent
+    };
+    let plain = take(alloc, &mut three.plain, &items, sent)?;
+    let split = take(alloc, &mut three.split, &items, other)?;
+    let want = three
+        .slow
+        .append(sent.after.0, sent.after.1, &items, sent.commit)?;
+    assert_eq!(rt; (plain, split), (Some(want), Some(want)));
     Ok(())
 }
 
 /// Appends an entry of one's own.
-fn pushes(alloc: Global, three: &mut Three, dice: &mut Dice) -> Result<(), Fail> {
-    let item = (
-        1u64.saturating_add(dice.below(3)),
-        (dice.below(3) % 3) as u8,
-    );
+fn pushes<P: Tested, S: Tested>(
+    alloc: Global,
+    three: &mut Three<P, S>,
+    item: Item,
+) -> Result<(), Fail> {
     three.slow.items.push(item)?;
-    push(&mut three.plain, payload(alloc, item.0, item.1)?)?;
-    push(&mut three.split, payload(alloc, item.0, item.1)?)?;
+    push(alloc, &mut three.plain, item)?;
+    push(alloc, &mut three.split, item)?;
     Ok(())
 }
 
 /// Moves the base.
-fn compacts(rt: &impl Abort, three: &mut Three, dice: &mut Dice) {
-    let index = three.slow.base.saturating_add(dice.below(70));
+fn compacts<P: Tested, S: Tested>(rt: &impl Abort, three: &mut Three<P, S>, index: u64) {
     let can = three.slow.base < index && index <= three.slow.durable;
     if can {
         three.slow.compact(index);
     }
-    assert!(rt; compact(&mut three.plain, index) == can && compact(&mut three.split, index) == can);
+    let plain = three.plain.cut(index, u64::MAX);
+    let split = three.split.cut(index, u64::MAX);
+    assert_eq!(rt; (plain.is_ok(), split.is_ok()), (can, can));
+}
+
+fn saves<P: Tested, S: Tested>(three: &mut Three<P, S>) -> Result<(), AllocError> {
+    three.slow.durable = three.slow.last();
+    three.plain.save()?;
+    three.split.save()
 }
 
 /// One call of all three.
-fn step(rt: &impl Abort, alloc: Global, three: &mut Three, dice: &mut Dice) -> Result<(), Fail> {
+fn step<P: Tested, S: Tested>(
+    rt: &impl Abort,
+    alloc: Global,
+    three: &mut Three<P, S>,
+    dice: &mut Dice,
+) -> Result<(), Fail> {
     match dice.below(8) {
-        0 | 1 => pushes(alloc, three, dice)?,
-        2 | 3 => {
-            three.slow.durable = three.slow.last();
-            three.plain.mark_durable()?;
-            three.split.mark_durable()?;
+        0 | 1 => {
+            let term = 1u64.saturating_add(dice.below(3));
+            pushes(alloc, three, (term, (dice.below(3) % 3) as u8))?
         }
-        4 => compacts(rt, three, dice),
+        2 | 3 => saves(three)?,
+        4 => {
+            let index = three.slow.base.saturating_add(dice.below(70));
+            compacts(rt, three, index)
+        }
         _ => appends(rt, alloc, three, dice)?,
     }
     Ok(())
 }
 
-/// What a log sends after an index, taken by a log that begins there, makes the same log.
-fn sends<L: RaftLog>(rt: &impl Abort, alloc: Global, log: &L, base: u64) -> Result<(), Fail> {
-    let mut other = L::fresh(alloc, base.min(1_000_000), log.base_term())?;
-    let entries = log.entries_after(0)?;
+/// Puts copies of entries behind a log's own.
+fn put_all<T: Tested>(log: &mut T, piece: &[Entry]) -> Result<(), AllocError> {
+    for entry in piece {
+        log.put(entry.try_copy()?)?;
+    }
+    Ok(())
+}
+
+fn put_pieces<T: Tested>(log: &mut T, entries: &Entries) -> Result<(), AllocError> {
     let mut rest = entries.pieces();
     for _ in 0..1_000 {
         let Some(piece) = rest.next() else { break };
-        for entry in piece {
-            push(&mut other, entry.try_copy()?)?;
-        }
+        put_all(log, piece)?;
     }
-    let durable = log.durable() == log.last_index();
-    if durable {
-        other.mark_durable()?;
-    }
-    assert!(rt; other.same(log) || !durable && !log.not_durable().is_empty());
     Ok(())
+}
+
+/// What a log sends after an index, taken by a log that begins there, makes the same log.
+fn sends<T: Tested>(rt: &impl Abort, alloc: Global, log: &T, slow: &Slow) -> Result<(), Fail> {
+    let mut other = T::begin(alloc, slow.base, slow.base_term)?;
+    put_pieces(&mut other, &log.sent_after(0)?)?;
+    let durable = slow.durable == slow.last();
+    if durable {
+        other.save()?;
+    }
+    assert!(rt; other.is_same(log) || !durable && log.unsaved() > 0);
+    Ok(())
+}
+
+fn is_its_copy<T: Tested>(log: &T) -> Result<bool, AllocError> {
+    Ok(log.is_same(&log.copied()?))
+}
+
+/// All three agree after a call, and a copy that was made before it stays as it was.
+fn go_on<P: Tested, S: Tested>(
+    rt: &impl Abort,
+    alloc: Global,
+    three: &mut Three<P, S>,
+    dice: &mut Dice,
+) -> Result<(), Fail> {
+    let before = three.split.copied()?;
+    let was = before.numbers();
+    step(rt, alloc, three, dice)?;
+    assert_eq!(rt; before.numbers(), was);
+    assert!(rt; agrees(&three.plain, &three.slow) && agrees(&three.split, &three.slow));
+    assert!(rt; is_its_copy(&three.plain)? && is_its_copy(&three.split)?);
+    Ok(())
+}
+
+fn one_list_of_calls<P: Tested, S: Tested>(
+    rt: &impl Abort,
+    alloc: Global,
+    dice: &mut Dice,
+) -> Result<(), Fail> {
+    let mut three: Three<P, S> = Three::new(alloc)?;
+    for _ in 0..60 {
+        go_on(rt, alloc, &mut three, dice)?;
+    }
+    sends(rt, alloc, &three.plain, &three.slow)?;
+    sends(rt, alloc, &three.split, &three.slow)
 }
 
 #[test]
 fn logs_are_one(rt: HostRuntime) -> Result<(), Fail> {
-    let alloc = rt.alloc();
     let mut dice = Dice { state: 12_345 };
     for _ in 0..40 {
-        let mut three = Three::new(alloc)?;
-        for _ in 0..60 {
-            let before = three.split.try_copy()?;
-            let was = (before.last_index(), before.durable());
-            step(&rt, alloc, &mut three, &mut dice)?;
-            assert!(rt; agrees(&three.plain, &three.slow) && agrees(&three.split, &three.slow));
-            assert!(rt; was == (before.last_index(), before.durable()));
-            assert!(rt;
-                three.split.same(&three.split.try_copy()?)
-                    && three.plain.same(&three.plain.try_copy()?)
-            );
-        }
-        sends(&rt, alloc, &three.plain, three.slow.base)?;
-        sends(&rt, alloc, &three.split, three.slow.base)?;
+        one_list_of_calls::<PlainLog, SplitLog>(&rt, rt.alloc(), &mut dice)?;
     }
     Ok(())
 }

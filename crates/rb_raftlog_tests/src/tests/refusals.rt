@@ -1,27 +1,42 @@
 //! Each allocation refused in turn: these tests are run once for each, and say where one was refused.
 
-use super::making::{compact, filled, payload};
-use rb_raftlog::{Appended, Content, LogFault, PlainLog, RaftLog, SplitLog};
+use super::making::{filled, take_items};
+use super::tested::Tested;
+use rb_raftlog::{Appended, Content, LogFault, PlainLog, SplitLog};
 use std::alloc::{AllocError, Global};
 use std::process::Abort;
 use std::test::Fail;
 
 /// The calls that take no memory, in a log from which nothing more is wanted. They succeed wherever memory is refused.
-fn takes_no_memory<L: RaftLog>(rt: &impl Abort, log: &mut L) {
-    assert!(rt; log.term_at(75) == Ok(1) && log.term_at(9) == Err(LogFault::Compacted));
-    assert!(rt; log.hint(80, 1) == 80 && log.entries(11).is_ok() && log.is_up_to_date(200, 2));
-    assert!(rt; compact(log, 75) && log.first_index() == 76);
+fn takes_no_memory<T: Tested>(rt: &impl Abort, log: &mut T) {
+    assert_eq!(rt;
+        (log.term_of(75), log.term_of(9)),
+        (Ok(1), Err(LogFault::Compacted))
+    );
+    assert!(rt; log.hint_for(80, 1) == 80 && log.count_from(11) > 0 && log.is_no_newer(200, 2));
+    assert_eq!(rt; log.cut(75, u64::MAX), Ok(()));
+    assert!(rt; log.numbers().0 == 76);
+}
+
+/// A copy of a log from 11 to 140 is cut after 100, and the log stays.
+fn is_cut<T: Tested>(
+    rt: &impl Abort,
+    alloc: Global,
+    log: &T,
+    copy: &mut T,
+) -> Result<(), AllocError> {
+    let told = take_items(alloc, copy, (100, 1), &[(2, 0)], 0)?;
+    assert_eq!(rt; told, Some(Appended::Matched(101)));
+    assert!(rt; log.numbers().1 == 140 && copy.numbers().1 == 101);
+    copy.save()
 }
 
 /// A log is made, copied, sent and cut; where memory is refused the call says so, and nothing else happens.
-fn logs<L: RaftLog>(rt: &impl Abort, alloc: Global) -> Result<(), AllocError> {
-    let mut log: L = filled(alloc, 10, 130)?;
-    let mut copy = log.try_copy()?;
-    let sent = log.entries_after(60)?;
-    let new = vec![in alloc; payload(alloc, 2, 0)?]?;
-    let told = copy.append_after(100, 1, new.as_slice(), 0)?;
-    assert!(rt; told == Appended::Matched(101) && log.last_index() == 140 && !sent.is_empty());
-    copy.mark_durable()?;
+fn logs<T: Tested>(rt: &impl Abort, alloc: Global) -> Result<(), AllocError> {
+    let mut log: T = filled(alloc, 10, 130)?;
+    let mut copy = log.copied()?;
+    assert!(rt; !log.sent_after(60)?.is_empty());
+    is_cut(rt, alloc, &log, &mut copy)?;
     takes_no_memory(rt, &mut copy);
     takes_no_memory(rt, &mut log);
     Ok(())

@@ -1,10 +1,8 @@
 //! A plain slow log: a list of terms and bytes.
 
+use super::tested::Item;
 use rb_raftlog::Appended;
 use std::alloc::{AllocError, Global};
-
-/// A term, and the byte of a payload.
-pub type Item = (u64, u8);
 
 /// A log as one list, that looks at every entry for everything.
 #[derive(Drop)]

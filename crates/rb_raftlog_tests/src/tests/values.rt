@@ -1,8 +1,8 @@
 //! Contents, shared lists and entries.
 
-use super::making::{change, payload};
-use rb_raftlog::{Content, Shared, limits_are};
-use std::alloc::Global;
+use super::making::{change, payload, snapshot_of};
+use rb_raftlog::{Content, Entry, Shared, limits_are};
+use std::alloc::{AllocError, Global};
 use std::process::Abort;
 use std::test::Fail;
 
@@ -15,26 +15,42 @@ fn content_by(alloc: Global, bytes: &[u8], step: usize) -> Result<Content, Fail>
     Ok(content)
 }
 
-/// However it is appended, a content of so many bytes is the same, and shows the end of them.
-fn grows(rt: &impl Abort, alloc: Global, count: usize) -> Result<(), Fail> {
+fn bytes_of(alloc: Global, count: usize) -> Result<Vec<u8>, AllocError> {
     let mut bytes = Vec::new(alloc);
     for k in 0..count {
         bytes.push((k % 251) as u8)?;
     }
-    let whole = Content::from_slice(alloc, &bytes)?;
-    assert!(rt; whole.len() == count && whole.end() == &bytes[count.saturating_sub(32)..]);
+    Ok(bytes)
+}
+
+/// However it is appended, a content is the same.
+fn is_one(rt: &impl Abort, alloc: Global, bytes: &[u8], whole: &Content) -> Result<(), Fail> {
     for step in [1, 7, 1_023, 1_024, 1_056, 5_000] {
-        assert!(rt;
-            content_by(alloc, &bytes, step)?.same(&whole),
-            "{count} bytes by {step}"
-        );
+        let content = content_by(alloc, bytes, step)?;
+        assert!(rt; content.same(whole), "{} bytes by {step}", bytes.len());
     }
+    Ok(())
+}
+
+/// A copy that grows is another content.
+fn grows_alone(rt: &impl Abort, whole: &Content, count: usize) -> Result<(), Fail> {
     let mut longer = whole.try_copy()?;
     longer.append(b"x")?;
-    assert!(rt;
-        longer.len() == count.saturating_add(1) && whole.len() == count && !longer.same(&whole)
+    assert!(rt; !longer.same(whole));
+    assert_eq!(rt;
+        (whole.len(), longer.len()),
+        (count, count.saturating_add(1))
     );
     Ok(())
+}
+
+/// A content of so many bytes shows the end of them.
+fn grows(rt: &impl Abort, alloc: Global, count: usize) -> Result<(), Fail> {
+    let bytes = bytes_of(alloc, count)?;
+    let whole = Content::from_slice(alloc, &bytes)?;
+    assert!(rt; whole.end() == &bytes[bytes.len().saturating_sub(32)..]);
+    is_one(rt, alloc, &bytes, &whole)?;
+    grows_alone(rt, &whole, count)
 }
 
 #[test]
@@ -46,18 +62,34 @@ fn contents_grow(rt: HostRuntime) -> Result<(), Fail> {
     Ok(())
 }
 
+/// Whether an entry is the other one.
+fn is_other(entry: &Entry, other: Result<Entry, AllocError>) -> Result<bool, AllocError> {
+    Ok(entry.same(&other?))
+}
+
+fn payloads_are_told_apart(rt: &impl Abort, alloc: Global) -> Result<(), AllocError> {
+    let entry = payload(alloc, 1, 5)?;
+    assert!(rt; is_other(&entry, entry.try_copy())? && !entry.body.is_change());
+    assert!(rt; !is_other(&entry, payload(alloc, 1, 6))?);
+    assert!(rt; !is_other(&entry, payload(alloc, 2, 5))?);
+    assert!(rt; !is_other(&entry, change(alloc, 1, 5))?);
+    Ok(())
+}
+
+fn changes_are_told_apart(rt: &impl Abort, alloc: Global) -> Result<(), AllocError> {
+    let entry = change(alloc, 1, 5)?;
+    assert!(rt; is_other(&entry, change(alloc, 1, 5))? && entry.body.is_change());
+    assert!(rt; !is_other(&entry, change(alloc, 1, 6))?);
+    Ok(())
+}
+
 #[test]
 fn values_are_told_apart(rt: HostRuntime) -> Result<(), Fail> {
-    let alloc = rt.alloc();
-    let entry = payload(alloc, 1, 5)?;
-    assert!(rt; entry.same(&entry.try_copy()?) && !entry.same(&payload(alloc, 1, 6)?));
-    assert!(rt; !entry.same(&payload(alloc, 2, 5)?) && !entry.same(&change(alloc, 1, 5)?));
-    assert!(rt;
-        change(alloc, 1, 5)?.same(&change(alloc, 1, 5)?)
-            && !change(alloc, 1, 5)?.same(&change(alloc, 1, 6)?)
-    );
-    assert!(rt; change(alloc, 1, 5)?.body.is_change() && !entry.body.is_change());
-    let ids = Shared::new(vec![in alloc; 1u64, 2]?)?;
+    payloads_are_told_apart(&rt, rt.alloc())?;
+    changes_are_told_apart(&rt, rt.alloc())?;
+    let ids = Shared::new(vec![in rt.alloc(); 1u64, 2]?)?;
     assert!(rt; ids.len() == 2 && ids.same(&ids.try_copy()?));
+    let snapshot = snapshot_of(rt.alloc(), 500, 4)?;
+    assert!(rt; snapshot.same(&snapshot.try_copy()?));
     Ok(())
 }

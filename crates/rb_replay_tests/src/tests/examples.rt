@@ -1,7 +1,8 @@
-use super::{block_of, edit, lines_of, reports, shown, start};
+use super::tested::{Ask, Tested};
+use super::{edit, keeps, mismatches, reports, start};
 use rb_cluster::Cluster;
+use rb_raftlog::SplitLog;
 use rb_replay::Session;
-use rb_script::Edit;
 use std::alloc::Global;
 use std::process::Abort;
 use std::test::Fail;
@@ -18,20 +19,22 @@ fn one_node(alloc: Global, others: usize) -> Result<Vec<u8>, Fail> {
     Ok(text)
 }
 
-/// An insert of the block that the text is.
-fn insert(alloc: Global, place: usize, text: &[u8]) -> Result<Edit, Fail> {
-    Ok(Edit::Insert(place, block_of(alloc, text)?))
+/// A session on such a script that keeps each fourth cluster.
+fn on_one_node<T: Tested>(alloc: Global, others: usize) -> Result<T, Fail> {
+    let text = one_node(alloc, others)?;
+    start(alloc, &text, 4)
 }
 
 /// Makes the edit, which executes so many directives and leaves so many mismatches.
-fn make<R: Abort>(
+fn make<T: Tested, R: Abort>(
     rt: &R,
-    session: &mut Session<Cluster>,
-    asked: &Edit,
+    alloc: Global,
+    session: &mut T,
+    ask: Ask,
     executed: u64,
     mismatches: usize,
 ) -> Result<(), Fail> {
-    let changed = edit(session, asked)?;
+    let changed = edit(alloc, session, ask)?;
     assert_eq!(rt;
         (changed.executed, changed.mismatches),
         (executed, mismatches)
@@ -40,134 +43,179 @@ fn make<R: Abort>(
 }
 
 /// The session's script, and the rewritten one, are these.
-fn writes<R: Abort>(
+fn writes<T: Tested, R: Abort>(
     rt: &R,
     alloc: Global,
-    session: &Session<Cluster>,
+    session: &T,
     script: &[u8],
     rewritten: &[u8],
 ) -> Result<(), Fail> {
-    let all = shown(alloc, session)?;
-    assert_eq!(rt; all.script.as_slice(), script);
-    assert_eq!(rt; all.rewritten.as_slice(), rewritten);
+    assert_eq!(rt; session.script(alloc)?.as_slice(), script);
+    assert_eq!(rt; session.rewritten(alloc)?.as_slice(), rewritten);
     Ok(())
+}
+
+fn inserts<T: Tested, R: Abort>(rt: &R, alloc: Global, session: &mut T) -> Result<(), Fail> {
+    assert_eq!(rt; (session.size(), session.has_none()), (1, false));
+    let ask = Ask::Insert(2, b"raft-state\n----\nno\n");
+    make(rt, alloc, session, ask, 2, 1)?;
+    mismatches(rt, session, &[2]);
+    let report = b"mismatch 2\n- no\n+ ok\n2 directives, 1 mismatches\n";
+    reports(rt, alloc, session, report)?;
+    writes(
+        rt,
+        alloc,
+        session,
+        b"log-level info\n----\nok\n\nraft-state\n----\nno\n\n",
+        b"log-level info\n----\nok\n\nraft-state\n----\nok\n\n",
+    )?;
+    make(rt, alloc, session, Ask::Accept, 0, 0)?;
+    reports(rt, alloc, session, b"2 directives, 0 mismatches\n")
+}
+
+fn first_insert_of<T: Tested, R: Abort>(rt: &R, alloc: Global) -> Result<(), Fail> {
+    let mut session: T = start(alloc, b"log-level info\n----\nok\n", 4)?;
+    inserts(rt, alloc, &mut session)
 }
 
 #[test]
 fn first_insert(rt: HostRuntime) -> Result<(), Fail> {
-    let alloc = rt.alloc();
-    let mut session = start(alloc, b"log-level info\n----\nok\n", 4)?;
-    assert_eq!(rt; session.len(), 1);
-    assert!(rt; !session.is_empty());
-    let asked = insert(alloc, 2, b"raft-state\n----\nno\n")?;
-    make(&rt, &mut session, &asked, 2, 1)?;
-    assert_eq!(rt; session.mismatches(), [2].as_slice());
-    reports(
-        &rt,
-        alloc,
-        &session,
-        b"mismatch 2\n- no\n+ ok\n2 directives, 1 mismatches\n",
-    )?;
-    writes(
-        &rt,
-        alloc,
-        &session,
-        b"log-level info\n----\nok\n\nraft-state\n----\nno\n\n",
-        b"log-level info\n----\nok\n\nraft-state\n----\nok\n\n",
-    )?;
-    make(&rt, &mut session, &Edit::Accept, 0, 0)?;
-    reports(&rt, alloc, &session, b"2 directives, 0 mismatches\n")
+    first_insert_of::<Session<Cluster<SplitLog>>, HostRuntime>(&rt, rt.alloc())
+}
+
+fn has_nothing<T: Tested, R: Abort>(rt: &R, session: &T) {
+    let blocks = (session.has_block(0), session.has_block(1));
+    assert_eq!(rt; (session.has_none(), blocks), (true, (false, false)));
+    assert!(rt; session.shown(1).is_none());
+    keeps(rt, session, &[0]);
+}
+
+fn an_empty_script_of<T: Tested, R: Abort>(rt: &R, alloc: Global) -> Result<(), Fail> {
+    let mut session: T = start(alloc, b"", 4)?;
+    has_nothing(rt, &session);
+    reports(rt, alloc, &session, b"0 directives, 0 mismatches\n")?;
+    let ask = Ask::Insert(1, b"log-level info\n----\nok\n");
+    make(rt, alloc, &mut session, ask, 1, 0)?;
+    make(rt, alloc, &mut session, Ask::Remove(1), 0, 0)?;
+    writes(rt, alloc, &session, b"", b"")
 }
 
 #[test]
 fn an_empty_script(rt: HostRuntime) -> Result<(), Fail> {
-    let alloc = rt.alloc();
-    let mut session = start(alloc, b"", 4)?;
-    assert!(rt; session.is_empty());
-    assert!(rt;
-        session.block(0).is_none() && session.block(1).is_none() && session.output(1).is_none()
-    );
-    assert_eq!(rt; session.checkpoints(), [0].as_slice());
-    reports(&rt, alloc, &session, b"0 directives, 0 mismatches\n")?;
-    let asked = insert(alloc, 1, b"log-level info\n----\nok\n")?;
-    make(&rt, &mut session, &asked, 1, 0)?;
-    make(&rt, &mut session, &Edit::Remove(1), 0, 0)?;
-    writes(&rt, alloc, &session, b"", b"")
+    an_empty_script_of::<Session<Cluster<SplitLog>>, HostRuntime>(&rt, rt.alloc())
 }
 
-// The clusters agree soon after an insert and a remove.
-#[test]
-fn cut_off(rt: HostRuntime) -> Result<(), Fail> {
-    let alloc = rt.alloc();
-    let mut session = start(alloc, &one_node(alloc, 11)?, 4)?;
-    assert_eq!(rt; session.checkpoints(), [0, 4, 8, 12].as_slice());
-    assert!(rt; session.mismatches().is_empty());
-    let asked = insert(alloc, 6, b"raft-state\n----\n")?;
-    make(&rt, &mut session, &asked, 5, 1)?;
-    assert_eq!(rt; session.checkpoints(), [0, 4, 8, 9, 13].as_slice());
-    let Some(output) = session.output(6) else {
-        return Err(Fail::from("no output"));
-    };
-    assert_eq!(rt;
-        output.text(),
-        b"1 follower term=0 vote=0 lead=0 commit=10 applied=10 content=0:\"\"\n".as_slice()
-    );
-    make(&rt, &mut session, &Edit::Remove(6), 3, 0)?;
-    assert_eq!(rt; session.checkpoints(), [0, 4, 8, 12].as_slice());
+/// The output at a place is this.
+fn shows<T: Tested, R: Abort>(rt: &R, session: &T, place: usize, text: &[u8]) {
+    assert_eq!(rt; session.shown(place), Some(text));
+}
+
+fn is_cut_off<T: Tested, R: Abort>(rt: &R, alloc: Global, session: &mut T) -> Result<(), Fail> {
+    keeps(rt, session, &[0, 4, 8, 12]);
+    mismatches(rt, session, &[]);
+    make(
+        rt,
+        alloc,
+        session,
+        Ask::Insert(6, b"raft-state\n----\n"),
+        5,
+        1,
+    )?;
+    keeps(rt, session, &[0, 4, 8, 9, 13]);
+    let text = b"1 follower term=0 vote=0 lead=0 commit=10 applied=10 content=0:\"\"\n";
+    shows(rt, session, 6, text);
+    make(rt, alloc, session, Ask::Remove(6), 3, 0)?;
+    keeps(rt, session, &[0, 4, 8, 12]);
     Ok(())
 }
 
+// The clusters agree soon after an insert and a remove.
+fn cut_off_of<T: Tested, R: Abort>(rt: &R, alloc: Global) -> Result<(), Fail> {
+    let mut session: T = on_one_node(alloc, 11)?;
+    is_cut_off(rt, alloc, &mut session)
+}
+
+#[test]
+fn cut_off(rt: HostRuntime) -> Result<(), Fail> {
+    cut_off_of::<Session<Cluster<SplitLog>>, HostRuntime>(&rt, rt.alloc())
+}
+
 // An expectation changes no cluster; a change of the first directive reaches the end.
+fn no_cut_off_of<T: Tested, R: Abort>(rt: &R, alloc: Global) -> Result<(), Fail> {
+    let mut session: T = on_one_node(alloc, 11)?;
+    make(rt, alloc, &mut session, Ask::Expect(3, b"no\n"), 0, 1)?;
+    mismatches(rt, &session, &[3]);
+    make(rt, alloc, &mut session, Ask::Accept, 0, 0)?;
+    let ask = Ask::Replace(1, b"add-nodes 1 voters=(1) index=11\n----\n");
+    make(rt, alloc, &mut session, ask, 12, 1)?;
+    keeps(rt, &session, &[0, 4, 8, 12]);
+    Ok(())
+}
+
 #[test]
 fn no_cut_off(rt: HostRuntime) -> Result<(), Fail> {
-    let alloc = rt.alloc();
-    let mut session = start(alloc, &one_node(alloc, 11)?, 4)?;
-    let asked = Edit::Expect(3, lines_of(alloc, b"no\n")?);
-    make(&rt, &mut session, &asked, 0, 1)?;
-    assert_eq!(rt; session.mismatches(), [3].as_slice());
-    make(&rt, &mut session, &Edit::Accept, 0, 0)?;
-    let block = block_of(alloc, b"add-nodes 1 voters=(1) index=11\n----\n")?;
-    make(&rt, &mut session, &Edit::Replace(1, block), 12, 1)?;
-    assert_eq!(rt; session.checkpoints(), [0, 4, 8, 12].as_slice());
+    no_cut_off_of::<Session<Cluster<SplitLog>>, HostRuntime>(&rt, rt.alloc())
+}
+
+/// Four times, and few are executed each time.
+fn removes<T: Tested, R: Abort>(rt: &R, alloc: Global, session: &mut T) -> Result<(), Fail> {
+    for _ in 0..4 {
+        let changed = edit(alloc, session, Ask::Remove(6))?;
+        assert!(rt; changed.executed <= 7);
+    }
     Ok(())
 }
 
 // An insert at a kept place, and removes that bring kept places together.
-#[test]
-fn places_join(rt: HostRuntime) -> Result<(), Fail> {
-    let alloc = rt.alloc();
-    let mut session = start(alloc, &one_node(alloc, 11)?, 4)?;
-    let asked = insert(alloc, 5, b"raft-state\n----\n")?;
-    make(&rt, &mut session, &asked, 1, 1)?;
-    assert_eq!(rt; session.checkpoints(), [0, 4, 5, 9, 13].as_slice());
-    make(&rt, &mut session, &Edit::Remove(5), 0, 0)?;
-    assert_eq!(rt; session.checkpoints(), [0, 4, 8, 12].as_slice());
-    for _ in 0..4 {
-        assert!(rt; edit(&mut session, &Edit::Remove(6))?.executed <= 7);
-    }
-    assert_eq!(rt; session.len(), 8);
-    assert_eq!(rt; session.checkpoints(), [0, 4, 8].as_slice());
+fn places_join_of<T: Tested, R: Abort>(rt: &R, alloc: Global) -> Result<(), Fail> {
+    let mut session: T = on_one_node(alloc, 11)?;
+    let ask = Ask::Insert(5, b"raft-state\n----\n");
+    make(rt, alloc, &mut session, ask, 1, 1)?;
+    keeps(rt, &session, &[0, 4, 5, 9, 13]);
+    make(rt, alloc, &mut session, Ask::Remove(5), 0, 0)?;
+    keeps(rt, &session, &[0, 4, 8, 12]);
+    removes(rt, alloc, &mut session)?;
+    assert_eq!(rt; session.size(), 8);
+    keeps(rt, &session, &[0, 4, 8]);
     Ok(())
 }
 
+#[test]
+fn places_join(rt: HostRuntime) -> Result<(), Fail> {
+    places_join_of::<Session<Cluster<SplitLog>>, HostRuntime>(&rt, rt.alloc())
+}
+
 /// Puts a directive that leaves the cluster alone at the place, in a session of its own.
-fn put_at<R: Abort>(rt: &R, alloc: Global, text: &[u8], place: usize) -> Result<(), Fail> {
-    let mut session = start(alloc, text, 4)?;
-    let changed = edit(&mut session, &insert(alloc, place, b"raft-state\n----\n")?)?;
+fn put_at<T: Tested, R: Abort>(
+    rt: &R,
+    alloc: Global,
+    text: &[u8],
+    place: usize,
+) -> Result<(), Fail> {
+    let mut session: T = start(alloc, text, 4)?;
+    let ask = Ask::Insert(place, b"raft-state\n----\n");
+    let changed = edit(alloc, &mut session, ask)?;
     assert!(rt; changed.executed <= 7, "at {place}: {}", changed.executed);
     assert_eq!(rt; changed.mismatches, 1, "at {place}");
     Ok(())
 }
 
+fn put_first<T: Tested, R: Abort>(rt: &R, alloc: Global, text: &[u8]) -> Result<(), Fail> {
+    let mut session: T = start(alloc, text, 4)?;
+    let ask = Ask::Insert(1, b"raft-state\n----\nok\n");
+    make(rt, alloc, &mut session, ask, 1, 0)
+}
+
 // Wherever a directive that leaves the cluster alone is put, few are executed.
-#[test]
-fn few_are_executed_at_each_place(rt: HostRuntime) -> Result<(), Fail> {
-    let alloc = rt.alloc();
+fn few_are_executed_of<T: Tested, R: Abort>(rt: &R, alloc: Global) -> Result<(), Fail> {
     let text = one_node(alloc, 199)?;
     for place in 2..202 {
-        put_at(&rt, alloc, &text, place)?;
+        put_at::<T, R>(rt, alloc, &text, place)?;
     }
-    let mut session = start(alloc, &text, 4)?;
-    let asked = insert(alloc, 1, b"raft-state\n----\nok\n")?;
-    make(&rt, &mut session, &asked, 1, 0)
+    put_first::<T, R>(rt, alloc, &text)
+}
+
+#[test]
+fn few_are_executed_at_each_place(rt: HostRuntime) -> Result<(), Fail> {
+    few_are_executed_of::<Session<Cluster<SplitLog>>, HostRuntime>(&rt, rt.alloc())
 }

@@ -1,11 +1,12 @@
 //! Each allocation refused in turn: these tests are run once for each, and say where one was refused.
 
-use rb_cluster::{Cluster, Count, Meter};
+use super::tested::{Ask, Tested, asked};
+use rb_cluster::Cluster;
+use rb_raftlog::SplitLog;
 use rb_replay::{Changed, Session, StartFault};
-use rb_script::{Block, Edit, EditFault, Lines, Through};
+use rb_script::{Edit, EditFault};
 use std::alloc::Global;
-use std::io;
-use std::io::{Print, Write};
+use std::io::Print;
 use std::process::Abort;
 use std::test::Fail;
 
@@ -24,32 +25,11 @@ const OUTPUTS: [&[u8]; 4] = [
     b"ok\n",
 ];
 
-/// Compares what is written with what is wanted, and takes no memory.
-#[derive(Drop)]
-struct Matching {
-    rest: &'static [u8],
-    differs: bool,
-}
-
-impl Write for Matching {
-    fn write(&mut self, buf: &[u8]) -> io::Result<usize> {
-        match self.rest.strip_prefix(buf) {
-            Some(rest) => self.rest = rest,
-            None => self.differs = true,
-        }
-        Ok(buf.len())
-    }
-
-    fn flush(&mut self) -> io::Result<()> {
-        Ok(())
-    }
-}
-
 /// Whether the outputs are those of the script as it was when the session started.
-fn has_outputs(session: &Session<Cluster>) -> bool {
+fn has_outputs<T: Tested>(session: &T) -> bool {
     for (i, want) in OUTPUTS.iter().enumerate() {
-        match session.output(i.saturating_add(1)) {
-            Some(lines) if lines.text() == *want => {}
+        match session.shown(i.saturating_add(1)) {
+            Some(text) if text == *want => {}
             _ => return false,
         }
     }
@@ -57,166 +37,104 @@ fn has_outputs(session: &Session<Cluster>) -> bool {
 }
 
 /// Whether all that the session answers is as it was when it started.
-fn is_as_before(session: &Session<Cluster>) -> bool {
-    let mut report = Matching {
-        rest: REPORT,
-        differs: false,
-    };
-    let mut script = Matching {
-        rest: SCRIPT,
-        differs: false,
-    };
-    let mut rewritten = Matching {
-        rest: REWRITTEN,
-        differs: false,
-    };
-    let wrote = session.write_report(&mut Through(&mut report)).is_ok()
-        && session.write_script(&mut Through(&mut script)).is_ok()
-        && session
-            .write_rewritten(&mut Through(&mut rewritten))
-            .is_ok();
-    wrote
-        && !report.differs
-        && !script.differs
-        && !rewritten.differs
-        && report.rest.is_empty()
-        && script.rest.is_empty()
-        && rewritten.rest.is_empty()
-        && session.len() == 4
+fn is_as_before<T: Tested>(session: &T) -> bool {
+    session.is_written_as([REPORT, SCRIPT, REWRITTEN])
+        && session.size() == 4
         && has_outputs(session)
-        && session.mismatches() == [3].as_slice()
-        && session.checkpoints() == [0, 2, 4].as_slice()
+        && session.wrong() == [3].as_slice()
+        && session.kept() == [0, 2, 4].as_slice()
+}
+
+fn starts_refused<T: Tested, R: Abort + Print>(rt: &R, alloc: Global) -> Result<(), Fail> {
+    let mut executed = 0;
+    match T::begin(alloc, SCRIPT, 2, &mut executed) {
+        Ok(session) => assert!(rt; is_as_before(&session) && executed == 4),
+        Err(fault) => {
+            assert!(rt; fault == StartFault::OutOfMemory && executed <= 4);
+            println!(rt; "refused")?;
+        }
+    }
+    Ok(())
+}
+
+// It is found before any growth.
+fn wide_spacing<T: Tested, R: Abort>(rt: &R, alloc: Global) {
+    let fault = T::begin(alloc, SCRIPT, 65, &mut 0).err();
+    assert_eq!(rt; fault, Some(StartFault::BadSpacing));
 }
 
 #[test]
 fn starts_under_refusals(rt: HostRuntime) -> Result<(), Fail> {
-    let mut meter = Meter::new();
-    let started: Result<Session<Cluster>, StartFault> = Session::start(
-        rt.alloc(),
-        SCRIPT,
-        2,
-        &mut meter,
-    );
-    match started {
-        Ok(session) => {
-            assert!(rt; is_as_before(&session));
-            assert_eq!(rt; meter.count(), 4);
-        }
-        Err(fault) => {
-            assert_eq!(rt; fault, StartFault::OutOfMemory);
-            assert!(rt; meter.count() <= 4);
-            println!(rt; "refused")?;
-        }
-    }
-    // these are found before any growth
-    let wide: Result<Session<Cluster>, StartFault> = Session::start(
-        rt.alloc(),
-        SCRIPT,
-        65,
-        &mut Meter::new(),
-    );
-    assert!(rt; matches!(&wide, Err(StartFault::BadSpacing)));
-    Ok(())
-}
-
-fn new_block(alloc: Global) -> Option<Block> {
-    Block::read(alloc, b"raft-state\n----\n").ok()
-}
-
-fn one_line(alloc: Global) -> Option<Lines> {
-    let mut lines = Lines::new(alloc);
-    lines.push(b"x").ok()?;
-    Some(lines)
+    wide_spacing::<Session<Cluster<SplitLog>>, HostRuntime>(&rt, rt.alloc());
+    starts_refused::<Session<Cluster<SplitLog>>, HostRuntime>(&rt, rt.alloc())
 }
 
 /// An edit, how much it executes, and how many mismatches there are then.
-#[derive(Drop)]
-struct Case {
-    edit: Option<Edit>,
-    executed: u64,
-    mismatches: usize,
-}
-
-fn cases(alloc: Global) -> [Case; 5] {
-    [
-        Case {
-            edit: new_block(alloc).map(|block| Edit::Insert(2, block)),
-            executed: 3,
-            mismatches: 2,
-        },
-        Case {
-            edit: new_block(alloc).map(|block| Edit::Replace(4, block)),
-            executed: 2,
-            mismatches: 2,
-        },
-        Case {
-            edit: Some(Edit::Remove(3)),
-            executed: 1,
-            mismatches: 0,
-        },
-        Case {
-            edit: one_line(alloc).map(|lines| Edit::Expect(1, lines)),
-            executed: 0,
-            mismatches: 2,
-        },
-        Case {
-            edit: Some(Edit::Accept),
-            executed: 0,
-            mismatches: 0,
-        },
-    ]
-}
+const CASES: [(Ask, u64, usize); 5] = [
+    (Ask::Insert(2, b"raft-state\n----\n"), 3, 2),
+    (Ask::Replace(4, b"raft-state\n----\n"), 2, 2),
+    (Ask::Remove(3), 1, 0),
+    (Ask::Expect(1, b"x\n"), 0, 2),
+    (Ask::Accept, 0, 0),
+];
 
 /// Makes the edit; where memory is refused, all is as before, and the edit is made again.
-fn made<R: Abort + Print>(
+fn made<T: Tested, R: Abort + Print>(
     rt: &R,
-    session: &mut Session<Cluster>,
+    session: &mut T,
     edit: &Edit,
-    executed: u64,
+    want: u64,
 ) -> Result<Result<Changed, EditFault>, Fail> {
-    let mut meter = Meter::new();
-    let answer = session.edit(edit, &mut meter);
-    if !matches!(&answer, Err(EditFault::OutOfMemory)) {
-        assert_eq!(rt; meter.count(), executed);
+    let mut executed = 0;
+    let answer = session.change(edit, &mut executed);
+    if answer != Err(EditFault::OutOfMemory) {
+        assert_eq!(rt; executed, want);
         return Ok(answer);
     }
     println!(rt; "refused")?;
-    assert!(rt; is_as_before(session));
-    assert!(rt; meter.count() <= executed);
-    let mut again = Meter::new();
-    let answer = session.edit(edit, &mut again);
-    assert_eq!(rt; again.count(), executed);
+    assert!(rt; is_as_before(session) && executed <= want);
+    let answer = session.change(edit, &mut executed);
+    assert_eq!(rt; executed, want);
     Ok(answer)
 }
 
+/// A session, or nothing where there is no memory for it.
+fn started<T: Tested>(alloc: Global) -> Option<T> {
+    T::begin(alloc, SCRIPT, 2, &mut 0).ok()
+}
+
+fn edit_refused<T: Tested, R: Abort + Print>(
+    rt: &R,
+    alloc: Global,
+    edit: &Edit,
+    want: Changed,
+) -> Result<(), Fail> {
+    match started::<T>(alloc) {
+        Some(session) => {
+            let mut session = session;
+            assert_eq!(rt; made(rt, &mut session, edit, want.executed)?, Ok(want));
+        }
+        None => println!(rt; "refused")?,
+    }
+    Ok(())
+}
+
 // After a refusal all is as before, and the same edit with ample memory answers as it should.
-#[test]
-fn edits_under_refusals(rt: HostRuntime) -> Result<(), Fail> {
-    for case in cases(rt.alloc()) {
-        let started: Result<Session<Cluster>, StartFault> = Session::start(
-            rt.alloc(),
-            SCRIPT,
-            2,
-            &mut Meter::new(),
-        );
-        let Case {
-            edit,
-            executed,
-            mismatches,
-        } = case;
-        let Some(edit) = edit else {
-            println!(rt; "refused")?;
-            continue;
-        };
-        let Ok(mut session) = started else {
-            println!(rt; "refused")?;
-            continue;
-        };
+fn edits_refused<T: Tested, R: Abort + Print>(rt: &R, alloc: Global) -> Result<(), Fail> {
+    for (ask, executed, mismatches) in CASES {
         let want = Changed {
             executed,
             mismatches,
         };
-        assert_eq!(rt; made(&rt, &mut session, &edit, executed)?, Ok(want));
+        match asked(alloc, ask) {
+            Some(edit) => edit_refused::<T, R>(rt, alloc, &edit, want)?,
+            None => println!(rt; "refused")?,
+        }
     }
     Ok(())
+}
+
+#[test]
+fn edits_under_refusals(rt: HostRuntime) -> Result<(), Fail> {
+    edits_refused::<Session<Cluster<SplitLog>>, HostRuntime>(&rt, rt.alloc())
 }

@@ -1,0 +1,184 @@
+//! What a node holds, and how much of it is committed, applied and durable.
+
+use super::making::{Player, played};
+use super::moves::{FOLLOWS, Move, START, Says};
+use rb_node::Node;
+use rb_raftlog::{PlainLog, RaftLog, SplitLog};
+use std::alloc::{AllocError, Global};
+use std::process::Abort;
+use std::test::Fail;
+
+/// The base, the last index and its term, the last that is durable, commit and applied.
+pub type Held = (u64, u64, u64, u64, u64, u64);
+
+pub fn held_of<L: RaftLog>(node: &Node<L>) -> Held {
+    let state = node.status();
+    let log = &state.log;
+    (
+        log.first_index().saturating_sub(1),
+        log.last_index(),
+        log.last_term(),
+        log.durable(),
+        state.commit,
+        state.applied,
+    )
+}
+
+/// Node 2 leads term 2, with three entries that are durable.
+const HOLDS_THREE: Move = Move::Get(2, 2, Says::Append(1, 10, 10, 3));
+
+/// Node 3 leads term 3, and has another entry at 12.
+const CONFLICTS: Move = Move::Get(3, 3, Says::Append(2, 11, 10, 1));
+
+/// Nodes 1 and 2 hold 3/14, which node 1 appended in term 3 after three entries of term 2.
+const VOTED_FOR: Move = Move::Get(2, 3, Says::VoteAnswer(true));
+
+const HELD: [(&[Move], Held); 17] = [
+    (FOLLOWS, (10, 10, 1, 10, 10, 10)),
+    (&[HOLDS_THREE], (10, 13, 2, 10, 10, 10)),
+    (&[HOLDS_THREE, Move::Advance], (10, 13, 2, 13, 10, 10)),
+    // what conflicts is dropped with all that follows, and is durable no more
+    (
+        &[HOLDS_THREE, Move::Advance, CONFLICTS],
+        (10, 12, 3, 11, 10, 10),
+    ),
+    (&[HOLDS_THREE, CONFLICTS], (10, 12, 3, 10, 10, 10)),
+    (
+        &[HOLDS_THREE, Move::Advance, CONFLICTS, Move::Advance],
+        (10, 12, 3, 12, 10, 10),
+    ),
+    // what is sent again is kept, with all that follows
+    (
+        &[
+            HOLDS_THREE,
+            Move::Advance,
+            Move::Get(2, 2, Says::Append(1, 10, 10, 1)),
+        ],
+        (10, 13, 2, 13, 10, 10),
+    ),
+    // commit is what is committed of what is held: all of it by a heartbeat, what was sent by an append
+    (
+        &[HOLDS_THREE, Move::Get(2, 2, Says::Heartbeat(50))],
+        (10, 13, 2, 10, 13, 10),
+    ),
+    (
+        &[HOLDS_THREE, Move::Get(2, 2, Says::Append(2, 11, 50, 0))],
+        (10, 13, 2, 10, 11, 10),
+    ),
+    (
+        &[
+            HOLDS_THREE,
+            Move::Get(2, 2, Says::Heartbeat(12)),
+            Move::Advance,
+        ],
+        (10, 13, 2, 13, 12, 12),
+    ),
+    // a snapshot takes the place of all; one whose entry is held commits
+    (
+        &[HOLDS_THREE, Move::Get(2, 2, Says::Snapshot(2, 20))],
+        (20, 20, 2, 20, 20, 20),
+    ),
+    (
+        &[HOLDS_THREE, Move::Get(2, 2, Says::Snapshot(1, 13))],
+        (13, 13, 1, 13, 13, 13),
+    ),
+    (
+        &[HOLDS_THREE, Move::Get(2, 2, Says::Snapshot(2, 12))],
+        (10, 13, 2, 10, 12, 10),
+    ),
+    // compacting goes to what is applied
+    (
+        &[
+            HOLDS_THREE,
+            Move::Get(2, 2, Says::Heartbeat(12)),
+            Move::Advance,
+            Move::Compact(12),
+        ],
+        (12, 13, 2, 13, 12, 12),
+    ),
+    (
+        &[
+            HOLDS_THREE,
+            Move::Get(2, 2, Says::Heartbeat(12)),
+            Move::Advance,
+            Move::Compact(13),
+        ],
+        (10, 13, 2, 13, 12, 12),
+    ),
+    // a quorum that holds entries of an earlier term commits them by one of the leader's own alone
+    (
+        &[
+            HOLDS_THREE,
+            Move::Advance,
+            Move::Campaign,
+            Move::Advance,
+            VOTED_FOR,
+            Move::Advance,
+            Move::Get(2, 3, Says::Accepted(13)),
+        ],
+        (10, 14, 3, 14, 10, 10),
+    ),
+    (
+        &[
+            HOLDS_THREE,
+            Move::Advance,
+            Move::Campaign,
+            Move::Advance,
+            VOTED_FOR,
+            Move::Advance,
+            Move::Get(2, 3, Says::Accepted(14)),
+        ],
+        (10, 14, 3, 14, 14, 10),
+    ),
+];
+
+/// A leader counts its own entry once that is durable, and not before.
+const COUNTED: [(&[Move], Held); 2] = [
+    (
+        &[
+            Move::Campaign,
+            Move::Advance,
+            Move::Get(2, 1, Says::VoteAnswer(true)),
+            Move::Get(2, 1, Says::Accepted(11)),
+        ],
+        (10, 11, 1, 10, 10, 10),
+    ),
+    (
+        &[
+            Move::Campaign,
+            Move::Advance,
+            Move::Get(2, 1, Says::VoteAnswer(true)),
+            Move::Get(2, 1, Says::Accepted(11)),
+            Move::Advance,
+        ],
+        (10, 11, 1, 11, 11, 10),
+    ),
+];
+
+fn held<P: Player>(alloc: Global, moves: &[Move]) -> Result<Held, AllocError> {
+    let player: P = played(alloc, &START, moves)?;
+    Ok(player.held())
+}
+
+fn hold<P: Player>(rt: &impl Abort, alloc: Global, rows: &[(&[Move], Held)]) -> Result<(), Fail> {
+    for (moves, wanted) in rows {
+        let came = held::<P>(alloc, moves)?;
+        assert_eq!(rt; came, *wanted);
+    }
+    Ok(())
+}
+
+fn all<P: Player>(rt: &impl Abort, alloc: Global) -> Result<(), Fail> {
+    hold::<P>(rt, alloc, &HELD)?;
+    hold::<P>(rt, alloc, &COUNTED)
+}
+
+#[test]
+fn plain_logs(rt: HostRuntime) -> Result<(), Fail> {
+    all::<Node<PlainLog>>(&rt, rt.alloc())
+}
+
+#[test]
+fn split_logs(rt: HostRuntime) -> Result<(), Fail> {
+    all::<Node<SplitLog>>(&rt, rt.alloc())
+}

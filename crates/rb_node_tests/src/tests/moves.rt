@@ -1,0 +1,189 @@
+//! What a node is made to do, as plain values.
+
+use rb_raftlog::{Transition, WordKind};
+use rb_step::Options;
+
+/// What a message says.
+#[derive(Clone, Copy)]
+pub enum Says {
+    /// The last entry's term and index, and whether the lead is handed over.
+    Vote(u64, u64, bool),
+    /// The last entry's term and index.
+    PreVote(u64, u64),
+    VoteAnswer(bool),
+    PreVoteAnswer(bool),
+    /// The term and the index of the entry before the first, the commit, and how many entries, each of the message's term.
+    Append(u64, u64, u64, u64),
+    /// The index that is held.
+    Accepted(u64),
+    /// The index that isn't, and the hint.
+    Refused(u64, u64),
+    /// The commit.
+    Heartbeat(u64),
+    HeartbeatAnswer,
+    /// The term and the index.
+    Snapshot(u64, u64),
+    Payload,
+    /// To whom the lead is to go.
+    TransferTo(u64),
+    TimeoutNow,
+}
+
+/// One thing that is done with a node.
+#[derive(Clone, Copy)]
+pub enum Move {
+    /// A message: who sent it, in which term, and what it says.
+    Get(u64, u64, Says),
+    Campaign,
+    /// A payload of one byte.
+    Propose(u8),
+    /// A change of one word.
+    Change(Transition, WordKind, u64),
+    /// A change without words.
+    Leave,
+    Transfer(u64),
+    Tick,
+    Advance,
+    ForgetLeader,
+    ReportUnreachable(u64),
+    SetTimeout(u64),
+    Compact(u64),
+}
+
+/// Where a node starts.
+#[derive(Clone, Copy)]
+pub struct Start {
+    pub id: u64,
+    pub term: u64,
+    pub index: u64,
+    pub content: &'static [u8],
+    pub incoming: &'static [u64],
+    pub outgoing: &'static [u64],
+    pub learners: &'static [u64],
+    pub next: &'static [u64],
+    pub auto: bool,
+    pub options: Options,
+}
+
+pub const PLAIN: Options = Options {
+    pre_vote: false,
+    check_quorum: false,
+    step_down_on_removal: false,
+    inflight: 2,
+};
+
+pub const PRE_VOTE: Options = Options {
+    pre_vote: true,
+    ..PLAIN
+};
+
+pub const CHECK_QUORUM: Options = Options {
+    check_quorum: true,
+    ..PLAIN
+};
+
+pub const STEP_DOWN: Options = Options {
+    step_down_on_removal: true,
+    ..PLAIN
+};
+
+pub const ONE: Options = Options {
+    inflight: 1,
+    ..PLAIN
+};
+
+/// Node 1 of three voters, at index 10 of term 1.
+pub const START: Start = Start {
+    id: 1,
+    term: 1,
+    index: 10,
+    content: b"ab",
+    incoming: &[1, 2, 3],
+    outgoing: &[],
+    learners: &[],
+    next: &[],
+    auto: false,
+    options: PLAIN,
+};
+
+/// The same, with other options.
+pub const SOUNDS_OUT: Start = Start {
+    options: PRE_VOTE,
+    ..START
+};
+
+pub const CHECKS: Start = Start {
+    options: CHECK_QUORUM,
+    ..START
+};
+
+/// The only voter.
+pub const ALONE: Start = Start {
+    incoming: &[1],
+    ..START
+};
+
+/// One of two voters.
+pub const TWO: Start = Start {
+    incoming: &[1, 2],
+    ..START
+};
+
+pub const STEPS_DOWN: Start = Start {
+    options: STEP_DOWN,
+    ..START
+};
+
+pub const FIVE: Start = Start {
+    incoming: &[1, 2, 3, 4, 5],
+    ..START
+};
+
+pub const TWO_STEP_DOWN: Start = Start {
+    options: STEP_DOWN,
+    ..TWO
+};
+
+/// Nodes 2 and 3 alone vote.
+pub const NO_VOTER: Start = Start {
+    incoming: &[2, 3],
+    ..START
+};
+
+/// Node 4 learns.
+pub const LEARNER: Start = Start {
+    learners: &[4],
+    ..START
+};
+
+pub const JOINT: Start = Start {
+    outgoing: &[1, 2, 3],
+    ..START
+};
+
+/// One append may be in flight to a follower.
+pub const ONE_IN_FLIGHT: Start = Start {
+    options: ONE,
+    ..START
+};
+
+/// Node 2 leads term 2, and was heard of.
+pub const FOLLOWS: &[Move] = &[Move::Get(2, 2, Says::Heartbeat(0)), Move::Advance];
+
+/// The node stands for term 3, and has its own vote; with pre-vote it asks in term 2, and has its own yes.
+pub const STANDS: &[Move] = &[
+    Move::Get(2, 2, Says::Heartbeat(0)),
+    Move::Advance,
+    Move::Campaign,
+    Move::Advance,
+];
+
+/// The node leads term 3, and holds its first entry there, 3/11.
+pub const LEADS: &[Move] = &[
+    Move::Get(2, 2, Says::Heartbeat(0)),
+    Move::Advance,
+    Move::Campaign,
+    Move::Advance,
+    Move::Get(2, 3, Says::VoteAnswer(true)),
+    Move::Advance,
+];

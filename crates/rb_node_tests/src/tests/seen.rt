@@ -1,0 +1,255 @@
+//! What shows of a node once it did something, as plain values.
+
+use super::making::{Player, played};
+use super::moves::{Move, Says, Start};
+use rb_message::{Event, Message, MessageKind, Role, WhyNoCampaign, WhyReplaced};
+use rb_node::Node;
+use rb_raftlog::RaftLog;
+use rb_tracker::VoteResult;
+use std::alloc::{AllocError, Global};
+use std::process::Abort;
+use std::test::Fail;
+
+pub const FOLLOWER: Role = Role::Follower;
+
+pub const PRECANDIDATE: Role = Role::Precandidate;
+
+pub const CANDIDATE: Role = Role::Candidate;
+
+pub const LEADER: Role = Role::Leader;
+
+/// The first thing that it told.
+#[derive(Clone, Copy, PartialEq, Eq, Debug)]
+pub enum Told {
+    Nothing,
+    Started,
+    Became,
+    CannotAsLeader,
+    CannotAsNoVoter,
+    CannotForSnapshot,
+    CannotForChange,
+    CannotForTerm,
+    Won,
+    Lost,
+    Pending,
+    Ignored,
+    DroppedProposal,
+    Conflict,
+    AppendsNothing,
+    ReplacedUnapplied,
+    ReplacedJoint,
+    ReplacedNotJoint,
+    Switched,
+    RefusedChange,
+    Restored,
+    TransferStarts,
+    TransferEnds,
+    LostQuorum,
+}
+
+/// What its first answer says that waits or, where none does, its first message that was sent.
+#[derive(Clone, Copy, PartialEq, Eq, Debug)]
+pub enum Said {
+    Nothing,
+    Vote,
+    VoteByTransfer,
+    PreVote,
+    VoteGranted,
+    VoteRefused,
+    PreVoteGranted,
+    PreVoteRefused,
+    Append,
+    Accepted,
+    Refused,
+    Heartbeat,
+    HeartbeatAnswer,
+    Snapshot,
+    Payload,
+    Change,
+    Transfer,
+    TimeoutNow,
+}
+
+/// Its role and its term; what it told first, and how many events there are; what it said first, in which term, and of which index
+/// (that before the entries of an append, that which is held or hinted at, a commit, a snapshot's, a target; else 0); how many
+/// messages were sent, and how many answers wait.
+#[derive(Clone, Copy, PartialEq, Eq, Debug)]
+pub struct Seen(
+    pub Role,
+    pub u64,
+    pub Told,
+    pub usize,
+    pub Said,
+    pub u64,
+    pub u64,
+    pub usize,
+    pub usize,
+);
+
+/// Rows of what shows. Each is written as message => role term, first event and how many, first message with its term and its index,
+/// sent and waiting ones.
+macro_rules! rows {
+    ($($says:expr => $role:ident $term:literal, $told:ident $events:literal, $said:ident $of:literal $index:literal, $sent:literal $waiting:literal;)*) => {
+        [$((
+            $says,
+            Seen($role, $term, Told::$told, $events, Said::$said, $of, $index, $sent, $waiting),
+        ),)*]
+    };
+}
+
+/// The same, with start, moves and last move in place of the message.
+macro_rules! case_rows {
+    ($($start:expr, $moves:expr, $last:expr => $role:ident $term:literal, $told:ident $events:literal, $said:ident $of:literal $index:literal, $sent:literal $waiting:literal;)*) => {
+        [$((
+            $start,
+            $moves,
+            $last,
+            Seen($role, $term, Told::$told, $events, Said::$said, $of, $index, $sent, $waiting),
+        ),)*]
+    };
+}
+
+pub(crate) use case_rows;
+pub(crate) use rows;
+
+fn reason(why: WhyNoCampaign) -> Told {
+    match why {
+        WhyNoCampaign::Leader => Told::CannotAsLeader,
+        WhyNoCampaign::NotAVoter => Told::CannotAsNoVoter,
+        WhyNoCampaign::SnapshotPending => Told::CannotForSnapshot,
+        WhyNoCampaign::ChangePending => Told::CannotForChange,
+        WhyNoCampaign::TermLimit => Told::CannotForTerm,
+    }
+}
+
+fn replaced(why: WhyReplaced) -> Told {
+    match why {
+        WhyReplaced::Unapplied => Told::ReplacedUnapplied,
+        WhyReplaced::Joint => Told::ReplacedJoint,
+        WhyReplaced::NotJoint => Told::ReplacedNotJoint,
+    }
+}
+
+fn counted(outcome: VoteResult) -> Told {
+    match outcome {
+        VoteResult::Won => Told::Won,
+        VoteResult::Lost => Told::Lost,
+        VoteResult::Pending => Told::Pending,
+    }
+}
+
+fn event_told(event: &Event) -> Told {
+    match event {
+        Event::Started { .. } => Told::Started,
+        Event::Became { .. } => Told::Became,
+        Event::CannotCampaign { why, .. } => reason(*why),
+        Event::VoteCounted {
+            result: outcome,
+            ..
+        } => counted(*outcome),
+        Event::Ignored { .. } => Told::Ignored,
+        Event::DroppedProposal { .. } => Told::DroppedProposal,
+        Event::Conflict { .. } => Told::Conflict,
+        Event::AppendsNothing { .. } => Told::AppendsNothing,
+        Event::ReplacedChange { why, .. } => replaced(*why),
+        Event::Switched { .. } => Told::Switched,
+        Event::RefusedChange { .. } => Told::RefusedChange,
+        Event::Restored { .. } => Told::Restored,
+        Event::TransferStarts { .. } => Told::TransferStarts,
+        Event::TransferEnds { .. } => Told::TransferEnds,
+        Event::LostQuorum { .. } => Told::LostQuorum,
+    }
+}
+
+fn answered(granted: bool, yes: Said, no: Said) -> (Said, u64) {
+    (if granted { yes } else { no }, 0)
+}
+
+fn kind_said(kind: &MessageKind) -> (Said, u64) {
+    match kind {
+        MessageKind::Vote { transfer, .. } => answered(*transfer, Said::VoteByTransfer, Said::Vote),
+        MessageKind::PreVote { .. } => (Said::PreVote, 0),
+        MessageKind::VoteResponse { granted } => {
+            answered(*granted, Said::VoteGranted, Said::VoteRefused)
+        }
+        MessageKind::PreVoteResponse { granted } => {
+            answered(*granted, Said::PreVoteGranted, Said::PreVoteRefused)
+        }
+        MessageKind::Append(append) => (Said::Append, append.prev()),
+        MessageKind::AppendResponse { matched } => (Said::Accepted, *matched),
+        MessageKind::AppendRefusal { hint, .. } => (Said::Refused, *hint),
+        MessageKind::Heartbeat { commit } => (Said::Heartbeat, *commit),
+        MessageKind::HeartbeatResponse => (Said::HeartbeatAnswer, 0),
+        MessageKind::Snapshot(install) => (Said::Snapshot, install.snapshot().index),
+        MessageKind::Proposal(body) => answered(body.is_change(), Said::Change, Said::Payload),
+        MessageKind::TransferLeader { target } => (Said::Transfer, *target),
+        MessageKind::TimeoutNow => (Said::TimeoutNow, 0),
+    }
+}
+
+fn first_of<'a>(waiting: &'a [Message], sent: &'a [Message]) -> Option<&'a Message> {
+    waiting.first().or(sent.first())
+}
+
+/// What shows of a node that has told this.
+pub fn seen_of<L: RaftLog>(node: &Node<L>, events: &[Event]) -> Seen {
+    let state = node.status();
+    let (said, term, index) = match first_of(state.waiting.as_slice(), state.sent.as_slice()) {
+        Some(message) => {
+            let (said, index) = kind_said(&message.kind);
+            (said, message.term, index)
+        }
+        None => (Said::Nothing, 0, 0),
+    };
+    Seen(
+        state.role,
+        state.term,
+        events.first().map_or(Told::Nothing, event_told),
+        events.len(),
+        said,
+        term,
+        index,
+        state.sent.len(),
+        state.waiting.len(),
+    )
+}
+
+/// What shows once a node that did all this does one thing more.
+fn seen_after<P: Player>(
+    alloc: Global,
+    start: &Start,
+    moves: &[Move],
+    last: Move,
+) -> Result<Seen, AllocError> {
+    let mut player: P = played(alloc, start, moves)?;
+    player.show(alloc, last)
+}
+
+/// Whether a node that did all this shows what each row says, once it gets the row's message.
+pub fn answers<P: Player>(
+    rt: &impl Abort,
+    alloc: Global,
+    start: &Start,
+    moves: &[Move],
+    from: u64,
+    term: u64,
+    rows: &[(Says, Seen)],
+) -> Result<(), Fail> {
+    for (says, wanted) in rows {
+        let came = seen_after::<P>(alloc, start, moves, Move::Get(from, term, *says))?;
+        assert_eq!(rt; came, *wanted);
+    }
+    Ok(())
+}
+
+/// Where a node starts, what it does before, what it does at last, and what shows then.
+pub type Case = (Start, &'static [Move], Move, Seen);
+
+/// Whether each case shows what it says.
+pub fn cases<P: Player>(rt: &impl Abort, alloc: Global, rows: &[Case]) -> Result<(), Fail> {
+    for (start, moves, last, wanted) in rows {
+        let came = seen_after::<P>(alloc, start, moves, *last)?;
+        assert_eq!(rt; came, *wanted);
+    }
+    Ok(())
+}

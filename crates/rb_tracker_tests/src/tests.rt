@@ -1,0 +1,114 @@
+//! What no clause says: that the definitions mean what is meant, by tables worked out by hand and by slow plain counts, and that calls
+//! succeed. In the tables ids and indexes are digits, so a set of ids is a word of digits.
+
+mod changes;
+mod counts;
+mod progresses;
+mod quorums;
+mod refusals;
+mod trackers;
+mod windows;
+
+use rb_tracker::{Config, IdSet, Progress, Tracker, Votes};
+use std::alloc::{AllocError, Global};
+
+/// The number that a digit stands for.
+fn number(digit: u8) -> u64 {
+    u64::from(digit.saturating_sub(b'0'))
+}
+
+/// Puts ids into a set, a digit each.
+fn put(set: &mut IdSet, digits: &str) -> Result<(), AllocError> {
+    for digit in digits.as_bytes() {
+        set.insert(number(*digit))?;
+    }
+    Ok(())
+}
+
+/// Whether a list has these numbers, a digit each, in this order.
+fn are(list: &[u64], digits: &str) -> bool {
+    if list.len() != digits.len() {
+        return false;
+    }
+    for (x, digit) in list.iter().zip(digits.as_bytes()) {
+        if *x != number(*digit) {
+            return false;
+        }
+    }
+    true
+}
+
+/// A configuration of these voters, and of nobody else.
+fn voting(alloc: Global, incoming: &str, outgoing: &str) -> Result<Config, AllocError> {
+    let mut config = Config::new(alloc);
+    put_voters(&mut config, incoming, outgoing)?;
+    Ok(config)
+}
+
+fn put_voters(config: &mut Config, incoming: &str, outgoing: &str) -> Result<(), AllocError> {
+    put(&mut config.incoming, incoming)?;
+    put(&mut config.outgoing, outgoing)
+}
+
+/// Puts in a view of an id that holds the log up to an index.
+fn hold(alloc: Global, tracker: &mut Tracker, id: u64, matched: u64) -> Result<(), AllocError> {
+    if matched < 1_000 && !tracker.has_view(id) {
+        tracker.add(id, Progress::own(alloc, 1, matched, matched + 1)?)?;
+    }
+    Ok(())
+}
+
+/// Puts in views of the ids 1, 2 and so on, which hold the log up to a digit each. Who has `-` has no view.
+fn hold_all(alloc: Global, tracker: &mut Tracker, digits: &str) -> Result<(), AllocError> {
+    let mut id: u64 = 0;
+    for digit in digits.as_bytes() {
+        id = id.saturating_add(1);
+        if *digit != b'-' {
+            hold(alloc, tracker, id, number(*digit))?;
+        }
+    }
+    Ok(())
+}
+
+/// Sets the mark of an id's view, if it has one.
+fn mark(tracker: &mut Tracker, id: u64, active: bool) {
+    if let Some(place) = tracker.place(id) {
+        tracker.set_active(place, active);
+    }
+}
+
+/// A tracker of these voters, in which the ids 1, 2 and so on hold the log up to a digit each.
+fn tracking(
+    alloc: Global,
+    incoming: &str,
+    outgoing: &str,
+    digits: &str,
+) -> Result<Tracker, AllocError> {
+    let mut tracker = unheard(alloc, incoming, outgoing)?;
+    hold_all(alloc, &mut tracker, digits)?;
+    Ok(tracker)
+}
+
+/// A tracker of these voters, without views.
+fn unheard(alloc: Global, incoming: &str, outgoing: &str) -> Result<Tracker, AllocError> {
+    let config = voting(alloc, incoming, outgoing)?;
+    Ok(Tracker::new(alloc, config))
+}
+
+/// What the ids 1, 2 and so on answered: `y` granted, `n` refused, and `_` nothing yet.
+fn answered(alloc: Global, answers: &str) -> Result<Votes, AllocError> {
+    let mut votes = Votes::new(alloc);
+    answer_all(&mut votes, answers)?;
+    Ok(votes)
+}
+
+fn answer_all(votes: &mut Votes, answers: &str) -> Result<(), AllocError> {
+    let mut id: u64 = 0;
+    for answer in answers.as_bytes() {
+        id = id.saturating_add(1);
+        if *answer != b'_' {
+            votes.answer(id, *answer == b'y')?;
+        }
+    }
+    Ok(())
+}

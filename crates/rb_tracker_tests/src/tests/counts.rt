@@ -1,0 +1,188 @@
+//! A slow plain count beside what the crate answers, over all pairs of sets of four ids and all that each of the four may hold, answer
+//! or be marked: it goes over every set of the four and asks which of them is a quorum. A set is a number with a bit for each id.
+
+use super::{hold, mark};
+use rb_tracker::{Config, IdSet, Tracker, VoteResult, Votes};
+use std::alloc::{AllocError, Global};
+use std::test::Fail;
+
+/// How many sets of four ids there are.
+const SETS: u32 = 16;
+/// How many ways there are for each of the four to do one of three things.
+const WAYS: u32 = 81;
+
+/// The bit of an id.
+fn bit(id: u32) -> u32 {
+    match id {
+        1 => 1,
+        2 => 2,
+        3 => 4,
+        _ => 8,
+    }
+}
+
+/// Which of three things an id does: a digit to the base 3.
+fn done(ways: u32, id: u32) -> u32 {
+    match id {
+        1 => ways % 3,
+        2 => ways / 3 % 3,
+        3 => ways / 9 % 3,
+        _ => ways / 27 % 3,
+    }
+}
+
+/// The ids that do at least so much.
+fn doing(ways: u32, least: u32) -> u32 {
+    let mut set = 0;
+    for id in 1..5 {
+        if least <= done(ways, id) {
+            set |= bit(id);
+        }
+    }
+    set
+}
+
+/// Whether more than half of the voters are in a set; of nobody, all are.
+fn has_most(voters: u32, set: u32) -> bool {
+    voters == 0 || voters.count_ones() < (voters & set).count_ones().saturating_mul(2)
+}
+
+/// Whether a quorum is part of a set.
+fn has_quorum(incoming: u32, outgoing: u32, set: u32) -> bool {
+    for quorum in 0..SETS {
+        if quorum & set == quorum && has_most(incoming, quorum) && has_most(outgoing, quorum) {
+            return true;
+        }
+    }
+    false
+}
+
+fn slow_committed(incoming: u32, outgoing: u32, ways: u32) -> u64 {
+    if incoming == 0 && outgoing == 0 {
+        0
+    } else if has_quorum(incoming, outgoing, doing(ways, 2)) {
+        2
+    } else if has_quorum(incoming, outgoing, doing(ways, 1)) {
+        1
+    } else {
+        0
+    }
+}
+
+/// Who does 0 refused, who does 1 hasn't answered, and who does 2 granted.
+fn slow_result(incoming: u32, outgoing: u32, ways: u32) -> VoteResult {
+    if has_quorum(incoming, outgoing, doing(ways, 2)) {
+        VoteResult::Won
+    } else if has_quorum(incoming, outgoing, doing(ways, 1)) {
+        VoteResult::Pending
+    } else {
+        VoteResult::Lost
+    }
+}
+
+fn put(ids: &mut IdSet, set: u32) -> Result<(), AllocError> {
+    for id in 1..5 {
+        if set & bit(id) != 0 {
+            ids.insert(u64::from(id))?;
+        }
+    }
+    Ok(())
+}
+
+fn put_voters(config: &mut Config, incoming: u32, outgoing: u32) -> Result<(), AllocError> {
+    put(&mut config.incoming, incoming)?;
+    put(&mut config.outgoing, outgoing)
+}
+
+fn voting(alloc: Global, incoming: u32, outgoing: u32) -> Result<Config, AllocError> {
+    let mut config = Config::new(alloc);
+    put_voters(&mut config, incoming, outgoing)?;
+    Ok(config)
+}
+
+/// Each of the four holds as much as it does, and is marked where it does 2.
+fn hold_all(alloc: Global, tracker: &mut Tracker, ways: u32) -> Result<(), AllocError> {
+    for id in 1..5 {
+        let way = done(ways, id);
+        hold(alloc, tracker, u64::from(id), u64::from(way))?;
+        mark(tracker, u64::from(id), way == 2);
+    }
+    Ok(())
+}
+
+fn answer_all(votes: &mut Votes, ways: u32) -> Result<(), AllocError> {
+    for id in 1..5 {
+        let way = done(ways, id);
+        if way != 1 {
+            votes.answer(u64::from(id), way == 2)?;
+        }
+    }
+    Ok(())
+}
+
+/// Whether the three answers are those of the slow count.
+fn agrees(
+    tracker: &Tracker,
+    votes: &Votes,
+    incoming: u32,
+    outgoing: u32,
+    ways: u32,
+) -> Result<bool, AllocError> {
+    let committed = tracker.committed()?;
+    let heard = has_quorum(incoming, outgoing, doing(ways, 2));
+    Ok(
+        committed == slow_committed(incoming, outgoing, ways)
+            && tracker.vote_result(votes) == slow_result(incoming, outgoing, ways)
+            && tracker.quorum_active() == heard,
+    )
+}
+
+/// A pair of sets of voters is put into the tracker, which is then asked.
+fn agrees_at(
+    alloc: Global,
+    tracker: &mut Tracker,
+    votes: &Votes,
+    pair: u32,
+    ways: u32,
+) -> Result<bool, AllocError> {
+    let incoming = pair % SETS;
+    let outgoing = pair / SETS;
+    tracker.set_config(voting(alloc, incoming, outgoing)?);
+    agrees(tracker, votes, incoming, outgoing, ways)
+}
+
+/// How many pairs of sets of voters there are at which all three agree.
+fn count_agreeing(
+    alloc: Global,
+    tracker: &mut Tracker,
+    votes: &Votes,
+    ways: u32,
+) -> Result<u32, AllocError> {
+    let mut count: u32 = 0;
+    for pair in 0..SETS * SETS {
+        if agrees_at(alloc, tracker, votes, pair, ways)? {
+            count = count.saturating_add(1);
+        }
+    }
+    Ok(count)
+}
+
+fn agreeing_with(alloc: Global, tracker: &mut Tracker, ways: u32) -> Result<u32, AllocError> {
+    let mut votes = Votes::new(alloc);
+    answer_all(&mut votes, ways)?;
+    count_agreeing(alloc, tracker, &votes, ways)
+}
+
+fn agreeing(alloc: Global, ways: u32) -> Result<u32, AllocError> {
+    let mut tracker = Tracker::new(alloc, Config::new(alloc));
+    hold_all(alloc, &mut tracker, ways)?;
+    agreeing_with(alloc, &mut tracker, ways)
+}
+
+#[test]
+fn quorums_are_as_a_slow_count_finds_them(rt: HostRuntime) -> Result<(), Fail> {
+    for ways in 0..WAYS {
+        assert_eq!(rt; agreeing(rt.alloc(), ways)?, 256, "where they do {ways}");
+    }
+    Ok(())
+}

@@ -1,0 +1,317 @@
+//! Views, call by call: what a leader knows of a follower after each, worked out by hand from the rules of progress (Ongaro's thesis,
+//! section 3.5; etcd raft documentation, "Progress").
+
+use super::number;
+use rb_tracker::ProgressState::{Probe, Replicate, Snapshot};
+use rb_tracker::{Progress, ProgressState};
+use std::alloc::{AllocError, Global};
+use std::process::Abort;
+use std::test::Fail;
+
+/// A call that changes a view.
+#[derive(Clone, Copy)]
+pub enum Call {
+    Sent(u32),
+    Acked(u32),
+    Freed(u32),
+    /// A refusal of what follows an index, with a hint. One that isn't believed isn't told.
+    Refused(u32, u32),
+    Probe,
+    Snapshot(u32),
+    Resume,
+    Mark(bool),
+}
+
+/// Makes a call.
+pub fn make(view: &mut Progress, call: Call) {
+    match call {
+        Call::Sent(last) => view.sent(u64::from(last)),
+        Call::Acked(index) => view.acked(u64::from(index)),
+        Call::Freed(index) => view.free_through(u64::from(index)),
+        Call::Refused(index, hint) => {
+            if view.believes(u64::from(index)) {
+                view.refused(u64::from(index), u64::from(hint));
+            }
+        }
+        Call::Probe => view.to_probe(),
+        Call::Snapshot(index) => view.to_snapshot(u64::from(index)),
+        Call::Resume => view.resume(),
+        Call::Mark(active) => view.set_active(active),
+    }
+}
+
+/// State, match, next, whether a probe is on its way, the snapshot on its way, and whether it is sent nothing for now.
+#[derive(Clone, Copy, PartialEq, Eq)]
+struct Seen(ProgressState, u64, u64, bool, u64, bool);
+
+/// A call, what is seen of the view after it, and what is in flight then, a digit each.
+type Step = (Call, Seen, &'static str);
+
+/// From a view that probes at 7.
+static PROBING: [Step; 11] = [
+    (Call::Sent(8), Seen(Probe, 0, 7, true, 0, true), ""),
+    (Call::Freed(8), Seen(Probe, 0, 7, true, 0, true), ""),
+    (Call::Resume, Seen(Probe, 0, 7, false, 0, false), ""),
+    (Call::Sent(6), Seen(Probe, 0, 7, true, 0, true), ""),
+    // A refusal of another index than the one before `next` is an old one.
+    (Call::Refused(5, 2), Seen(Probe, 0, 7, true, 0, true), ""),
+    (Call::Refused(7, 2), Seen(Probe, 0, 7, true, 0, true), ""),
+    (Call::Refused(6, 2), Seen(Probe, 0, 3, false, 0, false), ""),
+    (Call::Refused(2, 9), Seen(Probe, 0, 2, false, 0, false), ""),
+    (Call::Refused(1, 0), Seen(Probe, 0, 1, false, 0, false), ""),
+    (Call::Refused(0, 0), Seen(Probe, 0, 1, false, 0, false), ""),
+    (Call::Acked(3), Seen(Replicate, 3, 4, false, 0, false), ""),
+];
+
+/// From a view that holds the log up to 3, with two appends in flight at most.
+static REPLICATING: [Step; 18] = [
+    (Call::Sent(5), Seen(Replicate, 3, 6, false, 0, false), "5"),
+    // It was sent already.
+    (Call::Sent(5), Seen(Replicate, 3, 6, false, 0, false), "5"),
+    (Call::Sent(6), Seen(Replicate, 3, 7, false, 0, true), "56"),
+    // There is no room.
+    (Call::Sent(9), Seen(Replicate, 3, 7, false, 0, true), "56"),
+    (Call::Freed(4), Seen(Replicate, 3, 7, false, 0, true), "56"),
+    (Call::Freed(5), Seen(Replicate, 3, 7, false, 0, false), "6"),
+    (Call::Sent(9), Seen(Replicate, 3, 10, false, 0, true), "69"),
+    (Call::Acked(5), Seen(Replicate, 5, 10, false, 0, true), "69"),
+    (Call::Acked(6), Seen(Replicate, 6, 10, false, 0, false), "9"),
+    // It holds 6: the refusal is an old one.
+    (
+        Call::Refused(6, 0),
+        Seen(Replicate, 6, 10, false, 0, false),
+        "9",
+    ),
+    (Call::Refused(8, 0), Seen(Probe, 6, 7, false, 0, false), ""),
+    (Call::Sent(8), Seen(Probe, 6, 7, true, 0, true), ""),
+    // The hint is below what it holds.
+    (Call::Refused(6, 2), Seen(Probe, 6, 7, false, 0, false), ""),
+    (Call::Acked(6), Seen(Replicate, 6, 7, false, 0, false), ""),
+    (Call::Sent(8), Seen(Replicate, 6, 9, false, 0, false), "8"),
+    // More than was sent.
+    (
+        Call::Acked(11),
+        Seen(Replicate, 11, 12, false, 0, false),
+        "",
+    ),
+    (
+        Call::Refused(12, 0),
+        Seen(Probe, 11, 12, false, 0, false),
+        "",
+    ),
+    (Call::Probe, Seen(Probe, 11, 12, false, 0, false), ""),
+];
+
+/// From the same view.
+static SNAPSHOTS: [Step; 15] = [
+    (Call::Sent(9), Seen(Replicate, 3, 10, false, 0, false), "9"),
+    (Call::Snapshot(8), Seen(Snapshot, 3, 9, false, 8, true), ""),
+    (Call::Sent(9), Seen(Snapshot, 3, 9, false, 8, true), ""),
+    (Call::Freed(9), Seen(Snapshot, 3, 9, false, 8, true), ""),
+    (
+        Call::Refused(8, 1),
+        Seen(Snapshot, 3, 9, false, 8, true),
+        "",
+    ),
+    (Call::Acked(7), Seen(Snapshot, 7, 9, false, 8, true), ""),
+    (Call::Acked(8), Seen(Replicate, 8, 9, false, 0, false), ""),
+    (
+        Call::Snapshot(30),
+        Seen(Snapshot, 8, 31, false, 30, true),
+        "",
+    ),
+    (
+        Call::Acked(40),
+        Seen(Replicate, 40, 41, false, 0, false),
+        "",
+    ),
+    // Whether a probe is on its way, and the snapshot, stay; they are looked at in their own states alone.
+    (
+        Call::Snapshot(50),
+        Seen(Snapshot, 40, 51, false, 50, true),
+        "",
+    ),
+    (Call::Probe, Seen(Probe, 40, 41, false, 50, false), ""),
+    (Call::Sent(60), Seen(Probe, 40, 41, true, 50, true), ""),
+    (
+        Call::Snapshot(45),
+        Seen(Snapshot, 40, 46, true, 45, true),
+        "",
+    ),
+    (Call::Probe, Seen(Probe, 40, 41, false, 45, false), ""),
+    (
+        Call::Acked(41),
+        Seen(Replicate, 41, 42, false, 0, false),
+        "",
+    ),
+];
+
+fn look(view: &Progress) -> Seen {
+    Seen(
+        view.state(),
+        view.matched(),
+        view.next(),
+        view.waiting(),
+        view.pending(),
+        view.paused(),
+    )
+}
+
+/// Whether these indexes are in flight, a digit each.
+fn are_in_flight(view: &Progress, digits: &str) -> bool {
+    let window = view.window();
+    if window.len() != digits.len() {
+        return false;
+    }
+    let mut place: usize = 0;
+    for digit in digits.as_bytes() {
+        if place >= window.len() {
+            return false;
+        }
+        if window.index_at(place) != number(*digit) {
+            return false;
+        }
+        place = place.saturating_add(1);
+    }
+    true
+}
+
+/// Makes call after call, and looks at the view after each.
+fn follow(rt: &impl Abort, view: &mut Progress, steps: &[Step]) {
+    for (k, step) in steps.iter().enumerate() {
+        make(view, step.0);
+        assert!(rt;
+            look(view) == step.1 && are_in_flight(view, step.2),
+            "after step {k}"
+        );
+    }
+}
+
+/// A view that holds the log up to 3, and has room for two appends in flight.
+fn own(alloc: Global) -> Result<Progress, AllocError> {
+    Progress::own(alloc, 2, 3, 4)
+}
+
+#[test]
+fn a_probe_finds_the_place(rt: HostRuntime) -> Result<(), Fail> {
+    let mut view = Progress::new(rt.alloc(), 2, 7, true)?;
+    follow(&rt, &mut view, &PROBING);
+    Ok(())
+}
+
+#[test]
+fn appends_are_in_flight(rt: HostRuntime) -> Result<(), Fail> {
+    follow(&rt, &mut own(rt.alloc())?, &REPLICATING);
+    Ok(())
+}
+
+#[test]
+fn snapshots_arrive(rt: HostRuntime) -> Result<(), Fail> {
+    follow(&rt, &mut own(rt.alloc())?, &SNAPSHOTS);
+    Ok(())
+}
+
+/// The view after calls.
+pub fn after(alloc: Global, calls: &[Call]) -> Result<Progress, AllocError> {
+    let mut view = own(alloc)?;
+    for call in calls {
+        make(&mut view, *call);
+    }
+    Ok(view)
+}
+
+/// Calls, an index, whether an answer that accepts it tells something, and whether one that refuses what follows it is believed.
+static ANSWERS: [(&[Call], u64, bool, bool); 10] = [
+    (&[], 2, false, false),
+    (&[], 3, false, false),
+    (&[], 4, true, true),
+    (&[Call::Probe], 2, false, false),
+    (&[Call::Probe], 3, true, true),
+    (&[Call::Probe], 4, true, false),
+    (&[Call::Sent(9), Call::Acked(5)], 5, false, false),
+    (&[Call::Sent(9), Call::Acked(5)], 6, true, true),
+    (&[Call::Snapshot(8)], 3, false, false),
+    (&[Call::Snapshot(8)], 8, true, false),
+];
+
+/// Whether the answers that a row tells of are told as it wants.
+fn is_answer(alloc: Global, row: &(&[Call], u64, bool, bool)) -> Result<bool, AllocError> {
+    let view = after(alloc, row.0)?;
+    Ok(view.is_news(row.1) == row.2 && view.believes(row.1) == row.3)
+}
+
+#[test]
+fn answers_that_tell_something(rt: HostRuntime) -> Result<(), Fail> {
+    for (k, row) in ANSWERS.iter().enumerate() {
+        assert!(rt; is_answer(rt.alloc(), row)?, "in row {k}");
+    }
+    Ok(())
+}
+
+/// Two lists of calls, and whether the views after them are the same. Those that aren't differ in one thing alone.
+static PAIRS: [(&[Call], &[Call], bool); 13] = [
+    (&[], &[], true),
+    (&[Call::Mark(false), Call::Mark(true)], &[], true),
+    (
+        &[Call::Probe, Call::Sent(4), Call::Resume],
+        &[Call::Probe],
+        true,
+    ),
+    (&[Call::Sent(5), Call::Acked(5)], &[Call::Acked(5)], true),
+    (
+        &[Call::Snapshot(9), Call::Acked(9)],
+        &[Call::Acked(9)],
+        true,
+    ),
+    // The state, the match, and the next index.
+    (&[Call::Probe], &[], false),
+    (
+        &[Call::Sent(5), Call::Acked(5)],
+        &[Call::Sent(5), Call::Freed(5)],
+        false,
+    ),
+    (&[Call::Sent(5), Call::Freed(5)], &[], false),
+    // A probe on its way, a snapshot that was sent, and the mark.
+    (&[Call::Probe, Call::Sent(4)], &[Call::Probe], false),
+    (&[Call::Snapshot(8), Call::Probe], &[Call::Probe], false),
+    (&[Call::Mark(false)], &[], false),
+    // What is in flight.
+    (
+        &[Call::Sent(7), Call::Sent(9)],
+        &[Call::Sent(8), Call::Sent(9)],
+        false,
+    ),
+    (&[Call::Sent(9)], &[Call::Sent(8), Call::Sent(9)], false),
+];
+
+/// Whether two views are the same, whichever is asked, and so are their copies.
+fn are_same(a: &Progress, b: &Progress) -> Result<bool, AllocError> {
+    let copy = a.try_copy()?;
+    Ok(a.same(b) && b.same(a) && copy.same(a) && copy.same(b))
+}
+
+/// Whether they differ, whichever is asked, and the copy of one is it and not the other.
+fn are_different(a: &Progress, b: &Progress) -> Result<bool, AllocError> {
+    let copy = a.try_copy()?;
+    Ok(!a.same(b) && !b.same(a) && copy.same(a) && !copy.same(b))
+}
+
+fn is_told(alloc: Global, pair: &(&[Call], &[Call], bool)) -> Result<bool, AllocError> {
+    let a = after(alloc, pair.0)?;
+    let b = after(alloc, pair.1)?;
+    if pair.2 {
+        are_same(&a, &b)
+    } else {
+        are_different(&a, &b)
+    }
+}
+
+#[test]
+fn same_sees_each_field(rt: HostRuntime) -> Result<(), Fail> {
+    for (k, pair) in PAIRS.iter().enumerate() {
+        assert!(rt; is_told(rt.alloc(), pair)?, "in row {k}");
+    }
+    let wider = Progress::own(rt.alloc(), 3, 3, 4)?;
+    assert!(rt; are_different(&wider, &own(rt.alloc())?)?);
+    Ok(())
+}
