@@ -1,0 +1,9 @@
+" Vim filetype plugin for scripts of raftbench
+
+if exists('b:did_ftplugin')
+  finish
+endif
+let b:did_ftplugin = 1
+
+setlocal comments=:# commentstring=#\ %s
+let b:undo_ftplugin = 'setlocal comments< commentstring<'
