@@ -25,15 +25,13 @@ struct Shelf {
     fails: [bool; 5],
 }
 
-impl Shelf {
-    fn tell(&mut self, failure: Failure) -> Trouble
-        ensures { self.new ≡ record self.old { told = Some (unwrap_or self.old.told result) } }
-    {
-        let trouble = Trouble::alone(failure);
-        if self.told.is_none() {
-            self.told = Some(trouble);
-        }
-        trouble
+// What was told first.
+fn first_told(told: Option<Trouble>, trouble: Trouble) -> Option<Trouble>
+    ensures { result ≡ Some (unwrap_or told trouble) }
+{
+    match told {
+        Some(first) => Some(first),
+        None => Some(trouble),
     }
 }
 
@@ -47,7 +45,9 @@ impl Place for Shelf {
 
     fn create(&mut self) -> Result<(), Trouble> {
         if self.fails[0] {
-            return Err(self.tell(Failure::NotWritten));
+            let trouble = Trouble::alone(Failure::NotWritten);
+            self.told = first_told(self.told, trouble);
+            return Err(trouble);
         }
         self.new = Some(Page {
             text: Vec::new(self.alloc),
@@ -57,19 +57,35 @@ impl Place for Shelf {
     }
 
     fn put(&mut self, bytes: &[u8]) -> Result<(), Trouble> {
-        let Some(page) = &mut self.new else {
+        if self.fails[1] {
+            let trouble = Trouble::alone(Failure::NotWritten);
+            self.told = first_told(self.told, trouble);
+            return Err(trouble);
+        }
+        let Some(page) = self.new.take() else {
             return Ok(());
         };
-        page.is_settled = false;
-        if page.text.extend_from_slice(bytes).is_err() || self.fails[1] {
-            return Err(self.tell(Failure::OutOfMemory));
+        let mut text = page.text;
+        let outcome = text.extend_from_slice(bytes);
+        self.new = Some(Page {
+            text,
+            is_settled: false,
+        });
+        match outcome {
+            Ok(()) => Ok(()),
+            Err(_) => {
+                let trouble = Trouble::alone(Failure::OutOfMemory);
+                self.told = first_told(self.told, trouble);
+                Err(trouble)
+            }
         }
-        Ok(())
     }
 
     fn settle(&mut self) -> Result<(), Trouble> {
         if self.fails[2] {
-            return Err(self.tell(Failure::NotWritten));
+            let trouble = Trouble::alone(Failure::NotWritten);
+            self.told = first_told(self.told, trouble);
+            return Err(trouble);
         }
         if let Some(page) = &mut self.new {
             page.is_settled = true;
@@ -79,7 +95,9 @@ impl Place for Shelf {
 
     fn rename(&mut self) -> Result<(), Trouble> {
         if self.fails[3] {
-            return Err(self.tell(Failure::NotWritten));
+            let trouble = Trouble::alone(Failure::NotWritten);
+            self.told = first_told(self.told, trouble);
+            return Err(trouble);
         }
         if let Some(page) = self.new.take() {
             self.file = page;
@@ -90,7 +108,9 @@ impl Place for Shelf {
     fn remove(&mut self) -> Result<(), Trouble> {
         if self.fails[4] {
             self.is_stuck = true;
-            return Err(self.tell(Failure::NotRead));
+            let trouble = Trouble::alone(Failure::NotRead);
+            self.told = first_told(self.told, trouble);
+            return Err(trouble);
         }
         self.new = None;
         Ok(())
