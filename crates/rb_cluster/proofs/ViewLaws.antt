@@ -1,5 +1,5 @@
 -- Lists that are printed item by item, and the entries of a log.
-use Rattle.std.proofs.Common.{◌≡◌, ℕ, ◌+◌, ◌-◌, ◌<◌, ◌≤◌, List, [], ◌∷◌, append_assoc, append-nil, length, drop, map, Option, Some, None, Ok, Err, refl, ap, sym, ◌∙◌, arith, inl, inr}
+use Rattle.std.proofs.Common.{◌≡◌, ℕ, ◌+◌, ◌-◌, ◌<◌, ◌≤◌, ◌==◌, not, cond, true, false, List, [], ◌∷◌, append_assoc, append-nil, length, drop, map, Option, Some, None, Ok, Err, refl, ap, sym, ◌∙◌, arith, inl, inr}
 use Rattle.std.specs.Prelude.{slice_get}
 use Rattle.std.specs.List.{flat_map}
 use Rattle.std.proofs.lemmas.Bool.Decides.{nat_tests}
@@ -7,7 +7,10 @@ use Rattle.std.proofs.lemmas.Option.{slice_get_within, get_or_from_slice_get, sl
 use Rattle.rb_raftlog.specs.Log.{LogValue, last, entry_at, found}
 use Rattle.rb_raftlog.specs.declared.entry.Entry.{Entry}
 use Rattle.rb_raftlog.specs.declared.raft_log.LogFault.{LogFault}
+use Rattle.rb_message.specs.declared.message.Message.{Message}
+use Rattle.rb_node.specs.Readying.{others}
 use Rattle.rb_texts.specs.Items.{PlainItem}
+use Rattle.rb_texts.specs.Items as items
 use Rattle.rb_texts.specs.Texts.{line_of}
 use Rattle.rb_cluster.specs.declared.screen.Screen.{Screen}
 use Rattle.rb_cluster.specs.Entries.{entry_items}
@@ -33,6 +36,27 @@ pub item_shown : {X : Type 0} → (item : X → PlainItem) (xs : List X) (i : �
 item_shown {X} item xs i x before after all here put inv =
     ap (λ (s : Screen). showing_all s (map item (drop (i + 1) xs))) put ∙ shown_first before (item x) (map item (drop (i + 1) xs))
     ∙ sym (ap (λ (l : List X). showing_all before (map item l)) (left_some xs i x here)) ∙ inv
+
+-- ---- messages for other nodes
+
+-- one message more is printed, and one less is left
+pub other_shown : (id : ℕ) (ms : List Message) (k : ℕ) (m : Message) (before after all : Screen) → slice_get ms k ≡ Some m → (m.to ≡ id → ⊥)
+    → after ≡ showing before (items.send m) → showing_all before (map items.send (others id (drop k ms))) ≡ all → showing_all after (map items.send (others id (drop (k + 1) ms))) ≡ all
+other_shown id ms k m before after all here other put inv =
+    let goes : not (m.to == id) ≡ true = grind (arith, nat_tests) in
+    let rest : List Message = others id (drop (k + 1) ms) in
+    let first : others id (drop k ms) ≡ m ∷ rest = ap (others id) (left_some ms k m here) ∙ ap (λ b. cond b (m ∷ rest) rest) goes in
+    ap (λ (s : Screen). showing_all s (map items.send rest)) put ∙ shown_first before (items.send m) (map items.send rest)
+    ∙ sym (ap (λ (l : List Message). showing_all before (map items.send l)) first) ∙ inv
+
+-- a message to the node itself is passed over
+pub own_passed : (id : ℕ) (ms : List Message) (k : ℕ) (m : Message) (before after all : Screen) → slice_get ms k ≡ Some m → m.to ≡ id
+    → after ≡ before → showing_all before (map items.send (others id (drop k ms))) ≡ all → showing_all after (map items.send (others id (drop (k + 1) ms))) ≡ all
+own_passed id ms k m before after all here own same inv =
+    let stays : not (m.to == id) ≡ false = grind (arith, nat_tests) in
+    let rest : List Message = others id (drop (k + 1) ms) in
+    let first : others id (drop k ms) ≡ rest = ap (others id) (left_some ms k m here) ∙ ap (λ b. cond b (m ∷ rest) rest) stays in
+    ap (λ (s : Screen). showing_all s (map items.send rest)) same ∙ sym (ap (λ (l : List Message). showing_all before (map items.send l)) first) ∙ inv
 
 -- ---- entries
 

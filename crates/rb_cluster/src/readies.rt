@@ -9,7 +9,7 @@ ghost use Rattle.rb_cluster.specs.Scenes.{scene, showing_all};
 
 use crate::cluster::{Cluster, place_of};
 use crate::screen::Screen;
-use rb_message::Message;
+use rb_message::Mail;
 use rb_node::{Node, ReadyView};
 use rb_raftlog::RaftLog;
 use rb_texts::Item;
@@ -66,19 +66,20 @@ fn show_applied<L: RaftLog>(screen: &mut Screen, node: &Node<L>) -> Result<(), A
 }
 
 // Prints the messages that go out: those that were sent, and of those that waited the ones for other nodes.
-fn show_sent(screen: &mut Screen, messages: &[Message]) -> Result<(), AllocError>
-    ensures { OnOk result (screen.new ≡ showing_all screen.old (map items.send messages.now)) }
+fn show_sent(screen: &mut Screen, mail: &Mail) -> Result<(), AllocError>
+    ensures { OnOk result (screen.new ≡ showing_all screen.old (map items.send mail.now)) }
 {
-    for message in messages {
-        screen.show(&Item::Send(message))?;
+    for k in 0..mail.len() {
+        screen.show(&Item::Send(mail.message(k)))?;
     }
     Ok(())
 }
 
-fn show_waited(screen: &mut Screen, id: u64, messages: &[Message]) -> Result<(), AllocError>
-    ensures { OnOk result (screen.new ≡ showing_all screen.old (map items.send (others id messages.now))) }
+fn show_waited(screen: &mut Screen, id: u64, mail: &Mail) -> Result<(), AllocError>
+    ensures { OnOk result (screen.new ≡ showing_all screen.old (map items.send (others id mail.now))) }
 {
-    for message in messages {
+    for k in 0..mail.len() {
+        let message = mail.message(k);
         if message.to != id {
             screen.show(&Item::Send(message))?;
         }

@@ -2,6 +2,7 @@
 
 mod elections;
 mod long_log;
+mod long_mail;
 mod machines;
 mod networks;
 mod replication;

@@ -1,23 +1,31 @@
 //! Lists of messages, copied and compared.
 
-ghost use Rattle.std.specs.Prelude.{◌≡◌, ◌↔◌, IsTrue, IfOk};
+ghost use Rattle.std.specs.Prelude.{◌≡◌, ◌++◌, ◌↔◌, IsTrue, IfOk, OnOk};
 
 use crate::message::Message;
 use std::alloc::{AllocError, Global};
 
-/// The same messages once more, in order. Each costs pointers.
-pub fn copies_of(alloc: Global, messages: &[Message]) -> Result<Vec<Message>, AllocError>
-    ensures { IfOk result (λ copies. copies.items ≡ messages.now) }
+/// Appends a copy of each message. Each costs pointers.
+pub(crate) fn push_copies(copies: &mut Vec<Message>, messages: &[Message]) -> Result<(), AllocError>
+    ensures { OnOk result (copies.new.items ≡ copies.old.items ++ messages.now) }
 {
-    let mut copies = Vec::with_capacity(alloc, messages.len())?;
     for message in messages {
         copies.push(message.try_copy()?)?;
     }
+    Ok(())
+}
+
+/// The same messages once more, in order.
+pub(crate) fn copies_of(alloc: Global, messages: &[Message]) -> Result<Vec<Message>, AllocError>
+    ensures { IfOk result (λ copies. copies.items ≡ messages.now) }
+{
+    let mut copies = Vec::with_capacity(alloc, messages.len())?;
+    push_copies(&mut copies, messages)?;
     Ok(copies)
 }
 
 /// Whether both are the same messages in the same order. Lists of different lengths are told at once.
-pub fn same_messages(messages: &[Message], others: &[Message]) -> bool
+pub(crate) fn same_messages(messages: &[Message], others: &[Message]) -> bool
     ensures { IsTrue result ↔ (messages.now ≡ others.now) }
 {
     if messages.len() != others.len() {

@@ -15,11 +15,10 @@ use rb_message::{Event, Message};
 use rb_raftlog::{Entry, RaftLog};
 use rb_step::State;
 use std::alloc::AllocError;
-use std::mem;
 
-// The two lists of messages.
+// What was sent, and what waited.
 #[derive(Drop)]
-struct Mail {
+struct Outgoing {
     sent: Vec<Message>,
     waiting: Vec<Message>,
 }
@@ -32,7 +31,7 @@ fn applying_copies<L: RaftLog>(state: &State<L>) -> Result<Vec<Entry>, AllocErro
 {
     let _commit = state.commit;
     let len = applying_len(state);
-    let mut copies = Vec::with_capacity(*state.sent.allocator(), len)?;
+    let mut copies = Vec::with_capacity(state.alloc, len)?;
     for k in 0..len {
         copies.push(applying_entry(state, k).try_copy()?)?;
     }
@@ -40,18 +39,17 @@ fn applying_copies<L: RaftLog>(state: &State<L>) -> Result<Vec<Entry>, AllocErro
 }
 
 // All is durable, and both lists of messages are taken.
-fn save<L: RaftLog>(state: &mut State<L>) -> Result<Mail, AllocError>
+fn save<L: RaftLog>(state: &mut State<L>) -> Result<Outgoing, AllocError>
     ensures node { OnOk result (state.new ≡ saved state.old) }
-    ensures sent { IfOk result (λ mail. mail.sent.items ≡ state.old.sent) }
-    ensures waiting { IfOk result (λ mail. mail.waiting.items ≡ state.old.waiting) }
+    ensures sent { IfOk result (λ taken. taken.sent.items ≡ state.old.sent) }
+    ensures waiting { IfOk result (λ taken. taken.waiting.items ≡ state.old.waiting) }
 {
     state.saved = hard_state(state);
     state.log.mark_durable()?;
     state.restored = false;
-    let alloc = *state.sent.allocator();
-    Ok(Mail {
-        sent: mem::replace(&mut state.sent, Vec::new(alloc)),
-        waiting: mem::replace(&mut state.waiting, Vec::new(alloc)),
+    Ok(Outgoing {
+        sent: state.sent.take_all()?,
+        waiting: state.waiting.take_all()?,
     })
 }
 
@@ -120,11 +118,11 @@ fn advance<L: RaftLog>(
     let id = state.id;
     let applied = state.applied;
     let entries = applying_copies(state)?;
-    let mail = save(state)?;
+    let taken = save(state)?;
     apply_all(state, applied, entries.as_slice(), events)?;
     state.leave_joint(events)?;
-    hand_over(id, mail.sent, mail.waiting.as_slice(), sent)?;
-    step_own(state, id, mail.waiting.as_slice(), events)
+    hand_over(id, taken.sent, taken.waiting.as_slice(), sent)?;
+    step_own(state, id, taken.waiting.as_slice(), events)
 }
 
 impl<L: RaftLog> Node<L> {

@@ -8,7 +8,7 @@ ghost use Rattle.rb_raftlog.specs.Log.{entry_at};
 ghost use Rattle.rb_node.specs.Readying.{ready, hard_state, is_saved, has_ready, applying};
 
 use crate::node::Node;
-use rb_message::{HardState, Message};
+use rb_message::{HardState, Mail};
 use rb_raftlog::{Entry, RaftLog};
 use rb_step::State;
 use std::marker::Model;
@@ -137,19 +137,19 @@ impl<'a, L: RaftLog> ReadyView<'a, L> {
     }
 
     /// The messages that go out first.
-    pub fn sent(&self) -> &'a [Message]
+    pub fn sent(&self) -> &'a Mail
         ensures { result.now ≡ self.now.sent }
     {
         let state = self.state;
-        state.sent.as_slice()
+        &state.sent
     }
 
     /// The answers that waited. Those to other nodes go out after the sent messages; those to the node itself don't.
-    pub fn waiting(&self) -> &'a [Message]
+    pub fn waiting(&self) -> &'a Mail
         ensures { result.now ≡ self.now.waiting }
     {
         let state = self.state;
-        state.waiting.as_slice()
+        &state.waiting
     }
 }
 

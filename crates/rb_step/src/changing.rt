@@ -38,7 +38,7 @@ impl<L: RaftLog> State<L> {
     fn missing(&self, ids: &[u64]) -> Result<Vec<u64>, AllocError>
         ensures { IfOk result (λ found. found.items ≡ missing self.now.tracker.views ids.now) }
     {
-        let mut found = Vec::new(self.allocator());
+        let mut found = Vec::new(self.alloc);
         for id in ids {
             if !self.tracker.has_view(*id) {
                 found.push(*id)?;
@@ -179,7 +179,7 @@ impl<L: RaftLog> State<L> {
     {
         Ok(Body::Change {
             transition: Transition::Auto,
-            words: Shared::new(Vec::new(self.allocator()))?,
+            words: Shared::new(Vec::new(self.alloc))?,
         })
     }
 

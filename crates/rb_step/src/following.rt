@@ -122,7 +122,7 @@ impl<L: RaftLog> State<L> {
         ensures { OnOk result (self.new ≡ restored_to self.old snapshot.now) }
     {
         let content = snapshot.content.try_copy()?;
-        let config = Config::of_state(self.allocator(), &snapshot.config)?;
+        let config = Config::of_state(self.alloc, &snapshot.config)?;
         self.log.restore(snapshot);
         self.commit = snapshot.index;
         self.applied = snapshot.index;

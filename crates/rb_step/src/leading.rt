@@ -19,7 +19,7 @@ impl<L: RaftLog> State<L> {
     pub(crate) fn empty_payload(&self) -> Result<Body, AllocError>
         ensures { IfOk result (λ body. body ≡ Payload []) }
     {
-        Ok(Body::Payload(Shared::new(Vec::new(self.allocator()))?))
+        Ok(Body::Payload(Shared::new(Vec::new(self.alloc))?))
     }
 
     pub(crate) fn is_log_full(&self) -> bool
@@ -70,7 +70,7 @@ impl<L: RaftLog> State<L> {
     fn new_view(&self, id: u64, active: bool) -> Result<Progress, AllocError>
         ensures { IfOk result (λ view. view ≡ new_view self.now id active) }
     {
-        let alloc = self.allocator();
+        let alloc = self.alloc;
         let capacity = self.options.inflight;
         let next = self.log.last_index() + 1;
         if id == self.id {

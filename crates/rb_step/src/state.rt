@@ -8,7 +8,7 @@ mod copies;
 
 use crate::limits::ELECTION_TICKS;
 use crate::options::Options;
-use rb_message::{Event, HardState, Message, MessageKind, Role};
+use rb_message::{Event, HardState, Mail, Message, MessageKind, Role};
 use rb_raftlog::{Content, RaftLog, Snapshot};
 use rb_tracker::{Config, Tracker, Votes};
 use std::alloc::{AllocError, Global};
@@ -51,10 +51,12 @@ pub struct State<L: RaftLog> {
     /// Whether a snapshot was restored that isn't durable.
     pub restored: bool,
     /// Messages that go out with what is ready.
-    pub sent: Vec<Message>,
+    pub sent: Mail,
     /// Answers that wait until what they rest on is durable.
-    pub waiting: Vec<Message>,
+    pub waiting: Mail,
     pub options: Options,
+    /// Where its memory comes from.
+    pub alloc: Global,
 }
 
 impl<L: RaftLog> Model for State<L> {
@@ -81,8 +83,8 @@ impl<L: RaftLog> Model for State<L> {
       pending_change = n.pending_change;
       saved = n.saved;
       restored = n.restored;
-      sent = n.sent.items;
-      waiting = n.waiting.items;
+      sent = n.sent;
+      waiting = n.waiting;
       options = n.options;
     } };
 
@@ -127,15 +129,11 @@ impl<L: RaftLog> State<L> {
                 commit: index,
             },
             restored: false,
-            sent: Vec::new(alloc),
-            waiting: Vec::new(alloc),
+            sent: Mail::new(alloc),
+            waiting: Mail::new(alloc),
             options,
+            alloc,
         })
-    }
-
-    /// Where its memory comes from.
-    pub(crate) fn allocator(&self) -> Global {
-        *self.sent.allocator()
     }
 
     /// Puts a message of the node's term among the sent ones.

@@ -1,5 +1,6 @@
 use super::elections::ELECTIONS;
 use super::long_log::long_log;
+use super::long_mail::long_mail;
 use super::play_over;
 use super::replication::REPLICATION;
 use rb_raftlog::{PlainLog, RaftLog, SplitLog};
@@ -22,7 +23,8 @@ fn over_plain_logs(rt: HostRuntime) -> Result<(), Fail> {
     for script in &REPLICATION {
         prints::<PlainLog>(&rt, rt.alloc(), script)?;
     }
-    prints::<PlainLog>(&rt, rt.alloc(), &long_log(rt.alloc())?)
+    prints::<PlainLog>(&rt, rt.alloc(), &long_log(rt.alloc())?)?;
+    prints::<PlainLog>(&rt, rt.alloc(), &long_mail(rt.alloc())?)
 }
 
 #[test]
@@ -33,5 +35,6 @@ fn over_split_logs(rt: HostRuntime) -> Result<(), Fail> {
     for script in &REPLICATION {
         prints::<SplitLog>(&rt, rt.alloc(), script)?;
     }
-    prints::<SplitLog>(&rt, rt.alloc(), &long_log(rt.alloc())?)
+    prints::<SplitLog>(&rt, rt.alloc(), &long_log(rt.alloc())?)?;
+    prints::<SplitLog>(&rt, rt.alloc(), &long_mail(rt.alloc())?)
 }

@@ -2,7 +2,7 @@
 
 use super::making::{Player, played};
 use super::moves::{Move, Says, Start};
-use rb_message::{Event, Message, MessageKind, Role, WhyNoCampaign, WhyReplaced};
+use rb_message::{Event, Mail, Message, MessageKind, Role, WhyNoCampaign, WhyReplaced};
 use rb_node::Node;
 use rb_raftlog::RaftLog;
 use rb_tracker::VoteResult;
@@ -187,14 +187,20 @@ fn kind_said(kind: &MessageKind) -> (Said, u64) {
     }
 }
 
-fn first_of<'a>(waiting: &'a [Message], sent: &'a [Message]) -> Option<&'a Message> {
-    waiting.first().or(sent.first())
+fn first_of<'a>(waiting: &'a Mail, sent: &'a Mail) -> Option<&'a Message> {
+    if waiting.len() != 0 {
+        return Some(waiting.message(0));
+    }
+    if sent.len() != 0 {
+        return Some(sent.message(0));
+    }
+    None
 }
 
 /// What shows of a node that has told this.
 pub fn seen_of<L: RaftLog>(node: &Node<L>, events: &[Event]) -> Seen {
     let state = node.status();
-    let (said, term, index) = match first_of(state.waiting.as_slice(), state.sent.as_slice()) {
+    let (said, term, index) = match first_of(&state.waiting, &state.sent) {
         Some(message) => {
             let (said, index) = kind_said(&message.kind);
             (said, message.term, index)

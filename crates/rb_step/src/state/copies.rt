@@ -4,16 +4,16 @@ ghost use Rattle.std.specs.Prelude.{◌≡◌, ◌↔◌, IsTrue, IfOk};
 ghost use Rattle.rb_step.specs.Comparing.{HaveSameRole, HaveSameIndexes, HaveSameCounters, HaveSameLengths, HaveSameNumbers, HaveSameLists};
 
 use super::State;
-use rb_message::{Message, copies_of, same_messages};
+use rb_message::Mail;
 use rb_raftlog::{Content, RaftLog};
 use rb_tracker::{Tracker, Votes};
 use std::alloc::AllocError;
 
-// The two lists of messages.
+// What is sent, and what waits.
 #[derive(Drop)]
-struct Mail {
-    sent: Vec<Message>,
-    waiting: Vec<Message>,
+struct Outgoing {
+    sent: Mail,
+    waiting: Mail,
 }
 
 #[derive(Drop)]
@@ -24,14 +24,12 @@ struct Parts {
 }
 
 impl<L: RaftLog> State<L> {
-    fn copy_mail(&self) -> Result<Mail, AllocError>
-        ensures sent { IfOk result (λ mail. mail.sent.items ≡ self.now.sent) }
-        ensures waiting { IfOk result (λ mail. mail.waiting.items ≡ self.now.waiting) }
+    fn copy_outgoing(&self) -> Result<Outgoing, AllocError>
+        ensures { IfOk result (λ outgoing. outgoing ≡ record { sent = self.now.sent; waiting = self.now.waiting }) }
     {
-        let alloc = self.allocator();
-        Ok(Mail {
-            sent: copies_of(alloc, self.sent.as_slice())?,
-            waiting: copies_of(alloc, self.waiting.as_slice())?,
+        Ok(Outgoing {
+            sent: self.sent.try_copy()?,
+            waiting: self.waiting.try_copy()?,
         })
     }
 
@@ -49,7 +47,7 @@ impl<L: RaftLog> State<L> {
     pub fn try_copy(&self) -> Result<State<L>, AllocError>
         ensures { IfOk result (λ copy. copy ≡ self.now) }
     {
-        let mail = self.copy_mail()?;
+        let outgoing = self.copy_outgoing()?;
         let parts = self.copy_parts()?;
         let log = self.log.try_copy()?;
         Ok(State {
@@ -71,9 +69,10 @@ impl<L: RaftLog> State<L> {
             pending_change: self.pending_change,
             saved: self.saved,
             restored: self.restored,
-            sent: mail.sent,
-            waiting: mail.waiting,
+            sent: outgoing.sent,
+            waiting: outgoing.waiting,
             options: self.options,
+            alloc: self.alloc,
         })
     }
 
@@ -132,8 +131,8 @@ impl<L: RaftLog> State<L> {
     {
         self.votes.same(&other.votes)
             && self.tracker.same(&other.tracker)
-            && same_messages(self.sent.as_slice(), other.sent.as_slice())
-            && same_messages(self.waiting.as_slice(), other.waiting.as_slice())
+            && self.sent.same(&other.sent)
+            && self.waiting.same(&other.waiting)
             && self.log.same(&other.log)
             && self.content.same(&other.content)
     }

@@ -1,0 +1,180 @@
+//! Messages that a node keeps until its owner takes them.
+//!
+//! They grow at their end while nobody takes them, and a session keeps hundreds of clusters whose nodes have much the same mail. So
+//! they stand in pages, which never change and which copies share, and a tail behind them that is shorter than a page. A copy
+//! costs a pointer for each page and copies of the tail's messages. Equal mail is cut at the same places.
+
+ghost use Rattle.std.specs.Prelude.{◌≡◌, ◌+◌, ◌<◌, ◌≤◌, ◌++◌, ◌∷◌, [], ◌↔◌, length, slice_get, Some, IsTrue, IfOk, OnOk};
+ghost use Rattle.rb_raftlog.specs.Packed.{joined};
+ghost use Rattle.rb_message.specs.Paged.{IsPaged};
+
+use crate::limits::{MAX_PAGES, PAGE};
+use crate::message::Message;
+use crate::messages::{copies_of, push_copies, same_messages};
+use rb_raftlog::Shared;
+use std::alloc::{AllocError, Global};
+use std::marker::Model;
+use std::mem;
+
+/// Messages, in order. Contracts see the list of them.
+#[derive(Drop)]
+pub struct Mail {
+    // Each has PAGE messages.
+    pages: Vec<Shared<Message>>,
+    // Fewer than PAGE.
+    tail: Vec<Message>,
+}
+
+impl Model for Mail {
+    ghost use Rattle.std.specs.Prelude.{List, ◌++◌};
+    ghost use Rattle.rb_raftlog.specs.Packed.{joined};
+    ghost use Rattle.rb_message.specs.declared.message.Message.{Message};
+    ghost use Rattle.rb_message.specs.Paged.{IsPaged};
+
+    ghost Value = { List Message };
+
+    ghost view = { λ m. joined m.pages.items ++ m.tail.items };
+
+    ghost invariant = { λ m. IsPaged m.pages.items m.tail.items };
+}
+
+// The pages once more: a pointer each.
+fn copied(alloc: Global, pages: &[Shared<Message>]) -> Result<Vec<Shared<Message>>, AllocError>
+    ensures { IfOk result (λ copies. copies.items ≡ pages.now) }
+{
+    let mut copies = Vec::with_capacity(alloc, pages.len())?;
+    for page in pages {
+        copies.push(page.try_copy()?)?;
+    }
+    Ok(copies)
+}
+
+// Whether the two are the same pages. Their numbers are looked at first.
+fn same_pages(pages: &[Shared<Message>], others: &[Shared<Message>]) -> bool
+    ensures { IsTrue result ↔ (pages.now ≡ others.now) }
+{
+    if pages.len() != others.len() {
+        return false;
+    }
+    for k in 0..pages.len() {
+        if !same_messages(pages[k].as_slice(), others[k].as_slice()) {
+            return false;
+        }
+    }
+    true
+}
+
+// Appends copies of the messages of the pages.
+fn push_pages(messages: &mut Vec<Message>, pages: &[Shared<Message>]) -> Result<(), AllocError>
+    ensures { OnOk result (messages.new.items ≡ messages.old.items ++ joined pages.now) }
+{
+    for page in pages {
+        push_copies(messages, page.as_slice())?;
+    }
+    Ok(())
+}
+
+// Puts the message that makes the tail a page. Mail of more than 2,000,000,000 pages is refused as if memory had been.
+fn push_page(
+    pages: &mut Vec<Shared<Message>>,
+    tail: &mut Vec<Message>,
+    last: Message,
+) -> Result<(), AllocError>
+    requires paged { IsPaged pages.old.items tail.old.items }
+    requires full { PAGE ≤ length tail.old.items + 1 }
+    ensures paged { IsPaged pages.new.items tail.new.items }
+    ensures put { OnOk result (joined pages.new.items ++ tail.new.items ≡ (joined pages.old.items ++ tail.old.items) ++ last ∷ []) }
+{
+    if pages.len() >= MAX_PAGES {
+        return Err(AllocError);
+    }
+    let alloc = *tail.allocator();
+    let mut page = mem::replace(tail, Vec::new(alloc));
+    page.push(last)?;
+    pages.push(Shared::new(page)?)?;
+    Ok(())
+}
+
+impl Mail {
+    /// No messages. It takes no memory.
+    pub fn new(alloc: Global) -> Mail
+        ensures { result ≡ [] }
+    {
+        Mail {
+            pages: Vec::new(alloc),
+            tail: Vec::new(alloc),
+        }
+    }
+
+    fn allocator(&self) -> Global {
+        *self.tail.allocator()
+    }
+
+    /// How many messages there are.
+    pub fn len(&self) -> usize
+        ensures { result ≡ length self.now }
+    {
+        self.pages.len() * PAGE + self.tail.len()
+    }
+
+    /// The message at a place, counted from 0, without a search.
+    pub fn message(&self, k: usize) -> &Message
+        requires { k < length self.now }
+        ensures { slice_get self.now k ≡ Some result.now }
+    {
+        if k / PAGE < self.pages.len() {
+            return &self.pages[k / PAGE].as_slice()[k % PAGE];
+        }
+        &self.tail[k - self.pages.len() * PAGE]
+    }
+
+    /// Puts a message at the end. It is moved.
+    pub fn push(&mut self, message: Message) -> Result<(), AllocError>
+        ensures { OnOk result (self.new ≡ self.old ++ message ∷ []) }
+    {
+        if self.tail.len() + 1 >= PAGE {
+            return push_page(&mut self.pages, &mut self.tail, message);
+        }
+        self.tail.push(message)?;
+        Ok(())
+    }
+
+    /// Takes all messages out. Where there is no page they are moved, else those in pages are copied: it costs pointers.
+    pub fn take_all(&mut self) -> Result<Vec<Message>, AllocError>
+        ensures taken { IfOk result (λ messages. messages.items ≡ self.old) }
+        ensures none_left { OnOk result (self.new ≡ []) }
+    {
+        let alloc = self.allocator();
+        let len = self.len();
+        let mut tail = mem::replace(&mut self.tail, Vec::new(alloc));
+        if self.pages.is_empty() {
+            return Ok(tail);
+        }
+        let pages = mem::replace(&mut self.pages, Vec::new(alloc));
+        let mut messages = Vec::with_capacity(alloc, len)?;
+        push_pages(&mut messages, pages.as_slice())?;
+        messages.append(&mut tail)?;
+        Ok(messages)
+    }
+
+    /// The same messages once more: a pointer a page, and copies of the tail's.
+    pub fn try_copy(&self) -> Result<Mail, AllocError>
+        ensures { IfOk result (λ copy. copy ≡ self.now) }
+    {
+        let alloc = self.allocator();
+        Ok(Mail {
+            pages: copied(alloc, &self.pages)?,
+            tail: copies_of(alloc, &self.tail)?,
+        })
+    }
+
+    /// Whether both are the same messages in the same order. Mail of different lengths is told at once. It takes no memory.
+    pub fn same(&self, other: &Mail) -> bool
+        ensures { IsTrue result ↔ (self.now ≡ other.now) }
+    {
+        if self.len() != other.len() {
+            return false;
+        }
+        same_messages(&self.tail, &other.tail) && same_pages(&self.pages, &other.pages)
+    }
+}
