@@ -18,7 +18,6 @@ pub(crate) struct Asked<'a> {
     pub(crate) filter: Option<&'a str>,
     pub(crate) accepts: bool,
     pub(crate) is_verbose: bool,
-    pub(crate) every: u64,
     pub(crate) colors: Colors,
     pub(crate) wants_progress: bool,
 }

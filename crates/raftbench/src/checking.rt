@@ -11,7 +11,7 @@ use rb_cluster::{Cluster, Meter};
 use rb_files::{Beside, Trouble, opened, replace};
 use rb_line::Incoming;
 use rb_raftlog::SplitLog;
-use rb_replay::{Session, StartFault};
+use rb_replay::{MAX_SPACING, Session, StartFault};
 use rb_script::{Edit, EditFault, MAX_SCRIPT, Sink, Through, WriteFault, head_lines};
 use std::alloc::Global;
 use std::fs::Metadata;
@@ -59,7 +59,8 @@ fn run<R: Files + AllocGlobal, W: Write + Drop, E: Write + Drop>(
     report: &mut Report<W, E>,
 ) {
     let mut meter = Meter::new();
-    let session = match CheckSession::start(rt.alloc(), &text.bytes, asked.every, &mut meter) {
+    // Accepting runs no directive again, so as few clusters are kept as there may be.
+    let session = match CheckSession::start(rt.alloc(), &text.bytes, MAX_SPACING, &mut meter) {
         Ok(session) => session,
         Err(StartFault::Script(fault)) => return report.refused(path, fault),
         Err(_) => return report.fail(path.as_bytes(), Trouble::alone(Failure::OutOfMemory)),

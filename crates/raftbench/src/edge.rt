@@ -83,7 +83,6 @@ fn check_all<R: Files + Print + Env + Clock + AllocGlobal, E: Write + Drop>(
         filter: choice.filter.as_deref(),
         accepts: choice.accepts,
         is_verbose: choice.is_verbose,
-        every,
         colors: colors(rt, wish, terminals.output),
         wants_progress: terminals.errors,
     };
