@@ -1,6 +1,6 @@
 //! Lines of bytes, in one buffer.
 
-ghost use Rattle.std.specs.Prelude.{◌≡◌, ◌↔◌, ◌+◌, ◌<◌, ◌≤◌, ◌^◌, [], ◌∷◌, ◌++◌, length, slice_get, OnOk, IfOk, OnErr, MatchOption, take, ◌-◌, slice_set, IfSome, IfNone, IsTrue, Some, ℕ, ◌≢◌, slice_index};
+ghost use Rattle.std.specs.Prelude.{◌≡◌, ◌↔◌, ◌+◌, ◌<◌, ◌≤◌, ◌^◌, [], ◌∷◌, ◌++◌, length, slice_get, OnOk, IfOk, OnErr, MatchOption, take, ◌-◌, slice_set, IfSome, IfNone, IsTrue, Some, ℕ, ◌≢◌, slice_index, vec_capacity};
 ghost use Rattle.smallvec.specs.SmallVec.{small_vec_len};
 ghost use Rattle.rb_script.specs.Flat.{parted, line_start, IsFlat};
 ghost use Rattle.rb_script.specs.Lines.{lines, text_of, extended, line_text, without_returns};
@@ -47,6 +47,14 @@ impl Lines {
         ensures err { OnErr result (self.new ≡ self.old) }
     {
         append_line(&mut self.text, &mut self.ends, line)
+    }
+
+    /// An empty text, with room for this many bytes, where the lines have their memory: for a line that is put together of many pieces.
+    pub fn new_text(&self, room: usize) -> Result<Vec<u8>, AllocError>
+        ensures empty { IfOk result (λ text. text.items ≡ []) }
+        ensures room { IfOk result (λ text. room ≤ vec_capacity text) }
+    {
+        Vec::with_capacity(*self.text.allocator(), room)
     }
 
     /// Adds bytes to the end of the last line.
