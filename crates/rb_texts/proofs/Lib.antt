@@ -1,4 +1,3 @@
-pub mod ExtendLaws
 pub mod PieceLaws
 pub mod QuotedLaws
 pub mod TextLaws

@@ -1,11 +1,13 @@
--- Texts of lists, as they join the last line.
-use Rattle.std.proofs.Common.{◌≡◌, ℕ, ◌<◌, ◌+◌, List, [], ◌∷◌, ◌++◌, length, take, get_or, decimal, refl, ap, sym, ◌∙◌, append-nil}
+-- Texts that join a line one after the other, and texts of lists.
+use Rattle.std.proofs.Common.{◌≡◌, ℕ, ◌<◌, ◌+◌, List, [], ◌∷◌, ◌++◌, length, take, get_or, decimal, refl, ap, sym, ◌∙◌, append_assoc, append-nil}
 use Rattle.std.proofs.lemmas.List.{take_more}
 use Rattle.std.proofs.lemmas.List.Concat.{flat_map-append}
 use Rattle.std.specs.List.{flat_map}
-use Rattle.rb_texts.specs.Lines.{Line, extended}
 use Rattle.rb_texts.specs.Configs.{ids_text}
-use Rattle.rb_texts.proofs.ExtendLaws.{extended_twice}
+
+-- texts that join the line in two steps
+pub added_twice : (before now after a b : List ℕ) → now ≡ before ++ a → after ≡ now ++ b → after ≡ before ++ (a ++ b)
+added_twice before now after a b first second = second ∙ ap (λ (l : List ℕ). l ++ b) first ∙ append_assoc before a b
 
 -- a further id
 abbrev pub comma_before : ℕ → List ℕ
@@ -28,8 +30,8 @@ flat_map-take f xs i d h =
     ap (flat_map f) (take_more xs i d h) ∙ flat_map-append f (take i xs) (get_or xs i d ∷ [])
     ∙ ap (λ (l : List ℕ). flat_map f (take i xs) ++ l) (append-nil (f (get_or xs i d)))
 
--- one element more joins the last line
-pub extended_more : {X : Type 0} (f : X → List ℕ) (xs : List X) (i : ℕ) (d : X) (before now after : List Line) → i < length xs
-    → now ≡ extended before (flat_map f (take i xs)) → after ≡ extended now (f (get_or xs i d)) → after ≡ extended before (flat_map f (take (i + 1) xs))
-extended_more f xs i d before now after h so_far add =
-    extended_twice before now after (flat_map f (take i xs)) (f (get_or xs i d)) so_far add ∙ ap (extended before) (sym (flat_map-take f xs i d h))
+-- one element more joins the line
+pub added_more : {X : Type 0} (f : X → List ℕ) (xs : List X) (i : ℕ) (d : X) (before now after : List ℕ) → i < length xs
+    → now ≡ before ++ flat_map f (take i xs) → after ≡ now ++ f (get_or xs i d) → after ≡ before ++ flat_map f (take (i + 1) xs)
+added_more f xs i d before now after h so_far add =
+    added_twice before now after (flat_map f (take i xs)) (f (get_or xs i d)) so_far add ∙ ap (λ (l : List ℕ). before ++ l) (sym (flat_map-take f xs i d h))

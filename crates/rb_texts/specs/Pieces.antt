@@ -1,5 +1,5 @@
 -- The pieces that a line is put together of. (This project's.)
-use Rattle.std.specs.Prelude.{ℕ, decimal, List}
+use Rattle.std.specs.Prelude.{ℕ, decimal, List, ◌++◌}
 use Rattle.std.specs.List.{flat_map}
 use Rattle.rb_texts.specs.declared.piece.Piece.{Piece}
 use Rattle.rb_texts.specs.declared.piece.Piece.TheVariants as pieces
@@ -10,6 +10,7 @@ use Rattle.rb_texts.specs.Entries.{place_text}
 abbrev pub piece_text : Piece → List ℕ
 piece_text (pieces.Bytes bytes) = bytes.now
 piece_text (pieces.Number n) = decimal n
+piece_text (pieces.Field name n) = name.now ++ decimal n
 piece_text (pieces.Place term index) = place_text term index
 piece_text (pieces.Quoted bytes) = quoted bytes.now
 piece_text (pieces.Ids ids) = ids_text ids.now

@@ -3,14 +3,12 @@
 //! An entry is named by its term and its index (Ongaro's thesis, section 3.5) and shown with what it brings: a payload in quotes, whole,
 //! or a change of the configuration by its words, each a letter and an id.
 
-ghost use Rattle.std.specs.Prelude.{◌≡◌, ◌<◌, ◌++◌, codes, length, OnOk};
+ghost use Rattle.std.specs.Prelude.{◌≡◌, ◌++◌, codes, OnOk};
 ghost use Rattle.std.specs.List.{flat_map};
-ghost use Rattle.rb_texts.specs.Lines.{extended};
 ghost use Rattle.rb_texts.specs.Entries.{transition_text, letter, change_word, body_text, entry_text};
 
 use crate::piece::{Piece, add_pieces};
 use rb_raftlog::{Body, Entry, Transition, Word, WordKind};
-use rb_script::Lines;
 use std::alloc::AllocError;
 
 fn transition_name(transition: Transition) -> &'static [u8]
@@ -34,61 +32,50 @@ fn letter(kind: WordKind) -> &'static [u8]
     }
 }
 
-fn add_word(lines: &mut Lines, word: &Word) -> Result<(), AllocError>
-    requires { 0 < length lines.old }
-    ensures { OnOk result (lines.new ≡ extended lines.old (change_word word.now)) }
+fn add_word(line: &mut Vec<u8>, word: &Word) -> Result<(), AllocError>
+    ensures { OnOk result (line.new.items ≡ line.old.items ++ change_word word.now) }
 {
     let pieces = [
         Piece::Bytes(b" "),
         Piece::Bytes(letter(word.kind)),
         Piece::Number(word.id),
     ];
-    add_pieces(lines, &pieces)
+    add_pieces(line, &pieces)
 }
 
-#[tactic(auto, using(crate::proofs::ExtendLaws::extending))]
-fn add_words(lines: &mut Lines, words: &[Word]) -> Result<(), AllocError>
-    requires { 0 < length lines.old }
-    ensures { OnOk result (lines.new ≡ extended lines.old (flat_map change_word words.now)) }
+fn add_words(line: &mut Vec<u8>, words: &[Word]) -> Result<(), AllocError>
+    ensures { OnOk result (line.new.items ≡ line.old.items ++ flat_map change_word words.now) }
 {
     for word in words {
-        add_word(lines, word)?;
+        add_word(line, word)?;
     }
     Ok(())
 }
 
-#[tactic(auto, using(crate::proofs::ExtendLaws::extending))]
-fn add_change(lines: &mut Lines, transition: Transition, words: &[Word]) -> Result<(), AllocError>
-    requires { 0 < length lines.old }
-    ensures { OnOk result (lines.new ≡ extended lines.old (codes "change " ++ transition_text transition ++ flat_map change_word words.now)) }
+fn add_change(line: &mut Vec<u8>, transition: Transition, words: &[Word]) -> Result<(), AllocError>
+    ensures { OnOk result (line.new.items ≡ line.old.items ++ (codes "change " ++ transition_text transition ++ flat_map change_word words.now)) }
 {
     let pieces = [
         Piece::Bytes(b"change "),
         Piece::Bytes(transition_name(transition)),
     ];
-    add_pieces(lines, &pieces)?;
-    add_words(lines, words)
+    add_pieces(line, &pieces)?;
+    add_words(line, words)
 }
 
 #[tactic(auto, unfolding(crate::specs::Entries::body_text))]
-pub(crate) fn add_body(lines: &mut Lines, body: &Body) -> Result<(), AllocError>
-    requires { 0 < length lines.old }
-    ensures { OnOk result (lines.new ≡ extended lines.old (body_text body.now)) }
+pub(crate) fn add_body(line: &mut Vec<u8>, body: &Body) -> Result<(), AllocError>
+    ensures { OnOk result (line.new.items ≡ line.old.items ++ body_text body.now) }
 {
     match body {
-        Body::Payload(bytes) => add_pieces(lines, &[Piece::Quoted(bytes.as_slice())]),
-        Body::Change { transition, words } => add_change(lines, *transition, words.as_slice()),
+        Body::Payload(bytes) => add_pieces(line, &[Piece::Quoted(bytes.as_slice())]),
+        Body::Change { transition, words } => add_change(line, *transition, words.as_slice()),
     }
 }
 
-#[tactic(auto, using(crate::proofs::ExtendLaws::extending))]
-pub(crate) fn add_entry(lines: &mut Lines, index: u64, entry: &Entry) -> Result<(), AllocError>
-    requires { 0 < length lines.old }
-    ensures { OnOk result (lines.new ≡ extended lines.old (entry_text index entry.now)) }
+pub(crate) fn add_entry(line: &mut Vec<u8>, index: u64, entry: &Entry) -> Result<(), AllocError>
+    ensures { OnOk result (line.new.items ≡ line.old.items ++ entry_text index entry.now) }
 {
-    add_pieces(
-        lines,
-        &[Piece::Place(entry.term, index), Piece::Bytes(b" ")],
-    )?;
-    add_body(lines, &entry.body)
+    add_pieces(line, &[Piece::Place(entry.term, index), Piece::Bytes(b" ")])?;
+    add_body(line, &entry.body)
 }

@@ -2,19 +2,17 @@
 //!
 //! An event is shown with its level, so that a reader sees at which levels it is hidden, and with the node that tells it.
 
-ghost use Rattle.std.specs.Prelude.{◌≡◌, ◌<◌, ◌++◌, codes, decimal, length, OnOk};
-ghost use Rattle.rb_texts.specs.Lines.{extended};
+ghost use Rattle.std.specs.Prelude.{◌≡◌, ◌++◌, codes, decimal, OnOk};
 ghost use Rattle.rb_texts.specs.Configs.{config_text};
 ghost use Rattle.rb_texts.specs.Entries.{place_text};
 ghost use Rattle.rb_texts.specs.Events.{event_level, level_text, no_campaign_text, replaced_text, votes_text, fault_text, started_text, became_text, vote_counted_text, ignored_text, conflict_text, replaced_change_text, refused_change_text, happening_text, event_text};
 
 use crate::configs::add_config;
 use crate::messages::{answer_name, type_name};
-use crate::piece::{Piece, add_pieces};
+use crate::piece::{Piece, add_bytes, add_pieces};
 use crate::states::role_name;
 use rb_level::Level;
 use rb_message::{Event, MessageType, Role, WhyNoCampaign, WhyReplaced};
-use rb_script::Lines;
 use rb_tracker::{ChangeFault, Config, VoteResult};
 use std::alloc::AllocError;
 
@@ -99,50 +97,42 @@ fn fault_name(fault: ChangeFault) -> &'static [u8]
 }
 
 // Adds the id of a node, and a text of it.
-fn add_node_text<'a>(lines: &mut Lines, id: u64, text: &'a [u8]) -> Result<(), AllocError>
-    requires { 0 < length lines.old }
-    ensures { OnOk result (lines.new ≡ extended lines.old (decimal id ++ text.now)) }
+fn add_node_text<'a>(line: &mut Vec<u8>, id: u64, text: &'a [u8]) -> Result<(), AllocError>
+    ensures { OnOk result (line.new.items ≡ line.old.items ++ (decimal id ++ text.now)) }
 {
-    add_pieces(lines, &[Piece::Number(id), Piece::Bytes(text)])
+    add_pieces(line, &[Piece::Number(id), Piece::Bytes(text)])
 }
 
 // Adds the id of a node, a text of it, and a reason or a name.
 fn add_named<'a>(
-    lines: &mut Lines,
+    line: &mut Vec<u8>,
     id: u64,
     text: &'a [u8],
     name: &'a [u8],
 ) -> Result<(), AllocError>
-    requires { 0 < length lines.old }
-    ensures { OnOk result (lines.new ≡ extended lines.old (decimal id ++ text.now ++ name.now)) }
+    ensures { OnOk result (line.new.items ≡ line.old.items ++ (decimal id ++ text.now ++ name.now)) }
 {
     add_pieces(
-        lines,
+        line,
         &[Piece::Number(id), Piece::Bytes(text), Piece::Bytes(name)],
     )
 }
 
 // Adds the id of a node, a text of it, and a number.
-fn add_counted<'a>(lines: &mut Lines, id: u64, text: &'a [u8], n: u64) -> Result<(), AllocError>
-    requires { 0 < length lines.old }
-    ensures { OnOk result (lines.new ≡ extended lines.old (decimal id ++ text.now ++ decimal n)) }
+fn add_counted<'a>(line: &mut Vec<u8>, id: u64, text: &'a [u8], n: u64) -> Result<(), AllocError>
+    ensures { OnOk result (line.new.items ≡ line.old.items ++ (decimal id ++ text.now ++ decimal n)) }
 {
-    add_pieces(
-        lines,
-        &[Piece::Number(id), Piece::Bytes(text), Piece::Number(n)],
-    )
+    add_pieces(line, &[Piece::Number(id), Piece::Field(text, n)])
 }
 
-#[tactic(auto, using(crate::proofs::ExtendLaws::extending))]
 fn add_started(
-    lines: &mut Lines,
+    line: &mut Vec<u8>,
     id: u64,
     term: u64,
     index: u64,
     config: &Config,
 ) -> Result<(), AllocError>
-    requires { 0 < length lines.old }
-    ensures { OnOk result (lines.new ≡ extended lines.old (started_text id term index config.now)) }
+    ensures { OnOk result (line.new.items ≡ line.old.items ++ started_text id term index config.now) }
 {
     let pieces = [
         Piece::Number(id),
@@ -150,35 +140,32 @@ fn add_started(
         Piece::Place(term, index),
         Piece::Bytes(b" with "),
     ];
-    add_pieces(lines, &pieces)?;
-    add_config(lines, config)
+    add_pieces(line, &pieces)?;
+    add_config(line, config)
 }
 
-fn add_became(lines: &mut Lines, id: u64, role: Role, term: u64) -> Result<(), AllocError>
-    requires { 0 < length lines.old }
-    ensures { OnOk result (lines.new ≡ extended lines.old (became_text id role term)) }
+fn add_became(line: &mut Vec<u8>, id: u64, role: Role, term: u64) -> Result<(), AllocError>
+    ensures { OnOk result (line.new.items ≡ line.old.items ++ became_text id role term) }
 {
     let pieces = [
         Piece::Number(id),
         Piece::Bytes(b" became "),
         Piece::Bytes(role_name(role)),
-        Piece::Bytes(b" at term "),
-        Piece::Number(term),
+        Piece::Field(b" at term ", term),
     ];
-    add_pieces(lines, &pieces)
+    add_pieces(line, &pieces)
 }
 
 // Adds an answer to a campaign, and what the answers come to.
 fn add_vote_counted(
-    lines: &mut Lines,
+    line: &mut Vec<u8>,
     id: u64,
     message_type: MessageType,
     granted: bool,
     from: u64,
     votes: VoteResult,
 ) -> Result<(), AllocError>
-    requires { 0 < length lines.old }
-    ensures { OnOk result (lines.new ≡ extended lines.old (vote_counted_text id message_type granted from votes)) }
+    ensures { OnOk result (line.new.items ≡ line.old.items ++ vote_counted_text id message_type granted from votes) }
 {
     let pieces = [
         Piece::Number(id),
@@ -186,102 +173,93 @@ fn add_vote_counted(
         Piece::Bytes(type_name(message_type)),
         Piece::Bytes(b" "),
         Piece::Bytes(answer_name(granted)),
-        Piece::Bytes(b" from "),
-        Piece::Number(from),
+        Piece::Field(b" from ", from),
         Piece::Bytes(b": "),
         Piece::Bytes(votes_name(votes)),
     ];
-    add_pieces(lines, &pieces)
+    add_pieces(line, &pieces)
 }
 
 fn add_ignored(
-    lines: &mut Lines,
+    line: &mut Vec<u8>,
     id: u64,
     message_type: MessageType,
     from: u64,
 ) -> Result<(), AllocError>
-    requires { 0 < length lines.old }
-    ensures { OnOk result (lines.new ≡ extended lines.old (ignored_text id message_type from)) }
+    ensures { OnOk result (line.new.items ≡ line.old.items ++ ignored_text id message_type from) }
 {
     let pieces = [
         Piece::Number(id),
         Piece::Bytes(b" ignored "),
         Piece::Bytes(type_name(message_type)),
-        Piece::Bytes(b" from "),
-        Piece::Number(from),
+        Piece::Field(b" from ", from),
     ];
-    add_pieces(lines, &pieces)
+    add_pieces(line, &pieces)
 }
 
-fn add_conflict(lines: &mut Lines, id: u64, index: u64, commit: u64) -> Result<(), AllocError>
-    requires { 0 < length lines.old }
-    ensures { OnOk result (lines.new ≡ extended lines.old (conflict_text id index commit)) }
+fn add_conflict(line: &mut Vec<u8>, id: u64, index: u64, commit: u64) -> Result<(), AllocError>
+    ensures { OnOk result (line.new.items ≡ line.old.items ++ conflict_text id index commit) }
 {
     let pieces = [
         Piece::Number(id),
-        Piece::Bytes(b" conflict at "),
-        Piece::Number(index),
-        Piece::Bytes(b", commit "),
-        Piece::Number(commit),
+        Piece::Field(b" conflict at ", index),
+        Piece::Field(b", commit ", commit),
     ];
-    add_pieces(lines, &pieces)
+    add_pieces(line, &pieces)
 }
 
 // Adds that no change is made, and why.
-fn add_replaced(lines: &mut Lines, id: u64, index: u64, why: WhyReplaced) -> Result<(), AllocError>
-    requires { 0 < length lines.old }
-    ensures { OnOk result (lines.new ≡ extended lines.old (replaced_change_text id index why)) }
+fn add_replaced(line: &mut Vec<u8>, id: u64, index: u64, why: WhyReplaced) -> Result<(), AllocError>
+    ensures { OnOk result (line.new.items ≡ line.old.items ++ replaced_change_text id index why) }
 {
     let pieces = [
         Piece::Number(id),
-        Piece::Bytes(b" replaced change at "),
-        Piece::Number(index),
+        Piece::Field(b" replaced change at ", index),
         Piece::Bytes(b" by an empty entry: "),
         Piece::Bytes(replaced_name(why)),
     ];
-    add_pieces(lines, &pieces)
+    add_pieces(line, &pieces)
 }
 
-fn add_refused(lines: &mut Lines, id: u64, index: u64, fault: ChangeFault) -> Result<(), AllocError>
-    requires { 0 < length lines.old }
-    ensures { OnOk result (lines.new ≡ extended lines.old (refused_change_text id index fault)) }
+fn add_refused(
+    line: &mut Vec<u8>,
+    id: u64,
+    index: u64,
+    fault: ChangeFault,
+) -> Result<(), AllocError>
+    ensures { OnOk result (line.new.items ≡ line.old.items ++ refused_change_text id index fault) }
 {
     let pieces = [
         Piece::Number(id),
-        Piece::Bytes(b" refused change at "),
-        Piece::Number(index),
+        Piece::Field(b" refused change at ", index),
         Piece::Bytes(b": "),
         Piece::Bytes(fault_name(fault)),
     ];
-    add_pieces(lines, &pieces)
+    add_pieces(line, &pieces)
 }
 
-#[tactic(auto, using(crate::proofs::ExtendLaws::extending))]
-fn add_switched(lines: &mut Lines, id: u64, config: &Config) -> Result<(), AllocError>
-    requires { 0 < length lines.old }
-    ensures { OnOk result (lines.new ≡ extended lines.old (decimal id ++ codes " switched to " ++ config_text config.now)) }
+fn add_switched(line: &mut Vec<u8>, id: u64, config: &Config) -> Result<(), AllocError>
+    ensures { OnOk result (line.new.items ≡ line.old.items ++ (decimal id ++ codes " switched to " ++ config_text config.now)) }
 {
-    add_node_text(lines, id, b" switched to ")?;
-    add_config(lines, config)
+    add_node_text(line, id, b" switched to ")?;
+    add_config(line, config)
 }
 
-fn add_restored(lines: &mut Lines, id: u64, term: u64, index: u64) -> Result<(), AllocError>
-    requires { 0 < length lines.old }
-    ensures { OnOk result (lines.new ≡ extended lines.old (decimal id ++ codes " restored snapshot " ++ place_text term index)) }
+fn add_restored(line: &mut Vec<u8>, id: u64, term: u64, index: u64) -> Result<(), AllocError>
+    ensures { OnOk result (line.new.items ≡ line.old.items ++ (decimal id ++ codes " restored snapshot " ++ place_text term index)) }
 {
     let pieces = [
         Piece::Number(id),
         Piece::Bytes(b" restored snapshot "),
         Piece::Place(term, index),
     ];
-    add_pieces(lines, &pieces)
+    add_pieces(line, &pieces)
 }
 
 // Adds what happened.
 #[tactic(auto, unfolding(crate::specs::Events::happening_text))]
-fn add_happening(lines: &mut Lines, event: &Event) -> Result<(), AllocError>
-    requires { 0 < length lines.old }
-    ensures { OnOk result (lines.new ≡ extended lines.old (happening_text event.now)) }
+fn add_happening(line: &mut Vec<u8>, event: &Event) -> Result<(), AllocError>
+    ensures { OnOk result (line.new.items ≡ line.old.items ++ happening_text event.now) }
 {
     match event {
         Event::Started {
@@ -289,10 +267,10 @@ fn add_happening(lines: &mut Lines, event: &Event) -> Result<(), AllocError>
             term,
             index,
             config,
-        } => add_started(lines, *id, *term, *index, config),
-        Event::Became { id, role, term } => add_became(lines, *id, *role, *term),
+        } => add_started(line, *id, *term, *index, config),
+        Event::Became { id, role, term } => add_became(line, *id, *role, *term),
         Event::CannotCampaign { id, why } => {
-            add_named(lines, *id, b" can't campaign: ", no_campaign_name(*why))
+            add_named(line, *id, b" can't campaign: ", no_campaign_name(*why))
         }
         Event::VoteCounted {
             id,
@@ -300,32 +278,30 @@ fn add_happening(lines: &mut Lines, event: &Event) -> Result<(), AllocError>
             granted,
             from,
             result,
-        } => add_vote_counted(lines, *id, *message_type, *granted, *from, *result),
+        } => add_vote_counted(line, *id, *message_type, *granted, *from, *result),
         Event::Ignored {
             id,
             message_type,
             from,
-        } => add_ignored(lines, *id, *message_type, *from),
-        Event::DroppedProposal { id } => add_node_text(lines, *id, b" dropped a proposal"),
-        Event::Conflict { id, index, commit } => add_conflict(lines, *id, *index, *commit),
+        } => add_ignored(line, *id, *message_type, *from),
+        Event::DroppedProposal { id } => add_node_text(line, *id, b" dropped a proposal"),
+        Event::Conflict { id, index, commit } => add_conflict(line, *id, *index, *commit),
         Event::AppendsNothing { id } => {
-            add_node_text(lines, *id, b" appends nothing: index limit")
+            add_node_text(line, *id, b" appends nothing: index limit")
         }
-        Event::ReplacedChange { id, index, why } => add_replaced(lines, *id, *index, *why),
-        Event::Switched { id, config } => add_switched(lines, *id, config),
-        Event::RefusedChange { id, index, fault } => add_refused(lines, *id, *index, *fault),
-        Event::Restored { id, term, index } => add_restored(lines, *id, *term, *index),
-        Event::TransferStarts { id, to } => add_counted(lines, *id, b" starts transfer to ", *to),
-        Event::TransferEnds { id, to } => add_counted(lines, *id, b" ends transfer to ", *to),
-        Event::LostQuorum { id } => add_node_text(lines, *id, b" lost its quorum"),
+        Event::ReplacedChange { id, index, why } => add_replaced(line, *id, *index, *why),
+        Event::Switched { id, config } => add_switched(line, *id, config),
+        Event::RefusedChange { id, index, fault } => add_refused(line, *id, *index, *fault),
+        Event::Restored { id, term, index } => add_restored(line, *id, *term, *index),
+        Event::TransferStarts { id, to } => add_counted(line, *id, b" starts transfer to ", *to),
+        Event::TransferEnds { id, to } => add_counted(line, *id, b" ends transfer to ", *to),
+        Event::LostQuorum { id } => add_node_text(line, *id, b" lost its quorum"),
     }
 }
 
-#[tactic(auto, using(crate::proofs::ExtendLaws::extending))]
-pub(crate) fn add_event(lines: &mut Lines, event: &Event) -> Result<(), AllocError>
-    requires { 0 < length lines.old }
-    ensures { OnOk result (lines.new ≡ extended lines.old (event_text event.now)) }
+pub(crate) fn add_event(line: &mut Vec<u8>, event: &Event) -> Result<(), AllocError>
+    ensures { OnOk result (line.new.items ≡ line.old.items ++ event_text event.now) }
 {
-    lines.extend_last(level_name(event_level(event)))?;
-    add_happening(lines, event)
+    add_bytes(line, level_name(event_level(event)))?;
+    add_happening(line, event)
 }

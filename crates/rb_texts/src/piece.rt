@@ -1,15 +1,13 @@
 //! The pieces that a line is put together of.
 
-ghost use Rattle.std.specs.Prelude.{◌≡◌, ◌<◌, ◌≤◌, ◌++◌, [], ℕ, true, false, if◌then◌else◌, length, OnOk, take, slice_index_or, decimal};
+ghost use Rattle.std.specs.Prelude.{◌≡◌, ◌<◌, ◌≤◌, ◌++◌, [], ◌∷◌, ℕ, true, false, if◌then◌else◌, length, OnOk, take, slice_index_or, decimal};
 ghost use Rattle.std.specs.List.{flat_map};
-ghost use Rattle.rb_texts.specs.Lines.{extended};
 ghost use Rattle.rb_texts.specs.Quoted.{is_plain, begins_numbered, numbered, escaped, hex_digit, quoted};
 ghost use Rattle.rb_texts.specs.Configs.{ids_text};
 ghost use Rattle.rb_texts.specs.Entries.{place_text};
 ghost use Rattle.rb_texts.specs.Pieces.{piece_text, pieces_text};
 
 use itoa::Buffer;
-use rb_script::Lines;
 use std::alloc::AllocError;
 
 /// A piece of a line.
@@ -19,6 +17,8 @@ pub(crate) enum Piece<'a> {
     Bytes(&'a [u8]),
     /// A number in decimal digits.
     Number(u64),
+    /// Bytes, and a number after them.
+    Field(&'a [u8], u64),
     /// A term and an index, with a slash between them.
     Place(u64, u64),
     /// The bytes in double quotes.
@@ -34,61 +34,80 @@ pub(crate) fn shown_if<'a>(shown: bool, text: &'a [u8]) -> &'a [u8]
     if shown { text } else { b"" }
 }
 
-/// Adds the pieces to the last line.
-#[tactic(auto, using(crate::proofs::ExtendLaws::extending))]
-pub(crate) fn add_pieces(lines: &mut Lines, pieces: &[Piece<'_>]) -> Result<(), AllocError>
-    requires { 0 < length lines.old }
-    ensures { OnOk result (lines.new ≡ extended lines.old (pieces_text pieces.now)) }
+/// Adds the bytes to the line.
+#[inline(always)]
+pub(crate) fn add_bytes(line: &mut Vec<u8>, bytes: &[u8]) -> Result<(), AllocError>
+    ensures { OnOk result (line.new.items ≡ line.old.items ++ bytes.now) }
+{
+    line.extend_from_slice(bytes)
+}
+
+#[inline(always)]
+fn add_byte(line: &mut Vec<u8>, byte: u8) -> Result<(), AllocError>
+    ensures { OnOk result (line.new.items ≡ line.old.items ++ byte ∷ []) }
+{
+    line.push(byte)?;
+    Ok(())
+}
+
+/// Adds the pieces to the line.
+pub(crate) fn add_pieces(line: &mut Vec<u8>, pieces: &[Piece<'_>]) -> Result<(), AllocError>
+    ensures { OnOk result (line.new.items ≡ line.old.items ++ pieces_text pieces.now) }
 {
     for piece in pieces {
-        add_piece(lines, *piece)?;
+        add_piece(line, *piece)?;
     }
     Ok(())
 }
 
-fn add_piece(lines: &mut Lines, piece: Piece<'_>) -> Result<(), AllocError>
-    requires { 0 < length lines.old }
-    ensures { OnOk result (lines.new ≡ extended lines.old (piece_text piece.entry)) }
+fn add_piece(line: &mut Vec<u8>, piece: Piece<'_>) -> Result<(), AllocError>
+    ensures { OnOk result (line.new.items ≡ line.old.items ++ piece_text piece.entry) }
 {
     match piece {
-        Piece::Bytes(bytes) => lines.extend_last(bytes),
-        Piece::Number(n) => add_number(lines, n),
-        Piece::Place(term, index) => add_place(lines, term, index),
-        Piece::Quoted(bytes) => add_quoted(lines, bytes),
-        Piece::Ids(ids) => add_ids(lines, ids),
+        Piece::Bytes(bytes) => add_bytes(line, bytes),
+        Piece::Number(n) => add_number(line, n),
+        Piece::Field(name, n) => add_field(line, name, n),
+        Piece::Place(term, index) => add_place(line, term, index),
+        Piece::Quoted(bytes) => add_quoted(line, bytes),
+        Piece::Ids(ids) => add_ids(line, ids),
     }
 }
 
-fn add_number(lines: &mut Lines, n: u64) -> Result<(), AllocError>
-    requires { 0 < length lines.old }
-    ensures { OnOk result (lines.new ≡ extended lines.old (decimal n)) }
+fn add_number(line: &mut Vec<u8>, n: u64) -> Result<(), AllocError>
+    ensures { OnOk result (line.new.items ≡ line.old.items ++ decimal n) }
 {
+    if n < 10 {
+        return add_byte(line, b'0' + n as u8);
+    }
     let mut digits = Buffer::new();
-    lines.extend_last(digits.format(n).as_bytes())
+    add_bytes(line, digits.format(n).as_bytes())
 }
 
-#[tactic(auto, using(crate::proofs::ExtendLaws::extending))]
-fn add_place(lines: &mut Lines, term: u64, index: u64) -> Result<(), AllocError>
-    requires { 0 < length lines.old }
-    ensures { OnOk result (lines.new ≡ extended lines.old (place_text term index)) }
+fn add_field(line: &mut Vec<u8>, name: &[u8], n: u64) -> Result<(), AllocError>
+    ensures { OnOk result (line.new.items ≡ line.old.items ++ (name.now ++ decimal n)) }
 {
-    add_number(lines, term)?;
-    lines.extend_last(b"/")?;
-    add_number(lines, index)
+    add_bytes(line, name)?;
+    add_number(line, n)
 }
 
-#[tactic(auto, using(crate::proofs::ExtendLaws::extending))]
-fn add_ids(lines: &mut Lines, ids: &[u64]) -> Result<(), AllocError>
-    requires { 0 < length lines.old }
-    ensures { OnOk result (lines.new ≡ extended lines.old (ids_text ids.now)) }
+fn add_place(line: &mut Vec<u8>, term: u64, index: u64) -> Result<(), AllocError>
+    ensures { OnOk result (line.new.items ≡ line.old.items ++ place_text term index) }
+{
+    add_number(line, term)?;
+    add_byte(line, b'/')?;
+    add_number(line, index)
+}
+
+fn add_ids(line: &mut Vec<u8>, ids: &[u64]) -> Result<(), AllocError>
+    ensures { OnOk result (line.new.items ≡ line.old.items ++ ids_text ids.now) }
 {
     let Some((first, rest)) = ids.split_first() else {
         return Ok(());
     };
-    add_number(lines, *first)?;
+    add_number(line, *first)?;
     for id in rest {
-        lines.extend_last(b",")?;
-        add_number(lines, *id)?;
+        add_byte(line, b',')?;
+        add_number(line, *id)?;
     }
     Ok(())
 }
@@ -138,19 +157,17 @@ fn numbered(b: u8) -> [u8; 4]
 }
 
 // Adds the bytes in double quotes: what stands for itself in one piece, and each other byte by its number.
-#[tactic(auto, using(crate::proofs::ExtendLaws::extending))]
-fn add_quoted(lines: &mut Lines, bytes: &[u8]) -> Result<(), AllocError>
-    requires { 0 < length lines.old }
-    ensures { OnOk result (lines.new ≡ extended lines.old (quoted bytes.now)) }
+fn add_quoted(line: &mut Vec<u8>, bytes: &[u8]) -> Result<(), AllocError>
+    ensures { OnOk result (line.new.items ≡ line.old.items ++ quoted bytes.now) }
 {
-    lines.extend_last(b"\"")?;
+    add_bytes(line, b"\"")?;
     let (front, mut rest) = split_plain(bytes);
-    lines.extend_last(front)?;
+    add_bytes(line, front)?;
     while let Some((b, after)) = rest.split_first() {
-        lines.extend_last(&numbered(*b))?;
+        add_bytes(line, &numbered(*b))?;
         let (plain, other) = split_plain(after);
-        lines.extend_last(plain)?;
+        add_bytes(line, plain)?;
         rest = other;
     }
-    lines.extend_last(b"\"")
+    add_bytes(line, b"\"")
 }

@@ -3,15 +3,13 @@
 //! A node is shown by its role, its hard state and what it knows of the rest (Ongaro's thesis, section 3.3), a leader's view by its
 //! state and the indexes that it keeps (etcd raft documentation, "Progress").
 
-ghost use Rattle.std.specs.Prelude.{◌≡◌, ◌<◌, length, OnOk};
-ghost use Rattle.rb_texts.specs.Lines.{extended};
+ghost use Rattle.std.specs.Prelude.{◌≡◌, ◌++◌, OnOk};
 ghost use Rattle.rb_texts.specs.Items.{plain_node};
 ghost use Rattle.rb_texts.specs.States.{role_text, node_text, hard_state_text, log_text, progress_state_text, under_way_text, progress_text};
 
 use crate::item::{LogLine, NodeLine};
-use crate::piece::{Piece, add_pieces, shown_if};
+use crate::piece::{Piece, add_bytes, add_pieces, shown_if};
 use rb_message::{HardState, Role};
-use rb_script::Lines;
 use rb_tracker::{Progress, ProgressState};
 use std::alloc::AllocError;
 
@@ -26,62 +24,47 @@ pub(crate) fn role_name(role: Role) -> &'static [u8]
     }
 }
 
-pub(crate) fn add_node(lines: &mut Lines, node: &NodeLine<'_>) -> Result<(), AllocError>
-    requires { 0 < length lines.old }
-    ensures { OnOk result (lines.new ≡ extended lines.old (node_text (plain_node node.now))) }
+pub(crate) fn add_node(line: &mut Vec<u8>, node: &NodeLine<'_>) -> Result<(), AllocError>
+    ensures { OnOk result (line.new.items ≡ line.old.items ++ node_text (plain_node node.now)) }
 {
     let pieces = [
         Piece::Number(node.id),
         Piece::Bytes(b" "),
         Piece::Bytes(role_name(node.role)),
-        Piece::Bytes(b" term="),
-        Piece::Number(node.term),
-        Piece::Bytes(b" vote="),
-        Piece::Number(node.vote),
-        Piece::Bytes(b" lead="),
-        Piece::Number(node.lead),
-        Piece::Bytes(b" commit="),
-        Piece::Number(node.commit),
-        Piece::Bytes(b" applied="),
-        Piece::Number(node.applied),
-        Piece::Bytes(b" content="),
-        Piece::Number(node.content_len as u64),
+        Piece::Field(b" term=", node.term),
+        Piece::Field(b" vote=", node.vote),
+        Piece::Field(b" lead=", node.lead),
+        Piece::Field(b" commit=", node.commit),
+        Piece::Field(b" applied=", node.applied),
+        Piece::Field(b" content=", node.content_len as u64),
         Piece::Bytes(b":"),
         Piece::Quoted(node.content_end),
     ];
-    add_pieces(lines, &pieces)
+    add_pieces(line, &pieces)
 }
 
-pub(crate) fn add_hard_state(lines: &mut Lines, hard: &HardState) -> Result<(), AllocError>
-    requires { 0 < length lines.old }
-    ensures { OnOk result (lines.new ≡ extended lines.old (hard_state_text hard.now)) }
+pub(crate) fn add_hard_state(line: &mut Vec<u8>, hard: &HardState) -> Result<(), AllocError>
+    ensures { OnOk result (line.new.items ≡ line.old.items ++ hard_state_text hard.now) }
 {
     let pieces = [
-        Piece::Bytes(b"  hard term="),
-        Piece::Number(hard.term),
-        Piece::Bytes(b" vote="),
-        Piece::Number(hard.vote),
-        Piece::Bytes(b" commit="),
-        Piece::Number(hard.commit),
+        Piece::Field(b"  hard term=", hard.term),
+        Piece::Field(b" vote=", hard.vote),
+        Piece::Field(b" commit=", hard.commit),
     ];
-    add_pieces(lines, &pieces)
+    add_pieces(line, &pieces)
 }
 
-pub(crate) fn add_log(lines: &mut Lines, log: &LogLine) -> Result<(), AllocError>
-    requires { 0 < length lines.old }
-    ensures { OnOk result (lines.new ≡ extended lines.old (log_text log.now)) }
+pub(crate) fn add_log(line: &mut Vec<u8>, log: &LogLine) -> Result<(), AllocError>
+    ensures { OnOk result (line.new.items ≡ line.old.items ++ log_text log.now) }
 {
     let pieces = [
         Piece::Bytes(b"base="),
         Piece::Place(log.base_term, log.base),
-        Piece::Bytes(b" durable="),
-        Piece::Number(log.durable),
-        Piece::Bytes(b" commit="),
-        Piece::Number(log.commit),
-        Piece::Bytes(b" applied="),
-        Piece::Number(log.applied),
+        Piece::Field(b" durable=", log.durable),
+        Piece::Field(b" commit=", log.commit),
+        Piece::Field(b" applied=", log.applied),
     ];
-    add_pieces(lines, &pieces)
+    add_pieces(line, &pieces)
 }
 
 fn progress_state_name(state: ProgressState) -> &'static [u8]
@@ -95,25 +78,18 @@ fn progress_state_name(state: ProgressState) -> &'static [u8]
 }
 
 // Adds what a view has in its state alone.
-#[tactic(auto, using(crate::proofs::ExtendLaws::extending))]
-fn add_under_way(lines: &mut Lines, view: &Progress) -> Result<(), AllocError>
-    requires { 0 < length lines.old }
-    ensures { OnOk result (lines.new ≡ extended lines.old (under_way_text view.now.state view.now.waiting view.now.pending)) }
+fn add_under_way(line: &mut Vec<u8>, view: &Progress) -> Result<(), AllocError>
+    ensures { OnOk result (line.new.items ≡ line.old.items ++ under_way_text view.now.state view.now.waiting view.now.pending) }
 {
     match view.state() {
-        ProgressState::Probe => lines.extend_last(shown_if(view.waiting(), b" waiting")),
+        ProgressState::Probe => add_bytes(line, shown_if(view.waiting(), b" waiting")),
         ProgressState::Replicate => Ok(()),
-        ProgressState::Snapshot => add_pieces(
-            lines,
-            &[Piece::Bytes(b" snapshot="), Piece::Number(view.pending())],
-        ),
+        ProgressState::Snapshot => add_pieces(line, &[Piece::Field(b" snapshot=", view.pending())]),
     }
 }
 
-#[tactic(auto, using(crate::proofs::ExtendLaws::extending))]
-pub(crate) fn add_progress(lines: &mut Lines, id: u64, view: &Progress) -> Result<(), AllocError>
-    requires { 0 < length lines.old }
-    ensures { OnOk result (lines.new ≡ extended lines.old (progress_text id view.now)) }
+pub(crate) fn add_progress(line: &mut Vec<u8>, id: u64, view: &Progress) -> Result<(), AllocError>
+    ensures { OnOk result (line.new.items ≡ line.old.items ++ progress_text id view.now) }
 {
     let pieces = [
         Piece::Number(id),
@@ -126,7 +102,7 @@ pub(crate) fn add_progress(lines: &mut Lines, id: u64, view: &Progress) -> Resul
         Piece::Bytes(b" inflight="),
         Piece::Number(view.window().len() as u64),
     ];
-    add_pieces(lines, &pieces)?;
-    add_under_way(lines, view)?;
-    lines.extend_last(shown_if(!view.active(), b" inactive"))
+    add_pieces(line, &pieces)?;
+    add_under_way(line, view)?;
+    add_bytes(line, shown_if(!view.active(), b" inactive"))
 }

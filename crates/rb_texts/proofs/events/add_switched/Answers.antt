@@ -1,6 +1,6 @@
 use Rattle.std.proofs.lemmas.Result.{on_ok_weaker}
-use Rattle.rb_texts.proofs.ExtendLaws.{extended_twice}
+use Rattle.rb_texts.proofs.PieceLaws.{added_twice}
 use Rattle.rb_texts.proofs.events.add_switched.Goals as goal
 
 pub returns : goal.returns
-returns c = on_ok_weaker c.add_config.result (λ e. extended_twice c.args.lines.now c.add_node_text.new.lines c.add_config.new.lines _ _ c.in_ok-add_node_text.ensures e) c.add_config.ensures
+returns c = on_ok_weaker c.add_config.result (λ e. added_twice c.args.line.now.items c.add_node_text.new.line.items c.add_config.new.line.items _ _ c.in_ok-add_node_text.ensures e) c.add_config.ensures

@@ -1,10 +1,10 @@
 use Rattle.std.proofs.Common.{◌++◌, codes, decimal}
 use Rattle.std.proofs.lemmas.Result.{on_ok_weaker}
-use Rattle.rb_texts.proofs.ExtendLaws.{extended_twice}
+use Rattle.rb_texts.proofs.PieceLaws.{added_twice}
 use Rattle.rb_texts.proofs.piece.add_place.Goals as goal
 
 pub returns : goal.returns
 returns c =
-    let slash = extended_twice c.args.lines.now c.add_number.new.lines c.extend_last.new.self (decimal c.args.term) (codes "/") c.in_ok-add_number.ensures c.in_ok-extend_last.ensures.ok in
+    let slash = added_twice c.args.line.now.items c.add_number.new.line.items c.add_byte.new.line.items (decimal c.args.term) (codes "/") c.in_ok-add_number.ensures c.in_ok-add_byte.ensures in
     on_ok_weaker c.add_number-2.result
-    (extended_twice c.args.lines.now c.extend_last.new.self c.add_number-2.new.lines (decimal c.args.term ++ codes "/") (decimal c.args.index) slash) c.add_number-2.ensures
+    (added_twice c.args.line.now.items c.add_byte.new.line.items c.add_number-2.new.line.items (decimal c.args.term ++ codes "/") (decimal c.args.index) slash) c.add_number-2.ensures

@@ -1,15 +1,13 @@
 -- What joined the line and what is left make up the whole.
-use Rattle.std.proofs.Common.{◌≡◌, ◌<◌, ◌∷◌, true, length}
+use Rattle.std.proofs.Common.{◌≡◌, ◌∷◌, ◌++◌, true, length}
 use Rattle.std.specs.List.{flat_map}
-use Rattle.rb_texts.specs.Lines.{extended}
 use Rattle.rb_texts.specs.Quoted.{escaped, begins_numbered}
 use Rattle.rb_texts.proofs.piece.add_quoted.Given as goal
 
 abbrev pub invariant-loop-b : goal.invariant-loop-b
 invariant-loop-b l = record {
-  some : 0 < length l.lines;
   next : begins_numbered l.rest ≡ true;
-  whole : extended l.lines (flat_map escaped l.rest) ≡ extended l.fn.lines (34 ∷ flat_map escaped l.fn.bytes);
+  whole : l.line.items ++ flat_map escaped l.rest ≡ l.fn.line.items ++ 34 ∷ flat_map escaped l.fn.bytes;
 }
 
 abbrev pub decreases-loop-b : goal.decreases-loop-b

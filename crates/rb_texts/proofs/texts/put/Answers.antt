@@ -6,5 +6,7 @@ use Rattle.rb_texts.proofs.texts.put.Goals as goal
 
 pub returns : goal.returns
 returns c =
-    on_ok_weaker c.add_item.result
-    (line_joined c.args.lines.now c.push.new.self c.add_item.new.lines c.args.level (plain_item c.args.item.now) (sym c.is_shown.ensures ∙ c.if-not-is_shown.false) c.in_ok-push.ensures.ok) c.add_item.ensures
+    on_ok_weaker c.push.result
+    (line_joined c.args.lines.now c.push.new.self c.in_ok-line.line.items c.as_slice.result.now c.args.level (plain_item c.args.item.now) (sym c.is_shown.ensures ∙ c.if-not-is_shown.false)
+    c.in_ok-line.ensures.empty (c.as_slice.ensures.value ∙ c.in_ok-add_item.ensures))
+    c.push.ensures.ok
