@@ -13,4 +13,5 @@ mod refusals;
 mod roles;
 mod rules;
 mod seen;
+mod shown;
 mod terms;

@@ -2,7 +2,8 @@
 
 use super::making::{Player, played};
 use super::moves::{ALONE, FOLLOWS, LEADS, Move, START, Says};
-use rb_message::HardState;
+use super::seen::{Said, kind_said};
+use rb_message::{HardState, Message};
 use rb_node::{HEARTBEAT_TICKS, MAX_TICKS, Node, limits_are};
 use rb_raftlog::{CompactFault, PlainLog, RaftLog, SplitLog};
 use rb_step::ELECTION_TICKS;
@@ -37,6 +38,8 @@ pub fn ready_of<L: RaftLog>(node: &Node<L>) -> Ready {
     )
 }
 
+const NOTHING: Ready = (None, None, 0, 0, 0, 0);
+
 const READY: [(&[Move], Ready); 8] = [
     (&[], (None, None, 0, 0, 0, 0)),
     (FOLLOWS, (None, None, 0, 0, 0, 0)),
@@ -60,17 +63,26 @@ const READY: [(&[Move], Ready); 8] = [
     ),
 ];
 
-fn readies<P: Player>(rt: &impl Abort, alloc: Global) -> Result<(), Fail> {
-    for (moves, wanted) in READY {
-        let player: P = played(alloc, &START, moves)?;
-        assert_eq!(rt; player.ready(), wanted);
-        assert!(rt; player.has_ready() == (wanted != (None, None, 0, 0, 0, 0)));
+/// What is ready once a node did all this, and whether something is.
+fn ready_after<P: Player>(alloc: Global, moves: &[Move]) -> Result<(Ready, bool), AllocError> {
+    let player: P = played(alloc, &START, moves)?;
+    Ok((player.ready(), player.has_ready()))
+}
+
+fn readies<P: Player>(
+    rt: &impl Abort,
+    alloc: Global,
+    rows: &[(&[Move], Ready)],
+) -> Result<(), Fail> {
+    for (moves, wanted) in rows {
+        let came = ready_after::<P>(alloc, moves)?;
+        assert_eq!(rt; came, (*wanted, *wanted != NOTHING));
     }
     Ok(())
 }
 
 /// Whether the second entry that is to be applied is the second that is to be saved.
-fn applies_what_it_saves<L: RaftLog>(node: &Node<L>) -> bool {
+pub fn applies_what_it_saves<L: RaftLog>(node: &Node<L>) -> bool {
     let ready = node.ready();
     match ready.save().get(1) {
         Some(entry) => ready.apply_len() == 2 && ready.apply(1).same(entry),
@@ -78,74 +90,92 @@ fn applies_what_it_saves<L: RaftLog>(node: &Node<L>) -> bool {
     }
 }
 
-/// How many messages go out, how many events there are, and whether anything is ready then.
-fn gone_out<L: RaftLog>(
-    alloc: Global,
-    node: &mut Node<L>,
-) -> Result<(usize, usize, bool), AllocError> {
+/// What goes out first, how many messages go out, how many events there are, and whether anything is ready then.
+pub type Gone = (Said, usize, usize, bool);
+
+fn said_first(messages: &[Message]) -> Said {
+    match messages.first() {
+        Some(message) => kind_said(&message.kind).0,
+        None => Said::Nothing,
+    }
+}
+
+pub fn gone_out<L: RaftLog>(alloc: Global, node: &mut Node<L>) -> Result<Gone, AllocError> {
     let mut sent = Vec::new(alloc);
     let mut events = Vec::new(alloc);
     node.advance(&mut sent, &mut events)?;
-    Ok((sent.len(), events.len(), node.has_ready()))
+    let said = said_first(sent.as_slice());
+    Ok((said, sent.len(), events.len(), node.has_ready()))
 }
 
 /// What a follower is to apply, and what goes out: the sent messages, then the answers to others.
-fn hands_over<L: RaftLog>(rt: &impl Abort, alloc: Global) -> Result<(), Fail> {
+fn hands_over<P: Player>(rt: &impl Abort, alloc: Global) -> Result<(), Fail> {
     let moves = [
         Move::Get(2, 2, Says::Append(1, 10, 12, 3)),
         Move::Get(2, 2, Says::Heartbeat(12)),
     ];
-    let mut node: Node<L> = played(alloc, &START, &moves)?;
-    assert!(rt; applies_what_it_saves(&node));
-    assert_eq!(rt; gone_out(alloc, &mut node)?, (2, 0, false));
+    let mut player: P = played(alloc, &START, &moves)?;
+    assert!(rt; player.applies_what_it_saves());
+    assert_eq!(rt;
+        player.gone_out(alloc)?,
+        (Said::HeartbeatAnswer, 2, 0, false)
+    );
     Ok(())
 }
 
-/// Whether the node's snapshot is of 1/13, with this content.
-fn has_snapshot<L: RaftLog>(node: &Node<L>, content: &[u8]) -> Result<bool, AllocError> {
+/// The index and the term of a node's snapshot, and whether this is its content.
+pub fn snapshot_seen<L: RaftLog>(
+    node: &Node<L>,
+    content: &[u8],
+) -> Result<(u64, u64, bool), AllocError> {
     let snapshot = node.snapshot()?;
-    Ok(snapshot.index == 13 && snapshot.term == 1 && snapshot.content.end() == content)
+    Ok((
+        snapshot.index,
+        snapshot.term,
+        snapshot.content.end() == content,
+    ))
 }
 
 /// A log of 11 to 13, all of it applied, can begin at 13, and then at no index up to there.
-fn compacts<L: RaftLog>(rt: &impl Abort, node: &mut Node<L>) {
-    assert_eq!(rt; node.compact(14), Err(CompactFault::PastApplied));
-    assert_eq!(rt; node.compact(10), Err(CompactFault::AlreadyCompacted));
-    assert_eq!(rt; node.compact(13), Ok(()));
-    assert_eq!(rt; node.status().log.first_index(), 14);
+fn compacts<P: Player>(rt: &impl Abort, player: &mut P) {
+    assert_eq!(rt; player.compact(14), Err(CompactFault::PastApplied));
+    assert_eq!(rt; player.compact(10), Err(CompactFault::AlreadyCompacted));
+    assert_eq!(rt; player.compact(13), Ok(()));
+    assert_eq!(rt; player.held().0, 13);
 }
 
+const LIVES: &[Move] = &[
+    Move::Tick,
+    Move::Campaign,
+    Move::Advance,
+    Move::Propose(b'c'),
+    Move::Propose(b'd'),
+    Move::Advance,
+    Move::Advance,
+];
+
 /// A lone voter takes two payloads; its snapshot is its content, and its log can begin there.
-fn life<L: RaftLog>(rt: &impl Abort, alloc: Global) -> Result<(), Fail> {
-    let moves = [
-        Move::Tick,
-        Move::Campaign,
-        Move::Advance,
-        Move::Propose(b'c'),
-        Move::Propose(b'd'),
-        Move::Advance,
-        Move::Advance,
-    ];
-    let mut node: Node<L> = played(alloc, &ALONE, &moves)?;
-    assert!(rt; has_snapshot(&node, b"abcd")?);
-    compacts(rt, &mut node);
+fn life<P: Player>(rt: &impl Abort, alloc: Global) -> Result<(), Fail> {
+    let mut player: P = played(alloc, &ALONE, LIVES)?;
+    assert_eq!(rt; player.snapshot_seen(b"abcd")?, (13, 1, true));
+    compacts(rt, &mut player);
     Ok(())
 }
 
-fn all<L: RaftLog>(rt: &impl Abort, alloc: Global) -> Result<(), Fail> {
-    readies::<Node<L>>(rt, alloc)?;
-    hands_over::<L>(rt, alloc)?;
-    life::<L>(rt, alloc)
+fn all<P: Player>(rt: &impl Abort, alloc: Global) -> Result<(), Fail> {
+    readies::<P>(rt, alloc, &READY)?;
+    hands_over::<P>(rt, alloc)?;
+    life::<P>(rt, alloc)
 }
 
 #[test]
 fn plain_logs(rt: HostRuntime) -> Result<(), Fail> {
-    all::<PlainLog>(&rt, rt.alloc())
+    all::<Node<PlainLog>>(&rt, rt.alloc())
 }
 
 #[test]
 fn split_logs(rt: HostRuntime) -> Result<(), Fail> {
-    all::<SplitLog>(&rt, rt.alloc())
+    all::<Node<SplitLog>>(&rt, rt.alloc())
 }
 
 #[test]

@@ -6,8 +6,8 @@
 
 use super::making::{Player, played, played_on};
 use super::moves::{
-    CHECKS, FIVE, FOLLOWS, JOINT, LEADS, LEARNER, Move, ONE_IN_FLIGHT, SOUNDS_OUT, START,
-    STEPS_DOWN, Says, Start, TWO,
+    CHECKS, FIVE, FOLLOWS, JOINT, LEADS, LEADS_LONG, LEARNER, Move, ONE_IN_FLIGHT, SOUNDS_OUT,
+    START, STEPS_DOWN, Says, Start, TWO,
 };
 use rb_node::Node;
 use rb_raftlog::{PlainLog, SplitLog};
@@ -217,15 +217,6 @@ const VOTES: [Pair; 3] = [
     ),
 ];
 
-const LEADS_LONG: [Move; 6] = [
-    Move::Get(2, 2, Says::Append(1, 10, 10, 3)),
-    Move::Advance,
-    Move::Campaign,
-    Move::Advance,
-    Move::Get(2, 3, Says::VoteAnswer(true)),
-    Move::Advance,
-];
-
 const ACCEPTED: Move = Move::Get(2, 3, Says::Accepted(11));
 
 const BEAT_ANSWER: Move = Move::Get(2, 3, Says::HeartbeatAnswer);
@@ -325,10 +316,10 @@ fn differ<P: Player>(
     Ok(())
 }
 
-fn starts_differ<P: Player>(rt: &impl Abort, alloc: Global) -> Result<(), Fail> {
-    let node = played::<P>(alloc, &START, &[])?;
-    for start in STARTS {
-        let other = played::<P>(alloc, &start, &[])?;
+fn starts_differ<P: Player>(rt: &impl Abort, alloc: Global, starts: &[Start]) -> Result<(), Fail> {
+    let node = P::start(alloc, &START)?;
+    for start in starts {
+        let other = P::start(alloc, start)?;
         assert!(rt; are_apart(&other, &node)?);
     }
     Ok(())
@@ -345,13 +336,13 @@ fn agree<P: Player>(rt: &impl Abort, alloc: Global) -> Result<(), Fail> {
 }
 
 fn all<P: Player>(rt: &impl Abort, alloc: Global) -> Result<(), Fail> {
-    starts_differ::<P>(rt, alloc)?;
+    starts_differ::<P>(rt, alloc, &STARTS)?;
     differ::<P>(rt, alloc, &START, &[], &FOLLOWERS)?;
     differ::<P>(rt, alloc, &SOUNDS_OUT, &[], &ASKS)?;
     differ::<P>(rt, alloc, &FIVE, &[], &VOTES)?;
     differ::<P>(rt, alloc, &START, LEADS, &LEADERS)?;
     differ::<P>(rt, alloc, &CHECKS, LEADS, &MARKS)?;
-    differ::<P>(rt, alloc, &START, &LEADS_LONG, &PROBES)?;
+    differ::<P>(rt, alloc, &START, LEADS_LONG, &PROBES)?;
     agree::<P>(rt, alloc)
 }
 

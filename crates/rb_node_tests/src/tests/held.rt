@@ -1,9 +1,9 @@
 //! What a node holds, and how much of it is committed, applied and durable.
 
 use super::making::{Player, played};
-use super::moves::{FOLLOWS, Move, START, Says};
+use super::moves::{ALONE, FOLLOWS, Move, START, Says, Start};
 use rb_node::Node;
-use rb_raftlog::{PlainLog, RaftLog, SplitLog};
+use rb_raftlog::{PlainLog, RaftLog, SplitLog, Transition, WordKind};
 use std::alloc::{AllocError, Global};
 use std::process::Abort;
 use std::test::Fail;
@@ -155,22 +155,42 @@ const COUNTED: [(&[Move], Held); 2] = [
     ),
 ];
 
-fn held<P: Player>(alloc: Global, moves: &[Move]) -> Result<Held, AllocError> {
-    let player: P = played(alloc, &START, moves)?;
+/// A lone leader's entry isn't committed once a second voter is there, which lacks it.
+const SHARED: [(&[Move], Held); 1] = [(
+    &[
+        Move::Campaign,
+        Move::Advance,
+        Move::Advance,
+        Move::Change(Transition::Auto, WordKind::Voter, 2),
+        Move::Advance,
+        Move::Propose(b'x'),
+        Move::Advance,
+    ],
+    (10, 13, 1, 13, 12, 12),
+)];
+
+fn held<P: Player>(alloc: Global, start: &Start, moves: &[Move]) -> Result<Held, AllocError> {
+    let player: P = played(alloc, start, moves)?;
     Ok(player.held())
 }
 
-fn hold<P: Player>(rt: &impl Abort, alloc: Global, rows: &[(&[Move], Held)]) -> Result<(), Fail> {
+fn hold<P: Player>(
+    rt: &impl Abort,
+    alloc: Global,
+    start: &Start,
+    rows: &[(&[Move], Held)],
+) -> Result<(), Fail> {
     for (moves, wanted) in rows {
-        let came = held::<P>(alloc, moves)?;
+        let came = held::<P>(alloc, start, moves)?;
         assert_eq!(rt; came, *wanted);
     }
     Ok(())
 }
 
 fn all<P: Player>(rt: &impl Abort, alloc: Global) -> Result<(), Fail> {
-    hold::<P>(rt, alloc, &HELD)?;
-    hold::<P>(rt, alloc, &COUNTED)
+    hold::<P>(rt, alloc, &START, &HELD)?;
+    hold::<P>(rt, alloc, &START, &COUNTED)?;
+    hold::<P>(rt, alloc, &ALONE, &SHARED)
 }
 
 #[test]

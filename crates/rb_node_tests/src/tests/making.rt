@@ -1,14 +1,15 @@
 //! Nodes and messages to test with.
 
-use super::calls::{Ready, ready_of};
+use super::calls::{Gone, Ready, applies_what_it_saves, gone_out, ready_of, snapshot_seen};
 use super::held::{Held, held_of};
 use super::moves::{Move, Says, Start};
+use super::refusals::{Standing, is_probed, standing_of};
 use super::seen::{Seen, seen_of};
 use rb_message::{Append, Event, Install, Message, MessageKind};
 use rb_node::Node;
 use rb_raftlog::{
-    Body, ConfState, Content, Entries, Entry, MAX_INDEX, RaftLog, Shared, Snapshot, Transition,
-    Word, WordKind,
+    Body, CompactFault, ConfState, Content, Entries, Entry, MAX_INDEX, RaftLog, Shared, Snapshot,
+    Transition, Word, WordKind,
 };
 use std::alloc::{AllocError, Global};
 
@@ -218,6 +219,18 @@ pub trait Player: Drop {
 
     fn has_ready(&self) -> bool;
 
+    fn applies_what_it_saves(&self) -> bool;
+
+    fn gone_out(&mut self, alloc: Global) -> Result<Gone, AllocError>;
+
+    fn snapshot_seen(&self, content: &[u8]) -> Result<(u64, u64, bool), AllocError>;
+
+    fn compact(&mut self, index: u64) -> Result<(), CompactFault>;
+
+    fn standing(&self) -> Standing;
+
+    fn is_probed(&self, id: u64) -> bool;
+
     fn copy(&self) -> Result<Self, AllocError>;
 
     fn is_same(&self, other: &Self) -> bool;
@@ -248,6 +261,30 @@ impl<L: RaftLog> Player for Node<L> {
 
     fn has_ready(&self) -> bool {
         self.has_ready()
+    }
+
+    fn applies_what_it_saves(&self) -> bool {
+        applies_what_it_saves(self)
+    }
+
+    fn gone_out(&mut self, alloc: Global) -> Result<Gone, AllocError> {
+        gone_out(alloc, self)
+    }
+
+    fn snapshot_seen(&self, content: &[u8]) -> Result<(u64, u64, bool), AllocError> {
+        snapshot_seen(self, content)
+    }
+
+    fn compact(&mut self, index: u64) -> Result<(), CompactFault> {
+        self.compact(index)
+    }
+
+    fn standing(&self) -> Standing {
+        standing_of(self)
+    }
+
+    fn is_probed(&self, id: u64) -> bool {
+        is_probed(self, id)
     }
 
     fn copy(&self) -> Result<Node<L>, AllocError> {

@@ -187,3 +187,13 @@ pub const LEADS: &[Move] = &[
     Move::Get(2, 3, Says::VoteAnswer(true)),
     Move::Advance,
 ];
+
+/// The node leads term 3, over 2/11 to 2/13, with 3/14 of its own.
+pub const LEADS_LONG: &[Move] = &[
+    Move::Get(2, 2, Says::Append(1, 10, 10, 3)),
+    Move::Advance,
+    Move::Campaign,
+    Move::Advance,
+    Move::Get(2, 3, Says::VoteAnswer(true)),
+    Move::Advance,
+];

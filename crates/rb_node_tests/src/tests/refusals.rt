@@ -1,6 +1,6 @@
 //! Each allocation refused in turn: these tests are run once for each, and say where one was refused.
 
-use super::making::played;
+use super::making::{Player, played};
 use super::moves::{LEARNER, Move, START, Says};
 use rb_message::Role;
 use rb_node::Node;
@@ -41,58 +41,65 @@ const LED: [Move; 15] = [
     Move::Get(3, 1, Says::Refused(10, 3)),
 ];
 
-/// How a leader sees another node.
-fn state_of<L: RaftLog>(node: &Node<L>, id: u64) -> Option<ProgressState> {
+/// A node's role, its leader and its timeout.
+pub type Standing = (Role, u64, u64);
+
+pub fn standing_of<L: RaftLog>(node: &Node<L>) -> Standing {
+    let state = node.status();
+    (state.role, state.lead, state.timeout)
+}
+
+/// Whether a leader probes another node.
+pub fn is_probed<L: RaftLog>(node: &Node<L>, id: u64) -> bool {
     let tracker = &node.status().tracker;
     match tracker.place(id) {
-        Some(place) => Some(tracker.progress(place).state()),
-        None => None,
+        Some(place) => tracker.progress(place).state() == ProgressState::Probe,
+        None => false,
     }
 }
 
 /// The calls that take no memory. They do what they say wherever memory is refused.
-fn takes_no_memory<L: RaftLog>(rt: &impl Abort, leader: &mut Node<L>, follower: &mut Node<L>) {
-    leader.set_timeout(7);
-    leader.report_unreachable(2);
-    let state = leader.status();
-    assert!(rt; state.timeout == 7 && state.role == Role::Leader);
-    assert!(rt; state_of(leader, 2) == Some(ProgressState::Probe));
-    assert!(rt; leader.same(leader) && !leader.same(follower));
-    follower.forget_leader();
-    assert!(rt; follower.status().lead == 0);
-}
-
-/// Both are copied, and the copies do what takes no memory.
-fn are_copied<L: RaftLog>(
+fn takes_no_memory<P: Player>(
     rt: &impl Abort,
-    leader: &Node<L>,
-    follower: &Node<L>,
+    alloc: Global,
+    leader: &mut P,
+    follower: &mut P,
 ) -> Result<(), AllocError> {
-    let mut other = follower.try_copy()?;
-    assert!(rt; other.same(follower));
-    let mut copy = leader.try_copy()?;
-    takes_no_memory(rt, &mut copy, &mut other);
+    leader.act(alloc, Move::SetTimeout(7))?;
+    leader.act(alloc, Move::ReportUnreachable(2))?;
+    follower.act(alloc, Move::ForgetLeader)?;
+    assert!(rt; leader.standing() == (Role::Leader, 1, 7) && leader.is_probed(2));
+    assert!(rt; leader.is_same(leader) && !leader.is_same(follower));
+    assert!(rt; follower.standing().1 == 0);
     Ok(())
 }
 
-fn snapshot_index<L: RaftLog>(node: &Node<L>) -> Result<u64, AllocError> {
-    let snapshot = node.snapshot()?;
-    Ok(snapshot.index)
+/// Both are copied, and the copies do what takes no memory.
+fn are_copied<P: Player>(
+    rt: &impl Abort,
+    alloc: Global,
+    leader: &P,
+    follower: &P,
+) -> Result<(), AllocError> {
+    let mut other = follower.copy()?;
+    assert!(rt; other.is_same(follower));
+    let mut copy = leader.copy()?;
+    takes_no_memory(rt, alloc, &mut copy, &mut other)
 }
 
 /// Nodes are made, do what a follower and a leader do, and are copied; where memory is refused the call says so.
-fn lives<L: RaftLog>(rt: &impl Abort, alloc: Global) -> Result<(), AllocError> {
-    let follower: Node<L> = played(alloc, &START, &FOLLOWED)?;
-    assert!(rt; follower.status().lead == 2);
-    let leader: Node<L> = played(alloc, &LEARNER, &LED)?;
-    are_copied(rt, &leader, &follower)?;
-    assert!(rt; snapshot_index(&leader)? == 12);
+fn lives<P: Player>(rt: &impl Abort, alloc: Global) -> Result<(), AllocError> {
+    let follower: P = played(alloc, &START, &FOLLOWED)?;
+    assert!(rt; follower.standing().1 == 2);
+    let leader: P = played(alloc, &LEARNER, &LED)?;
+    are_copied(rt, alloc, &leader, &follower)?;
+    assert!(rt; leader.snapshot_seen(b"ab")?.0 == 12);
     Ok(())
 }
 
 #[test]
 fn plain_nodes_under_refusals(rt: HostRuntime) -> Result<(), Fail> {
-    if lives::<PlainLog>(&rt, rt.alloc()).is_err() {
+    if lives::<Node<PlainLog>>(&rt, rt.alloc()).is_err() {
         println!(rt; "refused")?;
     }
     Ok(())
@@ -100,7 +107,7 @@ fn plain_nodes_under_refusals(rt: HostRuntime) -> Result<(), Fail> {
 
 #[test]
 fn split_nodes_under_refusals(rt: HostRuntime) -> Result<(), Fail> {
-    if lives::<SplitLog>(&rt, rt.alloc()).is_err() {
+    if lives::<Node<SplitLog>>(&rt, rt.alloc()).is_err() {
         println!(rt; "refused")?;
     }
     Ok(())

@@ -3,14 +3,8 @@
 //! The node is that of `moves`: it follows node 2 in term 2, asks for term 3 or stands for it, or leads it. What is expected is written
 //! down from the rules in docs/NODE.md.
 
-use super::making::Player;
 use super::moves::{FOLLOWS, LEADS, SOUNDS_OUT, STANDS, START, Says};
-use super::seen::{CANDIDATE, FOLLOWER, LEADER, PRECANDIDATE, Said, Seen, Told, answers, rows};
-use rb_node::Node;
-use rb_raftlog::{PlainLog, SplitLog};
-use std::alloc::Global;
-use std::process::Abort;
-use std::test::Fail;
+use super::seen::{CANDIDATE, FOLLOWER, LEADER, PRECANDIDATE, Said, Seen, Table, Told, rows};
 
 const AT_FOLLOWERS: [(Says, Seen); 13] = rows! {
     // it knows of a leader
@@ -87,19 +81,33 @@ const AT_LEADERS: [(Says, Seen); 13] = rows! {
     Says::TimeoutNow => LEADER 3, Ignored 1, Nothing 0 0, 0 0;
 };
 
-fn all<P: Player>(rt: &impl Abort, alloc: Global) -> Result<(), Fail> {
-    answers::<P>(rt, alloc, &START, FOLLOWS, 2, 2, &AT_FOLLOWERS)?;
-    answers::<P>(rt, alloc, &SOUNDS_OUT, STANDS, 2, 2, &AT_PRECANDIDATES)?;
-    answers::<P>(rt, alloc, &START, STANDS, 2, 3, &AT_CANDIDATES)?;
-    answers::<P>(rt, alloc, &START, LEADS, 2, 3, &AT_LEADERS)
-}
-
-#[test]
-fn plain_logs(rt: HostRuntime) -> Result<(), Fail> {
-    all::<Node<PlainLog>>(&rt, rt.alloc())
-}
-
-#[test]
-fn split_logs(rt: HostRuntime) -> Result<(), Fail> {
-    all::<Node<SplitLog>>(&rt, rt.alloc())
-}
+pub const TABLES: [Table; 4] = [
+    Table {
+        start: START,
+        moves: FOLLOWS,
+        from: 2,
+        term: 2,
+        rows: &AT_FOLLOWERS,
+    },
+    Table {
+        start: SOUNDS_OUT,
+        moves: STANDS,
+        from: 2,
+        term: 2,
+        rows: &AT_PRECANDIDATES,
+    },
+    Table {
+        start: START,
+        moves: STANDS,
+        from: 2,
+        term: 3,
+        rows: &AT_CANDIDATES,
+    },
+    Table {
+        start: START,
+        moves: LEADS,
+        from: 2,
+        term: 3,
+        rows: &AT_LEADERS,
+    },
+];

@@ -1,6 +1,6 @@
 //! What shows of a node once it did something, as plain values.
 
-use super::making::{Player, played};
+use super::making::{Player, played_on};
 use super::moves::{Move, Says, Start};
 use rb_message::{Event, Mail, Message, MessageKind, Role, WhyNoCampaign, WhyReplaced};
 use rb_node::Node;
@@ -97,12 +97,13 @@ macro_rules! rows {
     };
 }
 
-/// The same, with start, moves and last move in place of the message.
+/// The same, with start, moves before, moves then and last move in place of the message.
 macro_rules! case_rows {
-    ($($start:expr, $moves:expr, $last:expr => $role:ident $term:literal, $told:ident $events:literal, $said:ident $of:literal $index:literal, $sent:literal $waiting:literal;)*) => {
+    ($($start:expr, $moves:expr, $more:expr, $last:expr => $role:ident $term:literal, $told:ident $events:literal, $said:ident $of:literal $index:literal, $sent:literal $waiting:literal;)*) => {
         [$((
             $start,
             $moves,
+            $more,
             $last,
             Seen($role, $term, Told::$told, $events, Said::$said, $of, $index, $sent, $waiting),
         ),)*]
@@ -165,7 +166,8 @@ fn answered(granted: bool, yes: Said, no: Said) -> (Said, u64) {
     (if granted { yes } else { no }, 0)
 }
 
-fn kind_said(kind: &MessageKind) -> (Said, u64) {
+/// What a message says, and of which index.
+pub fn kind_said(kind: &MessageKind) -> (Said, u64) {
     match kind {
         MessageKind::Vote { transfer, .. } => answered(*transfer, Said::VoteByTransfer, Said::Vote),
         MessageKind::PreVote { .. } => (Said::PreVote, 0),
@@ -220,42 +222,61 @@ pub fn seen_of<L: RaftLog>(node: &Node<L>, events: &[Event]) -> Seen {
     )
 }
 
+/// Rows of one node: where it starts, what it does before, who sends it a message and of which term, and what shows after each.
+pub struct Table {
+    pub start: Start,
+    pub moves: &'static [Move],
+    pub from: u64,
+    pub term: u64,
+    pub rows: &'static [(Says, Seen)],
+}
+
 /// What shows once a node that did all this does one thing more.
 fn seen_after<P: Player>(
     alloc: Global,
     start: &Start,
     moves: &[Move],
+    more: &[Move],
     last: Move,
 ) -> Result<Seen, AllocError> {
-    let mut player: P = played(alloc, start, moves)?;
+    let mut player: P = played_on(alloc, start, moves, more)?;
     player.show(alloc, last)
 }
 
-/// Whether a node that did all this shows what each row says, once it gets the row's message.
-pub fn answers<P: Player>(
-    rt: &impl Abort,
-    alloc: Global,
-    start: &Start,
-    moves: &[Move],
-    from: u64,
-    term: u64,
-    rows: &[(Says, Seen)],
-) -> Result<(), Fail> {
-    for (says, wanted) in rows {
-        let came = seen_after::<P>(alloc, start, moves, Move::Get(from, term, *says))?;
+/// Whether the node of a table shows what each row says, once it gets the row's message.
+fn answers_of<P: Player>(rt: &impl Abort, alloc: Global, table: &Table) -> Result<(), Fail> {
+    for (says, wanted) in table.rows {
+        let last = Move::Get(table.from, table.term, *says);
+        let came = seen_after::<P>(alloc, &table.start, table.moves, &[], last)?;
         assert_eq!(rt; came, *wanted);
     }
     Ok(())
 }
 
-/// Where a node starts, what it does before, what it does at last, and what shows then.
-pub type Case = (Start, &'static [Move], Move, Seen);
+/// The same of each table.
+pub fn answers<P: Player>(rt: &impl Abort, alloc: Global, tables: &[Table]) -> Result<(), Fail> {
+    for table in tables {
+        answers_of::<P>(rt, alloc, table)?;
+    }
+    Ok(())
+}
 
-/// Whether each case shows what it says.
-pub fn cases<P: Player>(rt: &impl Abort, alloc: Global, rows: &[Case]) -> Result<(), Fail> {
-    for (start, moves, last, wanted) in rows {
-        let came = seen_after::<P>(alloc, start, moves, *last)?;
+/// Where a node starts, what it does before and then, what it does at last, and what shows then.
+pub type Case = (Start, &'static [Move], &'static [Move], Move, Seen);
+
+/// Whether each case of a table shows what it says.
+fn cases_of<P: Player>(rt: &impl Abort, alloc: Global, rows: &[Case]) -> Result<(), Fail> {
+    for (start, moves, more, last, wanted) in rows {
+        let came = seen_after::<P>(alloc, start, moves, more, *last)?;
         assert_eq!(rt; came, *wanted);
+    }
+    Ok(())
+}
+
+/// The same of each table.
+pub fn cases<P: Player>(rt: &impl Abort, alloc: Global, tables: &[&[Case]]) -> Result<(), Fail> {
+    for rows in tables {
+        cases_of::<P>(rt, alloc, rows)?;
     }
     Ok(())
 }

@@ -2,14 +2,8 @@
 //!
 //! Node 1 follows node 2 in term 2, or leads term 3; the messages are from node 3.
 
-use super::making::Player;
 use super::moves::{CHECKS, FOLLOWS, LEADS, SOUNDS_OUT, START, Says};
-use super::seen::{CANDIDATE, FOLLOWER, LEADER, Said, Seen, Told, answers, rows};
-use rb_node::Node;
-use rb_raftlog::{PlainLog, SplitLog};
-use std::alloc::Global;
-use std::process::Abort;
-use std::test::Fail;
+use super::seen::{CANDIDATE, FOLLOWER, LEADER, Said, Seen, Table, Told, rows};
 
 /// Of term 1. What is of no term is taken as ever.
 const EARLIER: [(Says, Seen); 13] = rows! {
@@ -73,21 +67,47 @@ const UNDISTURBED: [(Says, Seen); 4] = rows! {
     Says::Heartbeat(10) => FOLLOWER 3, Became 1, HeartbeatAnswer 3 0, 1 0;
 };
 
-fn all<P: Player>(rt: &impl Abort, alloc: Global) -> Result<(), Fail> {
-    answers::<P>(rt, alloc, &START, FOLLOWS, 3, 1, &EARLIER)?;
-    answers::<P>(rt, alloc, &SOUNDS_OUT, FOLLOWS, 3, 1, &ANSWERED)?;
-    answers::<P>(rt, alloc, &CHECKS, FOLLOWS, 3, 1, &ANSWERED)?;
-    answers::<P>(rt, alloc, &START, FOLLOWS, 3, 3, &LATER)?;
-    answers::<P>(rt, alloc, &START, LEADS, 3, 4, &LATER_AT_LEADERS)?;
-    answers::<P>(rt, alloc, &CHECKS, FOLLOWS, 3, 3, &UNDISTURBED)
-}
-
-#[test]
-fn plain_logs(rt: HostRuntime) -> Result<(), Fail> {
-    all::<Node<PlainLog>>(&rt, rt.alloc())
-}
-
-#[test]
-fn split_logs(rt: HostRuntime) -> Result<(), Fail> {
-    all::<Node<SplitLog>>(&rt, rt.alloc())
-}
+pub const TABLES: [Table; 6] = [
+    Table {
+        start: START,
+        moves: FOLLOWS,
+        from: 3,
+        term: 1,
+        rows: &EARLIER,
+    },
+    Table {
+        start: SOUNDS_OUT,
+        moves: FOLLOWS,
+        from: 3,
+        term: 1,
+        rows: &ANSWERED,
+    },
+    Table {
+        start: CHECKS,
+        moves: FOLLOWS,
+        from: 3,
+        term: 1,
+        rows: &ANSWERED,
+    },
+    Table {
+        start: START,
+        moves: FOLLOWS,
+        from: 3,
+        term: 3,
+        rows: &LATER,
+    },
+    Table {
+        start: START,
+        moves: LEADS,
+        from: 3,
+        term: 4,
+        rows: &LATER_AT_LEADERS,
+    },
+    Table {
+        start: CHECKS,
+        moves: FOLLOWS,
+        from: 3,
+        term: 3,
+        rows: &UNDISTURBED,
+    },
+];
