@@ -45,13 +45,14 @@ use Rattle.rb_directive.proofs.KeepLaws.{numbers_of, bytes_of, lists_of, rest_st
 from_test : (low high n : ℕ) → is_within low high n ≡ true → IsFrom low high n
 from_test low high n h = let parts = and_parts (nat_le low n) (nat_le n high) h in (leb-true low n parts.0, leb-true n high parts.1)
 
+-- a value that stands there by a test passed it, and is that value
+some_if : {A : Type 0} (b : Bool) (a some : A) → (if b then Some a else None) ≡ Some some → (b ≡ true) × (a ≡ some)
+some_if true a some h = (refl, cc)
+some_if false a some h = absurd (cc)
+
 within_from : (low high : ℕ) (o : Option ℕ) (n : ℕ) → within low high o ≡ Some n → IsFrom low high n
 within_from low high None n h = absurd (cc)
-within_from low high (Some m) n h =
-    elim (is_within low high m) as (λ b. is_within low high m ≡ b → (if b then Some m else None) ≡ Some n → IsFrom low high n) [
-      | true ↦ λ e some. let is : m ≡ n = cc in subst (IsFrom low high) is (from_test low high m e)
-      | false ↦ λ e some. absurd (cc)
-    ] refl h
+within_from low high (Some m) n h = let is = some_if (is_within low high m) m n h in subst (IsFrom low high) is.1 (from_test low high m is.0)
 
 number_from : (low high : ℕ) (o : Option Word) (n : ℕ) → option_and_then (λ w. within low high (number_of w)) o ≡ Some n → IsFrom low high n
 number_from low high None n h = absurd (cc)
@@ -60,21 +61,14 @@ number_from low high (Some w) n h = within_from low high (number_of w) n h
 bytes_from : (low high : ℕ) (o : Option Word) (said : Word) → option_and_then (λ w. if is_within low high (length w) then Some w else None) o ≡ Some said → IsFrom low high (length said)
 bytes_from low high None said h = absurd (cc)
 bytes_from low high (Some w) said h =
-    elim (is_within low high (length w)) as (λ b. is_within low high (length w) ≡ b → (if b then Some w else None) ≡ Some said → IsFrom low high (length said)) [
-      | true ↦ λ e some. let is : w ≡ said = cc in subst (λ (v : Word). IsFrom low high (length v)) is (from_test low high (length w) e)
-      | false ↦ λ e some. absurd (cc)
-    ] refl h
+    let is = some_if (is_within low high (length w)) w said h in subst (λ (v : Word). IsFrom low high (length v)) is.1 (from_test low high (length w) is.0)
 
 ids_more : (ids : List ℕ) (o : Option ℕ) (next : List ℕ) → ((id : ℕ) → o ≡ Some id → IsId id) → AreIds ids → with_id ids o ≡ Some next → AreIds next
 ids_more ids None next one are h = absurd (cc)
 ids_more ids (Some id) next one are h =
-    elim (nat_lt (length ids) MAX_IDS) as (λ b. nat_lt (length ids) MAX_IDS ≡ b → (if b then Some (ids ++ id ∷ []) else None) ≡ Some next → AreIds next) [
-      | true ↦ λ room some.
-          let is : ids ++ id ∷ [] ≡ next = cc in
-          let few : length ids < MAX_IDS = ltb-true (length ids) MAX_IDS room in
-          subst AreIds is (All-append IsId ids (id ∷ []) are.0 (All-cons IsId id [] (one id refl) (All-nil IsId)), omega (arith, length-append ids (id ∷ [])))
-      | false ↦ λ room some. absurd (cc)
-    ] refl h
+    let is = some_if (nat_lt (length ids) MAX_IDS) (ids ++ id ∷ []) next h in
+    let few : length ids < MAX_IDS = ltb-true (length ids) MAX_IDS is.0 in
+    subst AreIds is.1 (All-append IsId ids (id ∷ []) are.0 (All-cons IsId id [] (one id refl) (All-nil IsId)), omega (arith, length-append ids (id ∷ [])))
 
 ids_are : (words : List Word) (ids last : List ℕ) → AreIds ids → with_ids words (Some ids) ≡ Some last → AreIds last
 ids_are [] ids last are h = let is : ids ≡ last = cc in subst AreIds is are
