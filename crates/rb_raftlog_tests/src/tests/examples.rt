@@ -145,11 +145,30 @@ fn restores<T: Tested>(rt: &impl Abort, alloc: Global) -> Result<(), Fail> {
     Ok(())
 }
 
+/// A log can go up to the greatest index that there is, and can begin there. `put` gives it nothing more, as a log requires.
+fn ends_at_the_limit<T: Tested>(rt: &impl Abort, alloc: Global) -> Result<(), Fail> {
+    let mut log: T = filled(alloc, 1_999_999_998, 2)?;
+    assert_eq!(rt;
+        log.numbers(),
+        (1_999_999_999, 2_000_000_000, 1, 1, 2_000_000_000)
+    );
+    push(alloc, &mut log, (1, 3))?;
+    let items = [log.item_at(2_000_000_000), log.item_at(2_000_000_001)];
+    assert!(rt; items[0].is_some() && items[1].is_none());
+    assert_eq!(rt; log.cut(2_000_000_000, u64::MAX), Ok(()));
+    assert_eq!(rt;
+        log.numbers(),
+        (2_000_000_001, 2_000_000_000, 1, 1, 2_000_000_000)
+    );
+    Ok(())
+}
+
 fn all<T: Tested>(rt: &impl Abort, alloc: Global) -> Result<(), Fail> {
     copies_share::<T>(rt, alloc)?;
     compacts::<T>(rt, alloc)?;
     cuts::<T>(rt, alloc)?;
     follows::<T>(rt, alloc)?;
+    ends_at_the_limit::<T>(rt, alloc)?;
     restores::<T>(rt, alloc)
 }
 
