@@ -50,7 +50,8 @@ impl<T: Drop> From<AllocFailed<T>> for HeadFault {
     }
 }
 
-// One item more, or nothing where they are too many. So a head of a million arguments takes no memory for them.
+// One item more, or nothing where they are too many. So a head of a million arguments takes no memory for them. The first
+// takes room for itself alone, since most lists of a head have one item.
 fn with_item<T: Drop>(
     items: Option<Vec<T>>,
     item: T,
@@ -60,6 +61,9 @@ fn with_item<T: Drop>(
 {
     match items {
         Some(mut items) if items.len() < most => {
+            if items.is_empty() {
+                items.reserve_exact(1)?;
+            }
             items.push(item)?;
             Ok(Some(items))
         }
