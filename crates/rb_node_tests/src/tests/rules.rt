@@ -1,7 +1,7 @@
 //! Votes, campaigns, following and ticks, case by case.
 
 use super::moves::{
-    ALONE, CHECKS, FOLLOWS, LEADS, Move, NO_VOTER, SOUNDS_OUT, STANDS, START, Says,
+    ALONE, CHECKS, FOLLOWS, LEADS, Move, NO_VOTER, PRE_VOTE, SOUNDS_OUT, STANDS, START, Says, Start,
 };
 use super::seen::{CANDIDATE, Case, FOLLOWER, LEADER, PRECANDIDATE, Said, Seen, Told, case_rows};
 use rb_raftlog::{Transition, WordKind};
@@ -58,12 +58,21 @@ const LAST_TERM: &[Move] = &[
     Move::Advance,
 ];
 
-const CAMPAIGNS: [Case; 15] = case_rows! {
+/// In the term before it.
+const LAST_TERM_BUT_ONE: &[Move] = &[
+    Move::Get(2, 1_999_999_999, Says::Heartbeat(0)),
+    Move::Advance,
+];
+
+const CAMPAIGNS: [Case; 18] = case_rows! {
     START, LEADS, &[], Move::Campaign => LEADER 3, CannotAsLeader 1, Nothing 0 0, 0 0;
     NO_VOTER, &[], &[], Move::Campaign => FOLLOWER 0, CannotAsNoVoter 1, Nothing 0 0, 0 0;
     START, &[Move::Get(2, 2, Says::Snapshot(2, 20))], &[], Move::Campaign => FOLLOWER 2, CannotForSnapshot 1, Accepted 2 20, 0 1;
     ALONE, CHANGE_WAITS, &[], Move::Campaign => FOLLOWER 9, CannotForChange 1, Nothing 0 0, 0 0;
     START, LAST_TERM, &[], Move::Campaign => FOLLOWER 2_000_000_000, CannotForTerm 1, Nothing 0 0, 0 0;
+    SOUNDS_OUT, LAST_TERM, &[], Move::Campaign => FOLLOWER 2_000_000_000, CannotForTerm 1, Nothing 0 0, 0 0;
+    START, LAST_TERM_BUT_ONE, &[], Move::Campaign => CANDIDATE 2_000_000_000, Became 1, VoteGranted 2_000_000_000 0, 2 1;
+    SOUNDS_OUT, LAST_TERM_BUT_ONE, &[], Move::Campaign => PRECANDIDATE 1_999_999_999, Became 1, PreVoteGranted 2_000_000_000 0, 2 1;
     START, FOLLOWS, &[], Move::Campaign => CANDIDATE 3, Became 1, VoteGranted 3 0, 2 1;
     // the question is of the next term, and the node stays in its own
     SOUNDS_OUT, FOLLOWS, &[], Move::Campaign => PRECANDIDATE 2, Became 1, PreVoteGranted 3 0, 2 1;
@@ -167,4 +176,45 @@ const TICKS: [Case; 18] = case_rows! {
     CHECKS, HOLDS, &[], Move::Get(3, 3, Says::Vote(2, 11, false)) => FOLLOWER 3, Became 1, VoteGranted 3 0, 0 1;
 };
 
-pub const TABLES: [&[Case]; 4] = [&VOTES, &CAMPAIGNS, &FOLLOWING, &TICKS];
+/// The only voter, two entries before the last index that there is.
+const NEARLY_FULL: Start = Start {
+    index: 1_999_999_998,
+    ..ALONE
+};
+
+/// The only voter, at the last index.
+const FULL: Start = Start {
+    index: 2_000_000_000,
+    ..ALONE
+};
+
+const FULL_SOUNDS_OUT: Start = Start {
+    options: PRE_VOTE,
+    ..FULL
+};
+
+/// Leads, and its first entry is durable.
+const LEADS_ALONE: &[Move] = &[Move::Campaign, Move::Advance, Move::Advance];
+
+/// Leads, and the last entry that there can be is durable.
+const FILLS_UP: &[Move] = &[
+    Move::Campaign,
+    Move::Advance,
+    Move::Advance,
+    Move::Propose(b'c'),
+    Move::Advance,
+    Move::Advance,
+];
+
+const FULL_LOGS: [Case; 6] = case_rows! {
+    // the last two entries that there can be, and none after them
+    NEARLY_FULL, &[Move::Campaign], &[], Move::Advance => LEADER 1, Won 2, Accepted 1 1_999_999_999, 0 1;
+    NEARLY_FULL, LEADS_ALONE, &[], Move::Propose(b'c') => LEADER 1, Nothing 0, Accepted 1 2_000_000_000, 0 1;
+    NEARLY_FULL, FILLS_UP, &[], Move::Propose(b'd') => LEADER 1, AppendsNothing 1, Nothing 0 0, 0 0;
+    NEARLY_FULL, FILLS_UP, &[], Move::Leave => LEADER 1, AppendsNothing 1, Nothing 0 0, 0 0;
+    // who comes to lead a full log has no entry of its own there
+    FULL, &[Move::Campaign], &[], Move::Advance => LEADER 1, Won 3, Nothing 0 0, 0 0;
+    FULL_SOUNDS_OUT, &[Move::Campaign, Move::Advance], &[], Move::Advance => LEADER 1, Won 3, Nothing 0 0, 0 0;
+};
+
+pub const TABLES: [&[Case]; 5] = [&VOTES, &CAMPAIGNS, &FOLLOWING, &TICKS, &FULL_LOGS];
