@@ -4,6 +4,7 @@ pub mod DirectiveLaws
 pub mod MarkLaws
 pub mod ReadingLaws
 pub mod LimitLaws
+pub mod ShortLaws
 pub mod TokenLaws
 pub mod ArgumentLaws
 pub mod GrammarLaws

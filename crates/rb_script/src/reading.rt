@@ -1,6 +1,6 @@
 //! Reading blocks, from the first line on.
 
-ghost use Rattle.std.specs.Prelude.{◌≡◌, ◌+◌, ◌^◌, ◌<◌, [], ◌∷◌, true, false, length, drop, not, IfOk, IfErr, IfSome, IfNone, MatchOption, Ok, Err};
+ghost use Rattle.std.specs.Prelude.{◌≡◌, ◌+◌, ◌^◌, ◌<◌, ◌≤◌, ℕ, [], ◌∷◌, true, false, length, drop, not, slice_index, IsTrue, IfOk, IfErr, IfSome, IfNone, MatchOption, None, Ok, Err};
 ghost use Rattle.std.specs.List.{list_all, AllByRecursion};
 ghost use Rattle.rb_script.specs.Lines.{lines};
 ghost use Rattle.rb_script.specs.Marks.{is_blank, is_lead, is_separator, stops};
@@ -27,6 +27,7 @@ use crate::lines::Lines;
 use crate::marks::{Stop, continues, is_rule};
 use crate::script::Script;
 use crate::tokens::{Tokens, tokens_of};
+use memchr::memrchr;
 use std::alloc::{AllocError, Global};
 use std::rc::Rc;
 
@@ -243,10 +244,35 @@ fn blocks(alloc: Global, start: Cursor<'_>) -> Result<Parts, ScriptFault>
     }
 }
 
+/// The last line feed that has no more bytes before it than a line may have.
+fn feed_within(bytes: &[u8]) -> Option<usize>
+    requires { MAX_LINE < length bytes.now }
+    ensures { IfSome result (λ end. (end ≤ MAX_LINE) × (slice_index bytes.now end ≡ 10)) }
+{
+    memrchr(b'\n', &bytes[..MAX_LINE + 1])
+}
+
+/// Whether line feeds stand so near that no line can be too long. It goes by whole stretches of lines.
+fn has_near_feeds(bytes: &[u8]) -> bool
+    ensures { IsTrue result → (n : ℕ) → long_line n (lines bytes.now) ≡ None }
+{
+    let mut rest = bytes;
+    while rest.len() > MAX_LINE {
+        let Some(end) = feed_within(rest) else {
+            return false;
+        };
+        rest = &rest[end + 1..];
+    }
+    true
+}
+
 /// The first line that is too long is a fault.
 fn check_lines(start: Cursor<'_>) -> Result<(), ScriptFault>
     ensures { result ≡ no_long_line (long_line start.entry.number (lines start.entry.rest.now)) }
 {
+    if has_near_feeds(start.rest) {
+        return Ok(());
+    }
     let mut at = start;
     while let Some((line, after)) = at.next() {
         if line.len() > MAX_LINE {
