@@ -4,8 +4,8 @@ use super::making::{Player, played};
 use super::moves::{ALONE, FOLLOWS, LEADS, Move, START, Says};
 use super::seen::{Said, kind_said};
 use rb_message::{HardState, Message};
-use rb_node::{HEARTBEAT_TICKS, MAX_TICKS, Node, limits_are};
-use rb_raftlog::{CompactFault, PlainLog, RaftLog, SplitLog};
+use rb_node::{HEARTBEAT_TICKS, MAX_TICKS, Node, ReadyView, limits_are};
+use rb_raftlog::{CompactFault, Entry, PlainLog, RaftLog};
 use rb_step::ELECTION_TICKS;
 use std::alloc::{AllocError, Global};
 use std::process::Abort;
@@ -81,11 +81,16 @@ fn readies<P: Player>(
     Ok(())
 }
 
+/// Whether two entries are to be applied, and this is the second.
+fn applies_second<L: RaftLog>(ready: &ReadyView<'_, L>, entry: &Entry) -> bool {
+    ready.apply_len() == 2 && ready.apply(1).same(entry)
+}
+
 /// Whether the second entry that is to be applied is the second that is to be saved.
 pub fn applies_what_it_saves<L: RaftLog>(node: &Node<L>) -> bool {
     let ready = node.ready();
     match ready.save().get(1) {
-        Some(entry) => ready.apply_len() == 2 && ready.apply(1).same(entry),
+        Some(entry) => applies_second(&ready, entry),
         None => false,
     }
 }
@@ -162,7 +167,7 @@ fn life<P: Player>(rt: &impl Abort, alloc: Global) -> Result<(), Fail> {
     Ok(())
 }
 
-fn all<P: Player>(rt: &impl Abort, alloc: Global) -> Result<(), Fail> {
+pub fn all<P: Player>(rt: &impl Abort, alloc: Global) -> Result<(), Fail> {
     readies::<P>(rt, alloc, &READY)?;
     hands_over::<P>(rt, alloc)?;
     life::<P>(rt, alloc)
@@ -171,11 +176,6 @@ fn all<P: Player>(rt: &impl Abort, alloc: Global) -> Result<(), Fail> {
 #[test]
 fn plain_logs(rt: HostRuntime) -> Result<(), Fail> {
     all::<Node<PlainLog>>(&rt, rt.alloc())
-}
-
-#[test]
-fn split_logs(rt: HostRuntime) -> Result<(), Fail> {
-    all::<Node<SplitLog>>(&rt, rt.alloc())
 }
 
 #[test]

@@ -10,7 +10,7 @@ use super::moves::{
     START, STEPS_DOWN, Says, Start, TWO,
 };
 use rb_node::Node;
-use rb_raftlog::{PlainLog, SplitLog};
+use rb_raftlog::PlainLog;
 use std::alloc::{AllocError, Global};
 use std::process::Abort;
 use std::test::Fail;
@@ -335,7 +335,7 @@ fn agree<P: Player>(rt: &impl Abort, alloc: Global) -> Result<(), Fail> {
     Ok(())
 }
 
-fn all<P: Player>(rt: &impl Abort, alloc: Global) -> Result<(), Fail> {
+pub fn all<P: Player>(rt: &impl Abort, alloc: Global) -> Result<(), Fail> {
     starts_differ::<P>(rt, alloc, &STARTS)?;
     differ::<P>(rt, alloc, &START, &[], &FOLLOWERS)?;
     differ::<P>(rt, alloc, &SOUNDS_OUT, &[], &ASKS)?;
@@ -349,9 +349,4 @@ fn all<P: Player>(rt: &impl Abort, alloc: Global) -> Result<(), Fail> {
 #[test]
 fn plain_logs(rt: HostRuntime) -> Result<(), Fail> {
     all::<Node<PlainLog>>(&rt, rt.alloc())
-}
-
-#[test]
-fn split_logs(rt: HostRuntime) -> Result<(), Fail> {
-    all::<Node<SplitLog>>(&rt, rt.alloc())
 }

@@ -3,7 +3,7 @@
 use super::making::{Player, played};
 use super::moves::{ALONE, FOLLOWS, Move, START, Says, Start};
 use rb_node::Node;
-use rb_raftlog::{PlainLog, RaftLog, SplitLog, Transition, WordKind};
+use rb_raftlog::{PlainLog, RaftLog, Transition, WordKind};
 use std::alloc::{AllocError, Global};
 use std::process::Abort;
 use std::test::Fail;
@@ -187,7 +187,7 @@ fn hold<P: Player>(
     Ok(())
 }
 
-fn all<P: Player>(rt: &impl Abort, alloc: Global) -> Result<(), Fail> {
+pub fn all<P: Player>(rt: &impl Abort, alloc: Global) -> Result<(), Fail> {
     hold::<P>(rt, alloc, &START, &HELD)?;
     hold::<P>(rt, alloc, &START, &COUNTED)?;
     hold::<P>(rt, alloc, &ALONE, &SHARED)
@@ -196,9 +196,4 @@ fn all<P: Player>(rt: &impl Abort, alloc: Global) -> Result<(), Fail> {
 #[test]
 fn plain_logs(rt: HostRuntime) -> Result<(), Fail> {
     all::<Node<PlainLog>>(&rt, rt.alloc())
-}
-
-#[test]
-fn split_logs(rt: HostRuntime) -> Result<(), Fail> {
-    all::<Node<SplitLog>>(&rt, rt.alloc())
 }

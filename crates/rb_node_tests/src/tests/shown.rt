@@ -1,47 +1,43 @@
-//! What shows by the tables of `roles`, `terms`, `rules` and `leading`, over both logs.
+//! What shows by the tables of `roles`, `terms`, `rules` and `leading`; and all that is tested, over split logs.
 
+use super::making::Player;
 use super::seen::{answers, cases};
-use super::{leading, roles, rules, terms};
+use super::{calls, comparing, held, leading, roles, rules, terms};
 use rb_node::Node;
 use rb_raftlog::{PlainLog, SplitLog};
+use std::alloc::Global;
+use std::process::Abort;
 use std::test::Fail;
 
-#[test]
-fn roles_over_plain_logs(rt: HostRuntime) -> Result<(), Fail> {
-    answers::<Node<PlainLog>>(&rt, rt.alloc(), &roles::TABLES)
+fn by_message<P: Player>(rt: &impl Abort, alloc: Global) -> Result<(), Fail> {
+    answers::<P>(rt, alloc, &roles::TABLES)?;
+    answers::<P>(rt, alloc, &terms::TABLES)
+}
+
+fn by_case<P: Player>(rt: &impl Abort, alloc: Global) -> Result<(), Fail> {
+    cases::<P>(rt, alloc, &rules::TABLES)?;
+    cases::<P>(rt, alloc, &leading::TABLES)
 }
 
 #[test]
-fn roles_over_split_logs(rt: HostRuntime) -> Result<(), Fail> {
-    answers::<Node<SplitLog>>(&rt, rt.alloc(), &roles::TABLES)
+fn messages_over_plain_logs(rt: HostRuntime) -> Result<(), Fail> {
+    by_message::<Node<PlainLog>>(&rt, rt.alloc())
 }
 
 #[test]
-fn terms_over_plain_logs(rt: HostRuntime) -> Result<(), Fail> {
-    answers::<Node<PlainLog>>(&rt, rt.alloc(), &terms::TABLES)
+fn cases_over_plain_logs(rt: HostRuntime) -> Result<(), Fail> {
+    by_case::<Node<PlainLog>>(&rt, rt.alloc())
+}
+
+fn all<P: Player>(rt: &impl Abort, alloc: Global) -> Result<(), Fail> {
+    by_message::<P>(rt, alloc)?;
+    by_case::<P>(rt, alloc)?;
+    held::all::<P>(rt, alloc)?;
+    comparing::all::<P>(rt, alloc)?;
+    calls::all::<P>(rt, alloc)
 }
 
 #[test]
-fn terms_over_split_logs(rt: HostRuntime) -> Result<(), Fail> {
-    answers::<Node<SplitLog>>(&rt, rt.alloc(), &terms::TABLES)
-}
-
-#[test]
-fn rules_over_plain_logs(rt: HostRuntime) -> Result<(), Fail> {
-    cases::<Node<PlainLog>>(&rt, rt.alloc(), &rules::TABLES)
-}
-
-#[test]
-fn rules_over_split_logs(rt: HostRuntime) -> Result<(), Fail> {
-    cases::<Node<SplitLog>>(&rt, rt.alloc(), &rules::TABLES)
-}
-
-#[test]
-fn leading_over_plain_logs(rt: HostRuntime) -> Result<(), Fail> {
-    cases::<Node<PlainLog>>(&rt, rt.alloc(), &leading::TABLES)
-}
-
-#[test]
-fn leading_over_split_logs(rt: HostRuntime) -> Result<(), Fail> {
-    cases::<Node<SplitLog>>(&rt, rt.alloc(), &leading::TABLES)
+fn all_over_split_logs(rt: HostRuntime) -> Result<(), Fail> {
+    all::<Node<SplitLog>>(&rt, rt.alloc())
 }
