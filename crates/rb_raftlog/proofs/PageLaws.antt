@@ -241,6 +241,14 @@ last_in {X} ps at packed end odd = omega (arith, packed.few, enough ps packed)
 pub last_page : {X : Type 0} (ps : Sheets X) (at : ℕ) → IsPacked ps → at ≡ length (joined ps) → (at % PAGE ≡ 0 → ⊥) → at / PAGE < length ps
 last_page {X} ps at packed end odd = omega (arith, last_in ps at packed end odd)
 
+pub last_size : {X : Type 0} (ps : Sheets X) (at : ℕ) (d : List X) → IsPacked ps → at ≡ length (joined ps) → (at % PAGE ≡ 0 → ⊥) → length (get_or ps (at / PAGE) d) ≡ at % PAGE
+last_size {X} ps at d packed end odd =
+    let k : ℕ = at / PAGE in
+    let last : k + 1 ≡ length ps = last_in ps at packed end odd in
+    let all : joined ps ≡ joined (take k ps) ++ get_or ps k d =
+    ap joined (sym (take_all (k + 1) ps (omega arith))) ∙ joined_more ps k d (omega arith) in
+    omega (arith, packed.places k, ap length all, length-append (joined (take k ps)) (get_or ps k d))
+
 pub push_odd : {X : Type 0} (ps qs : Sheets X) (at : ℕ) (more d whole page : List X) → IsPacked ps → at ≡ length (joined ps) → (at % PAGE ≡ 0 → ⊥) → length more ≤ PAGE - at % PAGE → whole ≡ get_or ps (at / PAGE) d → page ≡ whole ++ more → qs ≡ set ps (at / PAGE) page → IsPacked qs × (joined qs ≡ joined ps ++ more)
 push_odd {X} ps qs at more d whole page packed end odd fits whole_is page_is qs_is =
     let k : ℕ = at / PAGE in

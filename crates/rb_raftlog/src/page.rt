@@ -1,15 +1,17 @@
-//! A page: some items that are shared and never change.
+//! A page: some items, which its copies share.
+//!
+//! While a page is shared it never changes. One that nobody shares grows in place; in the place of another comes a new one.
 
 use crate::limits::PAGE;
-use crate::shared::Shared;
-use crate::try_copy::{TryCopy, push_copies};
+use crate::try_copy::{TryCopy, extend_copies, push_copies};
 use std::alloc::{AllocError, Global};
 use std::marker::Model;
+use std::rc::Rc;
 
 /// A page, which its copies share. It has at least one item, and at most PAGE.
 #[derive(Drop)]
 pub(crate) struct Page<T> {
-    items: Shared<T>,
+    items: Rc<Vec<T>>,
 }
 
 impl<T> Model for Page<T> {
@@ -18,13 +20,13 @@ impl<T> Model for Page<T> {
 
     ghost Value = { List T };
 
-    ghost view = { λ p. p.items };
+    ghost view = { λ p. p.items.value.items };
 
-    ghost invariant = { λ p. (0 < length p.items) × (length p.items ≤ PAGE) };
+    ghost invariant = { λ p. (0 < length p.items.value.items) × (length p.items.value.items ≤ PAGE) };
 }
 
 impl<T: TryCopy> Page<T> {
-    ghost use Rattle.std.specs.Prelude.{◌≡◌, ◌<◌, ◌≤◌, ◌+◌, ◌++◌, length, IfOk};
+    ghost use Rattle.std.specs.Prelude.{◌≡◌, ◌<◌, ◌≤◌, ◌+◌, ◌++◌, length, IfOk, OnOk, OnErr};
 
     /// A page of copies of these items.
     pub(crate) fn joining(alloc: Global, front: &[T], back: &[T]) -> Result<Page<T>, AllocError>
@@ -36,8 +38,23 @@ impl<T: TryCopy> Page<T> {
         push_copies(&mut items, front)?;
         push_copies(&mut items, back)?;
         Ok(Page {
-            items: Shared::new(items)?,
+            items: Rc::new(alloc, items)?,
         })
+    }
+
+    /// Appends a copy of each item. Who shares the page keeps it as it was.
+    pub(crate) fn extend(&mut self, items: &[T]) -> Result<(), AllocError>
+        requires { length self.old + length items.now ≤ PAGE }
+        ensures ok { OnOk result (self.new ≡ self.old ++ items.now) }
+        ensures err { OnErr result (self.new ≡ self.old) }
+    {
+        if let Some(own) = Rc::get_mut(&mut self.items) {
+            return extend_copies(own, items);
+        }
+        let alloc = *self.items.allocator();
+        let page = Page::joining(alloc, self.as_slice(), items)?;
+        *self = page;
+        Ok(())
     }
 
     /// The items.
@@ -55,7 +72,7 @@ impl<T: TryCopy> Page<T> {
     {
         let _items = self.as_slice();
         Ok(Page {
-            items: self.items.try_copy()?,
+            items: self.items.clone()?,
         })
     }
 }

@@ -1,10 +1,12 @@
 //! A list in pages, most of which its copies share.
 //!
 //! Every page but the last is full, so the page of an item is found by a division. What is dropped from the front goes by whole
-//! pages; of the page that is then the first, some items may be left out, and are skipped. A page never changes: where the list is
-//! cut, and where it grows, the last page is replaced by a new one with pointers to the items that stay.
+//! pages; of the page that is then the first, some items may be left out, and are skipped. A page that copies share never changes:
+//! the last grows in place while nobody shares it. Else, and where the list is cut, it is replaced by a new one with pointers to
+//! the items that stay.
 //!
-//! So a copy costs a pointer a page, a cut or a growth at most a page more than what comes and goes, and dropping takes no memory.
+//! So a copy costs a pointer a page, a cut at most a page, a growth of a list that has its last page alone no more than what comes,
+//! of another at most a page more, and dropping takes no memory.
 
 ghost use Rattle.std.specs.Prelude.{◌≡◌, ◌+◌, ◌<◌, ◌≤◌, ◌++◌, length, take, drop, IfOk, OnOk, OnErr};
 ghost use Rattle.rb_raftlog.specs.Packed.{joined, IsPacked};
@@ -70,17 +72,15 @@ fn fill_page<T: TryCopy>(
     ensures ok { IfOk result (λ n. (0 < n) × (n ≤ length items.now) × IsPacked pages.new.items × (joined pages.new.items ≡ joined pages.old.items ++ take n items.now)) }
     ensures err { OnErr result (pages.new.items ≡ pages.old.items) }
 {
-    let alloc = *pages.allocator();
     let n = items.len().min(PAGE - at % PAGE);
     let more = &items[..n];
     if at % PAGE == 0 {
+        let alloc = *pages.allocator();
         let page = Page::joining(alloc, more, &[])?;
         pages.push(page)?;
         return Ok(n);
     }
-    let k = at / PAGE;
-    let page = Page::joining(alloc, pages[k].as_slice(), more)?;
-    pages[k] = page;
+    pages[at / PAGE].extend(more)?;
     Ok(n)
 }
 

@@ -1,7 +1,7 @@
 //! Lists that are shared and never change.
 //!
 //! A session keeps hundreds of clusters, and most of what they hold is the same in all of them. So what was written
-//! once (a payload, a page of entries, a list of ids) is a list behind a counted pointer: a copy is one more pointer to
+//! once (a payload, a list of ids) is a list behind a counted pointer: a copy is one more pointer to
 //! the same list, which nobody can change any more.
 
 ghost use Rattle.std.specs.Prelude.{◌≡◌, ◌↔◌, length, IsTrue, IfOk};
