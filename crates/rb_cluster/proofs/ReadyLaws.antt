@@ -1,38 +1,27 @@
 -- What is ready at a node: entries printed one more at a time, and what is done.
-use Rattle.std.proofs.Common.{◌≡◌, ◌+◌, ◌-◌, ◌<◌, ℕ, List, ◌∷◌, length, drop, get_or, refl, ap, sym, ◌∙◌, append_assoc, arith, slice_get, Some, true, false, cond, ltb}
-use Rattle.std.proofs.lemmas.List.{drop_more}
+use Rattle.std.proofs.Common.{◌≡◌, ◌+◌, ◌-◌, ◌<◌, ℕ, List, length, drop, get_or, refl, ap, sym, ◌∙◌, arith, slice_get, Some, true, false, cond, ltb}
 use Rattle.std.proofs.lemmas.Bool.{ltb-true}
 use Rattle.std.proofs.lemmas.Option.{slice_get-get_or}
-use Rattle.std.specs.List.{flat_map}
 use Rattle.rb_raftlog.specs.declared.entry.Entry.{Entry}
 use Rattle.rb_step.specs.Node.{PlainNode}
 use Rattle.rb_node.specs.Readying.{has_ready}
 use Rattle.rb_texts.specs.Items.{PlainItem}
 use Rattle.rb_texts.specs.Items as items
-use Rattle.rb_texts.specs.Texts.{line_of}
 use Rattle.rb_cluster.specs.declared.screen.Screen.{Screen}
 use Rattle.rb_cluster.specs.Entries.{entry_items}
 use Rattle.rb_cluster.specs.Cluster.{Cluster, node_at}
 use Rattle.rb_cluster.specs.Readies.{ready_items, node_advanced, all_done, ready_done_by, ready_done}
 use Rattle.rb_cluster.specs.Scenes.{Scene, showing, showing_all, shown, all_shown}
-
-drop_found : {X : Type 0} → (xs : List X) (k : ℕ) (x : X) → k < length xs → slice_get xs k ≡ Some x → drop k xs ≡ x ∷ drop (k + 1) xs
-drop_found xs k x within is =
-    let same : Some (get_or xs k x) ≡ Some x = sym (slice_get-get_or xs k x within) ∙ is in
-    let e : get_or xs k x ≡ x = cc in
-    drop_more xs k x within ∙ ap (λ y. y ∷ drop (k + 1) xs) e
-
-shown_first : (s : Screen) (x : PlainItem) (xs : List PlainItem) → showing_all (showing s x) xs ≡ showing_all s (x ∷ xs)
-shown_first s x xs = ap (λ lines. record s { lines = lines }) (append_assoc s.lines (line_of s.level x) (flat_map (line_of s.level) xs))
+use Rattle.rb_cluster.proofs.ViewLaws.{shown_first, left_some}
 
 -- one entry more is printed, and one less is left
-pub entry_shown : (item : ℕ → Entry → PlainItem) (s after : Screen) (from k : ℕ) (es : List Entry) (e : Entry) → k < length es → slice_get es k ≡ Some e → after ≡ showing s (item (from + k) e) → showing_all after (entry_items item (from + (k + 1)) (drop (k + 1) es)) ≡ showing_all s (entry_items item (from + k) (drop k es))
-entry_shown item s after from k es e within is shows =
+pub entry_shown : (item : ℕ → Entry → PlainItem) (s after : Screen) (from k : ℕ) (es : List Entry) (e : Entry) → slice_get es k ≡ Some e → after ≡ showing s (item (from + k) e) → showing_all after (entry_items item (from + (k + 1)) (drop (k + 1) es)) ≡ showing_all s (entry_items item (from + k) (drop k es))
+entry_shown item s after from k es e is shows =
     let next : from + (k + 1) ≡ from + k + 1 = omega arith in
     ap (λ t. showing_all t (entry_items item (from + (k + 1)) (drop (k + 1) es))) shows
     ∙ ap (λ n. showing_all (showing s (item (from + k) e)) (entry_items item n (drop (k + 1) es))) next
     ∙ shown_first s (item (from + k) e) (entry_items item (from + k + 1) (drop (k + 1) es))
-    ∙ ap (λ l. showing_all s (entry_items item (from + k) l)) (sym (drop_found es k e within is))
+    ∙ ap (λ l. showing_all s (entry_items item (from + k) l)) (sym (left_some es k e is))
 
 -- ---- what is done
 

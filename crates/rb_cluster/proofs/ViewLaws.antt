@@ -20,14 +20,14 @@ use Rattle.rb_cluster.proofs.ListLaws.{left_more, left_none}
 -- ---- items
 
 -- an item before others
-shown_first : (s : Screen) (x : PlainItem) (xs : List PlainItem) → showing_all (showing s x) xs ≡ showing_all s (x ∷ xs)
+pub shown_first : (s : Screen) (x : PlainItem) (xs : List PlainItem) → showing_all (showing s x) xs ≡ showing_all s (x ∷ xs)
 shown_first s x xs = ap (λ lines. record s { lines = lines }) (append_assoc s.lines (line_of s.level x) (flat_map (line_of s.level) xs))
 
 shown_none : (s : Screen) → showing_all s [] ≡ s
 shown_none s = ap (λ lines. record s { lines = lines }) (append-nil s.lines)
 
 -- the first of what is left
-left_some : {X : Type 0} → (xs : List X) (i : ℕ) (x : X) → slice_get xs i ≡ Some x → drop i xs ≡ x ∷ drop (i + 1) xs
+pub left_some : {X : Type 0} → (xs : List X) (i : ℕ) (x : X) → slice_get xs i ≡ Some x → drop i xs ≡ x ∷ drop (i + 1) xs
 left_some xs i x h = left_more xs i x (slice_get_within xs i x h) ∙ ap (λ y. y ∷ drop (i + 1) xs) (get_or_from_slice_get xs i x x h)
 
 -- one item more is printed, and one less is left

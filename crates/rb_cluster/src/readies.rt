@@ -122,7 +122,7 @@ impl<L: RaftLog> Cluster<L> {
     pub(crate) fn do_ready(&mut self, id: u64, screen: &mut Screen) -> Result<(), AllocError>
         ensures { OnOk result (scene self.new screen.new ≡ ready_done (scene self.old screen.old) id) }
     {
-        let Some(node) = self.nodes.get(place_of(id)) else {
+        let Some(node) = self.node_with(id) else {
             return Ok(());
         };
         if !node.has_ready() {

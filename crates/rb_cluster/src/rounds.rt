@@ -9,7 +9,7 @@ ghost use Rattle.rb_cluster.specs.Rounds.{is_chosen, chosen, is_ready, has_mail,
 ghost use Rattle.rb_cluster.specs.Marks.{IsMarked, is_marked};
 ghost use Rattle.rb_cluster.specs.Scenes.{scene};
 
-use crate::cluster::{Cluster, place_of};
+use crate::cluster::Cluster;
 use crate::letter::Letter;
 use crate::screen::Screen;
 use rb_directive::{IdList, MAX_ID};
@@ -87,7 +87,7 @@ impl<L: RaftLog> Cluster<L> {
     fn is_ready(&self, id: u64) -> bool
         ensures { result ≡ is_ready self.now id }
     {
-        match self.nodes.get(place_of(id)) {
+        match self.node_with(id) {
             Some(node) => node.has_ready(),
             None => false,
         }

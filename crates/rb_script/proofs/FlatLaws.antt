@@ -1,10 +1,10 @@
 -- Lines in one buffer.
-use Rattle.std.proofs.Common.{◌≡◌, ℕ, ◌+◌, ◌-◌, ◌≤◌, ◌<◌, List, [], ◌∷◌, ◌++◌, length, take, drop, get_or, set, refl, ap, sym, subst, ◌∙◌, append_assoc, zero, suc, length-append, eqb, true, eq-eqb, arith}
+use Rattle.std.proofs.Common.{◌≡◌, ℕ, ◌+◌, ◌-◌, ◌≤◌, ◌<◌, List, [], ◌∷◌, ◌++◌, length, take, drop, get_or, refl, ap, sym, subst, ◌∙◌, append_assoc, zero, suc, length-append, eqb, true, eq-eqb, arith}
 use Rattle.std.specs.Prelude.{slice_get, Option, Some, Result, Ok, Err, OnOk, OnErr}
 use Rattle.std.proofs.lemmas.Bool.{eqb-true}
 use Rattle.std.proofs.lemmas.List.{append-nil}
 use Rattle.std.proofs.lemmas.List.Concat.{flat_map-append}
-use Rattle.rb_script.specs.Lines.{Line, line_text, text_of, extended}
+use Rattle.rb_script.specs.Lines.{Line, line_text, text_of}
 use Rattle.rb_script.specs.Flat.{ends_of, parted, line_start, IsFlat}
 
 take_front : (a b : List ℕ) → take (length a) (a ++ b) ≡ a
@@ -137,61 +137,3 @@ pub slice_is : (found : Option Line) (end start first : ℕ) (text : List ℕ) (
 slice_is found end start first text line there e at =
     let same : end - 1 - start ≡ end - first - 1 = omega arith in
     there ∙ ap (λ (l : Line). Some l) (sym (ap (λ (n : ℕ). take n (drop start text)) same ∙ ap (λ (n : ℕ). take (end - first - 1) (drop n text)) e ∙ at.part))
-
--- ---- the last line grows
-
-last_of : (ls : List Line) → 0 < length ls → (init : List Line) × (last : Line) × (ls ≡ init ++ last ∷ [])
-last_of [] lt = absurd (omega arith)
-last_of (line ∷ []) lt = ([], line, refl)
-last_of (line ∷ next ∷ ls) lt = let more = last_of (next ∷ ls) (omega arith) in (line ∷ more.0, more.1, ap (λ (l : List Line). line ∷ l) more.2)
-
-pub extended-push : (init : List Line) (last bytes : List ℕ) → extended (init ++ last ∷ []) bytes ≡ init ++ (last ++ bytes) ∷ []
-unfolding extended
-extended-push [] last bytes = refl
-extended-push (line ∷ []) last bytes = refl
-extended-push (line ∷ next ∷ init) last bytes = ap (λ (l : List Line). line ∷ l) (extended-push (next ∷ init) last bytes)
-
-take_shorter : (a : List ℕ) (x : ℕ) → take (length (a ++ x ∷ []) - 1) (a ++ x ∷ []) ≡ a
-take_shorter a x = ap (λ (n : ℕ). take n (a ++ x ∷ [])) (let e : length (a ++ x ∷ []) - 1 ≡ length a = omega (arith, length-append a (x ∷ [])) in e) ∙ take_front a (x ∷ [])
-
-set_last : (a : List ℕ) (x y : ℕ) → set (a ++ x ∷ []) (length (a ++ x ∷ []) - 1) y ≡ a ++ y ∷ []
-set_last [] x y = refl
-set_last (z ∷ a) x y =
-    let e : length (z ∷ (a ++ x ∷ [])) - 1 ≡ suc (length (a ++ x ∷ []) - 1) = omega (arith, length-append a (x ∷ [])) in
-    ap (λ (n : ℕ). set (z ∷ (a ++ x ∷ [])) n y) e ∙ ap (λ (l : List ℕ). z ∷ l) (set_last a x y)
-
-line_text_push : (init : List Line) (last : Line) → text_of (init ++ last ∷ []) ≡ (text_of init ++ last) ++ 10 ∷ []
-line_text_push init last = text-append init (last ∷ []) ∙ ap (λ (l : List ℕ). text_of init ++ l) (append-nil (line_text last)) ∙ sym (append_assoc (text_of init) last (10 ∷ []))
-
--- the bytes stand before the last LF
-extended_text : (init : List Line) (last bytes : List ℕ) → take (length (text_of (init ++ last ∷ [])) - 1) (text_of (init ++ last ∷ [])) ++ line_text bytes ≡ text_of (init ++ (last ++ bytes) ∷ [])
-extended_text init last bytes =
-    ap (λ (l : List ℕ). take (length l - 1) l ++ line_text bytes) (line_text_push init last) ∙ ap (λ (l : List ℕ). l ++ line_text bytes) (take_shorter (text_of init ++ last) 10)
-    ∙ sym (append_assoc (text_of init ++ last) bytes (10 ∷ [])) ∙ ap (λ (l : List ℕ). l ++ 10 ∷ []) (append_assoc (text_of init) last bytes) ∙ sym (line_text_push init (last ++ bytes))
-
-flat_extend : (ends text ends' text' : List ℕ) (bytes : List ℕ) → 0 < length ends → IsFlat ends text → text' ≡ take (length text - 1) text ++ line_text bytes → ends' ≡ set ends (length ends - 1) (length text')
-    → IsFlat ends' text' × (parted 0 ends' text' ≡ extended (parted 0 ends text) bytes)
-flat_extend ends text ends' text' bytes some flat t e =
-    let ls = parted 0 ends text in
-    let parts = last_of ls (let lt : 0 < length ls = omega (arith, parted_len 0 ends text) in lt) in
-    let init = parts.0 in
-    let last = parts.1 in
-    let is : ls ≡ init ++ last ∷ [] = parts.2 in
-    let text_is : text ≡ text_of (init ++ last ∷ []) = flat.text_is ∙ ap text_of is in
-    let ends_are : ends ≡ ends_of 0 init ++ (0 + length (text_of init) + length (line_text last)) ∷ [] = flat.ends_are ∙ ap (ends_of 0) is ∙ ends_push 0 init last in
-    let whole : text' ≡ text_of (init ++ (last ++ bytes) ∷ []) = t ∙ ap (λ (l : List ℕ). take (length l - 1) l ++ line_text bytes) text_is ∙ extended_text init last bytes in
-    let len : length text' ≡ 0 + length (text_of init) + length (line_text (last ++ bytes)) =
-    ap length whole ∙ ap length (text-append init ((last ++ bytes) ∷ []) ∙ ap (λ (l : List ℕ). text_of init ++ l) (append-nil (line_text (last ++ bytes)))) ∙ length-append (text_of init) (line_text (last ++ bytes)) ∙ omega arith in
-    let made = from_lines ends' text' (init ++ (last ++ bytes) ∷ [])
-    (e ∙ ap (λ (l : List ℕ). set l (length l - 1) (length text')) ends_are ∙ set_last (ends_of 0 init) (0 + length (text_of init) + length (line_text last)) (length text') ∙ ap (λ (n : ℕ). ends_of 0 init ++ n ∷ []) len ∙ sym (ends_push 0 init (last ++ bytes))) whole in
-    (made.0, made.1 ∙ sym (ap (λ (l : List Line). extended l bytes) is ∙ extended-push init last bytes))
-
-pub flat_extended : {X E : Type 0} (r : Result X E) (ends text ends' text' : List ℕ) (bytes : List ℕ) → 0 < length ends → IsFlat ends text → OnOk r (text' ≡ take (length text - 1) text ++ line_text bytes) → OnOk r (ends' ≡ set ends (length ends - 1) (length text'))
-    → OnErr r ((text' ≡ text) × (ends' ≡ ends)) → IsFlat ends' text'
-flat_extended (Ok x) ends text ends' text' bytes some flat t e h = (flat_extend ends text ends' text' bytes some flat t e).0
-flat_extended (Err x) ends text ends' text' bytes some flat t e h = subst (λ (l : List ℕ). IsFlat l text') (sym h.1) (subst (λ (l : List ℕ). IsFlat ends l) (sym h.0) flat)
-
-pub parted_extended : {X E : Type 0} (r : Result X E) (ends text ends' text' : List ℕ) (bytes : List ℕ) → 0 < length ends → IsFlat ends text → OnOk r (text' ≡ take (length text - 1) text ++ line_text bytes) → OnOk r (ends' ≡ set ends (length ends - 1) (length text'))
-    → OnOk r (parted 0 ends' text' ≡ extended (parted 0 ends text) bytes)
-parted_extended (Ok x) ends text ends' text' bytes some flat t e = (flat_extend ends text ends' text' bytes some flat t e).1
-parted_extended (Err x) ends text ends' text' bytes some flat t e = tt

@@ -36,9 +36,3 @@ line_text line = line ++ line_feed ∷ []
 
 abbrev pub text_of : List Line → List ℕ
 text_of ls = flat_map line_text ls
-
--- the bytes join the last line
-unfoldable pub extended : List Line → List ℕ → List Line
-extended [] bytes = []
-extended (line ∷ []) bytes = (line ++ bytes) ∷ []
-extended (line ∷ next ∷ ls) bytes = line ∷ extended (next ∷ ls) bytes

@@ -1,9 +1,9 @@
 //! Lines of bytes, in one buffer.
 
-ghost use Rattle.std.specs.Prelude.{◌≡◌, ◌↔◌, ◌+◌, ◌<◌, ◌≤◌, ◌^◌, [], ◌∷◌, ◌++◌, length, slice_get, OnOk, IfOk, OnErr, MatchOption, take, ◌-◌, slice_set, IfSome, IfNone, IsTrue, Some, ℕ, ◌≢◌, slice_index, vec_capacity};
+ghost use Rattle.std.specs.Prelude.{◌≡◌, ◌↔◌, ◌+◌, ◌<◌, ◌≤◌, ◌^◌, [], ◌∷◌, ◌++◌, length, slice_get, OnOk, IfOk, OnErr, MatchOption, IfSome, IfNone, IsTrue, Some, ℕ, ◌≢◌, slice_index, vec_capacity};
 ghost use Rattle.smallvec.specs.SmallVec.{small_vec_len};
 ghost use Rattle.rb_script.specs.Flat.{parted, line_start, IsFlat};
-ghost use Rattle.rb_script.specs.Lines.{lines, text_of, extended, line_text, without_returns};
+ghost use Rattle.rb_script.specs.Lines.{lines, text_of, line_text, without_returns};
 
 use memchr::memchr;
 use smallvec::SmallVec;
@@ -55,15 +55,6 @@ impl Lines {
         ensures room { IfOk result (λ text. room ≤ vec_capacity text) }
     {
         Vec::with_capacity(*self.text.allocator(), room)
-    }
-
-    /// Adds bytes to the end of the last line.
-    pub fn extend_last(&mut self, bytes: &[u8]) -> Result<(), AllocError>
-        requires { 0 < length self.old }
-        ensures ok { OnOk result (self.new ≡ extended self.old bytes.now) }
-        ensures err { OnErr result (self.new ≡ self.old) }
-    {
-        extend_text(&mut self.text, &mut self.ends, bytes)
     }
 
     /// How many lines there are.
@@ -138,26 +129,6 @@ fn append_line(
     text.extend_from_slice(line)?;
     text.push(b'\n')?;
     ends.push(text.len())?;
-    Ok(())
-}
-
-// Puts the bytes before the last LF, and moves the last end.
-fn extend_text(
-    text: &mut Vec<u8>,
-    ends: &mut SmallVec<usize, 4>,
-    bytes: &[u8],
-) -> Result<(), AllocError>
-    requires { 0 < small_vec_len ends.old }
-    ensures text { OnOk result (text.new.items ≡ take (length text.old.items - 1) text.old.items ++ line_text bytes.now) }
-    ensures ends { OnOk result (ends.new.items ≡ slice_set ends.old.items (length ends.old.items - 1) (length text.new.items)) }
-    ensures err { OnErr result ((text.new.items ≡ text.old.items) × (ends.new.items ≡ ends.old.items)) }
-{
-    text.reserve(bytes.len() + 1)?;
-    let _feed = text.pop();
-    text.extend_from_slice(bytes)?;
-    text.push(b'\n')?;
-    let last = ends.len() - 1;
-    ends.as_mut_slice()[last] = text.len();
     Ok(())
 }
 

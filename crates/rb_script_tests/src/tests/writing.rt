@@ -2,7 +2,7 @@ ghost use Rattle.std.specs.Prelude.{None};
 
 use super::{are_lines, is_count, is_same, lines_of, outputs_of};
 use rb_script::{Lines, Script, Sink, Through, WriteFault};
-use std::alloc::{AllocError, Global};
+use std::alloc::Global;
 use std::io;
 use std::io::Write;
 use std::process::Abort;
@@ -170,23 +170,6 @@ fn lines_in_one_buffer(rt: HostRuntime) -> Result<(), Fail> {
     let want: [&[u8]; 3] = [b"a\nb", b"", b"c"];
     let lines = lines_of(rt.alloc(), &want).ok_or("no lines")?;
     are_lines(&rt, &lines, &want);
-    Ok(())
-}
-
-/// Adds bytes to the end of the last line, if there is one.
-fn extend(lines: &mut Lines, bytes: &[u8]) -> Result<(), AllocError> {
-    if lines.len() > 0 {
-        lines.extend_last(bytes)?;
-    }
-    Ok(())
-}
-
-#[test]
-fn a_last_line_that_grows(rt: HostRuntime) -> Result<(), Fail> {
-    let mut lines = lines_of(rt.alloc(), &[b"a\nb", b"", b"c"]).ok_or("no lines")?;
-    extend(&mut lines, b"de")?;
-    are_lines(&rt, &lines, &[b"a\nb", b"", b"cde"]);
-    is_same(&rt, lines.text(), b"a\nb\n\ncde\n");
     Ok(())
 }
 

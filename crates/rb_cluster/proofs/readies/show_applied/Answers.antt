@@ -1,4 +1,4 @@
-use Rattle.std.proofs.Common.{◌≡◌, ◌+◌, ◌<◌, length, slice_get, Some, ◌∙◌, ap, rules}
+use Rattle.std.proofs.Common.{◌≡◌, ◌+◌, slice_get, Some, ◌∙◌, ap, rules}
 use Rattle.rb_node.specs.Readying.{applying}
 use Rattle.rb_texts.specs.Items as items
 use Rattle.rb_cluster.proofs.ReadyLaws.{entry_shown}
@@ -6,8 +6,7 @@ use Rattle.rb_cluster.proofs.readies.show_applied.Goals as goal
 
 pub loop-k-preserved : goal.loop-k-preserved
 loop-k-preserved g c =
-    let within : c.loop-k.k < length (applying c.args.node.now) = search rules in
     let found : slice_get (applying c.args.node.now) c.loop-k.k ≡ Some c.apply.result.now = search rules in record {
       level = ap (λ s. s.level) c.in_ok-show.ensures ∙ c.loop-k.invariant.level;
-      lines = ap (λ s. s.lines) (entry_shown items.apply c.loop-k.screen c.show.new.self (c.state.inside.applied + 1) c.loop-k.k (applying c.args.node.now) c.apply.result.now within found c.in_ok-show.ensures) ∙ c.loop-k.invariant.lines;
+      lines = ap (λ s. s.lines) (entry_shown items.apply c.loop-k.screen c.show.new.self (c.state.inside.applied + 1) c.loop-k.k (applying c.args.node.now) c.apply.result.now found c.in_ok-show.ensures) ∙ c.loop-k.invariant.lines;
     }
