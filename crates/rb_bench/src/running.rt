@@ -18,6 +18,7 @@ use rb_line::Source;
 use rb_replay::{MAX_SPACING, is_spacing};
 use rb_script::{MAX_SCRIPT, Sink, WriteFault};
 use std::alloc::Global;
+use std::mem::forget;
 
 /// What is written of a run.
 #[derive(Clone, Copy, Debug, PartialEq, Eq)]
@@ -90,7 +91,10 @@ pub fn run_bytes<W: Outlet>(
     // No edit follows, and no text depends on what is kept: so as little is kept as may be.
     let session = started(alloc, &bytes, MAX_SPACING)?;
     drop(bytes);
-    answer(&session, writer, mode)
+    let answer = answer(&session, writer, mode);
+    // Giving back block for block what the program holds anyway until it ends would take it a tenth of its time.
+    forget(session);
+    answer
 }
 
 // Writes what the mode asks for, and gives the status.

@@ -1,7 +1,5 @@
 -- What is ready at a node: entries printed one more at a time, and what is done.
-use Rattle.std.proofs.Common.{◌≡◌, ◌+◌, ◌-◌, ◌<◌, ℕ, List, length, drop, get_or, refl, ap, sym, ◌∙◌, arith, slice_get, Some, true, false, cond, ltb}
-use Rattle.std.proofs.lemmas.Bool.{ltb-true}
-use Rattle.std.proofs.lemmas.Option.{slice_get-get_or}
+use Rattle.std.proofs.Common.{◌≡◌, ◌+◌, ℕ, List, drop, refl, ap, sym, ◌∙◌, arith, slice_get, Some, true, false, cond}
 use Rattle.rb_raftlog.specs.declared.entry.Entry.{Entry}
 use Rattle.rb_step.specs.Node.{PlainNode}
 use Rattle.rb_node.specs.Readying.{has_ready}
@@ -9,7 +7,7 @@ use Rattle.rb_texts.specs.Items.{PlainItem}
 use Rattle.rb_texts.specs.Items as items
 use Rattle.rb_cluster.specs.declared.screen.Screen.{Screen}
 use Rattle.rb_cluster.specs.Entries.{entry_items}
-use Rattle.rb_cluster.specs.Cluster.{Cluster, node_at}
+use Rattle.rb_cluster.specs.Cluster.{node_at}
 use Rattle.rb_cluster.specs.Readies.{ready_items, node_advanced, all_done, ready_done_by, ready_done}
 use Rattle.rb_cluster.specs.Scenes.{Scene, showing, showing_all, shown, all_shown}
 use Rattle.rb_cluster.proofs.ViewLaws.{shown_first, left_some}
@@ -24,11 +22,6 @@ entry_shown item s after from k es e is shows =
     ∙ ap (λ l. showing_all s (entry_items item (from + k) l)) (sym (left_some es k e is))
 
 -- ---- what is done
-
--- the node that was found at its place
-pub node_found : (c : Cluster) (id k : ℕ) (ns : List PlainNode) (n : PlainNode) → ns ≡ c.nodes → k ≡ id - 1 → true ≡ ltb k (length ns) → n ≡ get_or ns k n → node_at c id ≡ Some n
-node_found c id k ns n all place within is =
-    ap (λ l. slice_get l (id - 1)) (sym all) ∙ ap (slice_get ns) (sym place) ∙ slice_get-get_or ns k n (ltb-true k (length ns) (sym within)) ∙ ap Some (sym is)
 
 pub ready_none : (s : Scene) (id : ℕ) (n : PlainNode) → node_at s.cluster id ≡ Some n → has_ready n ≡ false → ready_done s id ≡ shown s (items.nothing_ready id)
 ready_none s id n at none = ap (λ o. ready_done_by o s id) at ∙ ap (λ b. cond b (all_done s id n) (shown s (items.nothing_ready id))) none

@@ -91,6 +91,10 @@ impl Lines {
         ensures { IfOk result (λ copy. copy ≡ self.now) }
     {
         let alloc = *self.text.allocator();
+        // Most lists of a script have no line.
+        if self.is_empty() {
+            return Ok(Lines::new(alloc));
+        }
         Ok(Lines {
             text: Vec::from_slice(alloc, self.text.as_slice())?,
             ends: SmallVec::from_slice(alloc, self.ends.as_slice())?,
