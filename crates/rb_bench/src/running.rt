@@ -33,6 +33,8 @@ pub enum Mode {
 /// where a report tells some. `every` is how many directives a session would have from one checkpoint to the next, 1 to 64;
 /// it changes no text, and a run, which nobody edits, keeps as few clusters as it may.
 ///
+/// What the run held is not given back, since the program ends behind it: who runs many scripts holds sessions of rb_replay.
+///
 /// # Errors
 ///
 /// `Spacing` before anything is read. `Io` where a call of the source failed, or of the writer, which is called only
@@ -64,7 +66,8 @@ pub fn run_over<S: Source, W: Outlet>(
     run_bytes(alloc, bytes, writer, mode, every)
 }
 
-/// Runs the script of the bytes and writes what `mode` asks for, as [`run_over`] does with what it has read.
+/// Runs the script of the bytes and writes what `mode` asks for, as [`run_over`] does with what it has read. What it held is not
+/// given back either.
 ///
 /// # Errors
 ///
@@ -92,7 +95,7 @@ pub fn run_bytes<W: Outlet>(
     let session = started(alloc, &bytes, MAX_SPACING)?;
     drop(bytes);
     let answer = answer(&session, writer, mode);
-    // Giving back block for block what the program holds anyway until it ends would take it a tenth of its time.
+    // To give it back piece by piece would take a short run a tenth of its time.
     forget(session);
     answer
 }
