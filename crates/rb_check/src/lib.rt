@@ -36,6 +36,3 @@ pub use refusal::put_refusal;
 pub use side::Side;
 pub use status::{Status, status_code};
 pub use totals::{Totals, put_totals};
-
-#[cfg(test)]
-mod tests;

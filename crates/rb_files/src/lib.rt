@@ -17,6 +17,3 @@ pub use finding::{Found, Lost, find};
 pub use opening::opened;
 pub use place::{Place, Unreplaced, replace};
 pub use trouble::Trouble;
-
-#[cfg(test)]
-mod tests;

@@ -1,10 +1,9 @@
 -- Laws of the plain work on points.
-use Rattle.std.proofs.Common.{◌≡◌, ℕ, zero, suc, ◌+◌, ◌-◌, ◌<◌, ◌≤◌, List, [], ◌∷◌, ◌++◌, length, take, drop, map, refl, ap, sym, ◌∙◌, arith, get_or, true, false, append_assoc}
+use Rattle.std.proofs.Common.{◌≡◌, ℕ, zero, suc, ◌+◌, ◌-◌, ◌<◌, ◌≤◌, List, [], ◌∷◌, ◌++◌, length, take, drop, map, refl, ap, sym, ◌∙◌, arith, get_or, true, false}
 use Rattle.std.specs.Prelude.{filter, nat_lt, nat_le, remove}
 use Rattle.std.proofs.lemmas.Bool.{le-leb}
 use Rattle.std.proofs.lemmas.Bool.Decides.{nat_tests}
-use Rattle.std.proofs.lemmas.List.{take_at, drop_at, map-append, take-map, length-take-le, drop_more, drop_all, take_all, length-drop, take-take, drop-drop, take_more, drop-map}
-use Rattle.std.proofs.Math.Seq.{take-add}
+use Rattle.std.proofs.lemmas.List.{take_at, drop_at, map-append, take-map, length-take-le, drop_more, drop_all, take_all, drop-drop, take_more, drop-map}
 use Rattle.rb_replay.proofs.RunLaws.{both}
 use Rattle.std.proofs.lemmas.List.Edits.{get_or-remove_below, get_or-remove_above}
 use Rattle.rb_replay.specs.Points.{thin_after, IsRising}
@@ -30,18 +29,6 @@ split_rising a bound (suc i) (p ∷ ps) rising le below above =
     let yes : nat_lt p bound ≡ true = grind (arith, nat_tests) in
     let no : nat_le bound p ≡ false = grind (arith, nat_tests) in
     (rw yes (ap (λ qs. p ∷ qs) more.0), rw no more.1)
-
--- two turns around a cut and a join put a list in between
-pub turns : {A : Type 0} (x f : List A) (from to r : ℕ) (a b j d : List A) → from ≤ to → r + to ≡ length x → a ≡ drop to x ++ take to x → b ≡ take (r + from) a → j ≡ b ++ f → d ≡ drop r j ++ take r j → d ≡ take from x ++ (f ++ drop to x)
-turns {A} x f from to r a b j d le all turned cut joined back =
-    let long : length (drop to x) ≡ r = rw length-drop (omega arith) in
-    let front : take from (take to x) ≡ take from x = take-take from to x le in
-    let two : b ≡ drop to x ++ take from x = cut ∙ ap (take (r + from)) turned ∙ take_past (drop to x) (take to x) r from long ∙ ap (λ (t : List A). drop to x ++ t) front in
-    let three : j ≡ drop to x ++ (take from x ++ f) = joined ∙ ap (λ (t : List A). t ++ f) two ∙ append_assoc (drop to x) (take from x) f in
-    back ∙ ap (λ (t : List A). drop r t ++ take r t) three ∙ both (λ (s t : List A). s ++ t) (drop_at (drop to x) (take from x ++ f) r long) (take_at (drop to x) (take from x ++ f) r long) ∙ append_assoc (take from x) f (drop to x)
-  where
-    take_past : {A : Type 0} (x y : List A) (r m : ℕ) → length x ≡ r → take (r + m) (x ++ y) ≡ x ++ take m y
-    take_past {A} x y r m long = take-add r m (x ++ y) ∙ both (λ (s t : List A). s ++ t) (take_at x y r long) (ap (take m) (drop_at x y r long))
 
 -- what thinning makes of the points, where those before the one at i are settled
 abbrev pub thinned_from : ℕ → ℕ → List ℕ → List ℕ

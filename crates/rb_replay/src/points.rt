@@ -36,20 +36,39 @@ pub(crate) fn find_start(points: &[usize], front: usize) -> usize
     count_below(points, front + 1) - 1
 }
 
-/// Puts the fresh items in place of those from `from` to `to`. It takes no memory.
+/// Cuts out the items from `from` to `to`.
+fn cut_out<T: Drop>(items: &mut Vec<T>, from: usize, to: usize)
+    requires order { from ≤ to }
+    requires within { to ≤ vec_len items.old }
+    ensures items { items.new.items ≡ take from items.old.items ++ drop to items.old.items }
+    ensures room { vec_capacity items.new ≡ vec_capacity items.old }
+{
+    let left = items.len() - (to - from);
+    items[from..].rotate_left(to - from);
+    items.truncate(left);
+}
+
+/// Puts the fresh items in before the one at `at`. It takes no memory.
+fn put_in<T: Drop>(items: &mut Vec<T>, at: usize, fresh: &mut Vec<T>)
+    requires within { at ≤ vec_len items.old }
+    requires room { vec_len items.old + vec_len fresh.old ≤ vec_capacity items.old }
+    ensures { items.new.items ≡ take at items.old.items ++ (fresh.old.items ++ drop at items.old.items) }
+{
+    let count = fresh.len();
+    items.append(fresh).unwrap();
+    items[at..].rotate_right(count);
+}
+
+/// Puts the fresh items in place of those from `from` to `to`. It takes no memory: what follows them is never set aside, but
+/// turned past the few that go, and then past the few that come.
 pub(crate) fn put_between<T: Drop>(items: &mut Vec<T>, from: usize, to: usize, fresh: &mut Vec<T>)
     requires order { from ≤ to }
     requires within { to ≤ vec_len items.old }
     requires room { vec_len items.old + vec_len fresh.old ≤ vec_capacity items.old }
     ensures { items.new.items ≡ take from items.old.items ++ (fresh.old.items ++ drop to items.old.items) }
 {
-    let rest = items.len() - to;
-    // Turned by `to`, the rest stands first and what goes last: that is cut off, and the fresh items come in its place.
-    // Turned back, the rest follows them. So it is never set aside, which would take memory.
-    items.rotate_left(to);
-    items.truncate(rest + from);
-    items.append(fresh).unwrap();
-    items.rotate_left(rest);
+    cut_out(items, from, to);
+    put_in(items, from, fresh);
 }
 
 /// Thins the points, and drops what is kept at those that go.

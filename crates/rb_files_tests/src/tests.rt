@@ -3,8 +3,8 @@
 
 ghost use Rattle.std.specs.Prelude.{◌≡◌, Some, option_map, unwrap_or};
 
-use crate::{Place, Trouble, replace};
 use rb_check::Failure;
+use rb_files::{Place, Trouble, replace};
 use std::alloc::Global;
 use std::test::Fail;
 

@@ -1,6 +1,6 @@
 //! Each text once, with a value written by hand, and that a status is the greatest that was met.
 
-use crate::{
+use rb_check::{
     Colors, Failure, Outcome, Place, Status, Totals, put_accepted, put_directive, put_failure,
     put_mismatch, put_refusal, put_totals, status_code,
 };
