@@ -59,14 +59,26 @@ fn put_in<T: Drop>(items: &mut Vec<T>, at: usize, fresh: &mut Vec<T>)
     items[at..].rotate_right(count);
 }
 
-/// Puts the fresh items in place of those from `from` to `to`. It takes no memory: what follows them is never set aside, but
-/// turned past the few that go, and then past the few that come.
+/// Puts the fresh items in place of as many from `from` on.
+fn put_over<T: Drop>(items: &mut Vec<T>, from: usize, fresh: &mut Vec<T>)
+    requires within { from + vec_len fresh.old ≤ vec_len items.old }
+    ensures { items.new.items ≡ take from items.old.items ++ (fresh.old.items ++ drop (from + vec_len fresh.old) items.old.items) }
+{
+    items[from..from + fresh.len()].swap_with_slice(fresh.as_mut_slice());
+}
+
+/// Puts the fresh items in place of those from `from` to `to`. It takes no memory: what follows them is never set aside. Where as
+/// many come as go it stays where it is, and else it is turned past those that go, and then past those that come.
 pub(crate) fn put_between<T: Drop>(items: &mut Vec<T>, from: usize, to: usize, fresh: &mut Vec<T>)
     requires order { from ≤ to }
     requires within { to ≤ vec_len items.old }
     requires room { vec_len items.old + vec_len fresh.old ≤ vec_capacity items.old }
     ensures { items.new.items ≡ take from items.old.items ++ (fresh.old.items ++ drop to items.old.items) }
 {
+    if fresh.len() == to - from {
+        put_over(items, from, fresh);
+        return;
+    }
     cut_out(items, from, to);
     put_in(items, from, fresh);
 }
