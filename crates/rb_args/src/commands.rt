@@ -1,9 +1,9 @@
 //! The command line, made for `clap`.
 
 ghost use Rattle.std.specs.Prelude.{◌≡◌, IfOk, false};
-ghost use Rattle.clap.specs.Words.{app_of, rule_of};
+ghost use Rattle.clap.specs.Words.{app_of, rule_of, with_rule, with_subcommand};
 ghost use Rattle.clap.specs.declared.builder.command.Command.TheViews.{out-Command};
-ghost use Rattle.rb_args.specs.CommandLine.{command_line, subcommand_line, check_line, with_files, with_words, every_rule, flag_rule, option_rule, path_rule};
+ghost use Rattle.rb_args.specs.CommandLine.{command_line, subcommand_line, check_line, with_files, with_words, every_rule, flag_rule, option_rule};
 
 use clap::{Arg, ArgAction, Command};
 use std::alloc::{AllocError, Global};
@@ -28,28 +28,40 @@ pub(crate) fn raftbench_command<'a>(alloc: Global) -> Result<Command<'a>, AllocE
 fn with_files<'a>(command: Command<'a>, alloc: Global) -> Result<Command<'a>, AllocError>
     ensures { IfOk result (λ made. app_of made ≡ with_files (app_of command.entry)) }
 {
-    let run = file_command(
+    let command = with_file(
+        command,
         alloc,
         "run",
         "Runs a script and reports where its output differs from what it expects",
         "Script file; - is standard input",
     )?;
-    let rewrite = file_command(
+    let command = with_file(
+        command,
         alloc,
         "rewrite",
         "Runs a script and writes it with the output that it gives",
         "Script file; - is standard input",
     )?;
-    let session = file_command(
+    with_file(
+        command,
         alloc,
         "session",
         "Keeps a script and answers the edits that standard input asks for",
         "Script file",
-    )?;
-    command
-        .subcommand(run)?
-        .subcommand(rewrite)?
-        .subcommand(session)
+    )
+}
+
+// One subcommand of a script.
+fn with_file<'a>(
+    command: Command<'a>,
+    alloc: Global,
+    name: &'a str,
+    about: &'a str,
+    file_help: &'a str,
+) -> Result<Command<'a>, AllocError>
+    ensures { IfOk result (λ made. app_of made ≡ with_subcommand (app_of command.entry) (subcommand_line name.entry.now).top) }
+{
+    command.subcommand(file_command(alloc, name, about, file_help)?)
 }
 
 fn file_command<'a>(
@@ -79,12 +91,13 @@ fn check_command<'a>(alloc: Global) -> Result<Command<'a>, AllocError>
         .help("Script, or folder whose *.txt and those of its folders are the scripts");
     let command = Command::new(alloc, "check")
         .about("Checks scripts and folders of scripts, and shows each line that differs")
-        .arg(path)?
-        .arg(flag_argument(
-            alloc,
-            "accept",
-            "Writes the outputs that came into the scripts",
-        ))?;
+        .arg(path)?;
+    let command = with_flag(
+        command,
+        alloc,
+        "accept",
+        "Writes the outputs that came into the scripts",
+    )?;
     with_words(command, alloc)
 }
 
@@ -93,23 +106,52 @@ fn with_words<'a>(command: Command<'a>, alloc: Global) -> Result<Command<'a>, Al
     ensures app { IfOk result (λ made. app_of made ≡ with_words (app_of command.entry)) }
     ensures local { (out-Command command.entry).has_globals ≡ false → IfOk result (λ made. (out-Command made).has_globals ≡ false) }
 {
-    let filter = option_argument(
+    let command = with_option(
+        command,
         alloc,
         "filter",
         "WORD",
         "Keeps the paths that have WORD in them",
-    );
-    let color = option_argument(
+    )?;
+    let command = with_flag(
+        command,
+        alloc,
+        "verbose",
+        "Shows each directive with its output",
+    )?;
+    let command = with_option(command, alloc, "every", "K", EVERY_HELP)?;
+    with_option(
+        command,
         alloc,
         "color",
         "WHEN",
         "Shows colours: auto (on a terminal), always or never [default: auto]",
-    );
-    command
-        .arg(filter)?
-        .arg(flag_argument(alloc, "verbose", "Shows each directive with its output"))?
-        .arg(every_argument(alloc))?
-        .arg(color)
+    )
+}
+
+fn with_option<'a>(
+    command: Command<'a>,
+    alloc: Global,
+    name: &'a str,
+    value_name: &'a str,
+    help: &'a str,
+) -> Result<Command<'a>, AllocError>
+    ensures app { IfOk result (λ made. app_of made ≡ with_rule (app_of command.entry) (option_rule name.entry.now)) }
+    ensures local { (out-Command command.entry).has_globals ≡ false → IfOk result (λ made. (out-Command made).has_globals ≡ false) }
+{
+    command.arg(option_argument(alloc, name, value_name, help))
+}
+
+fn with_flag<'a>(
+    command: Command<'a>,
+    alloc: Global,
+    name: &'a str,
+    help: &'a str,
+) -> Result<Command<'a>, AllocError>
+    ensures app { IfOk result (λ made. app_of made ≡ with_rule (app_of command.entry) (flag_rule name.entry.now)) }
+    ensures local { (out-Command command.entry).has_globals ≡ false → IfOk result (λ made. (out-Command made).has_globals ≡ false) }
+{
+    command.arg(flag_argument(alloc, name, help))
 }
 
 fn every_argument<'a>(alloc: Global) -> Arg<'a>

@@ -175,6 +175,44 @@ fn advance<L: RaftLog>(
     node.advance(&mut sent, events)
 }
 
+/// Lets a node do what nothing comes of but what it notes.
+fn note<L: RaftLog>(node: &mut Node<L>, what: Move) {
+    match what {
+        Move::ForgetLeader => node.forget_leader(),
+        Move::ReportUnreachable(id) => node.report_unreachable(id),
+        Move::SetTimeout(timeout) => node.set_timeout(timeout),
+        Move::Compact(index) => {
+            let _ = node.compact(index);
+        }
+        _ => {}
+    }
+}
+
+/// Makes a node do one thing for which nothing need be made before.
+fn act_by_itself<L: RaftLog>(
+    node: &mut Node<L>,
+    what: Move,
+    events: &mut Vec<Event>,
+) -> Result<(), AllocError> {
+    match what {
+        Move::Campaign => node.campaign(events),
+        Move::Transfer(to) => node.transfer(to, events),
+        Move::Tick => node.tick(events),
+        _ => {
+            note(node, what);
+            Ok(())
+        }
+    }
+}
+
+fn take<L: RaftLog>(
+    node: &mut Node<L>,
+    message: Result<Message, AllocError>,
+    events: &mut Vec<Event>,
+) -> Result<(), AllocError> {
+    node.step(&message?, events)
+}
+
 /// Makes a node do one thing.
 fn act<L: RaftLog>(
     alloc: Global,
@@ -183,24 +221,15 @@ fn act<L: RaftLog>(
     events: &mut Vec<Event>,
 ) -> Result<(), AllocError> {
     match what {
-        Move::Get(from, term, says) => node.step(&message_of(alloc, from, term, says)?, events)?,
-        Move::Campaign => node.campaign(events)?,
-        Move::Propose(byte) => node.propose(payload(alloc, byte)?, events)?,
+        Move::Get(from, term, says) => take(node, message_of(alloc, from, term, says), events),
+        Move::Propose(byte) => node.propose(payload(alloc, byte)?, events),
         Move::Change(transition, kind, id) => {
-            propose_change(alloc, node, transition, kind, id, events)?
+            propose_change(alloc, node, transition, kind, id, events)
         }
-        Move::Leave => leave(alloc, node, events)?,
-        Move::Transfer(to) => node.transfer(to, events)?,
-        Move::Tick => node.tick(events)?,
-        Move::Advance => advance(alloc, node, events)?,
-        Move::ForgetLeader => node.forget_leader(),
-        Move::ReportUnreachable(id) => node.report_unreachable(id),
-        Move::SetTimeout(timeout) => node.set_timeout(timeout),
-        Move::Compact(index) => {
-            let _ = node.compact(index);
-        }
+        Move::Leave => leave(alloc, node, events),
+        Move::Advance => advance(alloc, node, events),
+        _ => act_by_itself(node, what, events),
     }
-    Ok(())
 }
 
 /// What starts somewhere, does things and is looked at. A row of a table needs no more of a node; so what goes over rows is proved

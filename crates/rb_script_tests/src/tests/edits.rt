@@ -156,12 +156,22 @@ fn expectations_at_the_limits(rt: HostRuntime) -> Result<(), Fail> {
     Ok(())
 }
 
+/// As many outputs without lines.
+fn no_outputs(alloc: Global, count: usize) -> Result<Vec<Lines>, Fail> {
+    let none = [NO_LINES].repeat(alloc, count)?;
+    Ok(outputs_of(alloc, none.as_slice()).ok_or("no outputs")?)
+}
+
+/// Why the edit can't be made of a script whose directives gave nothing, if it can't.
+fn fault_after(alloc: Global, script: &Script, edit: &Edit) -> Result<Option<EditFault>, Fail> {
+    let outputs = no_outputs(alloc, script.len())?;
+    Ok(after(alloc, script, edit, outputs.as_slice())?.err())
+}
+
 /// Why the edit of this script is refused, if it is. Each output is empty.
 fn fault_of_edit(alloc: Global, script: &Script, asked: Asked) -> Result<Option<EditFault>, Fail> {
     let edit = edit_of(alloc, asked).ok_or("no edit")?;
-    let none = [NO_LINES].repeat(alloc, script.len())?;
-    let outputs = outputs_of(alloc, none.as_slice()).ok_or("no outputs")?;
-    Ok(after(alloc, script, &edit, outputs.as_slice())?.err())
+    fault_after(alloc, script, &edit)
 }
 
 #[test]

@@ -189,8 +189,12 @@ fn first_wrong(alloc: Global, rows: &[Row]) -> Result<Option<usize>, AllocError>
     Ok(None)
 }
 
-fn all_hold(rt: &impl Abort, alloc: Global, rows: &[Row], name: &str) -> Result<(), Fail> {
-    assert_eq!(rt; first_wrong(alloc, rows)?, None, "{name}");
+fn none_is_wrong(rt: &impl Abort, wrong: Option<usize>, name: &str) {
+    assert!(rt; wrong.is_none(), "{name}: {wrong:?}");
+}
+
+fn all_hold(rt: &impl Abort, alloc: Global, rows: &[Row], name: &str) -> Result<(), AllocError> {
+    none_is_wrong(rt, first_wrong(alloc, rows)?, name);
     Ok(())
 }
 
@@ -198,7 +202,8 @@ fn all_hold(rt: &impl Abort, alloc: Global, rows: &[Row], name: &str) -> Result<
 fn changes(rt: HostRuntime) -> Result<(), Fail> {
     all_hold(&rt, rt.alloc(), &SIMPLE, "simple")?;
     all_hold(&rt, rt.alloc(), &JOINING, "joint")?;
-    all_hold(&rt, rt.alloc(), &ENTRIES, "entries")
+    all_hold(&rt, rt.alloc(), &ENTRIES, "entries")?;
+    Ok(())
 }
 
 /// Who votes (`v`), who else is a member (`m`), and who is neither, from id 0 on.
@@ -268,14 +273,24 @@ fn reads_back(alloc: Global, sets: Sets) -> Result<bool, AllocError> {
     goes_round(alloc, &put_in, sets)
 }
 
+fn put_halves(alloc: Global, state: &mut ConfState) -> Result<(), AllocError> {
+    state.incoming = shared(alloc, &[4, 2, 4])?;
+    state.outgoing = shared(alloc, &[3, 2, 1])?;
+    Ok(())
+}
+
+fn put_learners(alloc: Global, state: &mut ConfState) -> Result<(), AllocError> {
+    state.learners = shared(alloc, &[6, 5])?;
+    state.next = shared(alloc, &[3])?;
+    Ok(())
+}
+
 fn any_order(alloc: Global) -> Result<ConfState, AllocError> {
-    Ok(ConfState {
-        incoming: shared(alloc, &[4, 2, 4])?,
-        outgoing: shared(alloc, &[3, 2, 1])?,
-        learners: shared(alloc, &[6, 5])?,
-        next: shared(alloc, &[3])?,
-        auto: true,
-    })
+    let mut state = Config::new(alloc).to_state()?;
+    put_halves(alloc, &mut state)?;
+    put_learners(alloc, &mut state)?;
+    state.auto = true;
+    Ok(state)
 }
 
 fn reads(alloc: Global, state: &ConfState, sets: Sets) -> Result<bool, AllocError> {
