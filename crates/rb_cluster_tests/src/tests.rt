@@ -6,47 +6,63 @@ mod long_mail;
 mod machines;
 mod networks;
 mod replication;
+mod tested;
 mod worked;
 
-use rb_cluster::{Cluster, Machine, Meter};
-use rb_raftlog::{RaftLog, SplitLog};
-use rb_script::Script;
-use std::alloc::Global;
+use rb_script::{Block, Lines, Script};
+use std::alloc::{AllocError, Global};
 use std::test::Fail;
+use tested::Tested;
 
-/// A cluster after the directives of a script, with what they printed and what the script expects.
+/// What directives printed, and what their script expects.
 #[derive(Drop)]
-struct Played<L: RaftLog> {
-    cluster: Cluster<L>,
+struct Texts {
     printed: Vec<u8>,
     expected: Vec<u8>,
 }
 
-/// Runs the directives of a script on an empty cluster, whose logs are split.
-fn play(alloc: Global, bytes: &[u8]) -> Result<Played<SplitLog>, Fail> {
-    play_over(alloc, bytes)
+impl Texts {
+    fn new(alloc: Global) -> Texts {
+        Texts {
+            printed: Vec::new(alloc),
+            expected: Vec::new(alloc),
+        }
+    }
+
+    fn add(&mut self, output: &Lines, expected: &Lines) -> Result<(), AllocError> {
+        self.printed.extend_from_slice(output.text())?;
+        self.printed.push(b'\n')?;
+        self.expected.extend_from_slice(expected.text())?;
+        Ok(self.expected.push(b'\n')?)
+    }
 }
 
-/// Runs the directives of a script on an empty cluster.
-fn play_over<L: RaftLog>(alloc: Global, bytes: &[u8]) -> Result<Played<L>, Fail> {
-    let script = Script::read(alloc, bytes)?;
-    let mut cluster: Cluster<L> = Cluster::empty(alloc)?;
-    let mut printed = Vec::new(alloc);
-    let mut expected = Vec::new(alloc);
+/// The cluster after a block's directive, whose output goes to the texts.
+fn play_block<T: Tested>(cluster: T, block: &Block, texts: &mut Texts) -> Result<T, AllocError> {
+    let (next, output) = cluster.after(block, &mut 0)?;
+    texts.add(&output, block.expected())?;
+    Ok(next)
+}
+
+fn play_script<T: Tested>(alloc: Global, script: &Script, texts: &mut Texts) -> Result<T, Fail> {
+    let mut cluster = T::begin(alloc)?;
     for k in 0..script.len() {
         let Some(block) = script.block(k + 1) else {
             return Err(Fail::from("a block is missing"));
         };
-        let (next, output) = cluster.run(block.directive(), &mut Meter::new())?;
-        cluster = next;
-        printed.extend_from_slice(output.text())?;
-        printed.push(b'\n')?;
-        expected.extend_from_slice(block.expected().text())?;
-        expected.push(b'\n')?;
+        cluster = play_block(cluster, block, texts)?;
     }
-    Ok(Played {
-        cluster,
-        printed,
-        expected,
-    })
+    Ok(cluster)
+}
+
+/// The cluster after the directives of a script.
+fn play<T: Tested>(alloc: Global, bytes: &[u8], texts: &mut Texts) -> Result<T, Fail> {
+    let script = Script::read(alloc, bytes)?;
+    play_script(alloc, &script, texts)
+}
+
+/// The same, whatever the directives print.
+fn cluster_after<T: Tested>(alloc: Global, bytes: &[u8]) -> Result<T, Fail> {
+    let mut texts = Texts::new(alloc);
+    play(alloc, bytes, &mut texts)
 }

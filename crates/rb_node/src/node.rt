@@ -1,7 +1,8 @@
 //! The node.
 
-ghost use Rattle.std.specs.Prelude.{◌≡◌, ◌≤◌, ◌↔◌, IsTrue, IfOk, OnOk};
+ghost use Rattle.std.specs.Prelude.{◌≡◌, ◌≤◌, ◌↔◌, [], ◌∷◌, ◌++◌, IsTrue, IfOk, OnOk};
 ghost use Rattle.rb_raftlog.specs.declared.limits.TheConstants.{MAX_INDEX};
+ghost use Rattle.rb_message.specs.declared.event.Event.TheVariants.{Started};
 ghost use Rattle.rb_step.specs.Node.{PlainNode, turn};
 ghost use Rattle.rb_step.specs.Comparing.{HaveSameNumbers};
 ghost use Rattle.rb_node.specs.Calls.{node_started};
@@ -9,6 +10,7 @@ ghost use Rattle.rb_node.specs.Calls.{node_started};
 use rb_message::Event;
 use rb_raftlog::{RaftLog, Snapshot};
 use rb_step::{Options, State};
+use rb_tracker::Config;
 use std::alloc::{AllocError, Global};
 use std::marker::Model;
 
@@ -39,13 +41,7 @@ impl<L: RaftLog> Node<L> {
         ensures { IfOk result (λ node. turn node events.new.items ≡ node_started id start.now options events.old.items) }
     {
         let state = State::new(alloc, id, start, options)?;
-        let config = state.tracker.config().try_copy()?;
-        events.push(Event::Started {
-            id,
-            term: start.term,
-            index: start.index,
-            config,
-        })?;
+        tell_start(state.tracker.config(), id, start, events)?;
         Ok(Node { state })
     }
 
@@ -78,4 +74,22 @@ impl<L: RaftLog> Node<L> {
     {
         self.state.same(&other.state)
     }
+}
+
+// Tells where a node starts, and with which configuration.
+fn tell_start(
+    config: &Config,
+    id: u64,
+    start: &Snapshot,
+    events: &mut Vec<Event>,
+) -> Result<(), AllocError>
+    ensures { IfOk result (λ _. events.new.items ≡ events.old.items ++ Started id start.now.term start.now.index config.now ∷ []) }
+{
+    let config = config.try_copy()?;
+    Ok(events.push(Event::Started {
+        id,
+        term: start.term,
+        index: start.index,
+        config,
+    })?)
 }

@@ -1,6 +1,8 @@
-//! What no clause of rb_replay says: examples from outside, and that calls succeed. (tests/beside has lists of edits that look
-//! random, beside a plain slow program.)
+//! What no clause of rb_replay says: examples from outside, that calls succeed, and lists of edits that look random, over both
+//! logs. (tests/beside has more of them, beside a plain slow program.)
 
+mod both_logs;
+mod dice;
 mod examples;
 mod faults;
 mod refusals;

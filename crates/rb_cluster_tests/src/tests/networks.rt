@@ -1,19 +1,27 @@
-use super::play;
-use rb_cluster::Machine;
+use super::cluster_after;
+use super::tested::Tested;
+use rb_cluster::Cluster;
+use rb_raftlog::SplitLog;
 use std::alloc::Global;
+use std::process::Abort;
 use std::test::Fail;
 
+fn joined(alloc: Global, beginning: &[u8], rest: &[u8]) -> Result<Vec<u8>, Fail> {
+    let mut script = Vec::from_slice(alloc, beginning)?;
+    script.extend_from_slice(rest)?;
+    Ok(script)
+}
+
 /// Whether two scripts, which go on from the same beginning, lead to the same cluster.
-fn meet(alloc: Global, beginning: &[u8], one: &[u8], other: &[u8]) -> Result<bool, Fail> {
-    let mut first = Vec::from_slice(alloc, beginning)?;
-    first.extend_from_slice(one)?;
-    let mut second = Vec::from_slice(alloc, beginning)?;
-    second.extend_from_slice(other)?;
-    Ok(
-        play(alloc, &first)?
-            .cluster
-            .same(&play(alloc, &second)?.cluster),
-    )
+fn meet<T: Tested>(
+    alloc: Global,
+    beginning: &[u8],
+    one: &[u8],
+    other: &[u8],
+) -> Result<bool, Fail> {
+    let first: T = cluster_after(alloc, &joined(alloc, beginning, one)?)?;
+    let second: T = cluster_after(alloc, &joined(alloc, beginning, other)?)?;
+    Ok(first.is_same(&second))
 }
 
 const THREE: &[u8] = b"add-nodes 3 voters=(1,2,3) index=10 checkquorum=true
@@ -71,12 +79,16 @@ const APART: [(&[u8], &[u8]); 9] = [
     (b"propose 1 a\n----\n", b"propose 1 b\n----\n"),
 ];
 
-#[test]
-fn clusters_differ_in_one_thing(rt: HostRuntime) -> Result<(), Fail> {
+fn all_differ<T: Tested, R: Abort>(rt: &R, alloc: Global) -> Result<(), Fail> {
     for (one, other) in APART {
-        assert!(rt; !meet(rt.alloc(), THREE, one, other)?);
+        assert!(rt; !meet::<T>(alloc, THREE, one, other)?);
     }
     Ok(())
+}
+
+#[test]
+fn clusters_differ_in_one_thing(rt: HostRuntime) -> Result<(), Fail> {
+    all_differ::<Cluster<SplitLog>, HostRuntime>(&rt, rt.alloc())
 }
 
 // What node 3 answers to a heartbeat reaches the leader, or is dropped: its mark alone tells them apart.
@@ -85,7 +97,8 @@ fn clusters_differ_in_one_mark(rt: HostRuntime) -> Result<(), Fail> {
     let heard = b"process-ready 2 3\n----\n\ndeliver-msgs 1\n----\n";
     let dropped =
         b"process-ready 2\n----\n\ndeliver-msgs 1\n----\n\nprocess-ready 3\n----\n\ndeliver-msgs drop=(1)\n----\n";
-    assert!(rt; !meet(rt.alloc(), HEARTBEATS, heard, dropped)?);
+    let met = meet::<Cluster<SplitLog>>(rt.alloc(), HEARTBEATS, heard, dropped)?;
+    assert!(rt; !met);
     Ok(())
 }
 
@@ -93,6 +106,7 @@ fn clusters_differ_in_one_mark(rt: HostRuntime) -> Result<(), Fail> {
 #[test]
 fn dropped_messages_leave_nothing(rt: HostRuntime) -> Result<(), Fail> {
     let dropped = b"send-snapshot 1 2\n----\n\ndeliver-msgs drop=(2)\n----\n";
-    assert!(rt; meet(rt.alloc(), THREE, dropped, b"")?);
+    let met = meet::<Cluster<SplitLog>>(rt.alloc(), THREE, dropped, b"")?;
+    assert!(rt; met);
     Ok(())
 }

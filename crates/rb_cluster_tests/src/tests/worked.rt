@@ -1,40 +1,40 @@
 use super::elections::ELECTIONS;
 use super::long_log::long_log;
 use super::long_mail::long_mail;
-use super::play_over;
 use super::replication::REPLICATION;
-use rb_raftlog::{PlainLog, RaftLog, SplitLog};
+use super::tested::Tested;
+use super::{Texts, play};
+use rb_cluster::Cluster;
+use rb_raftlog::{PlainLog, SplitLog};
 use std::alloc::Global;
 use std::process::Abort;
 use std::test::Fail;
 
 // The script prints what it expects.
-fn prints<L: RaftLog>(rt: &impl Abort, alloc: Global, script: &[u8]) -> Result<(), Fail> {
-    let run = play_over::<L>(alloc, script)?;
-    assert_eq!(rt; run.printed, run.expected);
+fn prints<T: Tested, R: Abort>(rt: &R, alloc: Global, script: &[u8]) -> Result<(), Fail> {
+    let mut texts = Texts::new(alloc);
+    play::<T>(alloc, script, &mut texts)?;
+    assert_eq!(rt; texts.printed, texts.expected);
     Ok(())
+}
+
+fn all_print<T: Tested, R: Abort>(rt: &R, alloc: Global) -> Result<(), Fail> {
+    for script in &ELECTIONS {
+        prints::<T, R>(rt, alloc, script)?;
+    }
+    for script in &REPLICATION {
+        prints::<T, R>(rt, alloc, script)?;
+    }
+    prints::<T, R>(rt, alloc, &long_log(alloc)?)?;
+    prints::<T, R>(rt, alloc, &long_mail(alloc)?)
 }
 
 #[test]
 fn over_plain_logs(rt: HostRuntime) -> Result<(), Fail> {
-    for script in &ELECTIONS {
-        prints::<PlainLog>(&rt, rt.alloc(), script)?;
-    }
-    for script in &REPLICATION {
-        prints::<PlainLog>(&rt, rt.alloc(), script)?;
-    }
-    prints::<PlainLog>(&rt, rt.alloc(), &long_log(rt.alloc())?)?;
-    prints::<PlainLog>(&rt, rt.alloc(), &long_mail(rt.alloc())?)
+    all_print::<Cluster<PlainLog>, HostRuntime>(&rt, rt.alloc())
 }
 
 #[test]
 fn over_split_logs(rt: HostRuntime) -> Result<(), Fail> {
-    for script in &ELECTIONS {
-        prints::<SplitLog>(&rt, rt.alloc(), script)?;
-    }
-    for script in &REPLICATION {
-        prints::<SplitLog>(&rt, rt.alloc(), script)?;
-    }
-    prints::<SplitLog>(&rt, rt.alloc(), &long_log(rt.alloc())?)?;
-    prints::<SplitLog>(&rt, rt.alloc(), &long_mail(rt.alloc())?)
+    all_print::<Cluster<SplitLog>, HostRuntime>(&rt, rt.alloc())
 }

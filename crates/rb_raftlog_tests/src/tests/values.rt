@@ -1,7 +1,7 @@
 //! Contents, shared lists and entries.
 
 use super::making::{change, payload, snapshot_of};
-use rb_raftlog::{Content, Entry, Shared, limits_are};
+use rb_raftlog::{Content, Entry, Shared, Snapshot, limits_are};
 use std::alloc::{AllocError, Global};
 use std::process::Abort;
 use std::test::Fail;
@@ -83,13 +83,24 @@ fn changes_are_told_apart(rt: &impl Abort, alloc: Global) -> Result<(), AllocErr
     Ok(())
 }
 
+fn are_ids_copied(alloc: Global) -> Result<bool, AllocError> {
+    let ids = Shared::new(Vec::from_slice(alloc, &[1u64, 2])?)?;
+    Ok(ids.len() == 2 && ids.same(&ids.try_copy()?))
+}
+
+fn is_copied(snapshot: &Snapshot) -> Result<bool, AllocError> {
+    Ok(snapshot.same(&snapshot.try_copy()?))
+}
+
+fn is_snapshot_copied(alloc: Global) -> Result<bool, AllocError> {
+    let snapshot = snapshot_of(alloc, 500, 4)?;
+    is_copied(&snapshot)
+}
+
 #[test]
 fn values_are_told_apart(rt: HostRuntime) -> Result<(), Fail> {
     payloads_are_told_apart(&rt, rt.alloc())?;
     changes_are_told_apart(&rt, rt.alloc())?;
-    let ids = Shared::new(vec![in rt.alloc(); 1u64, 2]?)?;
-    assert!(rt; ids.len() == 2 && ids.same(&ids.try_copy()?));
-    let snapshot = snapshot_of(rt.alloc(), 500, 4)?;
-    assert!(rt; snapshot.same(&snapshot.try_copy()?));
+    assert!(rt; are_ids_copied(rt.alloc())? && is_snapshot_copied(rt.alloc())?);
     Ok(())
 }

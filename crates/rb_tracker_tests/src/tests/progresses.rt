@@ -306,12 +306,16 @@ fn is_told(alloc: Global, pair: &(&[Call], &[Call], bool)) -> Result<bool, Alloc
     }
 }
 
+fn is_width_told(alloc: Global) -> Result<bool, AllocError> {
+    let wider = Progress::own(alloc, 3, 3, 4)?;
+    are_different(&wider, &own(alloc)?)
+}
+
 #[test]
 fn same_sees_each_field(rt: HostRuntime) -> Result<(), Fail> {
     for (k, pair) in PAIRS.iter().enumerate() {
         assert!(rt; is_told(rt.alloc(), pair)?, "in row {k}");
     }
-    let wider = Progress::own(rt.alloc(), 3, 3, 4)?;
-    assert!(rt; are_different(&wider, &own(rt.alloc())?)?);
+    assert!(rt; is_width_told(rt.alloc())?);
     Ok(())
 }

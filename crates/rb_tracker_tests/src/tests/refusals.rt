@@ -142,11 +142,15 @@ fn configurations_under_refusals(rt: HostRuntime) -> Result<(), Fail> {
 
 /// Incoming voters up to one id, outgoing ones up to another, each with a view that holds the log up to its id.
 fn crowd(alloc: Global, incoming: u64, outgoing: u64) -> Result<Tracker, AllocError> {
-    let mut config = Config::new(alloc);
-    put_crowd(&mut config, incoming, outgoing)?;
-    let mut tracker = Tracker::new(alloc, config);
+    let mut tracker = Tracker::new(alloc, crowd_config(alloc, incoming, outgoing)?);
     hold_crowd(alloc, &mut tracker, outgoing)?;
     Ok(tracker)
+}
+
+fn crowd_config(alloc: Global, incoming: u64, outgoing: u64) -> Result<Config, AllocError> {
+    let mut config = Config::new(alloc);
+    put_crowd(&mut config, incoming, outgoing)?;
+    Ok(config)
 }
 
 fn put_crowd(config: &mut Config, incoming: u64, outgoing: u64) -> Result<(), AllocError> {
@@ -164,7 +168,11 @@ fn hold_crowd(alloc: Global, tracker: &mut Tracker, end: u64) -> Result<(), Allo
 /// Of seventeen voters nine hold 9. To find that takes memory.
 fn trackers(rt: &impl Abort, alloc: Global) -> Result<(), AllocError> {
     let tracker = crowd(alloc, 18, 18)?;
-    assert!(rt; shows_all(&tracker)?);
+    all_is_shown(rt, &tracker)
+}
+
+fn all_is_shown(rt: &impl Abort, tracker: &Tracker) -> Result<(), AllocError> {
+    assert!(rt; shows_all(tracker)?);
     Ok(())
 }
 
@@ -218,17 +226,20 @@ fn marks_without_memory(rt: &impl Abort, tracker: &mut Tracker) {
     assert!(rt; tracker.len() == 0 && !tracker.quorum_active());
 }
 
-fn counts(rt: &impl Abort, alloc: Global, tracker: &Tracker) -> Result<(), AllocError> {
+fn counts_and_marks(
+    rt: &impl Abort,
+    alloc: Global,
+    tracker: &mut Tracker,
+) -> Result<(), AllocError> {
     let votes = grants(alloc)?;
     counts_without_memory(rt, tracker, &votes);
+    marks_without_memory(rt, tracker);
     Ok(())
 }
 
 fn quorums(rt: &impl Abort, alloc: Global) -> Result<(), AllocError> {
     let mut tracker = crowd(alloc, 17, 33)?;
-    counts(rt, alloc, &tracker)?;
-    marks_without_memory(rt, &mut tracker);
-    Ok(())
+    counts_and_marks(rt, alloc, &mut tracker)
 }
 
 #[test]

@@ -67,11 +67,18 @@ fn views_are_found(tracker: &Tracker) -> Result<bool, AllocError> {
     Ok(has_views(tracker, "1237") && lists_ids(tracker, "1237")?)
 }
 
+fn are_found_and_go(tracker: &mut Tracker) -> Result<bool, AllocError> {
+    Ok(views_are_found(tracker)? && views_go(tracker))
+}
+
+fn views_come_and_go(alloc: Global) -> Result<bool, AllocError> {
+    let mut tracker = unordered(alloc)?;
+    are_found_and_go(&mut tracker)
+}
+
 #[test]
 fn views_stand_by_id(rt: HostRuntime) -> Result<(), Fail> {
-    let mut tracker = unordered(rt.alloc())?;
-    assert!(rt; views_are_found(&tracker)?);
-    assert!(rt; views_go(&mut tracker));
+    assert!(rt; views_come_and_go(rt.alloc())?);
     Ok(())
 }
 
@@ -197,9 +204,13 @@ fn first_untold(alloc: Global, tracker: &Tracker) -> Result<Option<usize>, Alloc
     Ok(None)
 }
 
+fn first_untold_of_all(alloc: Global) -> Result<Option<usize>, AllocError> {
+    let tracker = unordered(alloc)?;
+    first_untold(alloc, &tracker)
+}
+
 #[test]
 fn same_sees_all_of_it(rt: HostRuntime) -> Result<(), Fail> {
-    let tracker = unordered(rt.alloc())?;
-    assert_eq!(rt; first_untold(rt.alloc(), &tracker)?, None);
+    assert_eq!(rt; first_untold_of_all(rt.alloc())?, None);
     Ok(())
 }
