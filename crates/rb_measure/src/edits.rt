@@ -1,7 +1,7 @@
 //! How long an edit takes in a session that stays.
 
 use anyhow::Result;
-use rb_cluster::{Cluster, Meter};
+use rb_cluster::{Cluster, Machine, Meter};
 use rb_raftlog::SplitLog;
 use rb_replay::{Changed, Session};
 use rb_script::{Block, Edit, Lines};
@@ -58,10 +58,10 @@ impl Times {
     }
 
     /// Makes the edit, and adds its time.
-    fn take<R: Clock>(
+    fn take<M: Machine<Meter = Meter>, R: Clock>(
         &mut self,
         rt: &R,
-        session: &mut Session<Cluster<SplitLog>>,
+        session: &mut Session<M>,
         edit: &Edit,
     ) -> Result<()> {
         let mut meter = Meter::new();
@@ -115,16 +115,29 @@ impl Rounds {
     }
 
     /// Makes the edits one after another: the script is as before then.
-    fn run<R: Clock>(
+    fn run<M: Machine<Meter = Meter>, R: Clock>(
         &mut self,
         rt: &R,
-        session: &mut Session<Cluster<SplitLog>>,
+        session: &mut Session<M>,
         edits: &Edits,
     ) -> Result<()> {
         self.inserts.take(rt, session, &edits.insert)?;
         self.replaces.take(rt, session, &edits.replace)?;
         self.expects.take(rt, session, &edits.expect)?;
         self.removes.take(rt, session, &edits.remove)
+    }
+
+    fn run_all<M: Machine<Meter = Meter>, R: Clock>(
+        &mut self,
+        rt: &R,
+        session: &mut Session<M>,
+        edits: &Edits,
+        rounds: u32,
+    ) -> Result<()> {
+        for _ in 0..rounds {
+            self.run(rt, session, edits)?;
+        }
+        Ok(())
     }
 
     fn print<R: Print>(&mut self, rt: &R, place: usize) -> Result<()> {
@@ -135,19 +148,42 @@ impl Rounds {
     }
 }
 
-fn measure_place<R: Clock + Print>(
+fn time_edits<M: Machine<Meter = Meter>, R: Clock + Print>(
     rt: &R,
     alloc: Global,
-    session: &mut Session<Cluster<SplitLog>>,
+    session: &mut Session<M>,
+    edits: &Edits,
+    place: usize,
+    rounds: u32,
+) -> Result<()> {
+    let mut times = Rounds::new(alloc);
+    times.run_all(rt, session, edits, rounds)?;
+    times.print(rt, place)
+}
+
+fn measure_place<M: Machine<Meter = Meter>, R: Clock + Print>(
+    rt: &R,
+    alloc: Global,
+    session: &mut Session<M>,
     place: usize,
     rounds: u32,
 ) -> Result<()> {
     let edits = Edits::of_place(alloc, place)?;
-    let mut times = Rounds::new(alloc);
-    for _ in 0..rounds {
-        times.run(rt, session, &edits)?;
+    time_edits(rt, alloc, session, &edits, place, rounds)
+}
+
+fn measure_session<M: Machine<Meter = Meter>, R: Clock + Print>(
+    rt: &R,
+    alloc: Global,
+    bytes: &[u8],
+    directives: usize,
+    rounds: u32,
+) -> Result<()> {
+    let mut session: Session<M> = Session::start(alloc, bytes, SPACING, &mut Meter::new())?;
+    for place in [2, directives / 2, directives] {
+        measure_place(rt, alloc, &mut session, place, rounds)?;
     }
-    times.print(rt, place)
+    Ok(())
 }
 
 /// Prints a line for each kind of edit near the beginning, in the middle and at the end of a script: kind, place,
@@ -157,14 +193,6 @@ pub(crate) fn measure<R: Clock + Print + AllocGlobal>(
     directives: usize,
     rounds: u32,
 ) -> Result<()> {
-    let alloc = rt.alloc();
-    let bytes = script(alloc, directives)?;
-    let mut meter = Meter::new();
-    let mut session: Session<Cluster<SplitLog>> = Session::start(
-        alloc, &bytes, SPACING, &mut meter,
-    )?;
-    for place in [2, directives / 2, directives] {
-        measure_place(rt, alloc, &mut session, place, rounds)?;
-    }
-    Ok(())
+    let bytes = script(rt.alloc(), directives)?;
+    measure_session::<Cluster<SplitLog>, R>(rt, rt.alloc(), &bytes, directives, rounds)
 }

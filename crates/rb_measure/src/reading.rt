@@ -24,6 +24,37 @@ fn write_once<R: Clock>(rt: &R, script: &Script, out: &mut Vec<u8>) -> Result<Du
     Ok(start.elapsed(rt)?)
 }
 
+fn best_reading<R: Clock + AllocGlobal>(rt: &R, bytes: &[u8], rounds: u32) -> Result<Duration> {
+    let mut best = Duration::MAX;
+    for _ in 0..rounds {
+        best = best.min(read_once(rt, rt.alloc(), bytes)?);
+    }
+    Ok(best)
+}
+
+fn best_writing<R: Clock + AllocGlobal>(
+    rt: &R,
+    script: &Script,
+    room: usize,
+    rounds: u32,
+) -> Result<Duration> {
+    let mut out = Vec::with_capacity(rt.alloc(), room)?;
+    let mut best = Duration::MAX;
+    for _ in 0..rounds {
+        best = best.min(write_once(rt, script, &mut out)?);
+    }
+    Ok(best)
+}
+
+fn measure_bytes<R: Clock + Print + AllocGlobal>(rt: &R, bytes: &[u8], rounds: u32) -> Result<()> {
+    let reading = best_reading(rt, bytes, rounds)?;
+    let script = Script::read(rt.alloc(), bytes)?;
+    let writing = best_writing(rt, &script, bytes.len(), rounds)?;
+    println!(rt; "read {}", reading.as_nanos())?;
+    println!(rt; "write {}", writing.as_nanos())?;
+    Ok(())
+}
+
 /// Prints the nanoseconds of the best round of reading the file's script, and of writing it.
 pub(crate) fn measure<R: Files + Clock + Print + AllocGlobal>(
     rt: &R,
@@ -31,19 +62,5 @@ pub(crate) fn measure<R: Files + Clock + Print + AllocGlobal>(
     rounds: u32,
 ) -> Result<()> {
     let bytes = fs::read(rt, file)?;
-    let mut reading = Duration::MAX;
-    for _ in 0..rounds {
-        reading = reading.min(read_once(rt, rt.alloc(), bytes.as_slice())?);
-    }
-    let script = Script::read(rt.alloc(), bytes.as_slice())?;
-    let room = bytes.len();
-    drop(bytes);
-    let mut out = Vec::with_capacity(rt.alloc(), room)?;
-    let mut writing = write_once(rt, &script, &mut out)?;
-    for _ in 1..rounds {
-        writing = writing.min(write_once(rt, &script, &mut out)?);
-    }
-    println!(rt; "read {}", reading.as_nanos())?;
-    println!(rt; "write {}", writing.as_nanos())?;
-    Ok(())
+    measure_bytes(rt, &bytes, rounds)
 }

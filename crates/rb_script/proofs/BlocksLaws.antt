@@ -1,9 +1,7 @@
 -- Blocks one after the other, as a loop reads them, and the tail.
 use Rattle.std.proofs.Common.{◌≡◌, ℕ, suc, zero, ◌+◌, ◌-◌, ◌<◌, ◌≤◌, Bool, true, false, cond, eqb, List, [], ◌∷◌, ◌++◌, length, map, Result, Ok, Err, refl, ap, sym, subst, ◌∙◌, append_assoc, arith, inl, inr}
 use Rattle.std.specs.List.{list_all}
-use Rattle.std.specs.declared.rc.Rc.{Rc}
-use Rattle.std.specs.declared.alloc.Global.{Global}
-use Rattle.std.proofs.lemmas.List.{append-nil, map-append}
+use Rattle.std.proofs.lemmas.List.{append-nil}
 use Rattle.std.proofs.lemmas.Bool.{cases_Bool, ne_eqb, not-true}
 use Rattle.rb_script.specs.declared.fault.ScriptFault.{ScriptFault}
 use Rattle.rb_script.specs.declared.fault.ScriptFault.TheVariants as faults
@@ -11,7 +9,6 @@ use Rattle.rb_script.specs.declared.marks.Stop.TheVariants.{Head}
 use Rattle.rb_script.specs.Lines.{Line, lines, cut, in_first, without_returns}
 use Rattle.rb_script.specs.Marks.{is_lead, stops}
 use Rattle.rb_script.specs.Script.{PlainBlock, PlainScript}
-use Rattle.rb_script.specs.Shared.{values}
 use Rattle.rb_script.specs.Reads.{begins_lead, ReadsBlock, ReadsBlocks}
 use Rattle.rb_script.specs.Results.{◌>>=◌, Fails}
 use Rattle.rb_script.specs.Runs.{upto, onward}
@@ -100,10 +97,6 @@ module _ (most : ℕ) (front : List PlainBlock) (n end : ℕ) (ls : List Line) (
   blocks_full full h =
       let none : most - n ≡ 0 = omega arith in
       sym so_far ∙ ap (with_blocks front) (ap (λ (r : ℕ). blocks_at r end ls) none ∙ step_full end ls h)
-
--- one pointer more has its value at the end
-pub pushed_value : (pointers new : List (Rc PlainBlock Global)) (p : Rc PlainBlock Global) (b : PlainBlock) → new ≡ pointers ++ p ∷ [] → p.value ≡ b → values new ≡ values pointers ++ b ∷ []
-pushed_value pointers new p b e is = ap values e ∙ map-append (λ (q : Rc PlainBlock Global). q.value) pointers (p ∷ []) ∙ ap (λ (x : PlainBlock). values pointers ++ x ∷ []) is
 
 -- the test of the bytes that are left is a test of their lines
 pub tested : (bytes : List ℕ) (ls : List Line) (r t : Bool) → lines bytes ≡ from_head ls → r ≡ eqb (length bytes) 0 → r ≡ t → is_empty (from_head ls) ≡ t

@@ -1,6 +1,6 @@
 //! Reading blocks, from the first line on.
 
-ghost use Rattle.std.specs.Prelude.{◌≡◌, ◌+◌, ◌^◌, ◌<◌, ◌≤◌, ℕ, [], ◌∷◌, true, false, length, drop, not, slice_index, IsTrue, IfOk, IfErr, IfSome, IfNone, MatchOption, None, Ok, Err};
+ghost use Rattle.std.specs.Prelude.{◌≡◌, ◌+◌, ◌^◌, ◌<◌, ◌≤◌, ℕ, [], ◌∷◌, ◌++◌, true, false, length, drop, not, slice_index, vec_len, IsTrue, IfOk, IfErr, IfSome, IfNone, MatchOption, None, Ok, Err};
 ghost use Rattle.std.specs.List.{list_all, AllByRecursion};
 ghost use Rattle.rb_script.specs.Lines.{lines};
 ghost use Rattle.rb_script.specs.Marks.{is_blank, is_lead, is_separator, stops};
@@ -16,7 +16,7 @@ ghost use Rattle.rb_script.specs.Reading.{parts_of, block_of, long_line, no_long
 ghost use Rattle.rb_script.specs.Cursor.{seen, end_of};
 ghost use Rattle.rb_script.specs.Script.{text};
 ghost use Rattle.rb_script.specs.Valid.{IsLine};
-ghost use Rattle.rb_script.specs.Shared.{parts_view};
+ghost use Rattle.rb_script.specs.Shared.{values, parts_view};
 ghost use Rattle.rb_script.specs.HeadLines.{AreHeadLines, TellsHeads};
 
 use crate::block::{Block, Front};
@@ -238,10 +238,19 @@ fn blocks(alloc: Global, start: Cursor<'_>) -> Result<Parts, ScriptFault>
         }
         let number = after.number;
         let (block, after) = block(alloc, &mut room, lead, after)?;
-        found.push(Rc::new(alloc, block)?)?;
+        keep(alloc, &mut found, block)?;
         heads.push(number)?;
         at = after;
     }
+}
+
+/// Keeps a block behind those that were found before it.
+fn keep(alloc: Global, found: &mut Vec<Rc<Block>>, block: Block) -> Result<(), AllocError>
+    ensures items { IfOk result (λ _. values found.new.items ≡ values found.old.items ++ block ∷ []) }
+    ensures len { IfOk result (λ _. vec_len found.new ≡ vec_len found.old + 1) }
+{
+    let block = Rc::new(alloc, block)?;
+    Ok(found.push(block)?)
 }
 
 /// The last line feed that has no more bytes before it than a line may have.

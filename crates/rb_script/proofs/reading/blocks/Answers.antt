@@ -8,7 +8,7 @@ use Rattle.rb_script.specs.Shared.{values}
 use Rattle.rb_script.specs.Results.{Fails}
 use Rattle.rb_script.specs.Script.{PlainBlock}
 use Rattle.rb_script.specs.Blocks.{from_head, blocks_at}
-use Rattle.rb_script.proofs.BlocksLaws.{with_blocks, lines_empty, blocks_more, blocks_fail, blocks_done, blocks_full, pushed_value, tested, same_block, leads_of, begins_from, next_sound}
+use Rattle.rb_script.proofs.BlocksLaws.{with_blocks, lines_empty, blocks_more, blocks_fail, blocks_done, blocks_full, tested, same_block, leads_of, begins_from, next_sound}
 use Rattle.rb_script.proofs.ValidLaws.{split_lines, block_valid}
 use Rattle.rb_script.proofs.HeadLineLaws.{HeadsSoFar, one_more_head}
 use Rattle.rb_script.proofs.reading.blocks.Goals as goal
@@ -57,15 +57,15 @@ loop-heads-preserved c =
     let sound = next_sound (end_of c.args.start) ls after c.in_ok-block.block some next in
     let line : c.in_ok-lead.after.number + length (from_head ls) ≡ c.args.start.number + length (lines c.args.start.rest.now) = omega (arith, ap length c.in_ok-lead.ensures.rest, c.in_ok-lead.ensures.end, c.loop-heads.invariant.end) in
     let headed = one_more_head c.args.start.number (lines c.args.start.rest.now) (values c.loop-heads.found.items) ls c.loop-heads.heads.items c.loop-heads.invariant.heads c.in_ok-block.block after c.in_ok-lead.after.number sound line in
-    let pushed = pushed_value c.loop-heads.found.items c.push.new.self.items c.in_ok-new.field-0 c.in_ok-block.block c.in_ok-push.ensures.items c.in_ok-new.ensures.ok in
+    let pushed = c.in_ok-keep.ensures.items in
     record {
-      read = ap (λ bs. with_blocks bs (blocks_at (MAX_DIRECTIVES - vec_len c.push.new.self) (end_of c.args.start) after)) pushed
-          ∙ ap (λ k. with_blocks (values c.loop-heads.found.items ++ c.in_ok-block.block ∷ []) (blocks_at (MAX_DIRECTIVES - k) (end_of c.args.start) after)) c.in_ok-push.ensures.len
+      read = ap (λ bs. with_blocks bs (blocks_at (MAX_DIRECTIVES - vec_len c.keep.new.found) (end_of c.args.start) after)) pushed
+          ∙ ap (λ k. with_blocks (values c.loop-heads.found.items ++ c.in_ok-block.block ∷ []) (blocks_at (MAX_DIRECTIVES - k) (end_of c.args.start) after)) c.in_ok-keep.ensures.len
           ∙ blocks_more MAX_DIRECTIVES (values c.loop-heads.found.items) (vec_len c.loop-heads.found) (end_of c.args.start) ls _ c.loop-heads.invariant.read c.in_ok-block.block after (omega arith) some next;
       end = c.in_ok-block.ensures.end ∙ c.in_ok-lead.ensures.end ∙ c.loop-heads.invariant.end;
       lines_left = (block_valid ls after c.in_ok-block.block c.loop-heads.invariant.lines_left sound).1;
-      few = omega arith;
+      few = omega (arith, c.in_ok-keep.ensures.len);
       heads =
-          subst (λ (bs : List PlainBlock). HeadsSoFar c.args.start.number (lines c.args.start.rest.now) bs after c.push-in-loop-heads.new.self.items) (sym pushed)
-          (subst (λ (ns : List ℕ). HeadsSoFar c.args.start.number (lines c.args.start.rest.now) (values c.loop-heads.found.items ++ c.in_ok-block.block ∷ []) after ns) (sym c.in_ok-push-2.ensures.items) headed);
+          subst (λ (bs : List PlainBlock). HeadsSoFar c.args.start.number (lines c.args.start.rest.now) bs after c.push.new.self.items) (sym pushed)
+          (subst (λ (ns : List ℕ). HeadsSoFar c.args.start.number (lines c.args.start.rest.now) (values c.loop-heads.found.items ++ c.in_ok-block.block ∷ []) after ns) (sym c.in_ok-push.ensures.items) headed);
     }
