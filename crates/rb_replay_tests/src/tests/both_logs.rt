@@ -117,14 +117,16 @@ impl<P: Tested, S: Tested> Both<P, S> {
             return Ok(Some("answers"));
         }
         let now = all_of(alloc, &self.plain)?;
-        if answer.is_err() {
-            return Ok((now != before).then_some("a refused edit"));
+        if answer.is_err() && now != before {
+            return Ok(Some("a refused edit"));
         }
         let mut fresh = 0;
         if !is_fresh::<P>(alloc, &now, &mut fresh)? {
             return Ok(Some("a fresh run"));
         }
-        tally.add(over_plain, fresh);
+        if answer.is_ok() {
+            tally.add(over_plain, fresh);
+        }
         self.wrong_with_kept(alloc, &now)
     }
 
