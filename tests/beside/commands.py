@@ -1,5 +1,5 @@
 """Commands of a session that look random, from a seed: edits of all kinds, what shows the script and its outputs, and what is wrong."""
-from dice import Dice
+from plain.dice import Dice
 
 BAD_COMMANDS = [
     "sing", "insert", "insert 1", "insert 1 2 3", "remove 1 1", "accept 1", "Report", "show", "show x", "expect 1 65537", "show 00000000001",

@@ -7,7 +7,7 @@ election), and `refused change ..: MoreThanOneVoter` (one word moves one voter).
 """
 import re
 
-from plain_cluster import LEVELS, TABLE, TYPES
+from plain.directives import LEVELS, TABLE, TYPES
 
 ROLES = ["follower", "precandidate", "candidate", "leader"]
 QUOTED = r'"([ !#-\[\]-~]|\\x[0-9a-f]{2})*"'

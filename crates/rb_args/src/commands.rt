@@ -1,9 +1,9 @@
 //! The command line, made for `clap`.
 
-ghost use Rattle.std.specs.Prelude.{◌≡◌, IfOk, false};
-ghost use Rattle.clap.specs.Words.{app_of, rule_of, with_rule, with_subcommand};
+ghost use Rattle.std.specs.Prelude.{◌≡◌, IfOk, codes, false};
+ghost use Rattle.clap.specs.Words.{app_of, new_app, rule_of, with_rule, with_subcommand};
 ghost use Rattle.clap.specs.declared.builder.command.Command.TheViews.{out-Command};
-ghost use Rattle.rb_args.specs.CommandLine.{command_line, subcommand_line, check_line, with_files, with_words, every_rule, flag_rule, option_rule};
+ghost use Rattle.rb_args.specs.CommandLine.{command_line, subcommand_line, check_line, with_files, with_version, with_words, every_rule, flag_rule, option_rule, path_rule};
 
 use clap::{Arg, ArgAction, Command};
 use std::alloc::{AllocError, Global};
@@ -17,11 +17,18 @@ const EVERY_HELP: &str = "Directives from one checkpoint to the next, 1 to 64 [d
 pub(crate) fn raftbench_command<'a>(alloc: Global) -> Result<Command<'a>, AllocError>
     ensures { IfOk result (λ command. app_of command ≡ command_line) }
 {
-    let command = Command::new(alloc, "raftbench")
+    let check = check_command(alloc)?;
+    let command = bare_command(alloc).subcommand(check)?;
+    with_files(command, alloc)
+}
+
+// raftbench, without a subcommand.
+fn bare_command<'a>(alloc: Global) -> Command<'a>
+    ensures { app_of result ≡ with_version (new_app (codes "raftbench")) }
+{
+    Command::new(alloc, "raftbench")
         .about("Runs scripts of etcd raft's interaction tests")
         .version(VERSION)
-        .subcommand(check_command(alloc)?)?;
-    with_files(command, alloc)
 }
 
 // The subcommands of one script.
@@ -84,21 +91,22 @@ fn check_command<'a>(alloc: Global) -> Result<Command<'a>, AllocError>
     ensures app { IfOk result (λ command. app_of command ≡ check_line) }
     ensures local { IfOk result (λ command. (out-Command command).has_globals ≡ false) }
 {
-    let path = Arg::new(alloc, "path")
-        .value_name("PATH")
-        .required(true)
-        .action(ArgAction::Append)
-        .help("Script, or folder whose *.txt and those of its folders are the scripts");
-    let command = Command::new(alloc, "check")
-        .about("Checks scripts and folders of scripts, and shows each line that differs")
-        .arg(path)?;
     let command = with_flag(
-        command,
+        command_of_paths(alloc)?,
         alloc,
         "accept",
         "Writes the outputs that came into the scripts",
     )?;
     with_words(command, alloc)
+}
+
+fn command_of_paths<'a>(alloc: Global) -> Result<Command<'a>, AllocError>
+    ensures app { IfOk result (λ command. app_of command ≡ with_rule (new_app (codes "check")) path_rule) }
+    ensures local { IfOk result (λ command. (out-Command command).has_globals ≡ false) }
+{
+    Command::new(alloc, "check")
+        .about("Checks scripts and folders of scripts, and shows each line that differs")
+        .arg(path_argument(alloc))
 }
 
 // The options of `check` that change what is looked at and what is shown.
@@ -154,6 +162,19 @@ fn with_flag<'a>(
     command.arg(flag_argument(alloc, name, help))
 }
 
+// PATH, one or more
+fn path_argument<'a>(alloc: Global) -> Arg<'a>
+    ensures rule { rule_of result ≡ path_rule }
+    ensures local { result.global ≡ false }
+{
+    Arg::new(alloc, "path")
+        .value_name("PATH")
+        .required(true)
+        .action(ArgAction::Append)
+        .help("Script, or folder whose *.txt and those of its folders are the scripts")
+}
+
+// --every K
 fn every_argument<'a>(alloc: Global) -> Arg<'a>
     ensures rule { rule_of result ≡ every_rule }
     ensures local { result.global ≡ false }

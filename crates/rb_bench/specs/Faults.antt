@@ -20,7 +20,7 @@ of_starting (starts.Script fault) = faults.Script fault
 of_starting starts.BadSpacing = faults.Spacing
 of_starting starts.OutOfMemory = faults.OutOfMemory
 
--- why no script was taken: what is told of the script is the fault of reading it, and never want of memory
+-- why no script was taken: what is answered of the script is the fault of reading it, and never want of memory
 abbrev pub TellsFault : BenchFault → Result PlainScript ScriptFault → Type 0
 TellsFault (faults.Script fault) read = Refuses fault read
 TellsFault fault read = ⊤

@@ -1,4 +1,4 @@
--- The names of faults, and the lines that they tell. (This project's.)
+-- The names of faults, and their lines. (This project's.)
 use Rattle.std.specs.Prelude.{ℕ, codes, List, Option, Some, None}
 use Rattle.rb_script.specs.declared.fault.ScriptFault.{ScriptFault}
 use Rattle.rb_script.specs.declared.fault.ScriptFault.TheVariants as scripts

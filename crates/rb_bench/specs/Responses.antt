@@ -23,7 +23,7 @@ use Rattle.rb_bench.specs.Names.{script_name, script_line, edit_name}
 
 -- ---- texts
 
--- the line of a fault, if it tells one
+-- the line of a fault, if it has one
 abbrev pub at_line : Option ℕ → List ℕ
 at_line None = []
 at_line (Some n) = codes " at line " ++ decimal n

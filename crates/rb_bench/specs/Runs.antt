@@ -22,7 +22,7 @@ abbrev pub text_for : Mode → PlainScript → List ℕ
 text_for modes.Run s = report s
 text_for modes.Rewrite s = rewritten s
 
--- the status by which mismatches are told
+-- the status of mismatches
 abbrev pub status_of : List ℕ → Status
 status_of places = if nat_lt 0 (length places) then statuses.Mismatches else statuses.Done
 
@@ -47,7 +47,7 @@ abbrev pub IsWritten : Mode → PlainScript → Result Status BenchFault → Opt
 IsWritten mode s (Ok status) old new = (status ≡ status_for mode s) × Appends old new (text_for mode s)
 IsWritten mode s (Err fault) old new = (fault ≡ faults.Io) × AppendsFront old new (text_for mode s)
 
--- The answer to bytes: the text of their script and the status, or a fault. That writing failed is told only of a
+-- The answer to bytes: the text of their script and the status, or a fault. That writing failed is answered only of a
 -- script, and what went out then is a beginning of its text.
 abbrev pub Answers : Mode → List ℕ → Result Status BenchFault → Option (List ℕ) → Option (List ℕ) → Type 0
 Answers mode bytes (Ok status) old new = (s : PlainScript) × Reads bytes s × IsWritten mode s (Ok status) old new

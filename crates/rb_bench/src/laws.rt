@@ -54,7 +54,7 @@ pub fn sessions_start_as_one()
     ensures { (script : List ℕ) (every : ℕ) (first other : Holding) → IsStarted script every first → IsStarted script every other → first ≡ other }
 {}
 
-/// No two faults are told in the same words.
+/// No two faults have the same words.
 pub fn names_are_distinct()
     ensures script { (fault other : ScriptFault) → script_name fault ≡ script_name other → script_line fault ≡ script_line other → fault ≡ other }
     ensures edit { (fault other : EditFault) → edit_name fault ≡ edit_name other → fault ≡ other }

@@ -5,7 +5,7 @@ ghost use Rattle.rb_bench.specs.Names.{script_name, script_line, edit_name};
 
 use rb_script::{EditFault, ScriptFault};
 
-/// The name by which users are told of the fault.
+/// The name by which users know the fault.
 pub fn script_fault_name(fault: ScriptFault) -> &'static str
     ensures { result.now ≡ script_name fault }
 {
@@ -22,7 +22,7 @@ pub fn script_fault_name(fault: ScriptFault) -> &'static str
     }
 }
 
-/// The line that the fault tells, which counts from 1.
+/// The line of the fault, which counts from 1.
 pub fn script_fault_line(fault: ScriptFault) -> Option<usize>
     ensures { result ≡ script_line fault }
 {
@@ -39,7 +39,7 @@ pub fn script_fault_line(fault: ScriptFault) -> Option<usize>
     }
 }
 
-/// The name by which users are told of the fault.
+/// The name by which users know the fault.
 pub fn edit_fault_name(fault: EditFault) -> &'static str
     ensures { result.now ≡ edit_name fault }
 {

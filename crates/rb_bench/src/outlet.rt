@@ -1,7 +1,7 @@
 //! Where answers go.
 //!
-//! A [`Sink`] takes text, but may hold it back. An [`Outlet`] also hands on what it took, so that whoever waits for an answer
-//! gets it. It can be known to take all and to hand on all: over such a one there is no failure to be told.
+//! A [`Sink`] takes text, but may hold it back. An [`Outlet`] also hands on what it took, so that a reader that waits for an answer
+//! gets it. It can be known to take all and to hand on all: over such a one there is no failure to be answered.
 
 ghost use Rattle.std.specs.Prelude.{ℕ, List, Option, None, IsOk, OnOk};
 ghost use Rattle.std.specs.Io.KnownBytes.{Keeps};

@@ -30,7 +30,7 @@ pub enum Mode {
 }
 
 /// Reads a script, runs it and writes what `mode` asks for. The answer is the program's status: `Done`, or `Mismatches`
-/// where a report tells some. `every` is how many directives a session would have from one checkpoint to the next, 1 to 64;
+/// where a report shows some. `every` is how many directives a session would have from one checkpoint to the next, 1 to 64;
 /// it changes no text, and a run, which nobody edits, keeps as few clusters as it may.
 ///
 /// What the run held is not given back, since the program ends behind it: who runs many scripts holds sessions of rb_replay.
@@ -56,7 +56,7 @@ pub fn run_over<S: Source, W: Outlet>(
     ensures answered { is_spacing every ≡ true → IfSome (S.left source.old) (λ all. RunsOver mode all (S.left source.new) result (W.held writer.old) (W.held writer.new)) }
     // What was written was handed on.
     ensures handed { OnOk result (IsHandedOn (W.handed writer.new) (W.held writer.new)) }
-    // No failure is told where no call failed.
+    // No failure is answered where no call failed.
     ensures io { S.gives_all source.old → W.takes_all writer.old → result ≢ Err BenchFault.Io }
 {
     if !is_spacing(every) {

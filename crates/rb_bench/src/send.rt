@@ -27,7 +27,7 @@ fn put_line_number<S: Sink>(sink: &mut S, line: Option<usize>) -> Result<(), Wri
     put_number(sink, line as u64)
 }
 
-// Writes the name of a fault, and the line that it tells.
+// Writes the name of a fault, and its line.
 fn put_fault<S: Sink>(sink: &mut S, fault: ScriptFault) -> Result<(), WriteFault>
     ensures wrote { Writes result (S.held sink.old) (S.held sink.new) (fault_text fault) }
     ensures all { S.takes_all sink.old → IsOk result × S.takes_all sink.new }

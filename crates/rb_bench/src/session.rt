@@ -57,7 +57,7 @@ pub fn serve<S: Source, W: Outlet>(
     ensures handed { OnOk result (IsHandedOn (W.handed writer.old) (W.held writer.old) → IsHandedOn (W.handed writer.new) (W.held writer.new)) }
     // The source is asked no more often than its bytes ask for.
     ensures asked { (source.new ≡ source.old) ⊎ AsksFor (S.left source.old) (S.asked source.old) (S.asked source.new) MAX_READS }
-    // No failure is told where no call failed.
+    // No failure is answered where no call failed.
     ensures io { (bytes : List ℕ) → S.left source.old ≡ Some bytes → length bytes < MAX_READS
         → S.gives_all source.old → W.takes_all writer.old → result ≢ Err BenchFault.Io }
 {

@@ -1,4 +1,4 @@
--- Why bytes are no script, for those who wrote them: what is wrong, and what mostly causes it. (This project's.)
+-- Why bytes are no script, for those who wrote them: what is wrong, and what usually causes it. (This project's.)
 use Rattle.std.specs.Prelude.{ℕ, List, [], ◌++◌, Option, Some, None, codes, decimal}
 use Rattle.rb_script.specs.declared.fault.ScriptFault.{ScriptFault}
 use Rattle.rb_script.specs.declared.fault.ScriptFault.TheVariants as faults
@@ -19,7 +19,7 @@ sentence (faults.TooManyArguments line) =
     codes "this directive has more than 64 arguments, or values of one; mostly a backslash takes in a line too many"
 sentence faults.OutOfMemory = codes "out of memory"
 
--- the line that it is told of, which counts from 1
+-- the line that it is at, which counts from 1
 abbrev pub fault_line : ScriptFault → Option ℕ
 fault_line faults.TooLong = None
 fault_line (faults.LineTooLong line) = Some line

@@ -7,7 +7,7 @@ ghost use Rattle.rb_check.specs.Refusals.{sentence, fault_line, refusal_text};
 use crate::piece::{Piece, put_pieces};
 use rb_script::{ScriptFault, Sink, WriteFault};
 
-// What is wrong, and what mostly causes it.
+// What is wrong, and what usually causes it.
 fn sentence(fault: ScriptFault) -> &'static [u8]
     ensures { result.now ≡ sentence fault }
 {
@@ -32,7 +32,7 @@ fn sentence(fault: ScriptFault) -> &'static [u8]
     }
 }
 
-// The line that it is told of, which counts from 1.
+// The line that it is at, which counts from 1.
 fn fault_line(fault: ScriptFault) -> Option<usize>
     ensures { result ≡ fault_line fault }
 {
@@ -49,7 +49,7 @@ fn fault_line(fault: ScriptFault) -> Option<usize>
     }
 }
 
-/// Writes why a script is refused: `PATH:LINE: ` where the fault names a line, else `PATH: `, and then what is wrong and what mostly
+/// Writes why a script is refused: `PATH:LINE: ` where the fault names a line, else `PATH: `, and then what is wrong and what usually
 /// causes it. On a failure what went out is a beginning of the text.
 pub fn put_refusal<S: Sink>(sink: &mut S, path: &[u8], fault: ScriptFault) -> Result<(), WriteFault>
     ensures wrote { Writes result (S.held sink.old) (S.held sink.new) (refusal_text path.now fault) }

@@ -1,12 +1,12 @@
 //! A cluster, as a machine that runs directives.
 
-ghost use Rattle.std.specs.Prelude.{◌≡◌, ◌-◌, ◌↔◌, ◌++◌, IsTrue, OnOk};
+ghost use Rattle.std.specs.Prelude.{◌≡◌, ◌-◌, ◌↔◌, IsTrue};
 ghost use Rattle.rb_cluster.specs.Cluster.{empty};
 
 use crate::letter::Letter;
+use crate::lists::{Alike, Numbered, copies_of, have_numbers_of, same_list};
 use crate::machine::Machine;
 use crate::meter::Meter;
-use crate::pending::{copies_of, same_pending};
 use rb_level::Level;
 use rb_node::Node;
 use rb_raftlog::RaftLog;
@@ -78,10 +78,8 @@ impl<L: RaftLog> Machine for Cluster<L> {
     }
 
     fn try_copy(&self) -> Result<Cluster<L>, AllocError> {
-        let mut nodes = Vec::with_capacity(self.alloc, self.nodes.len())?;
-        push_copies(&mut nodes, &self.nodes)?;
         Ok(Cluster {
-            nodes,
+            nodes: copies_of(self.alloc, &self.nodes)?,
             pending: copies_of(self.alloc, &self.pending)?,
             level: self.level,
             alloc: self.alloc,
@@ -108,50 +106,28 @@ impl<L: RaftLog> Cluster<L> {
     fn has_pending_of(&self, other: &Cluster<L>) -> bool
         ensures { IsTrue result ↔ (self.now.pending ≡ other.now.pending) }
     {
-        same_pending(&self.pending, &other.pending)
+        same_list(&self.pending, &other.pending)
     }
 
     fn has_nodes_of(&self, other: &Cluster<L>) -> bool
         ensures { IsTrue result ↔ (self.now.nodes ≡ other.now.nodes) }
     {
-        same_nodes(&self.nodes, &other.nodes)
+        same_list(&self.nodes, &other.nodes)
     }
 }
 
-fn push_copies<L: RaftLog>(copies: &mut Vec<Node<L>>, nodes: &[Node<L>]) -> Result<(), AllocError>
-    ensures { OnOk result (copies.new.items ≡ copies.old.items ++ nodes.now) }
-{
-    for node in nodes {
-        copies.push(node.try_copy()?)?;
+impl<L: RaftLog> Alike for Node<L> {
+    fn try_copy(&self) -> Result<Node<L>, AllocError> {
+        Node::try_copy(self)
     }
-    Ok(())
+
+    fn same(&self, other: &Node<L>) -> bool {
+        Node::same(self, other)
+    }
 }
 
-// Whether nodes have the same numbers as others, each as the one at its place.
-fn have_numbers_of<L: RaftLog>(nodes: &[Node<L>], others: &[Node<L>]) -> bool
-    ensures { (nodes.now ≡ others.now) → IsTrue result }
-{
-    if nodes.len() != others.len() {
-        return false;
+impl<L: RaftLog> Numbered for Node<L> {
+    fn has_numbers_of(&self, other: &Node<L>) -> bool {
+        Node::has_numbers_of(self, other)
     }
-    for i in 0..nodes.len() {
-        if !nodes[i].has_numbers_of(&others[i]) {
-            return false;
-        }
-    }
-    true
-}
-
-fn same_nodes<L: RaftLog>(nodes: &[Node<L>], others: &[Node<L>]) -> bool
-    ensures { IsTrue result ↔ (nodes.now ≡ others.now) }
-{
-    if nodes.len() != others.len() {
-        return false;
-    }
-    for i in 0..nodes.len() {
-        if !nodes[i].same(&others[i]) {
-            return false;
-        }
-    }
-    true
 }

@@ -1,7 +1,8 @@
 //! A message on its way.
 
-ghost use Rattle.std.specs.Prelude.{◌≡◌, ◌↔◌, IsTrue, IfOk};
+ghost use Rattle.std.specs.Prelude.{◌≡◌, IfOk};
 
+use crate::lists::Alike;
 use rb_message::Message;
 use std::alloc::{AllocError, Global};
 use std::marker::Model;
@@ -36,20 +37,17 @@ impl Letter {
     {
         &self.pointer
     }
+}
 
-    /// The same message once more: one pointer.
-    pub(crate) fn try_copy(&self) -> Result<Letter, AllocError>
-        ensures { IfOk result (λ copy. copy ≡ self.now) }
-    {
+impl Alike for Letter {
+    // It takes one pointer.
+    fn try_copy(&self) -> Result<Letter, AllocError> {
         Ok(Letter {
             pointer: self.pointer.clone()?,
         })
     }
 
-    /// Whether both are the same message.
-    pub(crate) fn same(&self, other: &Letter) -> bool
-        ensures { IsTrue result ↔ (self.now ≡ other.now) }
-    {
+    fn same(&self, other: &Letter) -> bool {
         self.message().same(other.message())
     }
 }

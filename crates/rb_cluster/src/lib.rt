@@ -13,6 +13,7 @@ mod deliveries;
 mod laws;
 mod letter;
 mod limits;
+mod lists;
 mod machine;
 mod message_types;
 mod meter;

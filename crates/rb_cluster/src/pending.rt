@@ -2,7 +2,7 @@
 //!
 //! They stand in one list, in the order in which they were sent. A message never changes, so a copy of the list costs a pointer a message.
 
-ghost use Rattle.std.specs.Prelude.{◌≡◌, ◌++◌, ◌∷◌, [], ◌↔◌, IsTrue, IfOk, OnOk, not, filter};
+ghost use Rattle.std.specs.Prelude.{◌≡◌, ◌++◌, ◌∷◌, [], IfOk, OnOk, not, filter};
 ghost use Rattle.rb_cluster.specs.Pending.{is_for, mail, other_mail, has_room, with_pending, sent, all_sent};
 ghost use Rattle.rb_cluster.specs.Scenes.{scene};
 
@@ -29,32 +29,6 @@ pub(crate) fn has_room(pending: &[Letter]) -> bool
     ensures { result ≡ has_room pending.now }
 {
     pending.len() < MAX_PENDING
-}
-
-/// The same messages once more.
-pub(crate) fn copies_of(alloc: Global, pending: &[Letter]) -> Result<Vec<Letter>, AllocError>
-    ensures { IfOk result (λ copies. copies.items ≡ pending.now) }
-{
-    let mut copies = Vec::with_capacity(alloc, pending.len())?;
-    for letter in pending {
-        copies.push(letter.try_copy()?)?;
-    }
-    Ok(copies)
-}
-
-/// Whether both are the same messages, in the same order. Lists of different lengths are told at once.
-pub(crate) fn same_pending(pending: &[Letter], others: &[Letter]) -> bool
-    ensures { IsTrue result ↔ (pending.now ≡ others.now) }
-{
-    if pending.len() != others.len() {
-        return false;
-    }
-    for i in 0..pending.len() {
-        if !pending[i].same(&others[i]) {
-            return false;
-        }
-    }
-    true
 }
 
 /// Pending messages, parted: those for a node, and all others, each in their order.
@@ -88,7 +62,7 @@ pub(crate) fn split(
 
 impl<L: RaftLog> Cluster<L> {
     /// Puts a message at the end of the pending ones, or gives it up where there is no room.
-    fn send(&mut self, message: Message, screen: &mut Screen) -> Result<(), AllocError>
+    pub(crate) fn send(&mut self, message: Message, screen: &mut Screen) -> Result<(), AllocError>
         ensures { OnOk result (scene self.new screen.new ≡ sent (scene self.old screen.old) message) }
     {
         if !has_room(&self.pending) {

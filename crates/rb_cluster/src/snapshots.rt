@@ -9,7 +9,6 @@ ghost use Rattle.rb_cluster.specs.Snapshots.{queued, snapshot_sent, error_of, co
 ghost use Rattle.rb_cluster.specs.Scenes.{scene};
 
 use crate::cluster::{Cluster, place_of};
-use crate::letter::Letter;
 use crate::pending::has_room;
 use crate::screen::Screen;
 use crate::views::show_log;
@@ -61,12 +60,11 @@ impl<L: RaftLog> Cluster<L> {
     fn queue(&mut self, message: Message, screen: &mut Screen) -> Result<(), AllocError>
         ensures { OnOk result (scene self.new screen.new ≡ queued (scene self.old screen.old) message) }
     {
-        if !has_room(&self.pending) {
-            return screen.show(&Item::Moved(Verb::NoRoomFor, &message));
+        // Where there is no room, sending it shows so.
+        if has_room(&self.pending) {
+            screen.show(&Item::Moved(Verb::Queue, &message))?;
         }
-        screen.show(&Item::Moved(Verb::Queue, &message))?;
-        self.pending.push(Letter::new(self.alloc, message)?)?;
-        Ok(())
+        self.send(message, screen)
     }
 
     /// Puts a node's snapshot for another among the pending messages.

@@ -7,6 +7,3 @@
 mod command;
 
 pub use command::{Command, MAX_GIVEN, Purpose, command_of, limits_are};
-
-#[cfg(test)]
-mod tests;

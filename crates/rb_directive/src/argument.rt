@@ -1,6 +1,6 @@
 //! The arguments that directives take: what each is called, and what it has to be.
 //!
-//! An argument without `=` is a word, told by its place; one with `=` is an option, told by its key.
+//! An argument without `=` is a word, known by its place; one with `=` is an option, known by its key.
 
 ghost use Rattle.std.specs.Prelude.{◌≡◌};
 ghost use Rattle.rb_directive.specs.Names.{number_text, bytes_text, level_text, flag_text, ids_text, argument_text};

@@ -1,6 +1,6 @@
 //! What a directive asks for: one variant a directive, which holds what its arguments say.
 //!
-//! Ids, numbers and choices are read, with what holds where they aren't given. Payloads and contents are lent by the
+//! Ids, numbers and choices are read, with what holds where they aren't given. Payloads and contents are borrowed from the
 //! script. What must be given is there; an `Option` is what may be left out.
 
 ghost use Rattle.std.specs.Prelude.{◌≡◌};
@@ -44,7 +44,7 @@ pub struct ProposeConfChange<'d> {
     pub transition: Transition,
     /// The lines of its input, whose words are the changes.
     pub inputs: Inputs<'d>,
-    /// What is wrong with the words of its input. It is told only where the node exists.
+    /// What is wrong with the words of its input. It is answered only where the node exists.
     pub fault: Option<DirectiveError<'d>>,
 }
 

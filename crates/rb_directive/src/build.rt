@@ -1,6 +1,6 @@
 //! From what the arguments say to the request: what is missing, and what holds where an argument isn't given.
 //!
-//! A directive takes what must be given in a fixed order, and the first that is missing is told.
+//! A directive takes what must be given in a fixed order, and the first that is missing is named.
 
 ghost use Rattle.std.specs.Prelude.{◌≡◌, [], codes, IfOk};
 ghost use Rattle.std.specs.Option.{unwrap_or};

@@ -20,7 +20,7 @@ AreTold lost = All (λ l. IsOfReading l.trouble) lost
 abbrev pub losses : List Lost → List (List ℕ × Trouble)
 losses lost = map (λ l. (l.path.items, l.trouble)) lost
 
--- what is found where a word is given or not: each path has it, and each loss is told
+-- what is found where a word is given or not: each path has it, and each loss is reported
 pub record IsFound (word : Option (List ℕ)) (found : Found) : Type 0 where
   pub kept : All (λ path. IsKept word (string_bytes path)) found.scripts.items
   pub told : AreTold found.lost.items

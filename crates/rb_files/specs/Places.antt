@@ -8,14 +8,14 @@ pub record Written : Type 0 where
   pub text : List ℕ
   pub is_settled : Bool
 
--- what stands there: the file, and the new file, where there is one; what the first call that failed told, and whether removing failed
+-- what stands there: the file, and the new file, where there is one; what the first call that failed said, and whether removing failed
 pub record Standing : Type 0 where
   pub file : Written
   pub new : Option Written
   pub told : Option Trouble
   pub is_stuck : Bool
 
--- what was told first, where this is told now
+-- what was said first, where this is said now
 abbrev pub told_with : Trouble → Standing → Option Trouble
 told_with e s = Some (unwrap_or s.told e)
 
@@ -83,7 +83,7 @@ abbrev pub Fills : {X : Type 0} → List ℕ → Result X Trouble → Option Sta
 Fills text (Ok x) old new = IfSome old (λ s. s.new ≡ Some empty → new ≡ Some (replaced text s))
 Fills text (Err e) old new = IfSome old (λ s. FailsAtText e s new)
 
--- the old file stands there as it was, and no new one, or one whose removing failed, as is said; and it is said what was told first
+-- the old file stands there as it was, and no new one, or one whose removing failed, as is said; and it is reported what was said first
 abbrev pub LeavesOld : Unreplaced → Standing → Option Standing → Type 0
 LeavesOld why s new =
     MatchBool why.is_removed

@@ -12,7 +12,7 @@ use crate::trouble::Trouble;
 
 /// A file with a text, and the new file beside it, where there is one.
 pub trait Place {
-    // what stands there, and what the first call that failed told; `None` where it isn't known
+    // what stands there, and what the first call that failed said; `None` where it isn't known
     ghost stands: { Self → Option Standing };
 
     /// Makes the new file, without a text.

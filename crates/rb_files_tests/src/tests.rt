@@ -1,6 +1,8 @@
 //! A file in memory is a place of which all is known. A text is put in it, with each call of it failing in turn, and each with the
 //! removing too.
 
+mod checks;
+
 ghost use Rattle.std.specs.Prelude.{◌≡◌, Some, option_map, unwrap_or};
 
 use rb_check::Failure;

@@ -32,7 +32,7 @@ pub enum DirectiveError<'a> {
 impl<'a> DirectiveError<'a> {
     ghost use Rattle.std.specs.Prelude.{◌≡◌};
 
-    /// The same once more. Words stay lent.
+    /// The same once more. Words stay borrowed.
     pub fn copy(&self) -> DirectiveError<'a>
         ensures { result ≡ self.now }
     {

@@ -1,4 +1,4 @@
-//! Words of a directive: bytes of the script, which are lent and not copied. In contracts a word is the list of its bytes.
+//! Words of a directive: bytes of the script, which are borrowed and not copied. In contracts a word is the list of its bytes.
 
 use std::marker::Model;
 
@@ -33,7 +33,7 @@ impl<'a> Word<'a> {
         self.bytes
     }
 
-    /// The same word: bytes that stay lent.
+    /// The same word: bytes that stay borrowed.
     pub fn copy(&self) -> Word<'a>
         ensures { result ≡ self.now }
     {

@@ -2,7 +2,7 @@
 //!
 //! A [`LineReader`] gives the lines of what a [`Source`] gives, as [`rb_script`] cuts them: a line ends with LF, the
 //! carriage returns directly before it belong to the end, and what follows the last LF is a line if it has bytes.
-//! A line of more than [`rb_script::MAX_LINE`] bytes is told as too long. Below it stands the [`LineBuffer`], which
+//! A line of more than [`rb_script::MAX_LINE`] bytes is answered as too long. Below it stands the [`LineBuffer`], which
 //! takes the bytes of one line.
 #![tactic(auto)]
 

@@ -1,8 +1,8 @@
 //! Where bytes come from.
 //!
-//! Nothing is known of when a `Read` fails, so whatever stands on one could tell a failure at will. A [`Source`] can be
+//! Nothing is known of when a `Read` fails, so what stands on one could claim a failure at will. A [`Source`] can be
 //! known to give all that it has, as a `Sink` of [`rb_script`] can be known to take all: over such a one there is no
-//! failure to be told. It also counts how often it is asked, where that is known.
+//! failure to be answered. It also counts how often it is asked, where that is known.
 
 ghost use Rattle.std.specs.Prelude.{ℕ, ◌≤◌, List, Option, None, Some, IsOk, IfOk, length};
 ghost use Rattle.std.specs.Io.KnownBytes.{ReadConsumes};

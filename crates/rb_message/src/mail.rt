@@ -74,6 +74,17 @@ fn push_pages(messages: &mut Vec<Message>, pages: &[Shared<Message>]) -> Result<
     Ok(())
 }
 
+// The tail, with the message that makes it a page. It is taken out.
+fn full_page(tail: &mut Vec<Message>, last: Message) -> Result<Shared<Message>, AllocError>
+    ensures page { IfOk result (λ page. page ≡ tail.old.items ++ last ∷ []) }
+    ensures none_left { tail.new.items ≡ [] }
+{
+    let alloc = *tail.allocator();
+    let mut page = mem::replace(tail, Vec::new(alloc));
+    page.push(last)?;
+    Shared::new(page)
+}
+
 // Puts the message that makes the tail a page. Mail of more than 2,000,000,000 pages is refused as if memory had been.
 fn push_page(
     pages: &mut Vec<Shared<Message>>,
@@ -88,10 +99,7 @@ fn push_page(
     if pages.len() >= MAX_PAGES {
         return Err(AllocError);
     }
-    let alloc = *tail.allocator();
-    let mut page = mem::replace(tail, Vec::new(alloc));
-    page.push(last)?;
-    pages.push(Shared::new(page)?)?;
+    pages.push(full_page(tail, last)?)?;
     Ok(())
 }
 

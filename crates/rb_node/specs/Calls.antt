@@ -15,7 +15,7 @@ use Rattle.rb_step.specs.Node.{PlainNode, Turn, turn, message, is_leader, starte
 use Rattle.rb_step.specs.Sends.{viewed, is_replicating}
 use Rattle.rb_step.specs.Step.{stepped}
 
--- a node starts, and tells where and with which configuration
+-- a node starts, and shows where and with which configuration
 abbrev pub node_started : ℕ → Snapshot → Options → List Event → Turn
 node_started id start options events =
     let node = started id start options in

@@ -16,13 +16,13 @@ use Rattle.rb_step.specs.Campaigns.{campaigned}
 use Rattle.rb_step.specs.Transferring.{transfer_ended}
 use Rattle.rb_node.specs.declared.ticking.TheConstants.{MAX_TICKS, HEARTBEAT_TICKS}
 
--- a counter, which stops at the greatest timeout: beyond it no comparison can tell
+-- a counter, which stops at the greatest timeout: beyond it no comparison sees more
 abbrev pub counted : ℕ → ℕ
 counted n = min (n + 1) MAX_TICKS
 
 -- ---- a leader
 
--- one heartbeat, which tells no more of the commit than the follower is known to hold
+-- one heartbeat, which has no more of the commit than the follower is known to hold
 abbrev pub beat_to : PlainNode → ℕ → PlainNode
 beat_to n id = if id == n.id then n else posted n id (kind.Heartbeat (min (match_of n.tracker.views id) n.commit))
 

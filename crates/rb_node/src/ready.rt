@@ -1,7 +1,7 @@
 //! What is ready.
 //!
 //! Before a node goes on, its owner makes durable what the node must not forget, sends what goes out, and applies what is committed
-//! (etcd raft documentation, "Ready"). All of it is lent by the node; nothing is copied.
+//! (etcd raft documentation, "Ready"). All of it is borrowed from the node; nothing is copied.
 
 ghost use Rattle.std.specs.Prelude.{◌≡◌, ◌<◌, IsOk, length, slice_get};
 ghost use Rattle.rb_raftlog.specs.Log.{entry_at};

@@ -9,6 +9,3 @@ mod writing;
 
 pub use reading::number_of;
 pub use writing::put_number;
-
-#[cfg(test)]
-mod tests;

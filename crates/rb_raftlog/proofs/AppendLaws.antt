@@ -18,7 +18,7 @@ new_held v i e es h = cond-true (is_term (term_at v i) e.term) (first_new v (i +
 new_here : (v : LogValue) (i : ℕ) (e : Entry) (es : List Entry) → is_term (term_at v i) e.term ≡ false → first_new v i (e ∷ es) ≡ Some i
 new_here v i e es h = cond-false (is_term (term_at v i) e.term) (first_new v (i + 1) es) (Some i) h
 
-some_is : (a b : ℕ) → Some a ≡ Some b → a ≡ b
+pub some_is : (a b : ℕ) → Some a ≡ Some b → a ≡ b
 some_is a b e = cc
 
 -- it is one of these, and those before it are held
@@ -94,7 +94,7 @@ new_after_last v (x ∷ es) i c low e =
 
 -- ---- what is put in place
 
-abbrev put : LogValue → ℕ → List Entry → ℕ → LogValue
+abbrev pub put : LogValue → ℕ → List Entry → ℕ → LogValue
 put v prev es c = replaced v prev es (Some c)
 
 pub put_term_below : (v : LogValue) (prev c i : ℕ) (es : List Entry) → i < c → c ≤ last v + 1 → term_at (put v prev es c) i ≡ term_at v i
@@ -118,6 +118,13 @@ put_entry_below v prev c i es low high =
     ∙ ap (λ (o : Option Entry). found o) (slice_get_front v.entries (drop (c - 1 - prev) es) (c - 1 - v.base) k (omega (arith, at)) (omega arith))
     ∙ sym (entry_past v k))
     i low
+
+-- how many there are
+pub put_size : (v : LogValue) (prev c : ℕ) (es : List Entry) → c ≤ last v + 1 → length (put v prev es c).entries ≡ c - 1 - v.base + (length es - (c - 1 - prev))
+put_size v prev c es high =
+    length-append (take (c - 1 - v.base) v.entries) (drop (c - 1 - prev) es)
+    ∙ ap (λ (n : ℕ). n + length (drop (c - 1 - prev) es)) (length-take-le (c - 1 - v.base) v.entries (omega arith))
+    ∙ ap (λ (n : ℕ). c - 1 - v.base + n) (length-drop (c - 1 - prev) es)
 
 -- the entries from there on
 put_item : (v : LogValue) (prev c k : ℕ) (es : List Entry) → v.base ≤ prev → prev + 1 ≤ c → c ≤ last v + 1 → c ≤ prev + 1 + k → slice_get (put v prev es c).entries (prev - v.base + k) ≡ slice_get es k
@@ -158,7 +165,11 @@ pub appended_matched : (v : LogValue) (prev term commit : ℕ) (es : List Entry)
 appended_matched v prev term commit es over holds =
     cond-false (ltb prev commit) v _ (le-ltb prev commit over) ∙ cond-true (is_term (term_at v prev) term) _ v holds
 
-by_option : (o : Option ℕ) (P : Option ℕ → Type 0) → (o ≡ None → P None) → ((c : ℕ) → o ≡ Some c → P (Some c)) → P o
+pub appended_new : (v : LogValue) (prev term commit c : ℕ) (es : List Entry) → commit ≤ prev → term_at v prev ≡ Ok term → first_new v (prev + 1) es ≡ Some c → appended v prev term es commit ≡ put v prev es c
+appended_new v prev term commit c es over at new =
+    appended_matched v prev term commit es over (is_term_from (term_at v prev) term at) ∙ ap (λ (o : Option ℕ). replaced v prev es o) new
+
+pub by_option : (o : Option ℕ) (P : Option ℕ → Type 0) → (o ≡ None → P None) → ((c : ℕ) → o ≡ Some c → P (Some c)) → P o
 by_option None P none some = none refl
 by_option (Some c) P none some = some c refl
 
@@ -177,7 +188,7 @@ by_append v prev term commit es P stays puts =
 -- ---- the laws
 
 -- where entries are put in place
-in_place : (v : LogValue) (prev term c : ℕ) (es : List Entry) → is_term (term_at v prev) term ≡ true → first_new v (prev + 1) es ≡ Some c → (v.base ≤ prev) × (prev + 1 ≤ c) × (c ≤ last v + 1) × (c < prev + 1 + length es)
+pub in_place : (v : LogValue) (prev term c : ℕ) (es : List Entry) → is_term (term_at v prev) term ≡ true → first_new v (prev + 1) es ≡ Some c → (v.base ≤ prev) × (prev + 1 ≤ c) × (c ≤ last v + 1) × (c < prev + 1 + length es)
 in_place v prev term c es holds e =
     let prev_in : (v.base ≤ prev) × (prev ≤ last v) = held_in v prev term (is_term_is (term_at v prev) term holds) in
     let within : (prev + 1 ≤ c) × (c < prev + 1 + length es) = new_within v es (prev + 1) c e in
@@ -253,10 +264,7 @@ pub appended-is_log : (v : LogValue) (prev term commit : ℕ) (es : List Entry) 
 appended-is_log v prev term commit es is fits =
     by_append v prev term commit es (λ w. IsLog w) is
     (λ c over holds e. (let there = in_place v prev term c es holds e in
-    let size : length (put v prev es c).entries ≡ c - 1 - v.base + (length es - (c - 1 - prev)) =
-    length-append (take (c - 1 - v.base) v.entries) (drop (c - 1 - prev) es)
-    ∙ ap (λ (n : ℕ). n + length (drop (c - 1 - prev) es)) (length-take-le (c - 1 - v.base) v.entries (omega (arith, there.2)))
-    ∙ ap (λ (n : ℕ). c - 1 - v.base + n) (length-drop (c - 1 - prev) es) in
+    let size = put_size v prev c es there.2 in
     record {
       above_base = omega (arith, is.above_base, there.0, there.1);
       within = omega (arith, there.0, there.1, there.3);

@@ -1,7 +1,10 @@
+pub mod AnswerLaws
 pub mod AppendLaws
 pub mod CutLaws
 pub mod ListLaws
 pub mod LogLaws
+pub mod MatchLaws
 pub mod PageLaws
+pub mod PlaceLaws
 pub mod TermLaws
 pub mod VoteLaws

@@ -10,17 +10,17 @@ use Rattle.rb_raftlog.proofs.TermLaws.{term_base, term_past, entry_past, by_inde
 
 -- ---- up to date: by the last term, and then by the last index
 
-abbrev newer : ℕ → ℕ → ℕ → ℕ → Bool
+abbrev pub newer : ℕ → ℕ → ℕ → ℕ → Bool
 newer t i u j = ltb t u || (eqb u t && leb i j)
 
-newer_is : (t i u j : ℕ) → newer t i u j ≡ true → (t < u) ⊎ ((u ≡ t) × (i ≤ j))
+pub newer_is : (t i u j : ℕ) → newer t i u j ≡ true → (t < u) ⊎ ((u ≡ t) × (i ≤ j))
 newer_is t i u j h =
     elim (or_cases (ltb t u) (eqb u t && leb i j) h) as (λ _. (t < u) ⊎ ((u ≡ t) × (i ≤ j))) [
       | inl above ↦ inl (ltb-true t u above)
       | inr level ↦ let both = and_parts (eqb u t) (leb i j) level in inr (eqb-true u t both.0, leb-true i j both.1)
     ]
 
-newer_from : (t i u j : ℕ) → (t < u) ⊎ ((u ≡ t) × (i ≤ j)) → newer t i u j ≡ true
+pub newer_from : (t i u j : ℕ) → (t < u) ⊎ ((u ≡ t) × (i ≤ j)) → newer t i u j ≡ true
 newer_from t i u j h =
     elim h as (λ _. newer t i u j ≡ true) [
       | inl above ↦ or_left (ltb t u) (eqb u t && leb i j) (lt-ltb t u above)

@@ -3,12 +3,13 @@
 //! The contracts of [`crate::RaftLog`] say what each call gives, by these definitions. The laws say why that is what Raft asks of a
 //! log: what is committed stays, what was taken matches, and what is at most as new gets no vote. None of them is run.
 
-ghost use Rattle.std.specs.Prelude.{◌≡◌, ℕ, ◌+◌, ◌<◌, ◌≤◌, ◌⊎◌, List, Ok, Some, None, length, slice_get, true};
+ghost use Rattle.std.specs.Prelude.{◌≡◌, ◌↔◌, ℕ, ◌+◌, ◌-◌, ◌<◌, ◌≤◌, ◌⊎◌, List, [], Ok, Some, None, length, slice_get, min, true, false};
 ghost use Rattle.rb_raftlog.specs.declared.entry.Entry.{Entry};
 ghost use Rattle.rb_raftlog.specs.declared.snapshot.Snapshot.{Snapshot};
 ghost use Rattle.rb_raftlog.specs.declared.limits.TheConstants.{MAX_INDEX};
-ghost use Rattle.rb_raftlog.specs.Log.{LogValue, IsLog, last, fresh, term_at, entry_at, first_new, appended, own, made_durable, compacted, restored, hint};
-ghost use Rattle.rb_raftlog.specs.Laws.{IsHint, log_is_up_to_date};
+ghost use Rattle.rb_raftlog.specs.declared.raft_log.Appended.TheVariants.{Matched, Refused, BelowCommit};
+ghost use Rattle.rb_raftlog.specs.Log.{LogValue, IsLog, last, fresh, term_at, entry_at, is_term, first_new, appended, answer, own, made_durable, compacted, restored, hint, is_up_to_date, entries_from, between, not_durable};
+ghost use Rattle.rb_raftlog.specs.Laws.{IsHint, log_is_up_to_date, IsAsNew, IsConflicting, IsFirstConflict, AreMatching, AreOfLog};
 
 /// What is at or below commit never changes by an append, whatever is sent.
 pub fn committed_entries_stay()
@@ -29,6 +30,44 @@ pub fn held_entries_stay()
     ensures none { (v : LogValue) (prev term commit : ℕ) (es : List Entry) → first_new v (prev + 1) es ≡ None → appended v prev term es commit ≡ v }
 {}
 
+/// An entry that conflicts goes, and all that follow it: from the first that is new on, the log is what was sent and nothing else.
+pub fn conflicting_entries_go()
+    ensures { (v : LogValue) (prev term commit new : ℕ) (es : List Entry) → commit ≤ prev → term_at v prev ≡ Ok term → first_new v (prev + 1) es ≡ Some new → last (appended v prev term es commit) ≡ prev + length es }
+{}
+
+/// Durable is what was written. An append takes back what it replaces, and nothing else; an entry of one's own isn't durable before it is
+/// written; when all is written, all is durable.
+pub fn durable_is_what_was_written()
+    ensures replaced { (v : LogValue) (prev term commit new : ℕ) (es : List Entry) → commit ≤ prev → term_at v prev ≡ Ok term → first_new v (prev + 1) es ≡ Some new → (appended v prev term es commit).durable ≡ min v.durable (new - 1) }
+    ensures falls { (v : LogValue) (prev term commit : ℕ) (es : List Entry) → (appended v prev term es commit).durable ≤ v.durable }
+    ensures entries { (v : LogValue) (prev term commit i : ℕ) (es : List Entry) → i ≤ (appended v prev term es commit).durable → entry_at (appended v prev term es commit) i ≡ entry_at v i }
+    ensures own { (v : LogValue) (e : Entry) → (own v e).durable ≡ v.durable }
+    ensures own_last { (v : LogValue) (e : Entry) → entry_at (own v e) (last v + 1) ≡ Ok e }
+    ensures own_held { (v : LogValue) (e : Entry) (i : ℕ) → i ≤ last v → entry_at (own v e) i ≡ entry_at v i }
+    ensures written { (v : LogValue) → (made_durable v).durable ≡ last v }
+    ensures written_entries { (v : LogValue) → (made_durable v).entries ≡ v.entries }
+{}
+
+/// What an append is answered says what is held: that all that was sent is, or that the entry to append after isn't, or where what is
+/// committed conflicts. In the last two cases the log stays.
+pub fn answers_say_what_is_held()
+    ensures matched { (v : LogValue) (prev term commit i : ℕ) (es : List Entry) → commit ≤ prev → answer v prev term es commit ≡ Matched i → (term_at v prev ≡ Ok term) × (i ≡ prev + length es) }
+    ensures committed { (v : LogValue) (prev term commit i : ℕ) (es : List Entry) → prev < commit → answer v prev term es commit ≡ Matched i → (i ≡ commit) × ((k : ℕ) → IsConflicting v prev es commit k → ⊥) }
+    ensures refused { (v : LogValue) (prev term commit i : ℕ) (es : List Entry) → answer v prev term es commit ≡ Refused i → (term_at v prev ≡ Ok term → ⊥) × (appended v prev term es commit ≡ v) }
+    ensures below { (v : LogValue) (prev term commit i : ℕ) (es : List Entry) → answer v prev term es commit ≡ BelowCommit i → IsFirstConflict v prev es commit i × (appended v prev term es commit ≡ v) }
+{}
+
+/// Log matching (Ongaro's thesis, section 3.5) is kept: by an append of what another log has behind an entry of the stated term; by an
+/// entry of one's own where the other has none of its term there; by compacting; and a log that a snapshot brought matches any.
+pub fn logs_keep_matching()
+    ensures either { (u v : LogValue) → AreMatching u v → AreMatching v u }
+    ensures appended { (u v w : LogValue) (prev term commit : ℕ) (es : List Entry) → AreMatching u v → AreMatching u w → AreMatching v w → term_at w prev ≡ Ok term → AreOfLog w prev es → AreMatching u (appended v prev term es commit) }
+    ensures own { (u v : LogValue) (e : Entry) → AreMatching u v → (term_at u (last v + 1) ≡ Ok e.term → ⊥) → AreMatching u (own v e) }
+    ensures compacted { (u v : LogValue) (i term : ℕ) → AreMatching u v → v.base < i → term_at v i ≡ Ok term → AreMatching u (compacted v i (Ok term)) }
+    ensures written { (u v : LogValue) → AreMatching u v → AreMatching u (made_durable v) }
+    ensures restored { (u : LogValue) (s : Snapshot) → AreMatching u (restored s) }
+{}
+
 /// Appending the same again changes nothing, so that a message may come twice.
 pub fn appending_again_changes_nothing()
     ensures { (v : LogValue) (prev term commit : ℕ) (es : List Entry) → appended (appended v prev term es commit) prev term es commit ≡ appended v prev term es commit }
@@ -38,6 +77,11 @@ pub fn appending_again_changes_nothing()
 pub fn logs_are_ordered()
     ensures total { (v w : LogValue) → (log_is_up_to_date v w ≡ true) ⊎ (log_is_up_to_date w v ≡ true) }
     ensures on { (u v w : LogValue) → log_is_up_to_date u v ≡ true → log_is_up_to_date v w ≡ true → log_is_up_to_date u w ≡ true }
+{}
+
+/// A log is at least as new as another where its last term is later, or is the same and it is at least as long.
+pub fn newer_is_by_term_and_length()
+    ensures { (v : LogValue) (i term : ℕ) → (is_up_to_date v i term ≡ true) ↔ IsAsNew v i term }
 {}
 
 /// The hint is the greatest index, from the base up to the one that is asked for, whose term is at most the stated one.
@@ -59,4 +103,20 @@ pub fn durable_stays_within()
     ensures made_durable { (v : LogValue) → IsLog v → IsLog (made_durable v) }
     ensures compacted { (v : LogValue) (i term : ℕ) → IsLog v → v.base < i → i ≤ v.durable → IsLog (compacted v i (Ok term)) }
     ensures restored { (s : Snapshot) → s.index ≤ MAX_INDEX → IsLog (restored s) }
+{}
+
+/// Compacting moves the base, and no more; a snapshot that is restored is the log.
+pub fn bases_move()
+    ensures compacted { (v : LogValue) (i term : ℕ) → v.base < i → i ≤ last v → ((compacted v i (Ok term)).base ≡ i) × (last (compacted v i (Ok term)) ≡ last v) × ((compacted v i (Ok term)).durable ≡ v.durable) }
+    ensures restored { (s : Snapshot) → (term_at (restored s) s.index ≡ Ok s.term) × (last (restored s) ≡ s.index) × ((restored s).durable ≡ s.index) }
+{}
+
+/// Lists of entries have each entry at its index.
+pub fn entries_stand_at_their_indexes()
+    ensures from { (v : LogValue) (from k : ℕ) (es : List Entry) (e : Entry) → entries_from v from ≡ Ok es → slice_get es k ≡ Some e → entry_at v (from + k) ≡ Ok e }
+    ensures from_all { (v : LogValue) (from : ℕ) (es : List Entry) → entries_from v from ≡ Ok es → from + length es ≡ last v + 1 }
+    ensures between { (v : LogValue) (after upto k : ℕ) (e : Entry) → v.base ≤ after → slice_get (between v after upto) k ≡ Some e → (entry_at v (after + 1 + k) ≡ Ok e) × (after + 1 + k ≤ upto) }
+    ensures between_all { (v : LogValue) (after upto k : ℕ) (e : Entry) → v.base ≤ after → after + 1 + k ≤ upto → entry_at v (after + 1 + k) ≡ Ok e → slice_get (between v after upto) k ≡ Some e }
+    ensures not_durable { (v : LogValue) (k : ℕ) (e : Entry) → v.base ≤ v.durable → slice_get (not_durable v) k ≡ Some e → entry_at v (v.durable + 1 + k) ≡ Ok e }
+    ensures not_durable_all { (v : LogValue) → v.base ≤ v.durable → v.durable ≤ last v → v.durable + length (not_durable v) ≡ last v }
 {}

@@ -29,9 +29,11 @@ pub use entries::Entries;
 pub use entry::{Body, Entry, Transition, Word, WordKind};
 pub use entry_list::EntryList;
 pub use laws::{
-    appended_entries_match, appending_again_changes_nothing, committed_entries_stay,
-    compacting_keeps_terms, durable_stays_within, held_entries_stay, hints_are_greatest,
-    logs_are_ordered,
+    answers_say_what_is_held, appended_entries_match, appending_again_changes_nothing, bases_move,
+    committed_entries_stay, compacting_keeps_terms, conflicting_entries_go,
+    durable_is_what_was_written, durable_stays_within, entries_stand_at_their_indexes,
+    held_entries_stay, hints_are_greatest, logs_are_ordered, logs_keep_matching,
+    newer_is_by_term_and_length,
 };
 pub use limits::{MAX_INDEX, MAX_TERM, limits_are};
 pub use log::Log;

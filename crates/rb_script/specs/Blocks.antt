@@ -12,7 +12,7 @@ use Rattle.rb_script.specs.Runs.{upto, onward, head_of, after_head}
 use Rattle.rb_script.specs.Heads.{head_at, few_or}
 use Rattle.rb_script.specs.Expectations.{Expectation, expectation_at}
 
--- The number of a line is told by those from it on: end is the number after the last.
+-- The number of a line follows from those from it on: end is the number after the last.
 abbrev pub line_number : ℕ → List Line → ℕ
 line_number end ls = end - length ls
 

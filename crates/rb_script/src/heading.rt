@@ -22,7 +22,7 @@ pub fn head_lines(alloc: Global, bytes: &[u8]) -> Result<Vec<usize>, ScriptFault
     ensures found { IfOk result (λ found. TellsHeads bytes.now found.items) }
     // They are those of the script that was read of the bytes.
     ensures same { (s : PlainScript) → Reads bytes.now s → IfOk result (λ found. AreHeadLines 1 (lines bytes.now) s.blocks found.items) }
-    // For a script they are told, unless memory runs out.
+    // For a script they are given, unless memory runs out.
     ensures only { (s : PlainScript) → Reads bytes.now s → IfErr result (λ fault. fault ≡ ScriptFault.OutOfMemory) }
     // Which fault it is, unless memory ran out.
     ensures refused { IfErr result (λ fault. Fails fault (read_of bytes.now)) }

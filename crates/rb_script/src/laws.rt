@@ -78,7 +78,7 @@ pub fn faults_are()
     ensures block { (bytes : List ℕ) (fault : ScriptFault) → block_of bytes ≡ Err fault → IsBlockFault bytes fault }
 {}
 
-/// On the line that is told for a block stands the first line of its head, with the head's other lines below it. The
+/// On the line that is given for a block stands the first line of its head, with the head's other lines below it. The
 /// lines ascend, one a block, and no others are those of the same blocks in the same lines.
 pub fn head_lines_are()
     ensures stands { (ls : List Line) (bs : List PlainBlock) (ns : List ℕ) → AreHeadLines 1 ls bs ns → (k : ℕ) (b : PlainBlock) → slice_get bs k ≡ Some b → StandsOn ls b.head (slice_index ns k) }

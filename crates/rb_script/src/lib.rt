@@ -3,7 +3,7 @@
 //! A script is a list of blocks and a tail of lines. A block is a directive with its expectation: lead lines
 //! (blank lines and comments), the head (a name and arguments), input lines, a line `----`, and the expected
 //! lines. [`Script::read`] reads the bytes of a script, [`Script::edited`] makes an edit of it, and
-//! [`Script::write_to`] writes its canonical text, which reads as the same script. [`head_lines`] tells on which lines of
+//! [`Script::write_to`] writes its canonical text, which reads as the same script. [`head_lines`] gives the lines of
 //! the bytes the directives begin.
 #![tactic(auto)]
 

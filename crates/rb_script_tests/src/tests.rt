@@ -1,18 +1,17 @@
-//! What no clause says: examples from outside, limits, and that calls succeed.
+//! What no clause says: examples from outside, and that calls succeed. What a script, an edit or a command can show is a case of tests/cases or
+//! tests/check.
 //!
 //! Each helper makes one value, or looks at one through a reference, and few of them assert: a function that owns
 //! many values which can fail is slow to prove, and so is each assertion.
 
 mod edits;
-mod head_lines;
-mod limits;
 mod reading;
 mod refusals;
 mod writing;
 
 ghost use Rattle.std.specs.Prelude.{◌≡◌};
 
-use rb_script::{Block, Edit, Lines, Script, ScriptFault, Through};
+use rb_script::{Block, Edit, Lines, Script, Through};
 use std::alloc::Global;
 use std::process::Abort;
 use std::test::Fail;
@@ -29,34 +28,11 @@ fn is_count<R: Abort>(rt: &R, count: usize, want: usize)
     assert_eq!(rt; count, want);
 }
 
-/// The fault of a text that begins so is this, or there is none.
-fn is_fault<R: Abort>(rt: &R, front: &[u8], fault: Option<ScriptFault>, want: Option<ScriptFault>) {
-    assert_eq!(rt; fault, want, "of {front:?}");
-}
-
 /// The lines are these.
 fn are_lines<R: Abort>(rt: &R, lines: &Lines, want: &[&[u8]]) {
     is_count(rt, lines.len(), want.len());
     for (i, line) in want.iter().enumerate() {
         is_same(rt, lines.line(i), line);
-    }
-}
-
-/// How many blocks the script of the bytes has, or why they are none.
-fn blocks_in(alloc: Global, bytes: &[u8]) -> Result<usize, ScriptFault> {
-    Ok(Script::read(alloc, bytes)?.len())
-}
-
-/// The fault of bytes that are no script.
-fn fault_of(alloc: Global, bytes: &[u8]) -> Option<ScriptFault> {
-    blocks_in(alloc, bytes).err()
-}
-
-/// The fault of bytes that are not one block.
-fn fault_of_block(alloc: Global, bytes: &[u8]) -> Option<ScriptFault> {
-    match Block::read(alloc, bytes) {
-        Ok(_) => None,
-        Err(fault) => Some(fault),
     }
 }
 

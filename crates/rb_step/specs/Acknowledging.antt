@@ -26,11 +26,11 @@ handed_to n to i = if to == n.transferee && i == last n.log then posted n to kin
 abbrev pub commits_or_sends : PlainNode → ℕ → ℕ → Mode → PlainNode
 commits_or_sends n i to how = if can_commit n i then told_all (record n { commit = i }) else sends n to how
 
--- where the commit moves all are told, else the sender gets what it has not
+-- where the commit moves it goes to all, else the sender gets what it has not
 unfoldable pub commit_or_sent : PlainNode → ℕ → Mode → PlainNode
 commit_or_sent n to how = commits_or_sends n (commit_of n.tracker) to how
 
--- one that was paused is told in any case, others hear news alone
+-- one that was paused hears in any case, others hear news alone
 abbrev pub mode_after : Bool → Mode
 mode_after true = mode.Tell
 mode_after false = mode.News
@@ -66,7 +66,7 @@ accepted t m i = accepted_at (place t.node.tracker.views m.from) t m i
 
 -- ---- an append that was refused
 
--- a refusal that is no old one: the view steps back, and the follower is told from there
+-- a refusal that is no old one: the view steps back, and the follower is sent what follows from there
 abbrev pub refused_with : Option PlainProgress → Turn → ℕ → Message → ℕ → ℕ → Turn
 refused_with None t at m i hint = t
 refused_with (Some view) t at m i hint =

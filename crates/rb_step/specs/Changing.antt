@@ -40,7 +40,7 @@ stranger_given_up t = if is_member t.node.tracker.config t.node.transferee then 
 abbrev pub commit_checked : Turn → List ℕ → Turn
 commit_checked t ids = with_node t (checked_commit t.node ids)
 
--- the members without a view get one that is on; then the new quorum may commit, else those are told
+-- the members without a view get one that is on; then the new quorum may commit, else those are sent to
 abbrev pub joined_by : Turn → List ℕ → Turn
 joined_by t added = commit_checked (stranger_given_up (with_node t (with_views t.node added true))) added
 
@@ -62,7 +62,7 @@ led_on t =
     then (if steps_down t.node then followed t t.node.term 0 else revised t)
     else t
 
--- a change that can't be made is told and left out (this project's)
+-- a change that can't be made is shown and left out (this project's)
 abbrev pub switched : Result Config ChangeFault → Turn → Turn
 switched (Ok c) t =
     led_on (told (with_node t (record t.node { tracker = configured t.node.tracker c })) (Switched t.node.id c))
@@ -93,6 +93,6 @@ leaves_joint n =
     is_leader n.role && is_joint n.tracker.config && n.tracker.config.auto && n.transferee == 0
     && nat_le n.pending_change n.applied
 
--- a change without words goes into the log, and all are told at once
+-- a change without words goes into the log, and to all at once
 unfoldable pub joint_left : Turn → Turn
 joint_left t = if leaves_joint t.node then all_told (appended_change t (Change Auto [])) else t

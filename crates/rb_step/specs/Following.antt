@@ -67,7 +67,7 @@ abbrev pub new_snapshot_taken : Turn → ℕ → Snapshot → Turn
 new_snapshot_taken t from snapshot =
     told (with_node t (with_match (restored_to t.node snapshot) from)) (Restored t.node.id snapshot.term snapshot.index)
 
--- one that is behind the commit is answered with the commit; one whose entry is held only tells that it is committed
+-- one that is behind the commit is answered with the commit; one whose entry is held only shows that it is committed
 unfoldable pub snapshot_taken : Turn → ℕ → Snapshot → Turn
 snapshot_taken t from snapshot =
     if nat_le snapshot.index t.node.commit then with_node t (with_match t.node from)

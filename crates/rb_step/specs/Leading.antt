@@ -15,7 +15,7 @@ use Rattle.rb_step.specs.Node.{PlainNode, Turn, told, with_node, answered_with}
 use Rattle.rb_step.specs.Sends.{tells, told_all}
 use Rattle.rb_step.specs.Terms.{reset}
 
--- an entry of its term goes to the end of its log; it holds that itself once it is durable, and tells itself so
+-- an entry of its term goes to the end of its log; it holds that itself once it is durable, and answers itself so
 abbrev pub with_own : PlainNode → Body → PlainNode
 with_own n body =
     answered_with (record n { log = own n.log (record { term = n.term; body = body }) }) n.id n.term (kind.AppendResponse (last n.log + 1))
@@ -70,6 +70,6 @@ can_commit n i = nat_lt n.commit i && is_term (term_at n.log i) n.term
 abbrev pub commits_or_tells : PlainNode → ℕ → List ℕ → PlainNode
 commits_or_tells n i ids = if can_commit n i then told_all (record n { commit = i }) else tells n ids
 
--- where the commit moves all are told, else these
+-- where the commit moves it goes to all, else to these
 unfoldable pub checked_commit : PlainNode → List ℕ → PlainNode
 checked_commit n ids = commits_or_tells n (commit_of n.tracker) ids

@@ -85,7 +85,7 @@ pub record IsNode (commit applied : ℕ) : Type 0 where
   pub commit_fits : commit ≤ MAX_INDEX
   pub applied_fits : applied ≤ MAX_INDEX
 
--- a node, and what it has told so far
+-- a node, and its events so far
 pub record Turn : Type 0 where
   pub node : PlainNode
   pub events : List Event

@@ -112,6 +112,6 @@ abbrev pub tells : PlainNode → List ℕ → PlainNode
 tells n [] = n
 tells n (id ∷ ids) = tells (sends n id mode.Tell) ids
 
--- all others are told, each by its view, in ascending order
+-- all others are sent to, each by its view, in ascending order
 unfoldable pub told_all : PlainNode → PlainNode
 told_all n = tells n (ids_of n.tracker.views)

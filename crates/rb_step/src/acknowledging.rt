@@ -53,7 +53,7 @@ impl<L: RaftLog> State<L> {
         }
     }
 
-    // Where the commit moves all are told, else the sender gets what it has not.
+    // Where the commit moves it goes to all, else the sender gets what it has not.
     #[tactic(auto, unfolding(crate::specs::Acknowledging::commit_or_sent))]
     fn commit_or_send(&mut self, to: u64, mode: Mode) -> Result<(), AllocError>
         ensures { OnOk result (self.new ≡ commit_or_sent self.old to mode) }

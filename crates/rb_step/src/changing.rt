@@ -7,7 +7,8 @@ ghost use Rattle.std.specs.Prelude.{◌≡◌, ◌+◌, ◌≤◌, [], length, I
 ghost use Rattle.rb_raftlog.specs.declared.entry.Body.TheVariants.{Change};
 ghost use Rattle.rb_raftlog.specs.declared.entry.Transition.TheVariants.{Auto};
 ghost use Rattle.rb_raftlog.specs.declared.limits.TheConstants.{MAX_INDEX};
-ghost use Rattle.rb_step.specs.Node.{turn};
+ghost use Rattle.rb_message.specs.declared.event.Event.TheVariants.{Switched};
+ghost use Rattle.rb_step.specs.Node.{turn, told};
 ghost use Rattle.rb_step.specs.Changing.{missing, without_stranger, without_strangers, stranger_given_up, joined_by, joined, revised, steps_down, led_on, switched, change_applied, body_applied, applied_one, applied_all, leaves_joint, joint_left};
 
 use crate::state::State;
@@ -102,13 +103,22 @@ impl<L: RaftLog> State<L> {
         self.revise(events)
     }
 
+    fn tell_switch(&self, config: &Config, events: &mut Vec<Event>) -> Result<(), AllocError>
+        ensures { OnOk result (turn self.now events.new.items ≡ told (turn self.now events.old.items) (Switched self.now.id config.now)) }
+    {
+        let config = config.try_copy()?;
+        events.push(Event::Switched {
+            id: self.id,
+            config,
+        })?;
+        Ok(())
+    }
+
     fn switch_to(&mut self, config: Config, events: &mut Vec<Event>) -> Result<(), AllocError>
         ensures { OnOk result (turn self.new events.new.items ≡ switched (Ok config) (turn self.old events.old.items)) }
     {
-        let id = self.id;
-        let told = config.try_copy()?;
+        self.tell_switch(&config, events)?;
         self.tracker.set_config(config);
-        events.push(Event::Switched { id, config: told })?;
         self.lead_on(events)
     }
 

@@ -212,8 +212,7 @@ impl<L: RaftLog> State<L> {
         ensures { OnOk result (turn self.new events.new.items ≡ proposal_passed (turn self.old events.old.items) kind) }
     {
         if self.lead == 0 {
-            events.push(Event::DroppedProposal { id: self.id })?;
-            return Ok(());
+            return self.drop_proposal(events);
         }
         self.pass_on(kind)
     }

@@ -6,7 +6,8 @@
 ghost use Rattle.std.specs.Prelude.{◌≡◌, ◌≤◌, [], false, IsTrue, IfOk, OnOk};
 ghost use Rattle.rb_raftlog.specs.declared.entry.Body.TheVariants.{Payload};
 ghost use Rattle.rb_raftlog.specs.declared.limits.TheConstants.{MAX_INDEX};
-ghost use Rattle.rb_step.specs.Node.{turn};
+ghost use Rattle.rb_message.specs.declared.event.Event.TheVariants.{AppendsNothing};
+ghost use Rattle.rb_step.specs.Node.{turn, told};
 ghost use Rattle.rb_step.specs.Leading.{with_own, is_log_full, appended, appended_change, new_view, with_view_of, with_views, in_lead, leading, led, can_commit, commits_or_tells, checked_commit};
 
 use crate::state::State;
@@ -40,12 +41,19 @@ impl<L: RaftLog> State<L> {
         self.answer(id, term, MessageKind::AppendResponse { matched: last + 1 })
     }
 
+    // The log has no room.
+    pub(crate) fn append_nothing(&self, events: &mut Vec<Event>) -> Result<(), AllocError>
+        ensures { OnOk result (turn self.now events.new.items ≡ told (turn self.now events.old.items) (AppendsNothing self.now.id)) }
+    {
+        events.push(Event::AppendsNothing { id: self.id })?;
+        Ok(())
+    }
+
     pub(crate) fn append(&mut self, body: Body, events: &mut Vec<Event>) -> Result<(), AllocError>
         ensures { OnOk result (turn self.new events.new.items ≡ appended (turn self.old events.old.items) body) }
     {
         if self.is_log_full() {
-            events.push(Event::AppendsNothing { id: self.id })?;
-            return Ok(());
+            return self.append_nothing(events);
         }
         self.push_own(body)
     }
@@ -58,8 +66,7 @@ impl<L: RaftLog> State<L> {
         ensures { OnOk result (turn self.new events.new.items ≡ appended_change (turn self.old events.old.items) body) }
     {
         if self.is_log_full() {
-            events.push(Event::AppendsNothing { id: self.id })?;
-            return Ok(());
+            return self.append_nothing(events);
         }
         let last = self.log.last_index();
         self.push_own(body)?;
@@ -166,7 +173,7 @@ impl<L: RaftLog> State<L> {
         }
     }
 
-    // Where the commit moves all are told, else these.
+    // Where the commit moves it goes to all, else to these.
     #[tactic(auto, unfolding(crate::specs::Leading::checked_commit))]
     pub(crate) fn check_commit(&mut self, ids: &[u64]) -> Result<(), AllocError>
         ensures { OnOk result (self.new ≡ checked_commit self.old ids.now) }

@@ -1,4 +1,4 @@
-//! What a node is told to do differently.
+//! What a node is asked to do differently.
 
 /// A node's options, as etcd's raft names them.
 #[derive(Clone, Copy, PartialEq, Eq, Debug)]

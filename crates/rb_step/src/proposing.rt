@@ -61,8 +61,7 @@ impl<L: RaftLog> State<L> {
             Body::Payload(_) => self.append(copy, events),
             Body::Change { words, .. } => {
                 if self.is_log_full() {
-                    events.push(Event::AppendsNothing { id: self.id })?;
-                    return Ok(());
+                    return self.append_nothing(events);
                 }
                 let why = self.why_replaced(words.len());
                 self.put_change(why, copy, events)
@@ -86,8 +85,7 @@ impl<L: RaftLog> State<L> {
         ensures { OnOk result (turn self.new events.new.items ≡ proposed (turn self.old events.old.items) body.now) }
     {
         if self.takes_none() {
-            events.push(Event::DroppedProposal { id: self.id })?;
-            return Ok(());
+            return self.drop_proposal(events);
         }
         self.put_in(body, events)?;
         self.tell_all()

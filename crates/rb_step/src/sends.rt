@@ -19,7 +19,7 @@ use std::alloc::AllocError;
 /// Why something is sent.
 #[derive(Clone, Copy, PartialEq, Eq, Debug)]
 pub enum Mode {
-    /// To tell how far the log and its commit are, also where there is no entry to send.
+    /// To show how far the log and its commit are, also where there is no entry to send.
     Tell,
     /// To bring entries that were not sent, if there are any.
     News,

@@ -165,7 +165,7 @@ impl<L: RaftLog> State<L> {
         Ok(())
     }
 
-    /// Does nothing with a message, and tells so.
+    /// Does nothing with a message, and shows that.
     pub(crate) fn ignore(
         &self,
         message: &Message,

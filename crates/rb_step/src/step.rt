@@ -101,7 +101,7 @@ impl<L: RaftLog> State<L> {
         self.step_as_follower(message, events)
     }
 
-    fn drop_proposal(&self, events: &mut Vec<Event>) -> Result<(), AllocError>
+    pub(crate) fn drop_proposal(&self, events: &mut Vec<Event>) -> Result<(), AllocError>
         ensures { OnOk result (turn self.now events.new.items ≡ told (turn self.now events.old.items) (DroppedProposal self.now.id)) }
     {
         events.push(Event::DroppedProposal { id: self.id })?;

@@ -1,6 +1,6 @@
 //! Handing the lead over.
 //!
-//! A leader brings another voter up to its own log and then tells it to campaign at once (Ongaro's thesis, section 3.10). Meanwhile it
+//! A leader brings another voter up to its own log and then asks it to campaign at once (Ongaro's thesis, section 3.10). Meanwhile it
 //! takes no proposals.
 
 ghost use Rattle.std.specs.Prelude.{◌≡◌, OnOk};

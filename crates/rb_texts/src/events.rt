@@ -1,6 +1,6 @@
 //! Events.
 //!
-//! An event is shown with its level, so that a reader sees at which levels it is hidden, and with the node that tells it.
+//! An event is shown with its level, so that a reader sees at which levels it is hidden, and with its node.
 
 ghost use Rattle.std.specs.Prelude.{◌≡◌, ◌++◌, codes, decimal, OnOk};
 ghost use Rattle.rb_texts.specs.Configs.{config_text};

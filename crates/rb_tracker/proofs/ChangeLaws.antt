@@ -257,7 +257,7 @@ pub record IsEntered (c d : Config) (auto : Bool) (ws : List Word) : Type 0 wher
   pub some : 0 < length d.incoming
   pub old : 0 < length d.outgoing
 
-or_neither : (a b : Bool) → (a || b) ≡ false → (a ≡ false) × (b ≡ false)
+pub or_neither : (a b : Bool) → (a || b) ≡ false → (a ≡ false) × (b ≡ false)
 or_neither true b h = cc
 or_neither false b h = (refl, h)
 

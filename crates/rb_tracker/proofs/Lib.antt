@@ -6,3 +6,4 @@ pub mod ActiveLaws
 pub mod QuorumLaws
 pub mod ChangeLaws
 pub mod VoteLaws
+pub mod MoveLaws

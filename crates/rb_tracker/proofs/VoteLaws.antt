@@ -14,7 +14,7 @@ use Rattle.rb_tracker.proofs.CommitLaws.{count-cons}
 use Rattle.rb_tracker.proofs.QuorumLaws.{and_left, and_right}
 use Rattle.rb_tracker.proofs.ChangeLaws.{has_with_id, same_has}
 
-more_step : (a b : Bool) (n m : ℕ) → (a ≡ true → b ≡ true) → n ≤ m → cond a 1 0 + n ≤ cond b 1 0 + m
+pub more_step : (a b : Bool) (n m : ℕ) → (a ≡ true → b ≡ true) → n ≤ m → cond a 1 0 + n ≤ cond b 1 0 + m
 more_step true true n m h k = omega arith
 more_step true false n m h k = let never = h refl in cc
 more_step false true n m h k = omega arith
@@ -25,13 +25,13 @@ count_more : (p q : ℕ → Bool) (xs : List ℕ) → ((id : ℕ) → p id ≡ t
 count_more p q [] more = omega arith
 count_more p q (x ∷ xs) more = rw (count-cons p x xs, count-cons q x xs) (more_step (p x) (q x) _ _ (more x) (count_more p q xs more))
 
-most_more' : (len few many : ℕ) → few ≤ many → (len == 0 || nat_lt len (2 * few)) ≡ true → (len == 0 || nat_lt len (2 * many)) ≡ true
+pub most_more' : (len few many : ℕ) → few ≤ many → (len == 0 || nat_lt len (2 * few)) ≡ true → (len == 0 || nat_lt len (2 * many)) ≡ true
 most_more' len few many h most = grind (arith, nat_tests)
 
 most_more : (p q : ℕ → Bool) (voters : List ℕ) → ((id : ℕ) → p id ≡ true → q id ≡ true) → most voters p ≡ true → most voters q ≡ true
 most_more p q voters more h = most_more' (length voters) (count_by p voters) (count_by q voters) (count_more p q voters more) h
 
-both_true : (a b : Bool) → a ≡ true → b ≡ true → (a && b) ≡ true
+pub both_true : (a b : Bool) → a ≡ true → b ≡ true → (a && b) ≡ true
 both_true a b h k = rw (h, k) refl
 
 pub both_more : (c : Config) (p q : ℕ → Bool) → ((id : ℕ) → p id ≡ true → q id ≡ true) → both c p ≡ true → both c q ≡ true

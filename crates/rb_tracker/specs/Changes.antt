@@ -86,7 +86,7 @@ changed c transition words =
     else (if is_auto transition && length words == 1 then simple c words
     else enter_joint c (not (is_explicit transition)) words)
 
--- what is told before any memory is asked for
+-- what is answered before any memory is asked for
 abbrev pub is_early : Result Config ChangeFault → Bool
 is_early (Ok c) = false
 is_early (Err fault.AlreadyJoint) = true
@@ -96,7 +96,7 @@ is_early (Err fault.MoreThanOneVoter) = false
 is_early (Err fault.NoVoters) = false
 is_early (Err fault.OutOfMemory) = false
 
--- what a call gives: for want of memory another fault, unless that is told before any is asked for
+-- what a call gives: for want of memory another fault, unless that is answered before any is asked for
 abbrev pub Gives : Result Config ChangeFault → Result Config ChangeFault → Type 0
 Gives (Ok c) is = is ≡ Ok c
 Gives (Err fault.AlreadyJoint) is = is ≡ Err fault.AlreadyJoint

@@ -20,7 +20,7 @@ holds views n id = nat_le n (match_of views id)
 abbrev pub is_held : PlainTracker → ℕ → Bool
 is_held t n = both t.config (λ id. holds t.views n id)
 
--- the highest index that any view tells
+-- the highest index of any view
 unfoldable pub highest : List (ℕ × PlainProgress) → ℕ
 highest [] = 0
 highest (e ∷ es) = max e.1.matched (highest es)

@@ -9,3 +9,4 @@ pub mod Trackers
 pub mod Commits
 pub mod Active
 pub mod Lending
+pub mod Moves

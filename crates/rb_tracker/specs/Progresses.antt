@@ -80,7 +80,7 @@ is_probing Probe = true
 is_probing Replicate = false
 is_probing Snapshot = false
 
--- an accepted index tells something: more than is known, or that a probe has found the place
+-- an accepted index is news: more than is known, or that a probe has found the place
 abbrev pub is_news : PlainProgress → ℕ → Bool
 is_news p index = nat_lt p.matched index || (p.matched == index && is_probing p.state)
 
@@ -88,7 +88,7 @@ is_news p index = nat_lt p.matched index || (p.matched == index && is_probing p.
 abbrev pub acked : PlainProgress → ℕ → PlainProgress
 acked p index = acked_in p.state p index
 
--- an accepted index that tells nothing frees the window
+-- an accepted index that is no news frees the window
 abbrev pub freed_in : ProgressState → PlainProgress → ℕ → PlainProgress
 freed_in Probe p index = p
 freed_in Replicate p index = record p { window = freed p.window index }

@@ -13,7 +13,7 @@ use crate::id_set::IdSet;
 use rb_raftlog::{Transition, Word, WordKind};
 use std::alloc::AllocError;
 
-/// Why a configuration isn't changed. Of several reasons the first that holds is told, in the order of each call.
+/// Why a configuration isn't changed. Of several reasons the first that holds is answered, in the order of each call.
 #[derive(Clone, Copy, PartialEq, Eq, Debug)]
 pub enum ChangeFault {
     /// A joint configuration can't be entered from a joint one.
@@ -170,7 +170,7 @@ impl Config {
         Ok(self)
     }
 
-    /// The joint configuration of the voters so far and of those that the words make. `auto` tells that a leader is to leave it by
+    /// The joint configuration of the voters so far and of those that the words make. `auto` says that a leader is to leave it by
     /// itself. Its faults, in order: `AlreadyJoint`, `NoVoters`; `OutOfMemory` may come in place of the latter.
     pub fn enter_joint(&self, auto: bool, words: &[Word]) -> Result<Config, ChangeFault>
         ensures { Gives result (enter_joint self.now auto words.now) }

@@ -1,6 +1,6 @@
 //! Sets of ids.
 //!
-//! Voters and learners are sets: an id is in or it isn't, and no order or count is told of it. What the code keeps is the one
+//! Voters and learners are sets: an id is in or it isn't, and it has no order and no count. What the code keeps is the one
 //! list of the ids that is ascending, so that equal sets are equal lists, and to go over a set is to go up its ids.
 ghost use Rattle.std.specs.Prelude.{◌≡◌, ◌≤◌, ◌↔◌, ◌==◌, [], length, IsTrue, IfOk, OnOk, OnErr};
 ghost use Rattle.rb_tracker.specs.Sets.{has, with_id, without, rank, union, set_of, IsAscending};

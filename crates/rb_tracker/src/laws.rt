@@ -1,21 +1,23 @@
 //! What Raft rests on: any two decisions share a voter, also across a change of the configuration.
 //!
 //! A leader is elected by a quorum and commits by a quorum. Since two quorums share a voter, no two leaders are elected in a term,
-//! and whoever is elected has heard from somebody who holds all that is committed (Ongaro's thesis, sections 3.4, 3.6 and 4.1 to 4.3).
+//! and a node that is elected has heard from one that holds all that is committed (Ongaro's thesis, sections 3.4, 3.6 and 4.1 to 4.3).
 //! These are the facts of it that are about sets and counts alone, over all configurations, views and votes.
-ghost use Rattle.std.specs.Prelude.{◌≡◌, ◌≤◌, ◌<◌, ◌↔◌, ℕ, Bool, true, false, List, [], length, Ok};
+ghost use Rattle.std.specs.Prelude.{◌≡◌, ◌≤◌, ◌<◌, ◌↔◌, ℕ, Bool, true, false, not, List, [], length, Ok};
 ghost use Rattle.indexmap.specs.Layout.{set_value_at};
 ghost use Rattle.rb_raftlog.specs.declared.conf_state.ConfState.{ConfState};
 ghost use Rattle.rb_raftlog.specs.declared.entry.Transition.{Transition};
 ghost use Rattle.rb_raftlog.specs.declared.entry.Word.{Word};
+ghost use Rattle.rb_raftlog.specs.declared.entry.WordKind.TheVariants as kind;
 ghost use Rattle.rb_tracker.specs.declared.config.Config.{Config};
 ghost use Rattle.rb_tracker.specs.declared.votes.Votes.{Votes};
 ghost use Rattle.rb_tracker.specs.declared.votes.VoteResult.TheVariants.{Won, Lost};
 ghost use Rattle.rb_tracker.specs.Sets.{has, set_of, IsAscending};
-ghost use Rattle.rb_tracker.specs.Configs.{config_of, state_of};
+ghost use Rattle.rb_tracker.specs.Configs.{config_of, state_of, voters};
 ghost use Rattle.rb_tracker.specs.Quorum.{IsMajority, IsQuorum, Share, ShareVoter};
-ghost use Rattle.rb_tracker.specs.Changes.{simple, enter_joint, leave_joint, changed, IsConfig};
+ghost use Rattle.rb_tracker.specs.Changes.{done_by, simple, enter_joint, leave_joint, changed, IsConfig};
 ghost use Rattle.rb_tracker.specs.Ballots.{no_votes, answered, is_won, is_open, vote_result, MoreGrants, IsOnce};
+ghost use Rattle.rb_tracker.specs.Moves.{Moves, IsLeft, answered_all, grants_of};
 ghost use Rattle.rb_tracker.specs.Progresses.{PlainProgress};
 ghost use Rattle.rb_tracker.specs.Trackers.{PlainTracker, cleared, has_view, with_new, removed, with_view, AreInOrder};
 ghost use Rattle.rb_tracker.specs.Active.{unmarked};
@@ -56,6 +58,29 @@ pub fn changes_keep_configurations()
     ensures leaving { (c d : Config) → leave_joint c ≡ Ok d → d.incoming ≡ c.incoming }
 {}
 
+/// What a word does to the member that it names, and that nobody else moves: `v` makes a voter; `l` a learner, at once or, of a voter
+/// that leaves, once the joint configuration is left; `r` removes; `u` changes nothing.
+pub fn words_move_one_member()
+    ensures voter { (c : Config) (id : ℕ) → Moves c (done_by kind.Voter c id) id true false false }
+    ensures learner { (c : Config) (id : ℕ) → IsConfig c → Moves c (done_by kind.Learner c id) id false (not (has c.outgoing id)) (has c.outgoing id) }
+    ensures removed { (c : Config) (id : ℕ) → Moves c (done_by kind.Remove c id) id false false false }
+    ensures updated { (c : Config) (id : ℕ) → done_by kind.Update c id ≡ c }
+{}
+
+/// Who leads leaves a joint configuration by itself exactly where it was entered so; once it is left, its incoming voters decide alone, and
+/// who was to learn later learns. A simple change makes nothing joint.
+pub fn joint_configurations_are_left()
+    ensures entered { (c d : Config) (auto : Bool) (words : List Word) → enter_joint c auto words ≡ Ok d → d.auto ≡ auto }
+    ensures left { (c d : Config) → leave_joint c ≡ Ok d → IsLeft c d }
+    ensures simple { (c d : Config) (words : List Word) → simple c words ≡ Ok d → (d.outgoing ≡ c.outgoing) × (d.auto ≡ c.auto) }
+{}
+
+/// A vote is lost exactly where no further answers can win it, and then it stays lost.
+pub fn lost_votes_cant_be_won()
+    ensures stays { (c : Config) (v : Votes) (answers : List (ℕ × Bool)) → IsOnce v → vote_result c v ≡ Lost → vote_result c (answered_all v answers) ≡ Lost }
+    ensures winnable { (c : Config) (v : Votes) → IsOnce v → (vote_result c v ≡ Lost → ⊥) → vote_result c (answered_all v (grants_of (voters c))) ≡ Won }
+{}
+
 /// What is committed is the greatest index that a quorum holds.
 pub fn committed_is_greatest()
     ensures held { (t : PlainTracker) → is_held t (commit_of t) ≡ true }
@@ -63,7 +88,7 @@ pub fn committed_is_greatest()
     ensures nobody { (t : PlainTracker) → t.config.incoming ≡ [] → t.config.outgoing ≡ [] → commit_of t ≡ 0 }
 {}
 
-/// Each quorum has a voter who holds all that is committed: so whoever is elected has heard from one.
+/// Each quorum has a voter who holds all that is committed: so a node that is elected has heard from one.
 pub fn quorums_know_what_is_committed()
     ensures { (t : PlainTracker) (p : ℕ → Bool) → IsQuorum t.config p → ShareVoter t.config p (λ id. holds t.views (commit_of t) id) }
 {}

@@ -20,9 +20,9 @@ pub use config::Config;
 pub use id_set::IdSet;
 pub use laws::{
     changes_keep_configurations, changes_keep_quorums_meeting, committed_is_greatest,
-    configurations_read_back, joint_quorums_meet_each_half, majorities_meet,
-    quorums_know_what_is_committed, quorums_meet, views_stay_in_order, votes_are_decided_once,
-    winners_share_a_voter,
+    configurations_read_back, joint_configurations_are_left, joint_quorums_meet_each_half,
+    lost_votes_cant_be_won, majorities_meet, quorums_know_what_is_committed, quorums_meet,
+    views_stay_in_order, votes_are_decided_once, winners_share_a_voter, words_move_one_member,
 };
 pub use progress::{Progress, ProgressState};
 pub use tracker::Tracker;

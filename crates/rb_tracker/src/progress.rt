@@ -225,7 +225,7 @@ impl Progress {
         }
     }
 
-    /// Whether an accepted index tells something: more than is known, or where a probe's logs agree.
+    /// Whether an accepted index is news: more than is known, or where a probe's logs agree.
     pub fn is_news(&self, index: u64) -> bool
         ensures { result ≡ is_news self.now index }
     {
@@ -250,7 +250,7 @@ impl Progress {
         }
     }
 
-    /// An accepted index that tells nothing frees the appends up to it.
+    /// An accepted index that is no news frees the appends up to it.
     pub fn free_through(&mut self, index: u64)
         ensures { self.new ≡ freed_through self.old index }
     {

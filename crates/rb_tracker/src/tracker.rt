@@ -172,16 +172,25 @@ impl Tracker {
     }
 
     #[tactic(auto, using(crate::proofs::WindowLaws::take_more_some, crate::proofs::ViewLaws::lookup_before))]
-    pub fn try_copy(&self) -> Result<Tracker, AllocError>
-        ensures { IfOk result (λ copy. copy ≡ self.now) }
+    fn copy_views(&self) -> Result<IndexMap<u64, Progress>, AllocError>
+        ensures { IfOk result (λ views. views.entries ≡ self.now.views) }
     {
-        let config = self.config.try_copy()?;
         let mut views = IndexMap::with_capacity(*self.views.allocator(), self.views.len())?;
         for i in 0..self.views.len() {
             let (id, view) = self.view(i);
             add_copy(&mut views, id, view)?;
         }
-        Ok(Tracker { config, views })
+        Ok(views)
+    }
+
+    pub fn try_copy(&self) -> Result<Tracker, AllocError>
+        ensures { IfOk result (λ copy. copy ≡ self.now) }
+    {
+        let views = self.copy_views()?;
+        Ok(Tracker {
+            config: self.config.try_copy()?,
+            views,
+        })
     }
 
     /// Whether both are the same configuration and the same views. It takes no memory.

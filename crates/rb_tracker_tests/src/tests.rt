@@ -11,6 +11,7 @@ mod windows;
 
 use rb_tracker::{Config, IdSet, Progress, Tracker, Votes};
 use std::alloc::{AllocError, Global};
+use std::process::Abort;
 
 /// The number that a digit stands for.
 fn number(digit: u8) -> u64 {
@@ -18,11 +19,10 @@ fn number(digit: u8) -> u64 {
 }
 
 /// Puts ids into a set, a digit each.
-fn put(set: &mut IdSet, digits: &str) -> Result<(), AllocError> {
+fn put(rt: &impl Abort, set: &mut IdSet, digits: &str) {
     for digit in digits.as_bytes() {
-        set.insert(number(*digit))?;
+        set.insert(number(*digit)).expect(rt, "memory");
     }
-    Ok(())
 }
 
 /// Whether a list has these numbers, a digit each, in this order.
@@ -39,15 +39,15 @@ fn are(list: &[u64], digits: &str) -> bool {
 }
 
 /// A configuration of these voters, and of nobody else.
-fn voting(alloc: Global, incoming: &str, outgoing: &str) -> Result<Config, AllocError> {
+fn voting(rt: &impl Abort, alloc: Global, incoming: &str, outgoing: &str) -> Config {
     let mut config = Config::new(alloc);
-    put_voters(&mut config, incoming, outgoing)?;
-    Ok(config)
+    put_voters(rt, &mut config, incoming, outgoing);
+    config
 }
 
-fn put_voters(config: &mut Config, incoming: &str, outgoing: &str) -> Result<(), AllocError> {
-    put(&mut config.incoming, incoming)?;
-    put(&mut config.outgoing, outgoing)
+fn put_voters(rt: &impl Abort, config: &mut Config, incoming: &str, outgoing: &str) {
+    put(rt, &mut config.incoming, incoming);
+    put(rt, &mut config.outgoing, outgoing)
 }
 
 /// Puts in a view of an id that holds the log up to an index.
@@ -59,15 +59,14 @@ fn hold(alloc: Global, tracker: &mut Tracker, id: u64, matched: u64) -> Result<(
 }
 
 /// Puts in views of the ids 1, 2 and so on, which hold the log up to a digit each. Who has `-` has no view.
-fn hold_all(alloc: Global, tracker: &mut Tracker, digits: &str) -> Result<(), AllocError> {
+fn hold_all(rt: &impl Abort, alloc: Global, tracker: &mut Tracker, digits: &str) {
     let mut id: u64 = 0;
     for digit in digits.as_bytes() {
         id = id.saturating_add(1);
         if *digit != b'-' {
-            hold(alloc, tracker, id, number(*digit))?;
+            hold(alloc, tracker, id, number(*digit)).expect(rt, "memory");
         }
     }
-    Ok(())
 }
 
 /// Sets the mark of an id's view, if it has one.
@@ -79,36 +78,36 @@ fn mark(tracker: &mut Tracker, id: u64, active: bool) {
 
 /// A tracker of these voters, in which the ids 1, 2 and so on hold the log up to a digit each.
 fn tracking(
+    rt: &impl Abort,
     alloc: Global,
     incoming: &str,
     outgoing: &str,
     digits: &str,
-) -> Result<Tracker, AllocError> {
-    let mut tracker = unheard(alloc, incoming, outgoing)?;
-    hold_all(alloc, &mut tracker, digits)?;
-    Ok(tracker)
+) -> Tracker {
+    let mut tracker = unheard(rt, alloc, incoming, outgoing);
+    hold_all(rt, alloc, &mut tracker, digits);
+    tracker
 }
 
 /// A tracker of these voters, without views.
-fn unheard(alloc: Global, incoming: &str, outgoing: &str) -> Result<Tracker, AllocError> {
-    let config = voting(alloc, incoming, outgoing)?;
-    Ok(Tracker::new(alloc, config))
+fn unheard(rt: &impl Abort, alloc: Global, incoming: &str, outgoing: &str) -> Tracker {
+    let config = voting(rt, alloc, incoming, outgoing);
+    Tracker::new(alloc, config)
 }
 
 /// What the ids 1, 2 and so on answered: `y` granted, `n` refused, and `_` nothing yet.
-fn answered(alloc: Global, answers: &str) -> Result<Votes, AllocError> {
+fn answered(rt: &impl Abort, alloc: Global, answers: &str) -> Votes {
     let mut votes = Votes::new(alloc);
-    answer_all(&mut votes, answers)?;
-    Ok(votes)
+    answer_all(rt, &mut votes, answers);
+    votes
 }
 
-fn answer_all(votes: &mut Votes, answers: &str) -> Result<(), AllocError> {
+fn answer_all(rt: &impl Abort, votes: &mut Votes, answers: &str) {
     let mut id: u64 = 0;
     for answer in answers.as_bytes() {
         id = id.saturating_add(1);
         if *answer != b'_' {
-            votes.answer(id, *answer == b'y')?;
+            votes.answer(id, *answer == b'y').expect(rt, "memory");
         }
     }
-    Ok(())
 }

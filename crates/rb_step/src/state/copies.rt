@@ -16,11 +16,18 @@ struct Outgoing {
     waiting: Mail,
 }
 
+// What it holds.
 #[derive(Drop)]
-struct Parts {
+struct Held<L: RaftLog> {
+    log: L,
     content: Content,
-    tracker: Tracker,
+}
+
+// Who decides with it, and how.
+#[derive(Drop)]
+struct Ballots {
     votes: Votes,
+    tracker: Tracker,
 }
 
 impl<L: RaftLog> State<L> {
@@ -33,13 +40,22 @@ impl<L: RaftLog> State<L> {
         })
     }
 
-    fn copy_parts(&self) -> Result<Parts, AllocError>
-        ensures { IfOk result (λ parts. parts ≡ record { content = self.now.content; tracker = self.now.tracker; votes = self.now.votes }) }
+    fn copy_held(&self) -> Result<Held<L>, AllocError>
+        ensures log { IfOk result (λ held. L.plain held.log ≡ self.now.log) }
+        ensures content { IfOk result (λ held. held.content ≡ self.now.content) }
     {
-        Ok(Parts {
+        Ok(Held {
+            log: self.log.try_copy()?,
             content: self.content.try_copy()?,
-            tracker: self.tracker.try_copy()?,
+        })
+    }
+
+    fn copy_ballots(&self) -> Result<Ballots, AllocError>
+        ensures { IfOk result (λ ballots. ballots ≡ record { tracker = self.now.tracker; votes = self.now.votes }) }
+    {
+        Ok(Ballots {
             votes: self.votes.try_copy()?,
+            tracker: self.tracker.try_copy()?,
         })
     }
 
@@ -48,20 +64,20 @@ impl<L: RaftLog> State<L> {
         ensures { IfOk result (λ copy. copy ≡ self.now) }
     {
         let outgoing = self.copy_outgoing()?;
-        let parts = self.copy_parts()?;
-        let log = self.log.try_copy()?;
+        let held = self.copy_held()?;
+        let ballots = self.copy_ballots()?;
         Ok(State {
             id: self.id,
             term: self.term,
             vote: self.vote,
             lead: self.lead,
             role: self.role,
-            log,
+            log: held.log,
             commit: self.commit,
             applied: self.applied,
-            content: parts.content,
-            tracker: parts.tracker,
-            votes: parts.votes,
+            content: held.content,
+            tracker: ballots.tracker,
+            votes: ballots.votes,
             elapsed: self.elapsed,
             heartbeat_elapsed: self.heartbeat_elapsed,
             timeout: self.timeout,

@@ -10,7 +10,6 @@ use rb_tracker::ChangeFault::{
 use rb_tracker::{ChangeFault, Config};
 use std::alloc::{AllocError, Global};
 use std::process::Abort;
-use std::test::Fail;
 
 /// Incoming voters, outgoing voters, learners, next learners, and the flag.
 type Sets = (&'static str, &'static str, &'static str, &'static str, bool);
@@ -112,29 +111,31 @@ fn kind(letter: u8) -> WordKind {
     }
 }
 
-fn words(alloc: Global, text: &str) -> Result<Vec<Word>, AllocError> {
+fn words(rt: &impl Abort, alloc: Global, text: &str) -> Vec<Word> {
     let mut words = Vec::new(alloc);
     for word in text.as_bytes().chunks(2) {
         if let [letter, id] = word {
-            words.push(Word {
-                kind: kind(*letter),
-                id: number(*id),
-            })?;
+            words
+                .push(Word {
+                    kind: kind(*letter),
+                    id: number(*id),
+                })
+                .expect(rt, "memory");
         }
     }
-    Ok(words)
+    words
 }
 
-fn put_others(config: &mut Config, sets: Sets) -> Result<(), AllocError> {
+fn put_others(rt: &impl Abort, config: &mut Config, sets: Sets) {
     config.auto = sets.4;
-    put(&mut config.learners, sets.2)?;
-    put(&mut config.next, sets.3)
+    put(rt, &mut config.learners, sets.2);
+    put(rt, &mut config.next, sets.3)
 }
 
-pub fn config(alloc: Global, sets: Sets) -> Result<Config, AllocError> {
-    let mut config = voting(alloc, sets.0, sets.1)?;
-    put_others(&mut config, sets)?;
-    Ok(config)
+pub fn config(rt: &impl Abort, alloc: Global, sets: Sets) -> Config {
+    let mut config = voting(rt, alloc, sets.0, sets.1);
+    put_others(rt, &mut config, sets);
+    config
 }
 
 /// Whether a configuration has these sets and this flag.
@@ -169,41 +170,39 @@ fn comes_to(old: &Config, words: &[Word], row: &Row) -> bool {
     is_wanted(&new, row.3) && is(old, row.0)
 }
 
-fn holds_of(alloc: Global, old: &Config, row: &Row) -> Result<bool, AllocError> {
-    let words = words(alloc, row.2)?;
-    Ok(comes_to(old, &words, row))
+fn holds_of(rt: &impl Abort, alloc: Global, old: &Config, row: &Row) -> bool {
+    let words = words(rt, alloc, row.2);
+    comes_to(old, &words, row)
 }
 
-fn holds(alloc: Global, row: &Row) -> Result<bool, AllocError> {
-    let old = config(alloc, row.0)?;
-    holds_of(alloc, &old, row)
+fn holds(rt: &impl Abort, alloc: Global, row: &Row) -> bool {
+    let old = config(rt, alloc, row.0);
+    holds_of(rt, alloc, &old, row)
 }
 
 /// The place of the first row that doesn't hold.
-fn first_wrong(alloc: Global, rows: &[Row]) -> Result<Option<usize>, AllocError> {
+fn first_wrong(rt: &impl Abort, alloc: Global, rows: &[Row]) -> Option<usize> {
     for (k, row) in rows.iter().enumerate() {
-        if !holds(alloc, row)? {
-            return Ok(Some(k));
+        if !holds(rt, alloc, row) {
+            return Some(k);
         }
     }
-    Ok(None)
+    None
 }
 
 fn none_is_wrong(rt: &impl Abort, wrong: Option<usize>, name: &str) {
     assert!(rt; wrong.is_none(), "{name}: {wrong:?}");
 }
 
-fn all_hold(rt: &impl Abort, alloc: Global, rows: &[Row], name: &str) -> Result<(), AllocError> {
-    none_is_wrong(rt, first_wrong(alloc, rows)?, name);
-    Ok(())
+fn all_hold(rt: &impl Abort, alloc: Global, rows: &[Row], name: &str) {
+    none_is_wrong(rt, first_wrong(rt, alloc, rows), name);
 }
 
 #[test]
-fn changes(rt: HostRuntime) -> Result<(), Fail> {
-    all_hold(&rt, rt.alloc(), &SIMPLE, "simple")?;
-    all_hold(&rt, rt.alloc(), &JOINING, "joint")?;
-    all_hold(&rt, rt.alloc(), &ENTRIES, "entries")?;
-    Ok(())
+fn changes(rt: HostRuntime) {
+    all_hold(&rt, rt.alloc(), &SIMPLE, "simple");
+    all_hold(&rt, rt.alloc(), &JOINING, "joint");
+    all_hold(&rt, rt.alloc(), &ENTRIES, "entries");
 }
 
 /// Who votes (`v`), who else is a member (`m`), and who is neither, from id 0 on.
@@ -222,93 +221,90 @@ fn has_members(config: &Config) -> bool {
 }
 
 /// Whether the lists of voters and of members are these.
-fn lists_are(config: &Config, voters: &str, members: &str) -> Result<bool, AllocError> {
-    Ok(voters_are(config, voters)? && members_are(config, members)?)
+fn lists_are(rt: &impl Abort, config: &Config, voters: &str, members: &str) -> bool {
+    voters_are(rt, config, voters) && members_are(rt, config, members)
 }
 
-fn voters_are(config: &Config, ids: &str) -> Result<bool, AllocError> {
-    let voters = config.voters()?;
-    Ok(are(voters.as_slice(), ids))
+fn voters_are(rt: &impl Abort, config: &Config, ids: &str) -> bool {
+    let voters = config.voters().expect(rt, "memory");
+    are(voters.as_slice(), ids)
 }
 
-fn members_are(config: &Config, ids: &str) -> Result<bool, AllocError> {
-    let members = config.members()?;
-    Ok(are(members.as_slice(), ids))
+fn members_are(rt: &impl Abort, config: &Config, ids: &str) -> bool {
+    let members = config.members().expect(rt, "memory");
+    are(members.as_slice(), ids)
 }
 
-fn is_joint_of_six(config: &Config) -> Result<bool, AllocError> {
-    Ok(config.is_joint() && has_members(config) && lists_are(config, "1234", "123456")?)
+fn is_joint_of_six(rt: &impl Abort, config: &Config) -> bool {
+    config.is_joint() && has_members(config) && lists_are(rt, config, "1234", "123456")
 }
 
 #[test]
-fn members_of_a_joint_configuration(rt: HostRuntime) -> Result<(), Fail> {
-    let joint = config(rt.alloc(), JOINT)?;
-    assert!(rt; is_joint_of_six(&joint)?);
-    Ok(())
+fn members_of_a_joint_configuration(rt: HostRuntime) {
+    let joint = config(&rt, rt.alloc(), JOINT);
+    assert!(rt; is_joint_of_six(&rt, &joint));
 }
 
-fn shared(alloc: Global, ids: &[u64]) -> Result<Shared<u64>, AllocError> {
-    Ok(Shared::new(Vec::from_slice(alloc, ids)?)?)
+fn shared(rt: &impl Abort, alloc: Global, ids: &[u64]) -> Shared<u64> {
+    Shared::new(Vec::from_slice(alloc, ids).expect(rt, "memory")).expect(rt, "memory")
 }
 
 /// Whether what is read is what was put in.
 fn reads_as(
+    rt: &impl Abort,
     alloc: Global,
     state: &ConfState,
     put_in: &Config,
     sets: Sets,
-) -> Result<bool, AllocError> {
-    let read = Config::of_state(alloc, state)?;
-    Ok(read.same(put_in) && is(&read, sets))
+) -> bool {
+    let read = Config::of_state(alloc, state).expect(rt, "memory");
+    read.same(put_in) && is(&read, sets)
 }
 
-fn goes_round(alloc: Global, put_in: &Config, sets: Sets) -> Result<bool, AllocError> {
-    let state = put_in.to_state()?;
-    reads_as(alloc, &state, put_in, sets)
+fn is_read_back(rt: &impl Abort, alloc: Global, put_in: &Config, sets: Sets) -> bool {
+    let state = put_in.to_state().expect(rt, "memory");
+    reads_as(rt, alloc, &state, put_in, sets)
 }
 
 /// A configuration is read from a snapshot as it was put into it.
-fn reads_back(alloc: Global, sets: Sets) -> Result<bool, AllocError> {
-    let put_in = config(alloc, sets)?;
-    goes_round(alloc, &put_in, sets)
+fn reads_back(rt: &impl Abort, alloc: Global, sets: Sets) -> bool {
+    let put_in = config(rt, alloc, sets);
+    is_read_back(rt, alloc, &put_in, sets)
 }
 
-fn put_halves(alloc: Global, state: &mut ConfState) -> Result<(), AllocError> {
-    state.incoming = shared(alloc, &[4, 2, 4])?;
-    state.outgoing = shared(alloc, &[3, 2, 1])?;
-    Ok(())
+fn put_halves(rt: &impl Abort, alloc: Global, state: &mut ConfState) {
+    state.incoming = shared(rt, alloc, &[4, 2, 4]);
+    state.outgoing = shared(rt, alloc, &[3, 2, 1]);
 }
 
-fn put_learners(alloc: Global, state: &mut ConfState) -> Result<(), AllocError> {
-    state.learners = shared(alloc, &[6, 5])?;
-    state.next = shared(alloc, &[3])?;
-    Ok(())
+fn put_learners(rt: &impl Abort, alloc: Global, state: &mut ConfState) {
+    state.learners = shared(rt, alloc, &[6, 5]);
+    state.next = shared(rt, alloc, &[3]);
 }
 
-fn any_order(alloc: Global) -> Result<ConfState, AllocError> {
-    let mut state = Config::new(alloc).to_state()?;
-    put_halves(alloc, &mut state)?;
-    put_learners(alloc, &mut state)?;
+fn any_order(rt: &impl Abort, alloc: Global) -> ConfState {
+    let mut state = Config::new(alloc).to_state().expect(rt, "memory");
+    put_halves(rt, alloc, &mut state);
+    put_learners(rt, alloc, &mut state);
     state.auto = true;
-    Ok(state)
+    state
 }
 
-fn reads(alloc: Global, state: &ConfState, sets: Sets) -> Result<bool, AllocError> {
-    let read = Config::of_state(alloc, state)?;
-    Ok(is(&read, sets))
+fn reads(rt: &impl Abort, alloc: Global, state: &ConfState, sets: Sets) -> bool {
+    let read = Config::of_state(alloc, state).expect(rt, "memory");
+    is(&read, sets)
 }
 
 /// Whatever order a snapshot's lists have, and however often they name an id, the sets are ascending.
-fn reads_any_order(alloc: Global) -> Result<bool, AllocError> {
-    let state = any_order(alloc)?;
-    reads(alloc, &state, JOINT)
+fn reads_any_order(rt: &impl Abort, alloc: Global) -> bool {
+    let state = any_order(rt, alloc);
+    reads(rt, alloc, &state, JOINT)
 }
 
 #[test]
-fn snapshots_carry_configurations(rt: HostRuntime) -> Result<(), Fail> {
+fn snapshots_carry_configurations(rt: HostRuntime) {
     for sets in [TWO, THREE, NOBODY, JOINT] {
-        assert!(rt; reads_back(rt.alloc(), sets)?);
+        assert!(rt; reads_back(&rt, rt.alloc(), sets));
     }
-    assert!(rt; reads_any_order(rt.alloc())?);
-    Ok(())
+    assert!(rt; reads_any_order(&rt, rt.alloc()));
 }

@@ -4,7 +4,7 @@
 use super::{hold, mark};
 use rb_tracker::{Config, IdSet, Tracker, VoteResult, Votes};
 use std::alloc::{AllocError, Global};
-use std::test::Fail;
+use std::process::Abort;
 
 /// How many sets of four ids there are.
 const SETS: u32 = 16;
@@ -80,109 +80,110 @@ fn slow_result(incoming: u32, outgoing: u32, ways: u32) -> VoteResult {
     }
 }
 
-fn put(ids: &mut IdSet, set: u32) -> Result<(), AllocError> {
+fn put(rt: &impl Abort, ids: &mut IdSet, set: u32) {
     for id in 1..5 {
         if set & bit(id) != 0 {
-            ids.insert(u64::from(id))?;
+            ids.insert(u64::from(id)).expect(rt, "memory");
         }
     }
-    Ok(())
 }
 
-fn put_voters(config: &mut Config, incoming: u32, outgoing: u32) -> Result<(), AllocError> {
-    put(&mut config.incoming, incoming)?;
-    put(&mut config.outgoing, outgoing)
+fn put_voters(rt: &impl Abort, config: &mut Config, incoming: u32, outgoing: u32) {
+    put(rt, &mut config.incoming, incoming);
+    put(rt, &mut config.outgoing, outgoing)
 }
 
-fn voting(alloc: Global, incoming: u32, outgoing: u32) -> Result<Config, AllocError> {
+fn voting(rt: &impl Abort, alloc: Global, incoming: u32, outgoing: u32) -> Config {
     let mut config = Config::new(alloc);
-    put_voters(&mut config, incoming, outgoing)?;
-    Ok(config)
+    put_voters(rt, &mut config, incoming, outgoing);
+    config
 }
 
 /// Each of the four holds as much as it does, and is marked where it does 2.
-fn hold_all(alloc: Global, tracker: &mut Tracker, ways: u32) -> Result<(), AllocError> {
+fn hold_all(rt: &impl Abort, alloc: Global, tracker: &mut Tracker, ways: u32) {
     for id in 1..5 {
         let way = done(ways, id);
-        hold(alloc, tracker, u64::from(id), u64::from(way))?;
+        hold(alloc, tracker, u64::from(id), u64::from(way)).expect(rt, "memory");
         mark(tracker, u64::from(id), way == 2);
     }
-    Ok(())
 }
 
-fn answer_all(votes: &mut Votes, ways: u32) -> Result<(), AllocError> {
+fn answer_all(rt: &impl Abort, votes: &mut Votes, ways: u32) {
     for id in 1..5 {
         let way = done(ways, id);
         if way != 1 {
-            votes.answer(u64::from(id), way == 2)?;
+            votes.answer(u64::from(id), way == 2).expect(rt, "memory");
         }
     }
-    Ok(())
 }
 
 /// Whether the three answers are those of the slow count.
 fn agrees(
+    rt: &impl Abort,
     tracker: &Tracker,
     votes: &Votes,
     incoming: u32,
     outgoing: u32,
     ways: u32,
-) -> Result<bool, AllocError> {
-    let committed = tracker.committed()?;
+) -> bool {
+    let committed = tracker.committed().expect(rt, "memory");
     let heard = has_quorum(incoming, outgoing, doing(ways, 2));
-    Ok(
-        committed == slow_committed(incoming, outgoing, ways)
-            && tracker.vote_result(votes) == slow_result(incoming, outgoing, ways)
-            && tracker.quorum_active() == heard,
-    )
+    committed == slow_committed(incoming, outgoing, ways)
+        && tracker.vote_result(votes) == slow_result(incoming, outgoing, ways)
+        && tracker.quorum_active() == heard
 }
 
 /// A pair of sets of voters is put into the tracker, which is then asked.
 fn agrees_at(
+    rt: &impl Abort,
     alloc: Global,
     tracker: &mut Tracker,
     votes: &Votes,
     pair: u32,
     ways: u32,
-) -> Result<bool, AllocError> {
+) -> bool {
     let incoming = pair % SETS;
     let outgoing = pair / SETS;
-    tracker.set_config(voting(alloc, incoming, outgoing)?);
-    agrees(tracker, votes, incoming, outgoing, ways)
+    tracker.set_config(voting(rt, alloc, incoming, outgoing));
+    agrees(rt, tracker, votes, incoming, outgoing, ways)
 }
 
 /// How many pairs of sets of voters there are at which all three agree.
 fn count_agreeing(
+    rt: &impl Abort,
     alloc: Global,
     tracker: &mut Tracker,
     votes: &Votes,
     ways: u32,
-) -> Result<u32, AllocError> {
+) -> u32 {
     let mut count: u32 = 0;
     for pair in 0..SETS * SETS {
-        if agrees_at(alloc, tracker, votes, pair, ways)? {
+        if agrees_at(rt, alloc, tracker, votes, pair, ways) {
             count = count.saturating_add(1);
         }
     }
-    Ok(count)
+    count
 }
 
-fn agreeing_with(alloc: Global, tracker: &mut Tracker, ways: u32) -> Result<u32, AllocError> {
+fn agreeing_with(rt: &impl Abort, alloc: Global, tracker: &mut Tracker, ways: u32) -> u32 {
     let mut votes = Votes::new(alloc);
-    answer_all(&mut votes, ways)?;
-    count_agreeing(alloc, tracker, &votes, ways)
+    answer_all(rt, &mut votes, ways);
+    count_agreeing(rt, alloc, tracker, &votes, ways)
 }
 
-fn agreeing(alloc: Global, ways: u32) -> Result<u32, AllocError> {
+fn agreeing(rt: &impl Abort, alloc: Global, ways: u32) -> u32 {
     let mut tracker = Tracker::new(alloc, Config::new(alloc));
-    hold_all(alloc, &mut tracker, ways)?;
-    agreeing_with(alloc, &mut tracker, ways)
+    hold_all(rt, alloc, &mut tracker, ways);
+    agreeing_with(rt, alloc, &mut tracker, ways)
 }
 
 #[test]
-fn quorums_are_as_a_slow_count_finds_them(rt: HostRuntime) -> Result<(), Fail> {
+fn quorums_are_as_a_slow_count_finds_them(rt: HostRuntime) {
     for ways in 0..WAYS {
-        assert_eq!(rt; agreeing(rt.alloc(), ways)?, 256, "where they do {ways}");
+        assert_eq!(rt;
+            agreeing(&rt, rt.alloc(), ways),
+            256,
+            "where they do {ways}"
+        );
     }
-    Ok(())
 }

@@ -6,7 +6,6 @@ use rb_tracker::ProgressState::{Probe, Replicate, Snapshot};
 use rb_tracker::{Progress, ProgressState};
 use std::alloc::{AllocError, Global};
 use std::process::Abort;
-use std::test::Fail;
 
 /// A call that changes a view.
 #[derive(Clone, Copy)]
@@ -188,36 +187,33 @@ fn follow(rt: &impl Abort, view: &mut Progress, steps: &[Step]) {
 }
 
 /// A view that holds the log up to 3, and has room for two appends in flight.
-fn own(alloc: Global) -> Result<Progress, AllocError> {
-    Progress::own(alloc, 2, 3, 4)
+fn own(rt: &impl Abort, alloc: Global) -> Progress {
+    Progress::own(alloc, 2, 3, 4).expect(rt, "memory")
 }
 
 #[test]
-fn a_probe_finds_the_place(rt: HostRuntime) -> Result<(), Fail> {
-    let mut view = Progress::new(rt.alloc(), 2, 7, true)?;
+fn a_probe_finds_the_place(rt: HostRuntime) {
+    let mut view = Progress::new(rt.alloc(), 2, 7, true).expect(&rt, "memory");
     follow(&rt, &mut view, &PROBING);
-    Ok(())
 }
 
 #[test]
-fn appends_are_in_flight(rt: HostRuntime) -> Result<(), Fail> {
-    follow(&rt, &mut own(rt.alloc())?, &REPLICATING);
-    Ok(())
+fn appends_are_in_flight(rt: HostRuntime) {
+    follow(&rt, &mut own(&rt, rt.alloc()), &REPLICATING);
 }
 
 #[test]
-fn snapshots_arrive(rt: HostRuntime) -> Result<(), Fail> {
-    follow(&rt, &mut own(rt.alloc())?, &SNAPSHOTS);
-    Ok(())
+fn snapshots_arrive(rt: HostRuntime) {
+    follow(&rt, &mut own(&rt, rt.alloc()), &SNAPSHOTS);
 }
 
 /// The view after calls.
-pub fn after(alloc: Global, calls: &[Call]) -> Result<Progress, AllocError> {
-    let mut view = own(alloc)?;
+pub fn after(rt: &impl Abort, alloc: Global, calls: &[Call]) -> Progress {
+    let mut view = own(rt, alloc);
     for call in calls {
         make(&mut view, *call);
     }
-    Ok(view)
+    view
 }
 
 /// Calls, an index, whether an answer that accepts it tells something, and whether one that refuses what follows it is believed.
@@ -235,17 +231,16 @@ static ANSWERS: [(&[Call], u64, bool, bool); 10] = [
 ];
 
 /// Whether the answers that a row tells of are told as it wants.
-fn is_answer(alloc: Global, row: &(&[Call], u64, bool, bool)) -> Result<bool, AllocError> {
-    let view = after(alloc, row.0)?;
-    Ok(view.is_news(row.1) == row.2 && view.believes(row.1) == row.3)
+fn is_answer(rt: &impl Abort, alloc: Global, row: &(&[Call], u64, bool, bool)) -> bool {
+    let view = after(rt, alloc, row.0);
+    view.is_news(row.1) == row.2 && view.believes(row.1) == row.3
 }
 
 #[test]
-fn answers_that_tell_something(rt: HostRuntime) -> Result<(), Fail> {
+fn answers_that_tell_something(rt: HostRuntime) {
     for (k, row) in ANSWERS.iter().enumerate() {
-        assert!(rt; is_answer(rt.alloc(), row)?, "in row {k}");
+        assert!(rt; is_answer(&rt, rt.alloc(), row), "in row {k}");
     }
-    Ok(())
 }
 
 /// Two lists of calls, and whether the views after them are the same. Those that aren't differ in one thing alone.
@@ -285,37 +280,36 @@ static PAIRS: [(&[Call], &[Call], bool); 13] = [
 ];
 
 /// Whether two views are the same, whichever is asked, and so are their copies.
-fn are_same(a: &Progress, b: &Progress) -> Result<bool, AllocError> {
-    let copy = a.try_copy()?;
-    Ok(a.same(b) && b.same(a) && copy.same(a) && copy.same(b))
+fn are_same(rt: &impl Abort, a: &Progress, b: &Progress) -> bool {
+    let copy = a.try_copy().expect(rt, "memory");
+    a.same(b) && b.same(a) && copy.same(a) && copy.same(b)
 }
 
 /// Whether they differ, whichever is asked, and the copy of one is it and not the other.
-fn are_different(a: &Progress, b: &Progress) -> Result<bool, AllocError> {
-    let copy = a.try_copy()?;
-    Ok(!a.same(b) && !b.same(a) && copy.same(a) && !copy.same(b))
+fn are_different(rt: &impl Abort, a: &Progress, b: &Progress) -> bool {
+    let copy = a.try_copy().expect(rt, "memory");
+    !a.same(b) && !b.same(a) && copy.same(a) && !copy.same(b)
 }
 
-fn is_told(alloc: Global, pair: &(&[Call], &[Call], bool)) -> Result<bool, AllocError> {
-    let a = after(alloc, pair.0)?;
-    let b = after(alloc, pair.1)?;
+fn is_told(rt: &impl Abort, alloc: Global, pair: &(&[Call], &[Call], bool)) -> bool {
+    let a = after(rt, alloc, pair.0);
+    let b = after(rt, alloc, pair.1);
     if pair.2 {
-        are_same(&a, &b)
+        are_same(rt, &a, &b)
     } else {
-        are_different(&a, &b)
+        are_different(rt, &a, &b)
     }
 }
 
-fn is_width_told(alloc: Global) -> Result<bool, AllocError> {
-    let wider = Progress::own(alloc, 3, 3, 4)?;
-    are_different(&wider, &own(alloc)?)
+fn is_width_told(rt: &impl Abort, alloc: Global) -> bool {
+    let wider = Progress::own(alloc, 3, 3, 4).expect(rt, "memory");
+    are_different(rt, &wider, &own(rt, alloc))
 }
 
 #[test]
-fn same_sees_each_field(rt: HostRuntime) -> Result<(), Fail> {
+fn same_sees_each_field(rt: HostRuntime) {
     for (k, pair) in PAIRS.iter().enumerate() {
-        assert!(rt; is_told(rt.alloc(), pair)?, "in row {k}");
+        assert!(rt; is_told(&rt, rt.alloc(), pair), "in row {k}");
     }
-    assert!(rt; is_width_told(rt.alloc())?);
-    Ok(())
+    assert!(rt; is_width_told(&rt, rt.alloc()));
 }

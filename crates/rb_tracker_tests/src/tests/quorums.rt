@@ -6,7 +6,7 @@ use super::{answered, mark, tracking};
 use rb_tracker::VoteResult::{Lost, Pending, Won};
 use rb_tracker::{Tracker, VoteResult, Votes};
 use std::alloc::{AllocError, Global};
-use std::test::Fail;
+use std::process::Abort;
 
 /// Incoming voters, outgoing voters, what the ids 1, 2 and so on hold (`-`: no view), and the greatest index that a quorum holds.
 static HELD: [(&str, &str, &str, u64); 43] = [
@@ -145,35 +145,35 @@ static HEARD: [(&str, &str, &str, bool); 23] = [
     ("12345", "67", "+++++..", false),
 ];
 
-fn held(alloc: Global, row: &(&str, &str, &str, u64)) -> Result<u64, AllocError> {
-    tracking(alloc, row.0, row.1, row.2)?.committed()
+fn held(rt: &impl Abort, alloc: Global, row: &(&str, &str, &str, u64)) -> u64 {
+    tracking(rt, alloc, row.0, row.1, row.2)
+        .committed()
+        .expect(rt, "memory")
 }
 
 #[test]
-fn what_a_quorum_holds(rt: HostRuntime) -> Result<(), Fail> {
+fn what_a_quorum_holds(rt: HostRuntime) {
     for (k, row) in HELD.iter().enumerate() {
-        assert_eq!(rt; held(rt.alloc(), row)?, row.3, "in row {k}");
+        assert_eq!(rt; held(&rt, rt.alloc(), row), row.3, "in row {k}");
     }
-    Ok(())
 }
 
-fn decided(alloc: Global, row: &(&str, &str, &str, VoteResult)) -> Result<VoteResult, AllocError> {
-    let tracker = tracking(alloc, row.0, row.1, "")?;
-    come_to(alloc, &tracker, row.2)
+fn decided(rt: &impl Abort, alloc: Global, row: &(&str, &str, &str, VoteResult)) -> VoteResult {
+    let tracker = tracking(rt, alloc, row.0, row.1, "");
+    come_to(rt, alloc, &tracker, row.2)
 }
 
 /// What votes come to among the voters of a tracker.
-fn come_to(alloc: Global, tracker: &Tracker, answers: &str) -> Result<VoteResult, AllocError> {
-    let votes = answered(alloc, answers)?;
-    Ok(tracker.vote_result(&votes))
+fn come_to(rt: &impl Abort, alloc: Global, tracker: &Tracker, answers: &str) -> VoteResult {
+    let votes = answered(rt, alloc, answers);
+    tracker.vote_result(&votes)
 }
 
 #[test]
-fn what_votes_come_to(rt: HostRuntime) -> Result<(), Fail> {
+fn what_votes_come_to(rt: HostRuntime) {
     for (k, row) in DECIDED.iter().enumerate() {
-        assert!(rt; decided(rt.alloc(), row)? == row.3, "in row {k}");
+        assert!(rt; decided(&rt, rt.alloc(), row) == row.3, "in row {k}");
     }
-    Ok(())
 }
 
 /// Sets the marks of the views that there are, and says whether each is as it was set.
@@ -189,33 +189,32 @@ fn mark_all(tracker: &mut Tracker, marks: &str) -> bool {
 }
 
 /// Whether a quorum is heard, as the row wants it, and the marks are as they were set.
-fn is_heard_so(alloc: Global, row: &(&str, &str, &str, bool)) -> Result<bool, AllocError> {
-    let mut tracker = tracking(alloc, row.0, row.1, row.2)?;
+fn is_heard_so(rt: &impl Abort, alloc: Global, row: &(&str, &str, &str, bool)) -> bool {
+    let mut tracker = tracking(rt, alloc, row.0, row.1, row.2);
     let are_set = mark_all(&mut tracker, row.2);
-    Ok(are_set && tracker.quorum_active() == row.3)
+    are_set && tracker.quorum_active() == row.3
 }
 
 #[test]
-fn who_hears_a_quorum(rt: HostRuntime) -> Result<(), Fail> {
+fn who_hears_a_quorum(rt: HostRuntime) {
     for (k, row) in HEARD.iter().enumerate() {
-        assert!(rt; is_heard_so(rt.alloc(), row)?, "in row {k}");
+        assert!(rt; is_heard_so(&rt, rt.alloc(), row), "in row {k}");
     }
-    Ok(())
 }
 
 /// Two answered once and then the other way: their first answers stay.
-fn keeps_first_answers(votes: &mut Votes, before: &Votes) -> Result<bool, AllocError> {
-    votes.answer(2, true)?;
-    votes.answer(1, false)?;
-    Ok(votes.same(before))
+fn keeps_first_answers(rt: &impl Abort, votes: &mut Votes, before: &Votes) -> bool {
+    votes.answer(2, true).expect(rt, "memory");
+    votes.answer(1, false).expect(rt, "memory");
+    votes.same(before)
 }
 
 /// The fourth refuses, which is seen.
-fn counts_another(votes: &mut Votes, before: &Votes) -> Result<bool, AllocError> {
-    votes.answer(4, false)?;
+fn counts_another(rt: &impl Abort, votes: &mut Votes, before: &Votes) -> bool {
+    votes.answer(4, false).expect(rt, "memory");
     let told = votes.has_answered(2) && votes.has_answered(4) && !votes.has_answered(5);
     let counted = votes.granted.len() == 2 && votes.refused.len() == 2;
-    Ok(told && counted && !votes.same(before))
+    told && counted && !votes.same(before)
 }
 
 fn forgets(votes: &mut Votes) -> bool {
@@ -223,14 +222,13 @@ fn forgets(votes: &mut Votes) -> bool {
     votes.granted.is_empty() && votes.refused.is_empty()
 }
 
-fn counts_first_answers(votes: &mut Votes) -> Result<bool, AllocError> {
-    let before = votes.try_copy()?;
-    Ok(keeps_first_answers(votes, &before)? && counts_another(votes, &before)? && forgets(votes))
+fn counts_first_answers(rt: &impl Abort, votes: &mut Votes) -> bool {
+    let before = votes.try_copy().expect(rt, "memory");
+    keeps_first_answers(rt, votes, &before) && counts_another(rt, votes, &before) && forgets(votes)
 }
 
 #[test]
-fn the_first_answer_counts(rt: HostRuntime) -> Result<(), Fail> {
-    let mut votes = answered(rt.alloc(), "yny")?;
-    assert!(rt; counts_first_answers(&mut votes)?);
-    Ok(())
+fn the_first_answer_counts(rt: HostRuntime) {
+    let mut votes = answered(&rt, rt.alloc(), "yny");
+    assert!(rt; counts_first_answers(&rt, &mut votes));
 }

@@ -5,20 +5,19 @@ use super::progresses::{Call, make};
 use super::{are, hold, number, put, tracking};
 use rb_tracker::{Config, Tracker};
 use std::alloc::{AllocError, Global};
-use std::test::Fail;
+use std::process::Abort;
 
 /// A tracker of two voters, with views that were put in out of their order.
-fn unordered(alloc: Global) -> Result<Tracker, AllocError> {
-    let mut tracker = tracking(alloc, "12", "", "")?;
-    hold_unordered(alloc, &mut tracker)?;
-    Ok(tracker)
+fn unordered(rt: &impl Abort, alloc: Global) -> Tracker {
+    let mut tracker = tracking(rt, alloc, "12", "", "");
+    hold_unordered(rt, alloc, &mut tracker);
+    tracker
 }
 
-fn hold_unordered(alloc: Global, tracker: &mut Tracker) -> Result<(), AllocError> {
+fn hold_unordered(rt: &impl Abort, alloc: Global, tracker: &mut Tracker) {
     for id in [3, 1, 7, 2] {
-        hold(alloc, tracker, id, id.saturating_mul(10))?;
+        hold(alloc, tracker, id, id.saturating_mul(10)).expect(rt, "memory");
     }
-    Ok(())
 }
 
 /// Whether the view at the place of an id is its own, by one call and by the other, and holds ten times the id.
@@ -49,8 +48,8 @@ fn is_absent(tracker: &Tracker, id: u64) -> bool {
     !tracker.has_view(id) && tracker.place(id).is_none() && tracker.match_of(id) == 0
 }
 
-fn lists_ids(tracker: &Tracker, digits: &str) -> Result<bool, AllocError> {
-    Ok(are(tracker.ids()?.as_slice(), digits))
+fn lists_ids(rt: &impl Abort, tracker: &Tracker, digits: &str) -> bool {
+    are(tracker.ids().expect(rt, "memory").as_slice(), digits)
 }
 
 /// Whether views go where they are removed, and the configuration stays.
@@ -63,23 +62,22 @@ fn views_go(tracker: &mut Tracker) -> bool {
     removed && cleared && are(tracker.config().incoming.as_slice(), "12")
 }
 
-fn views_are_found(tracker: &Tracker) -> Result<bool, AllocError> {
-    Ok(has_views(tracker, "1237") && lists_ids(tracker, "1237")?)
+fn views_are_found(rt: &impl Abort, tracker: &Tracker) -> bool {
+    has_views(tracker, "1237") && lists_ids(rt, tracker, "1237")
 }
 
-fn are_found_and_go(tracker: &mut Tracker) -> Result<bool, AllocError> {
-    Ok(views_are_found(tracker)? && views_go(tracker))
+fn are_found_and_go(rt: &impl Abort, tracker: &mut Tracker) -> bool {
+    views_are_found(rt, tracker) && views_go(tracker)
 }
 
-fn views_come_and_go(alloc: Global) -> Result<bool, AllocError> {
-    let mut tracker = unordered(alloc)?;
-    are_found_and_go(&mut tracker)
+fn views_come_and_go(rt: &impl Abort, alloc: Global) -> bool {
+    let mut tracker = unordered(rt, alloc);
+    are_found_and_go(rt, &mut tracker)
 }
 
 #[test]
-fn views_stand_by_id(rt: HostRuntime) -> Result<(), Fail> {
-    assert!(rt; views_come_and_go(rt.alloc())?);
-    Ok(())
+fn views_stand_by_id(rt: HostRuntime) {
+    assert!(rt; views_come_and_go(&rt, rt.alloc()));
 }
 
 /// Whether the marks of the views of 1, 2, 3 and 7 are these.
@@ -101,10 +99,9 @@ fn marks_go(tracker: &mut Tracker) -> bool {
 }
 
 #[test]
-fn marks_go_off_but_ones_own(rt: HostRuntime) -> Result<(), Fail> {
-    let mut tracker = unordered(rt.alloc())?;
+fn marks_go_off_but_ones_own(rt: HostRuntime) {
+    let mut tracker = unordered(&rt, rt.alloc());
     assert!(rt; marks_go(&mut tracker));
-    Ok(())
 }
 
 /// What is done to a copy.
@@ -139,26 +136,23 @@ static CHANGES: [(Change, bool); 14] = [
     (Change::Auto, false),
 ];
 
-fn change_config(config: &mut Config, change: Change) -> Result<(), AllocError> {
+fn change_config(rt: &impl Abort, config: &mut Config, change: Change) {
     match change {
-        Change::Voter => put(&mut config.incoming, "3"),
-        Change::Outgoing => put(&mut config.outgoing, "1"),
-        Change::Learner => put(&mut config.learners, "3"),
-        Change::Next => put(&mut config.next, "3"),
-        _ => {
-            config.auto = true;
-            Ok(())
-        }
+        Change::Voter => put(rt, &mut config.incoming, "3"),
+        Change::Outgoing => put(rt, &mut config.outgoing, "1"),
+        Change::Learner => put(rt, &mut config.learners, "3"),
+        Change::Next => put(rt, &mut config.next, "3"),
+        _ => config.auto = true,
     }
 }
 
-fn other_config(alloc: Global, change: Change) -> Result<Config, AllocError> {
-    let mut new = config(alloc, ("12", "", "", "", false))?;
-    change_config(&mut new, change)?;
-    Ok(new)
+fn other_config(rt: &impl Abort, alloc: Global, change: Change) -> Config {
+    let mut new = config(rt, alloc, ("12", "", "", "", false));
+    change_config(rt, &mut new, change);
+    new
 }
 
-fn carry_out(alloc: Global, tracker: &mut Tracker, change: Change) -> Result<(), AllocError> {
+fn carry_out(rt: &impl Abort, alloc: Global, tracker: &mut Tracker, change: Change) {
     match change {
         Change::Nothing => {}
         Change::View(id, call) => {
@@ -167,10 +161,9 @@ fn carry_out(alloc: Global, tracker: &mut Tracker, change: Change) -> Result<(),
             }
         }
         Change::Remove(id) => tracker.remove(id),
-        Change::Add(id) => hold(alloc, tracker, id, 1)?,
-        _ => tracker.set_config(other_config(alloc, change)?),
+        Change::Add(id) => hold(alloc, tracker, id, 1).expect(rt, "memory"),
+        _ => tracker.set_config(other_config(rt, alloc, change)),
     }
-    Ok(())
 }
 
 /// Whether two trackers are the same, or aren't, as is wanted, whichever is asked.
@@ -179,38 +172,38 @@ fn are_so(a: &Tracker, b: &Tracker, same: bool) -> bool {
 }
 
 /// Whether a copy is the same after a change, or isn't, as is wanted.
-fn is_told(alloc: Global, tracker: &Tracker, row: (Change, bool)) -> Result<bool, AllocError> {
-    let mut copy = tracker.try_copy()?;
-    is_told_of(alloc, tracker, &mut copy, row)
+fn is_told(rt: &impl Abort, alloc: Global, tracker: &Tracker, row: (Change, bool)) -> bool {
+    let mut copy = tracker.try_copy().expect(rt, "memory");
+    is_told_of(rt, alloc, tracker, &mut copy, row)
 }
 
 fn is_told_of(
+    rt: &impl Abort,
     alloc: Global,
     tracker: &Tracker,
     copy: &mut Tracker,
     row: (Change, bool),
-) -> Result<bool, AllocError> {
-    carry_out(alloc, copy, row.0)?;
-    Ok(are_so(tracker, copy, row.1))
+) -> bool {
+    carry_out(rt, alloc, copy, row.0);
+    are_so(tracker, copy, row.1)
 }
 
 /// The place of the first row that isn't told.
-fn first_untold(alloc: Global, tracker: &Tracker) -> Result<Option<usize>, AllocError> {
+fn first_untold(rt: &impl Abort, alloc: Global, tracker: &Tracker) -> Option<usize> {
     for (k, row) in CHANGES.iter().enumerate() {
-        if !is_told(alloc, tracker, *row)? {
-            return Ok(Some(k));
+        if !is_told(rt, alloc, tracker, *row) {
+            return Some(k);
         }
     }
-    Ok(None)
+    None
 }
 
-fn first_untold_of_all(alloc: Global) -> Result<Option<usize>, AllocError> {
-    let tracker = unordered(alloc)?;
-    first_untold(alloc, &tracker)
+fn first_untold_of_all(rt: &impl Abort, alloc: Global) -> Option<usize> {
+    let tracker = unordered(rt, alloc);
+    first_untold(rt, alloc, &tracker)
 }
 
 #[test]
-fn same_sees_all_of_it(rt: HostRuntime) -> Result<(), Fail> {
-    assert_eq!(rt; first_untold_of_all(rt.alloc())?, None);
-    Ok(())
+fn same_sees_all_of_it(rt: HostRuntime) {
+    assert_eq!(rt; first_untold_of_all(&rt, rt.alloc()), None);
 }

@@ -2,7 +2,6 @@
 
 use rb_tracker::Progress;
 use std::process::Abort;
-use std::test::Fail;
 
 /// Sends so many appends of one entry each, after an index, and says whether there was room for each.
 fn send(view: &mut Progress, after: u32, count: u32) -> bool {
@@ -59,19 +58,17 @@ pub fn goes_round(rt: &impl Abort, view: &mut Progress, capacity: u32) {
 }
 
 #[test]
-fn windows_go_round(rt: HostRuntime) -> Result<(), Fail> {
+fn windows_go_round(rt: HostRuntime) {
     for (room, capacity) in [(1, 1), (2, 2), (256, 256)] {
-        let mut view = Progress::own(rt.alloc(), room, 0, 1)?;
+        let mut view = Progress::own(rt.alloc(), room, 0, 1).expect(&rt, "memory");
         assert_eq!(rt; view.window().capacity(), room);
         goes_round(&rt, &mut view, capacity);
     }
-    Ok(())
 }
 
 /// A view whose window has room for nothing is sent nothing.
 #[test]
-fn a_window_without_room(rt: HostRuntime) -> Result<(), Fail> {
-    let mut view = Progress::own(rt.alloc(), 0, 0, 1)?;
+fn a_window_without_room(rt: HostRuntime) {
+    let mut view = Progress::own(rt.alloc(), 0, 0, 1).expect(&rt, "memory");
     assert!(rt; view.paused() && !send(&mut view, 0, 1) && has_run(&view, 0, 0));
-    Ok(())
 }

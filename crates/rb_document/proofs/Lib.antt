@@ -1,0 +1,5 @@
+pub mod PlaceLaws
+pub mod PositionLaws
+pub mod ChangeLaws
+pub mod TableLaws
+pub mod EditLaws

@@ -1,0 +1,6 @@
+-- What was looked at is the same.
+use Rattle.std.proofs.Common.{◌≡◌, ◌-◌, length, drop}
+use Rattle.rb_document.proofs.edit.common_end.Given as goal
+
+abbrev pub invariant-loop-i : goal.invariant-loop-i
+invariant-loop-i l = drop (length l.old - l.i) l.old ≡ drop (length l.new - l.i) l.new

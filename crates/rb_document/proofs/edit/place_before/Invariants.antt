@@ -1,0 +1,9 @@
+-- The place goes down.
+use Rattle.std.proofs.Common.{◌≤◌}
+use Rattle.rb_document.proofs.edit.place_before.Given as goal
+
+abbrev pub invariant-loop-place : goal.invariant-loop-place
+invariant-loop-place l = l.place ≤ l.at
+
+abbrev pub decreases-loop-place : goal.decreases-loop-place
+decreases-loop-place l = l.place

@@ -1,0 +1,9 @@
+-- The place goes up.
+use Rattle.std.proofs.Common.{◌≤◌, ◌-◌, length}
+use Rattle.rb_document.proofs.edit.place_behind.Given as goal
+
+abbrev pub invariant-loop-place : goal.invariant-loop-place
+invariant-loop-place l = record { behind : l.at ≤ l.place; within : l.place ≤ length l.text }
+
+abbrev pub decreases-loop-place : goal.decreases-loop-place
+decreases-loop-place l = length l.text - l.place

@@ -1,0 +1,142 @@
+//! A text that changes.
+
+ghost use Rattle.std.specs.Prelude.{◌≡◌, ◌≤◌, ◌<◌, length, IfOk, IfErr};
+ghost use Rattle.rb_document.specs.declared.limits.TheConstants.{MAX_TEXT};
+ghost use Rattle.rb_document.specs.declared.document.ChangeFault.{ChangeFault};
+ghost use Rattle.rb_document.specs.Changes.{changed, spliced};
+
+use crate::limits::MAX_TEXT;
+use crate::position::{Encoding, Range, offset};
+use std::alloc::{AllocError, Global};
+use std::marker::Model;
+
+/// Why a text isn't taken.
+#[derive(Clone, Copy, Debug, PartialEq, Eq)]
+pub enum ChangeFault {
+    /// It would have more than [`MAX_TEXT`] bytes.
+    TooLong,
+    /// Memory was refused.
+    OutOfMemory,
+}
+
+impl From<AllocError> for ChangeFault {
+    ghost use Rattle.std.specs.Prelude.{◌≡◌};
+    ghost use Rattle.rb_document.specs.declared.document.ChangeFault.TheVariants.{OutOfMemory};
+
+    ghost from_gives = { λ _ e. e ≡ OutOfMemory };
+
+    fn from(_e: AllocError) -> ChangeFault {
+        ChangeFault::OutOfMemory
+    }
+}
+
+/// The text of a document, as its bytes: at most [`MAX_TEXT`].
+#[derive(Drop)]
+pub struct Document {
+    alloc: Global,
+    text: Vec<u8>,
+}
+
+impl Model for Document {
+    ghost use Rattle.std.specs.Prelude.{List, ℕ, ◌≤◌, length};
+    ghost use Rattle.rb_document.specs.declared.limits.TheConstants.{MAX_TEXT};
+
+    ghost Value = { List ℕ };
+
+    ghost view = { λ d. d.text.items };
+
+    ghost invariant = { λ d. length d.text.items ≤ MAX_TEXT };
+}
+
+impl Document {
+    ghost use Rattle.std.specs.Prelude.{◌≡◌, ◌≤◌, ◌<◌, length, IfOk, IfErr, OnOk, OnErr};
+    ghost use Rattle.rb_document.specs.declared.limits.TheConstants.{MAX_TEXT};
+    ghost use Rattle.rb_document.specs.declared.document.ChangeFault.{ChangeFault};
+    ghost use Rattle.rb_document.specs.Changes.{changed_by};
+
+    /// A document with this text.
+    ///
+    /// # Errors
+    ///
+    /// `TooLong` exactly where the text has more than [`MAX_TEXT`] bytes.
+    pub fn new(alloc: Global, text: &[u8]) -> Result<Document, ChangeFault>
+        ensures ok { IfOk result (λ document. document ≡ text.now) }
+        ensures long { IfErr result (λ fault. fault ≡ ChangeFault.TooLong → MAX_TEXT < length text.now) }
+    {
+        if text.len() > MAX_TEXT {
+            return Err(ChangeFault::TooLong);
+        }
+        let text = Vec::from_slice(alloc, text)?;
+        Ok(Document { alloc, text })
+    }
+
+    /// Its bytes.
+    pub fn text(&self) -> &[u8]
+        ensures value { result.now ≡ self.now }
+        ensures bounded { length result.now ≤ MAX_TEXT }
+    {
+        self.text.as_slice()
+    }
+
+    /// Puts another text in the place of what stands in a range, or in that of all, where no range is given.
+    ///
+    /// # Errors
+    ///
+    /// `TooLong` exactly where the text would have more than [`MAX_TEXT`] bytes. An `Err` changes nothing.
+    pub fn change(
+        &mut self,
+        encoding: Encoding,
+        range: Option<Range>,
+        new: &[u8],
+    ) -> Result<(), ChangeFault>
+        ensures ok { OnOk result (self.new ≡ changed_by encoding range new.now self.old) }
+        ensures err { OnErr result (self.new ≡ self.old) }
+        ensures long { IfErr result (λ fault. fault ≡ ChangeFault.TooLong → MAX_TEXT < length (changed_by encoding range new.now self.old)) }
+    {
+        let text = match range {
+            Some(range) => changed(self.alloc, encoding, range, new, self.text.as_slice())?,
+            None => spliced(self.alloc, 0, 0, new, &[])?,
+        };
+        self.text = text;
+        Ok(())
+    }
+}
+
+// The text with another in the place of what stands in a range.
+fn changed(
+    alloc: Global,
+    encoding: Encoding,
+    range: Range,
+    new: &[u8],
+    text: &[u8],
+) -> Result<Vec<u8>, ChangeFault>
+    ensures ok { IfOk result (λ made. (made.items ≡ changed encoding range new.now text.now) × (length made.items ≤ MAX_TEXT)) }
+    ensures long { IfErr result (λ fault. fault ≡ ChangeFault.TooLong → MAX_TEXT < length (changed encoding range new.now text.now)) }
+{
+    let from = offset(encoding, range.start, text);
+    let to = offset(encoding, range.end, text);
+    spliced(alloc, from, from.max(to), new, text)
+}
+
+// The text with another in the place of what stands between two offsets.
+fn spliced(
+    alloc: Global,
+    from: usize,
+    to: usize,
+    new: &[u8],
+    text: &[u8],
+) -> Result<Vec<u8>, ChangeFault>
+    requires { (from ≤ length text.now) × (to ≤ length text.now) }
+    ensures ok { IfOk result (λ made. (made.items ≡ spliced from to new.now text.now) × (length made.items ≤ MAX_TEXT)) }
+    ensures long { IfErr result (λ fault. fault ≡ ChangeFault.TooLong → MAX_TEXT < length (spliced from to new.now text.now)) }
+{
+    let kept = from + (text.len() - to);
+    if kept > MAX_TEXT || new.len() > MAX_TEXT - kept {
+        return Err(ChangeFault::TooLong);
+    }
+    let mut made = Vec::with_capacity(alloc, kept + new.len())?;
+    made.extend_from_slice(&text[..from])?;
+    made.extend_from_slice(new)?;
+    made.extend_from_slice(&text[to..])?;
+    Ok(made)
+}

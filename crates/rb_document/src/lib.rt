@@ -1,0 +1,20 @@
+//! A text that an editor changes.
+//!
+//! An editor's lines end at LF, CR LF and CR, and its columns count units of UTF-16, or bytes where it offers that. [`offset`] says where
+//! a [`Position`] stands in a text, and [`position_of`] what the position of a place is. A [`Document`] takes the changes that an editor
+//! sends, and [`edit_between`] is one that a server sends. A [`LineTable`] knows where the lines of a script begin, which end at LF alone.
+#![tactic(auto)]
+
+mod document;
+mod edit;
+mod laws;
+mod limits;
+mod line_table;
+mod position;
+
+pub use document::{ChangeFault, Document};
+pub use edit::{TextEdit, edit_between};
+pub use laws::{places_return, replaces_part};
+pub use limits::MAX_TEXT;
+pub use line_table::LineTable;
+pub use position::{Encoding, Position, Range, offset, position_of};

@@ -1,0 +1,146 @@
+//! Where a position stands in a text.
+
+ghost use Rattle.std.specs.Prelude.{◌≡◌, ◌+◌, ◌-◌, ◌*◌, ◌≤◌, length, drop};
+ghost use Rattle.rb_document.specs.declared.limits.TheConstants.{MAX_TEXT};
+ghost use Rattle.rb_document.specs.Places.{column, ends_line, feeds, is_end, line_start, next_position, offset, position_of, units};
+
+/// In what the columns of a position count.
+#[derive(Clone, Copy, Debug, PartialEq, Eq)]
+pub enum Encoding {
+    /// Bytes.
+    Utf8,
+    /// Units of UTF-16.
+    Utf16,
+}
+
+/// A place in a text: a line, and how many units of it stand before. Both count from 0.
+#[derive(Clone, Copy, Debug, PartialEq, Eq)]
+pub struct Position {
+    pub line: u64,
+    pub character: u64,
+}
+
+/// What stands between two positions.
+#[derive(Clone, Copy, Debug, PartialEq, Eq)]
+pub struct Range {
+    pub start: Position,
+    pub end: Position,
+}
+
+/// The bytes of a text before a position. A line that the text doesn't have is its end, a column behind a line's end is that end, and
+/// one within a character is its beginning.
+pub fn offset(encoding: Encoding, position: Position, text: &[u8]) -> usize
+    ensures value { result ≡ offset encoding position text.now }
+    ensures within { result ≤ length text.now }
+{
+    let start = line_start(position.line, text);
+    start + column(encoding, position.character, &text[start..])
+}
+
+/// The position behind so many bytes of a text.
+pub fn position_of(encoding: Encoding, offset: usize, text: &[u8]) -> Position
+    requires within { offset ≤ length text.now }
+    requires bounded { length text.now ≤ MAX_TEXT }
+    ensures { result ≡ position_of encoding offset text.now }
+{
+    let mut position = Position {
+        line: 0,
+        character: 0,
+    };
+    for at in 0..offset {
+        position = next_position(encoding, position, text[at], &text[at + 1..]);
+    }
+    position
+}
+
+// The position behind one more byte, which these follow.
+pub(crate) fn next_position(encoding: Encoding, position: Position, b: u8, rest: &[u8]) -> Position
+    requires bounded { (position.line ≤ MAX_TEXT) × (position.character ≤ 4 * MAX_TEXT) }
+    ensures { result ≡ next_position encoding b rest.now position }
+{
+    if ends_line(b, rest) {
+        Position {
+            line: position.line + 1,
+            character: 0,
+        }
+    } else {
+        Position {
+            line: position.line,
+            character: position.character + units(encoding, b),
+        }
+    }
+}
+
+// Whether the text goes on with a line feed.
+pub(crate) fn feeds(rest: &[u8]) -> bool
+    ensures { result ≡ feeds rest.now }
+{
+    match rest {
+        [b, ..] => *b == b'\n',
+        [] => false,
+    }
+}
+
+// Whether a byte ends a line.
+fn ends_line(b: u8, rest: &[u8]) -> bool
+    ensures { result ≡ ends_line b rest.now }
+{
+    b == b'\n' || (b == b'\r' && !feeds(rest))
+}
+
+// Whether a byte is of a line's end.
+fn is_end(b: u8) -> bool
+    ensures { result ≡ is_end b }
+{
+    b == b'\n' || b == b'\r'
+}
+
+// How many units the character has that a byte begins.
+fn units(encoding: Encoding, b: u8) -> u64
+    ensures { result ≡ units encoding b }
+{
+    match (encoding, b) {
+        (_, 0..128) => 1,
+        (_, 128..192) => 0,
+        (Encoding::Utf16, 192..240) => 1,
+        (Encoding::Utf16, _) => 2,
+        (Encoding::Utf8, 192..224) => 2,
+        (Encoding::Utf8, 224..240) => 3,
+        (Encoding::Utf8, _) => 4,
+    }
+}
+
+// Where a line begins.
+fn line_start(line: u64, text: &[u8]) -> usize
+    ensures value { result ≡ line_start line text.now }
+    ensures within { result ≤ length text.now }
+{
+    let mut left = line;
+    let mut at = 0;
+    while left > 0 && at < text.len() {
+        if ends_line(text[at], &text[at + 1..]) {
+            left -= 1;
+        }
+        at += 1;
+    }
+    at
+}
+
+// The bytes of a line before so many units.
+fn column(encoding: Encoding, character: u64, line: &[u8]) -> usize
+    ensures value { result ≡ column encoding character line.now }
+    ensures within { result ≤ length line.now }
+{
+    let mut left = character;
+    for (at, b) in line.iter().enumerate() {
+        if is_end(*b) {
+            return at;
+        }
+        let width = units(encoding, *b);
+        if left < width {
+            return at;
+        }
+        left -= width;
+    }
+    line.len()
+}

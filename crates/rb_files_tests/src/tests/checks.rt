@@ -1,0 +1,95 @@
+//! What a check shows, and no script leads to: lines of outputs that are empty or end in blanks, and a time that is known.
+
+use rb_check::{Colors, Failure, Outcome, Place, Totals, put_directive, put_mismatch, put_totals};
+use rb_script::{Lines, ScriptFault, Through};
+use std::alloc::Global;
+use std::process::Abort;
+
+const PLACE: Place<'static> = Place {
+    path: b"a/b.txt",
+    line: 12,
+};
+
+fn lines(rt: &impl Abort, alloc: Global, all: &[&[u8]]) -> Lines {
+    let mut lines = Lines::new(alloc);
+    for line in all {
+        lines.push(line).expect(rt, "memory");
+    }
+    lines
+}
+
+// What is shown of a mismatch.
+fn mismatch(
+    rt: &impl Abort,
+    alloc: Global,
+    expected: &[&[u8]],
+    output: &[&[u8]],
+    colors: Colors,
+) -> Vec<u8> {
+    let expected = lines(rt, alloc, expected);
+    let output = lines(rt, alloc, output);
+    let mut out = Through(Vec::new(alloc));
+    put_mismatch(&mut out, PLACE, b"campaign", &expected, &output, colors).expect(rt, "memory");
+    out.0
+}
+
+#[test]
+fn shows_what_differs_between_what_is_the_same(rt: HostRuntime) {
+    let shown = mismatch(
+        &rt,
+        rt.alloc(),
+        &[b"one", b"two", b"two", b"", b"six"],
+        &[b"one", b"two", b"three \t", b"four$", b"", b"six"],
+        Colors::Off,
+    );
+    let want = b"a/b.txt:12: campaign\n  one\n  two\n- two\n+ three \t$\n+ four$$\n  $\n  six\n";
+    assert_eq!(rt; shown.as_slice(), want.as_slice());
+}
+
+#[test]
+fn shows_colors(rt: HostRuntime) {
+    let shown = mismatch(&rt, rt.alloc(), &[b"a", b"ok"], &[b"b ", b"ok"], Colors::On);
+    let want = b"a/b.txt:12: campaign\n\x1b[31m- a\x1b[0m\n\x1b[32m+ b $\x1b[0m\n  ok\n";
+    assert_eq!(rt; shown.as_slice(), want.as_slice());
+}
+
+#[test]
+fn shows_a_directive(rt: HostRuntime) {
+    let output = lines(&rt, rt.alloc(), &[b"ok", b""]);
+    let mut out = Through(Vec::new(rt.alloc()));
+    put_directive(&mut out, PLACE, b"log-level", &output).expect(&rt, "memory");
+    assert_eq!(rt;
+        out.0.as_slice(),
+        b"a/b.txt:12: log-level\n  ok\n  $\n".as_slice()
+    );
+}
+
+fn totals(outcomes: &[Outcome]) -> Totals {
+    let mut totals = Totals::new();
+    for outcome in outcomes {
+        totals.add(*outcome);
+    }
+    totals
+}
+
+#[test]
+fn counts_what_came_of_paths(rt: HostRuntime) {
+    let all = totals(&[
+        Outcome::Ran {
+            directives: 17,
+            mismatches: 1,
+        },
+        Outcome::Accepted {
+            directives: 2,
+            outputs: 2,
+        },
+        Outcome::Refused(ScriptFault::BadLine(3)),
+        Outcome::Failed(Failure::NotFound),
+    ]);
+    let mut out = Through(Vec::new(rt.alloc()));
+    put_totals(&mut out, &all, 61_045).expect(&rt, "memory");
+    put_totals(&mut out, &Totals::new(), 7).expect(&rt, "memory");
+    let want =
+        b"3 scripts, 19 directives, 1 mismatch, 1 refused, 2 accepted, 1 failed, 61.045 s\n0 scripts, 0 directives, 0 mismatches, 0 refused, 0.007 s\n";
+    assert_eq!(rt; out.0.as_slice(), want.as_slice());
+}

@@ -1,0 +1,127 @@
+-- No byte of a text is a mark of a page, or past ASCII.
+use Rattle.std.proofs.Common.{◌≡◌, ℕ, ◌+◌, ◌%◌, ◌/◌, ◌<◌, ◌≤◌, ◌*◌, Bool, true, false, List, [], ◌∷◌, ◌++◌, zero, suc, length, decimal, codes, refl, ap, ◌∙◌, arith}
+use Rattle.std.specs.Prelude.{not, ◌&&◌, ◌==◌, nat_le, nat_lt, if◌then◌else◌}
+use Rattle.std.specs.List.{flat_map, list_all}
+use Rattle.std.specs.Fmt.{digits, digits_onto, digit_glyph}
+use Rattle.std.proofs.lemmas.Bool.{and_parts, le-leb, leb-true, ne_eqb, ltb-true}
+use Rattle.std.proofs.lemmas.List.{length-append}
+use Rattle.std.proofs.lemmas.List.Folds.{list_all-append}
+use Rattle.rb_page.specs.Escapes.{hex_digit, is_no_mark, is_inert, is_plain, numbered, escaped}
+use Rattle.rb_page.specs.Rows.{PlainCell, number, text, Row, cell_text, front_text, row_text, next_text, rows_text}
+
+-- two tests that pass, as one
+both : (a b : Bool) → a ≡ true → b ≡ true → (a && b) ≡ true
+both a b p q = cc
+
+-- ---- bytes
+
+-- a number that is not k, by the test
+other : (b k : ℕ) → (b ≡ k → ⊥) → not (b == k) ≡ true
+other b k differs = ap not (ne_eqb b k differs)
+
+-- a byte from 48 to 57 is inert, and so is one from 63 to 127
+figure : (b : ℕ) → 48 ≤ b → b ≤ 57 → is_inert b ≡ true
+figure b low high =
+    both (is_no_mark b) (nat_le b 127)
+    (both (not (b == 60) && not (b == 62)) (not (b == 38))
+    (both (not (b == 60)) (not (b == 62)) (other b 60 (λ e. omega (arith, e, high))) (other b 62 (λ e. omega (arith, e, high)))) (other b 38 (λ e. omega (arith, e, low))))
+    (le-leb b 127 (omega (arith, high)))
+
+letter : (b : ℕ) → 63 ≤ b → b ≤ 127 → is_inert b ≡ true
+letter b low high =
+    both (is_no_mark b) (nat_le b 127)
+    (both (not (b == 60) && not (b == 62)) (not (b == 38))
+    (both (not (b == 60)) (not (b == 62)) (other b 60 (λ e. omega (arith, e, low))) (other b 62 (λ e. omega (arith, e, low)))) (other b 38 (λ e. omega (arith, e, low))))
+    (le-leb b 127 high)
+
+-- so is a hexadecimal digit
+hex_by : (t : Bool) (n : ℕ) → nat_lt n 10 ≡ t → n < 16 → is_inert (if t then n + 48 else n + 87) ≡ true
+hex_by true n e lt = figure (n + 48) (omega arith) (omega (arith, ltb-true n 10 e))
+hex_by false n e lt = letter (n + 87) (omega arith) (omega (arith, lt))
+
+hex_inert : (n : ℕ) → n < 16 → is_inert (hex_digit n) ≡ true
+hex_inert n lt = hex_by (nat_lt n 10) n refl lt
+
+-- and a byte that stands for itself
+plain_inert : (b : ℕ) → is_plain b ≡ true → is_inert b ≡ true
+plain_inert b h =
+    let no_mark = and_parts (nat_le 32 b && nat_le b 126 && not (b == 34) && not (b == 92)) (is_no_mark b) h in
+    let no_backslash = and_parts (nat_le 32 b && nat_le b 126 && not (b == 34)) (not (b == 92)) no_mark.0 in
+    let no_quote = and_parts (nat_le 32 b && nat_le b 126) (not (b == 34)) no_backslash.0 in
+    let within = and_parts (nat_le 32 b) (nat_le b 126) no_quote.0 in
+    both (is_no_mark b) (nat_le b 127) no_mark.1 (le-leb b 127 (omega (arith, leb-true b 126 within.1)))
+
+-- a byte as it stands between quotes is of inert bytes
+escaped_by : (t : Bool) (b : ℕ) → is_plain b ≡ t → list_all is_inert (if t then b ∷ [] else numbered b) ≡ true
+escaped_by true b h = both (is_inert b) true (plain_inert b h) refl
+escaped_by false b h =
+    both (is_inert (hex_digit (b / 16 % 16))) _ (hex_inert (b / 16 % 16) (omega arith))
+    (both (is_inert (hex_digit (b % 16))) true (hex_inert (b % 16) (omega arith)) refl)
+
+escaped_inert : (b : ℕ) → list_all is_inert (escaped b) ≡ true
+escaped_inert b = escaped_by (is_plain b) b refl
+
+-- ---- texts
+
+-- two inert texts make one
+joined : (a b : List ℕ) → list_all is_inert a ≡ true → list_all is_inert b ≡ true → list_all is_inert (a ++ b) ≡ true
+joined a b p q = list_all-append is_inert a b ∙ both (list_all is_inert a) (list_all is_inert b) p q
+
+all_escaped_inert : (bytes : List ℕ) → list_all is_inert (flat_map escaped bytes) ≡ true
+all_escaped_inert [] = refl
+all_escaped_inert (b ∷ bytes) = joined (escaped b) (flat_map escaped bytes) (escaped_inert b) (all_escaped_inert bytes)
+
+-- ---- numbers
+
+glyph_by : (t : Bool) (d : ℕ) → nat_lt d 10 ≡ t → d < 10 → is_inert (if t then 48 + d else (if false then 55 + d else 87 + d)) ≡ true
+glyph_by true d e lt = figure (48 + d) (omega arith) (omega (arith, lt))
+glyph_by false d e lt = letter (87 + d) (omega arith) (omega (arith, lt))
+
+digits_inert : (k n : ℕ) (acc : List ℕ) → list_all is_inert acc ≡ true → list_all is_inert (digits_onto k 10 false n acc) ≡ true
+digits_inert zero n acc h = h
+digits_inert (suc k) n acc h =
+    let more : list_all is_inert (digit_glyph false (n % 10) ∷ acc) ≡ true = both _ (list_all is_inert acc) (glyph_by (nat_lt (n % 10) 10) (n % 10) refl (omega arith)) h in
+    elim (n / 10 == 0) as (λ t. list_all is_inert (if t then digit_glyph false (n % 10) ∷ acc else digits_onto k 10 false (n / 10) (digit_glyph false (n % 10) ∷ acc)) ≡ true)
+    [ true ↦ more | false ↦ digits_inert k (n / 10) (digit_glyph false (n % 10) ∷ acc) more ]
+
+decimal_inert : (n : ℕ) → list_all is_inert (decimal n) ≡ true
+unfolding digits
+decimal_inert n = digits_inert 64 n [] refl
+
+-- ---- rows
+
+cell_inert : (c : PlainCell) → list_all is_inert (cell_text c) ≡ true
+cell_inert (number n) = joined (codes ",") (decimal n) refl (decimal_inert n)
+cell_inert (text bytes) =
+    joined (codes ",\"") (flat_map escaped bytes ++ codes "\"") refl (joined (flat_map escaped bytes) (codes "\"") (all_escaped_inert bytes) refl)
+
+cells_inert : (cs : List PlainCell) → list_all is_inert (flat_map cell_text cs) ≡ true
+cells_inert [] = refl
+cells_inert (c ∷ cs) = joined (cell_text c) (flat_map cell_text cs) (cell_inert c) (cells_inert cs)
+
+row_inert : (r : Row) → list_all is_inert (row_text r) ≡ true
+row_inert r =
+    joined (front_text r.name) (flat_map cell_text r.cells ++ codes "]")
+    (joined (codes "[\"") (flat_map escaped r.name ++ codes "\"") refl (joined (flat_map escaped r.name) (codes "\"") (all_escaped_inert r.name) refl))
+    (joined (flat_map cell_text r.cells) (codes "]") (cells_inert r.cells) refl)
+
+next_inert : (rs : List Row) → list_all is_inert (flat_map next_text rs) ≡ true
+next_inert [] = refl
+next_inert (r ∷ rs) = joined (next_text r) (flat_map next_text rs) (joined (codes ",\n") (row_text r) refl (row_inert r)) (next_inert rs)
+
+-- so is the text of all rows
+pub rows_inert : (first : Row) (rest : List Row) → list_all is_inert (rows_text first rest) ≡ true
+rows_inert first rest =
+    joined (codes "[") (row_text first ++ (flat_map next_text rest ++ codes "]\n")) refl
+    (joined (row_text first) (flat_map next_text rest ++ codes "]\n") (row_inert first) (joined (flat_map next_text rest) (codes "]\n") (next_inert rest) refl))
+
+-- ---- how long
+
+escaped_short : (t : Bool) (b : ℕ) → length (if t then b ∷ [] else numbered b) ≤ 6
+escaped_short true b = omega arith
+escaped_short false b = omega arith
+
+-- a text takes at most six bytes for each of its own
+pub texts_short : (bytes : List ℕ) → length (flat_map escaped bytes) ≤ 6 * length bytes
+texts_short [] = omega arith
+texts_short (b ∷ bytes) = omega (arith, length-append (escaped b) (flat_map escaped bytes), escaped_short (is_plain b) b, texts_short bytes)

@@ -1,0 +1,2 @@
+pub mod SentLaws
+pub mod InertLaws

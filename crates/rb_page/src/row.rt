@@ -1,0 +1,94 @@
+//! Rows.
+
+ghost use Rattle.std.specs.Prelude.{◌≡◌, ◌++◌, IsOk, codes, map};
+ghost use Rattle.std.specs.List.{flat_map};
+ghost use Rattle.rb_script.specs.Writes.{Writes};
+ghost use Rattle.rb_page.specs.Rows.{cell_text, front_text, plain_cell, row_text, row, before};
+
+use crate::cell::Cell;
+use crate::piece::{Piece, put_pieces};
+use rb_script::{Sink, WriteFault};
+
+/// Where a row stands.
+#[derive(Clone, Copy, Debug, PartialEq, Eq)]
+pub enum Place {
+    /// It is the first: the list begins before it.
+    First,
+    /// It follows another.
+    Next,
+}
+
+// What stands before a row.
+fn before(place: Place) -> &'static [u8]
+    ensures { result.now ≡ before place }
+{
+    match place {
+        Place::First => b"[",
+        Place::Next => b",\n",
+    }
+}
+
+/// Writes a row of this name, with these cells.
+pub fn put_row<S: Sink>(
+    sink: &mut S,
+    place: Place,
+    name: &[u8],
+    cells: &[Cell<'_>],
+) -> Result<(), WriteFault>
+    ensures wrote { Writes result (S.held sink.old) (S.held sink.new) (before place ++ row_text (row name.now (map plain_cell cells.now))) }
+    ensures all { S.takes_all sink.old → IsOk result × S.takes_all sink.new }
+{
+    put_front(sink, place, name)?;
+    put_cells(sink, cells)?;
+    sink.put(b"]")
+}
+
+fn put_front<S: Sink>(sink: &mut S, place: Place, name: &[u8]) -> Result<(), WriteFault>
+    ensures wrote { Writes result (S.held sink.old) (S.held sink.new) (before place ++ front_text name.now) }
+    ensures all { S.takes_all sink.old → IsOk result × S.takes_all sink.new }
+{
+    put_pieces(
+        sink,
+        &[
+            Piece::Bytes(before(place)),
+            Piece::Bytes(b"[\""),
+            Piece::Escaped(name),
+            Piece::Bytes(b"\""),
+        ],
+    )
+}
+
+fn put_cells<S: Sink>(sink: &mut S, cells: &[Cell<'_>]) -> Result<(), WriteFault>
+    ensures wrote { Writes result (S.held sink.old) (S.held sink.new) (flat_map cell_text (map plain_cell cells.now)) }
+    ensures all { S.takes_all sink.old → IsOk result × S.takes_all sink.new }
+{
+    for cell in cells {
+        put_cell(sink, *cell)?;
+    }
+    Ok(())
+}
+
+fn put_cell<S: Sink>(sink: &mut S, cell: Cell<'_>) -> Result<(), WriteFault>
+    ensures wrote { Writes result (S.held sink.old) (S.held sink.new) (cell_text (plain_cell cell.entry)) }
+    ensures all { S.takes_all sink.old → IsOk result × S.takes_all sink.new }
+{
+    match cell {
+        Cell::Number(n) => put_pieces(sink, &[Piece::Bytes(b","), Piece::Number(n)]),
+        Cell::Text(bytes) => put_pieces(
+            sink,
+            &[
+                Piece::Bytes(b",\""),
+                Piece::Escaped(bytes),
+                Piece::Bytes(b"\""),
+            ],
+        ),
+    }
+}
+
+/// Writes what stands behind the last row.
+pub fn put_end<S: Sink>(sink: &mut S) -> Result<(), WriteFault>
+    ensures wrote { Writes result (S.held sink.old) (S.held sink.new) (codes "]\n") }
+    ensures all { S.takes_all sink.old → IsOk result × S.takes_all sink.new }
+{
+    sink.put(b"]\n")
+}

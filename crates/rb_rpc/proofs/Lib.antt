@@ -1,0 +1,3 @@
+pub mod MessageLaws
+pub mod FrameLaws
+pub mod ReadingLaws

@@ -1,0 +1,81 @@
+//! What stands at the front of bytes.
+
+ghost use Rattle.std.specs.Prelude.{◌≡◌, ◌≤◌, length, map, All};
+ghost use Rattle.std.specs.Str.{str_eq_ignore_ascii_case};
+ghost use Rattle.httparse.specs.Spans.{IsHeaderWithin, header_bytes};
+ghost use Rattle.rb_rpc.specs.Messages.{Finds, told_length, is_length_name};
+ghost use Rattle.rb_rpc.specs.Heads.{IsHead};
+
+use crate::limits::{MAX_BODY, MAX_FIELDS, MAX_HEAD};
+use httparse::Status;
+use httparse::spans::{EMPTY_HEADER_SPAN, HeaderSpan, parse_headers};
+use rb_number::number_of;
+
+/// What stands at the front of bytes.
+#[derive(Clone, Copy, Debug, PartialEq, Eq)]
+pub enum Found {
+    /// A message, whose body begins at the one place and ends at the other.
+    Message(usize, usize),
+    /// No message yet. What follows may make it one.
+    Partial,
+    /// No message, whatever follows.
+    Bad,
+}
+
+/// Looks for a message at the front of the bytes.
+pub fn message_at(bytes: &[u8]) -> Found
+    ensures { Finds bytes.now result }
+{
+    let mut fields = [EMPTY_HEADER_SPAN; MAX_FIELDS];
+    match parse_headers(bytes, fields.as_mut_slice()) {
+        Ok(Status::Complete((start, count))) => {
+            body_at(bytes, start, told_length(bytes, &fields[..count]))
+        }
+        Ok(Status::Partial) => {
+            if bytes.len() < MAX_HEAD {
+                Found::Partial
+            } else {
+                Found::Bad
+            }
+        }
+        Err(_) => Found::Bad,
+    }
+}
+
+// Whether the name is that of the field that tells the length.
+fn is_length_name(name: &[u8]) -> bool
+    ensures { result ≡ is_length_name name.now }
+{
+    name.eq_ignore_ascii_case(b"content-length")
+}
+
+// The length that the fields tell.
+fn told_length(bytes: &[u8], fields: &[HeaderSpan]) -> Option<u64>
+    requires { All (IsHeaderWithin (length bytes.now)) fields.now }
+    ensures { result ≡ told_length (map (header_bytes bytes.now) fields.now) }
+{
+    for field in fields {
+        if is_length_name(field.name.of(bytes)) {
+            return number_of(field.value.of(bytes));
+        }
+    }
+    None
+}
+
+// The body behind a head that ends there.
+fn body_at(bytes: &[u8], start: usize, told: Option<u64>) -> Found
+    requires { IsHead bytes.now start told }
+    ensures { Finds bytes.now result }
+{
+    let Some(len) = told else {
+        return Found::Bad;
+    };
+    if start > MAX_HEAD || len > MAX_BODY as u64 {
+        return Found::Bad;
+    }
+    let len = len as usize;
+    if bytes.len() - start < len {
+        return Found::Partial;
+    }
+    Found::Message(start, start + len)
+}

@@ -1,0 +1,163 @@
+//! The messages of a source.
+
+ghost use Rattle.std.specs.Prelude.{◌≡◌, ◌<◌, ◌≤◌, ℕ, List, Option, false, IfOk, OnOk, length, drop, slice_range};
+ghost use Rattle.std.specs.Io.KnownBytes.{Keeps};
+ghost use Rattle.rb_rpc.specs.Reading.{GivesNext, body_of, end_of, left_of};
+
+use crate::head::{Found, message_at};
+use rb_line::{InputFault, Source};
+use std::alloc::{AllocError, Global};
+
+// How many bytes one call may give.
+const CHUNK: usize = 16_384;
+
+/// What comes next from a source.
+#[derive(Clone, Copy, Debug, PartialEq, Eq)]
+pub enum Next {
+    /// A message, whose body the `MessageReader` holds.
+    Message,
+    /// The end, behind the last message.
+    End,
+    /// The end, within a message.
+    CutOff,
+    /// What no message begins with.
+    Bad,
+}
+
+/// Why nothing came.
+#[derive(Clone, Copy, Debug, PartialEq, Eq)]
+pub enum ReadFault {
+    /// The source failed, or all calls of it were made.
+    Input,
+    /// Memory was refused.
+    OutOfMemory,
+}
+
+impl From<InputFault> for ReadFault {
+    ghost use Rattle.std.specs.Prelude.{◌≡◌};
+    ghost use Rattle.rb_rpc.specs.declared.message_reader.ReadFault.TheVariants.{Input};
+
+    ghost from_gives = { λ _ e. e ≡ Input };
+
+    fn from(_e: InputFault) -> ReadFault {
+        ReadFault::Input
+    }
+}
+
+impl From<AllocError> for ReadFault {
+    ghost use Rattle.std.specs.Prelude.{◌≡◌};
+    ghost use Rattle.rb_rpc.specs.declared.message_reader.ReadFault.TheVariants.{OutOfMemory};
+
+    ghost from_gives = { λ _ e. e ≡ OutOfMemory };
+
+    fn from(_e: AllocError) -> ReadFault {
+        ReadFault::OutOfMemory
+    }
+}
+
+/// Gives the messages of a source, one at a time.
+#[derive(Drop)]
+pub struct MessageReader {
+    held: Vec<u8>,
+    body: Vec<u8>,
+    calls: u64,
+    has_ended: bool,
+}
+
+impl MessageReader {
+    /// At most `calls` calls will be made of the source; a further one counts as a failure.
+    pub fn new(alloc: Global, calls: u64) -> MessageReader
+        ensures { (known : Option (List ℕ)) → left_of result known ≡ known }
+    {
+        MessageReader {
+            held: Vec::new(alloc),
+            body: Vec::new(alloc),
+            calls,
+            has_ended: false,
+        }
+    }
+
+    /// Reads on to the end of the next message. Each call is to be handed the same source.
+    ///
+    /// # Errors
+    ///
+    /// At the first error of the source, where all calls were made, and where memory was refused. Bytes may be lost then.
+    pub fn next<S: Source>(&mut self, source: &mut S) -> Result<Next, ReadFault>
+        ensures { IfOk result (λ next. GivesNext next (left_of self.old (S.left source.old)) (left_of self.new (S.left source.new)) (body_of self.new)) }
+    {
+        'reading: loop {
+            match message_at(self.held.as_slice()) {
+                Found::Message(start, end) => {
+                    self.take(start, end)?;
+                    return Ok(Next::Message);
+                }
+                Found::Bad => return Ok(Next::Bad),
+                Found::Partial => {}
+            }
+            if self.has_ended {
+                return Ok(self.end());
+            }
+            self.refill(source)?;
+        }
+    }
+
+    /// The body that came last.
+    pub fn body(&self) -> &[u8]
+        ensures { result.now ≡ body_of self.now }
+    {
+        self.body.as_slice()
+    }
+
+    // Takes what stands before `end` out of what is held; from `start` on it is the body.
+    fn take(&mut self, start: usize, end: usize) -> Result<(), AllocError>
+        requires ordered { start ≤ end }
+        requires within { end ≤ length self.old.held.items }
+        ensures body { OnOk result (self.new.body.items ≡ slice_range self.old.held.items start end) }
+        ensures held { OnOk result (self.new.held.items ≡ drop end self.old.held.items) }
+        ensures ended { self.new.has_ended ≡ self.old.has_ended }
+        ensures calls { self.new.calls ≡ self.old.calls }
+    {
+        self.body.clear();
+        self.body.extend_from_slice(&self.held[start..end])?;
+        remove_front(&mut self.held, end);
+        Ok(())
+    }
+
+    // What is given at the end.
+    fn end(&self) -> Next
+        ensures { result ≡ end_of self.now.held.items }
+    {
+        if self.held.is_empty() {
+            Next::End
+        } else {
+            Next::CutOff
+        }
+    }
+
+    // Makes one more call, where one is left.
+    fn refill<S: Source>(&mut self, source: &mut S) -> Result<(), ReadFault>
+        requires going { self.old.has_ended ≡ false }
+        ensures counted { OnOk result (self.new.calls < self.old.calls) }
+        ensures left { OnOk result (Keeps (left_of self.old (S.left source.old)) (left_of self.new (S.left source.new))) }
+    {
+        if self.calls == 0 {
+            return Err(ReadFault::Input);
+        }
+        self.calls -= 1;
+        let mut chunk = [0u8; CHUNK];
+        let n = source.get(chunk.as_mut_slice())?;
+        self.held.extend_from_slice(&chunk[..n])?;
+        self.has_ended = n == 0;
+        Ok(())
+    }
+}
+
+// Removes the first bytes.
+fn remove_front(bytes: &mut Vec<u8>, n: usize)
+    requires { n ≤ length bytes.old.items }
+    ensures { bytes.new.items ≡ drop n bytes.old.items }
+{
+    let left = bytes.len() - n;
+    bytes.as_mut_slice().copy_within(n.., 0);
+    bytes.truncate(left);
+}

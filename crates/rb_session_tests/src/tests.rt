@@ -1,0 +1,4 @@
+mod bench;
+mod clusters;
+mod definitions;
+mod sessions;

@@ -1,0 +1,161 @@
+package main
+
+import (
+	"bytes"
+	"math"
+	"sort"
+	"strings"
+
+	"go.etcd.io/etcd/raft/v3"
+	pb "go.etcd.io/etcd/raft/v3/raftpb"
+	"go.etcd.io/etcd/raft/v3/tracker"
+)
+
+// etcd's values as the protocol has them.
+
+var roles = map[raft.StateType]string{
+	raft.StateFollower: "follower", raft.StatePreCandidate: "precandidate",
+	raft.StateCandidate: "candidate", raft.StateLeader: "leader",
+}
+
+var viewStates = map[tracker.StateType]string{
+	tracker.StateProbe: "probe", tracker.StateReplicate: "replicate", tracker.StateSnapshot: "snapshot",
+}
+
+var transitions = map[string]pb.ConfChangeTransition{
+	"auto": pb.ConfChangeTransitionAuto, "implicit": pb.ConfChangeTransitionJointImplicit,
+	"explicit": pb.ConfChangeTransitionJointExplicit,
+}
+
+// What a MsgVote has as its context where the leader asked for the campaign.
+var byTransfer = []byte("CampaignTransfer")
+
+func (n *node) shownState() state {
+	now := n.raw.BasicStatus()
+	return state{
+		Role: roles[now.RaftState], Term: now.Term, Vote: now.Vote, Lead: now.Lead, Commit: now.Commit, Applied: now.Applied,
+		Content: append([]byte{}, n.store.applied.Data...), Config: shownConfig(n.tracker().Config), Ready: n.raw.HasReady(),
+	}
+}
+
+func (n *node) whatIsReady() ready {
+	n.ready = n.raw.Ready()
+	shown := ready{Entries: shownEntries(n.ready.Entries), Committed: shownEntries(n.ready.CommittedEntries), Messages: []message{}}
+	if now := n.ready.HardState; !raft.IsEmptyHardState(now) {
+		shown.Hard = &hard{now.Term, now.Vote, now.Commit}
+	}
+	if at := n.ready.Snapshot.Metadata; at.Index > 0 {
+		shown.Snapshot = &stamp{at.Index, at.Term}
+	}
+	for _, m := range n.ready.Messages {
+		shown.Messages = append(shown.Messages, shownMessage(m))
+	}
+	return shown
+}
+
+// shownLog has the entries that aren't saved too, which the storage lacks.
+func (n *node) shownLog() (answer, error) {
+	unsavedFrom, unsaved, snapshot := n.unsaved()
+	if snapshot != nil {
+		at := snapshot.Metadata
+		return answer{"base": stamp{at.Index, at.Term}, "durable": unsavedFrom - 1, "entries": shownEntries(unsaved)}, nil
+	}
+	first, err := n.store.FirstIndex()
+	if err != nil {
+		return nil, err
+	}
+	term, err := n.store.Term(first - 1)
+	if err != nil {
+		return nil, err
+	}
+	var saved []pb.Entry
+	if unsavedFrom > first {
+		if saved, err = n.store.Entries(first, unsavedFrom, math.MaxUint64); err != nil {
+			return nil, err
+		}
+	}
+	all := append(shownEntries(saved), shownEntries(unsaved)...)
+	return answer{"base": stamp{first - 1, term}, "durable": unsavedFrom - 1, "entries": all}, nil
+}
+
+func (n *node) shownViews() []view {
+	views := []view{}
+	for id, p := range n.raw.Status().Progress {
+		// etcd marks whom it heard of also where nothing looks at that.
+		active := p.RecentActive || !n.checksQuorum
+		views = append(views, view{
+			Node: id, State: viewStates[p.State], Match: p.Match, Next: p.Next, Inflight: p.Inflights.Count(),
+			Waiting: p.ProbeSent && p.State == tracker.StateProbe, Active: active, Snapshot: p.PendingSnapshot,
+		})
+	}
+	sort.Slice(views, func(i, j int) bool { return views[i].Node < views[j].Node })
+	return views
+}
+
+func shownConfig(c tracker.Config) config {
+	return config{
+		Voters: ascending(c.Voters[0]), Outgoing: ascending(c.Voters[1]),
+		Learners: ascending(c.Learners), Next: ascending(c.LearnersNext), Auto: c.AutoLeave,
+	}
+}
+
+func ascending(set map[uint64]struct{}) []uint64 {
+	ids := []uint64{}
+	for id := range set {
+		ids = append(ids, id)
+	}
+	sort.Slice(ids, func(i, j int) bool { return ids[i] < ids[j] })
+	return ids
+}
+
+func shownEntries(all []pb.Entry) []entry {
+	shown := []entry{}
+	for _, e := range all {
+		shown = append(shown, shownEntry(e))
+	}
+	return shown
+}
+
+func shownEntry(e pb.Entry) entry {
+	shown := entry{Term: e.Term, Index: e.Index}
+	if e.Type == pb.EntryNormal {
+		shown.Data = e.Data
+		return shown
+	}
+	read, err := changeOf(e)
+	if err != nil {
+		panic(err)
+	}
+	asked := read.AsV2()
+	shown.Change = &change{Words: strings.Fields(pb.ConfChangesToString(asked.Changes))}
+	for name, transition := range transitions {
+		if transition == asked.Transition {
+			shown.Change.Transition = name
+		}
+	}
+	return shown
+}
+
+func shownMessage(m pb.Message) message {
+	own, err := m.Marshal()
+	if err != nil {
+		panic(err)
+	}
+	shown := message{
+		Type: m.Type.String(), From: m.From, To: m.To, Term: m.Term, LogTerm: m.LogTerm, Index: m.Index, Commit: m.Commit,
+		Entries: shownEntries(m.Entries), Reject: m.Reject, RejectHint: m.RejectHint, Transfer: bytes.Equal(m.Context, byTransfer),
+		Own: own,
+	}
+	if s := m.Snapshot; m.Type == pb.MsgSnap {
+		shown.Snapshot = &base{s.Metadata.Index, s.Metadata.Term, s.Data, shownConfState(s.Metadata.ConfState)}
+	}
+	// Whom the lead goes to is in `From`, and 3.5 gives it a term that the request doesn't have.
+	if m.Type == pb.MsgTransferLeader {
+		shown.Target, shown.Term = m.From, 0
+	}
+	return shown
+}
+
+func shownConfState(c pb.ConfState) config {
+	return config{Voters: c.Voters, Outgoing: c.VotersOutgoing, Learners: c.Learners, Next: c.LearnersNext, Auto: c.AutoLeave}
+}

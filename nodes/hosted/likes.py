@@ -1,0 +1,286 @@
+"""Switches of the reference: rules that a known library has otherwise. With them on the reference does as that library does, and what still
+differs is news. Each is named in `SWITCHES`; nodes/like/ has the lists of known libraries, and a file of one's own may be such a list.
+
+The proved program has no switches: a switched reference is the plain node alone.
+"""
+import pathlib
+
+from plain.config import Change, vote_result
+from plain.node import Node
+
+LIKE = pathlib.Path(__file__).resolve().parents[1] / "like"
+ANSWERS = ("MsgAppResp", "MsgVoteResp", "MsgPreVoteResp", "MsgHeartbeatResp")
+LEAVING = Change("auto", ())
+
+SWITCHES = {
+    "own-answers-at-once": "a node's own vote and its own new entries count before they are saved",
+    "added-view-at-last": "the view of a member that a change adds begins at the last entry, and not behind it",
+    "snapshot-keeps-next": "a snapshot that is sent leaves the view's next as it is",
+    "refusal-has-term": "a refused append is answered with a term too, and the leader skips by it",
+    "refusal-hints-last": "a refused append is answered with the last index",
+    "leaving-not-told": "what leaves a joint configuration by itself goes out with the next message, and a transfer doesn't hold it up",
+    "leaving-needs-applying": "a leader leaves a joint configuration by itself only where it applies something",
+    "leaving-not-pending": "leaving a joint configuration by itself is no pending change",
+    "answers-in-order": "answers go out in the order in which they arose, and not behind all that was sent",
+    "full-window-frees": "a heartbeat's answer frees a place of a full window",
+    "empty-probe-goes-on": "a probe waits only after an append with entries",
+    "probe-ends-above": "a probe ends only by an answer above its match",
+    "old-append-answered": "an append below commit is answered, also where it differs",
+    "strange-snapshot-ignored": "a snapshot whose configuration lacks the node is ignored",
+    "stranger-ignored": "an answer of a node that is no member is ignored, whatever its term",
+    "transfer-ends-with-voter": "a transfer ends where its target votes no more",
+    "transfer-to-itself-ends": "a transfer to the leader itself ends another",
+    "transfer-to-passer": "a transfer that a follower passes on goes to that follower",
+    "applied-when-saved": "applied and content of a restored snapshot move when it is saved",
+    "no-snapshot-unheard": "no snapshot goes to a member that wasn't heard of",
+    "demoted-leader-stops": "a leader that a change removes or demotes does nothing more about it",
+    "change-tells-all": "after a change all members get what is new",
+    "pre-vote-keeps-timeout": "asking before the vote leaves the timeout as it is",
+    "unsaved-snapshot-waits": "no campaign falls due while a restored snapshot isn't saved",
+    "pending-change-campaigns": "a change that isn't applied keeps nobody from campaigning",
+}
+
+
+class Unknown(Exception):
+    """A list of switches that can't be read; its text says why."""
+
+
+def switches_of(text):
+    """The switches of a list: one a line, with the reason behind it; `#` begins a comment."""
+    names = [line.split()[0] for line in text.splitlines() if line.strip() and not line.strip().startswith("#")]
+    for name in names:
+        if name not in SWITCHES:
+            raise Unknown(f"there is no switch {name}")
+    return frozenset(names)
+
+
+def kind_like(name):
+    """The kind of node for `--like`: a name of nodes/like, or a file; the plain one without a name."""
+    if not name:
+        return Node
+    known = LIKE / f"{name}.txt"
+    try:
+        text = (known if known.exists() else pathlib.Path(name)).read_text(encoding="utf-8")
+    except (OSError, UnicodeDecodeError) as fault:
+        raise Unknown(f"--like {name}: {fault}; known are {', '.join(sorted(path.stem for path in LIKE.glob('*.txt')))}") from None
+    return kind_with(switches_of(text))
+
+
+def kind_with(switches):
+    return type("SwitchedNode", (Switched,), {"switches": frozenset(switches)})
+
+
+class Switched(Node):
+    """The plain node with the rules of its switches."""
+
+    switches = frozenset()
+    # While it is true: own answers are of itself; nothing is told; views begin as those of added members.
+    is_own = is_quiet = is_growing = False
+    applies = True
+
+    def on(self, name):
+        return name in self.switches
+
+    def unsettled(self):
+        """Parts of the state that can't be compared now."""
+        return frozenset(("applied", "content")) if self.on("applied-when-saved") and self.restored else frozenset()
+
+    # Own vote, own entries
+
+    def send(self, kind, to, **parts):
+        if self.on("own-answers-at-once") and to == self.id and self.is_own:
+            return
+        waiting = len(self.waiting)
+        super().send(kind, to, **parts)
+        if self.on("answers-in-order") and len(self.waiting) > waiting:
+            self.sent.append(self.waiting.pop())
+
+    def ask(self, kind, term, by_transfer):
+        if self.on("own-answers-at-once"):
+            self.votes[self.id] = True
+            if vote_result(self.config, self.votes) == "won":
+                return self.win()
+        self.is_own = True
+        super().ask(kind, term, by_transfer)
+        self.is_own = False
+        return None
+
+    def win(self):
+        if self.role != "candidate":
+            return self.campaign("elected")
+        self.is_quiet = True
+        self.lead_on()
+        self.is_quiet = False
+        return None
+
+    def tell_all(self):
+        if not self.is_quiet:
+            super().tell_all()
+
+    def append(self, body):
+        self.is_own = True
+        done = super().append(body)
+        self.is_own = False
+        view = self.views.get(self.id)
+        if self.on("own-answers-at-once") and done and view:
+            view.match, view.next = self.last(), self.last() + 1
+            before, self.is_quiet = self.is_quiet, True
+            self.commits()
+            self.is_quiet = before
+        return done
+
+    def new_view(self, id, active):
+        super().new_view(id, active)
+        view = self.views[id]
+        if self.on("own-answers-at-once") and id == self.id:
+            view.match = self.last()
+        if self.on("added-view-at-last") and id != self.id and self.is_growing:
+            view.next = max(self.last(), 1)
+
+    # Changes
+
+    def advance(self):
+        self.applies = self.commit > self.applied
+        super().advance()
+
+    def leave_by_itself(self):
+        if not self.on("leaving-not-told"):
+            return super().leave_by_itself()
+        leaves = self.role == "leader" and self.config.is_joint() and self.config.auto and (self.applies or not self.on("leaving-needs-applying"))
+        if leaves and self.applied >= self.pending_change and self.append(LEAVING) and not self.on("leaving-not-pending"):
+            self.pending_change = self.last()
+        return None
+
+    def view_members(self):
+        self.is_growing = True
+        if self.on("demoted-leader-stops") and self.id not in self.config.voters():
+            self.view_added()
+        elif self.on("change-tells-all"):
+            self.view_added()
+            if not self.commits():
+                for id in self.others():
+                    self.sends(id, "news")
+            heirs = self.config.voters() if self.on("transfer-ends-with-voter") else self.config.members()
+            if self.transferee not in heirs:
+                self.end_transfer()
+        else:
+            super().view_members()
+        self.is_growing = False
+
+    def view_added(self):
+        members = self.config.members()
+        self.views = {id: view for id, view in self.views.items() if id in members}
+        for id in sorted(members - set(self.views)):
+            self.new_view(id, True)
+
+    # Sending
+
+    def sends(self, id, mode):
+        view = self.views.get(id)
+        lacks = view is not None and id != self.id and not view.is_paused(self.options.inflight) and view.next - 1 < self.base
+        if not lacks:
+            return super().sends(id, mode)
+        if self.on("no-snapshot-unheard") and not view.active or self.on("change-tells-all") and mode == "news" and view.next > self.last():
+            return None
+        was = view.next
+        super().sends(id, mode)
+        if self.on("snapshot-keeps-next"):
+            view.next = was
+        return None
+
+    def send_news(self, id, view):
+        was_waiting, has_news = view.waiting, view.next <= self.last()
+        super().send_news(id, view)
+        if self.on("empty-probe-goes-on") and view.state == "probe" and not has_news:
+            view.waiting = was_waiting
+
+    # Campaigns and time
+
+    def why_not(self):
+        why = super().why_not()
+        return None if self.on("pending-change-campaigns") and why == "change pending" else why
+
+    def campaign(self, kind="usual"):
+        timeout = self.timeout
+        super().campaign(kind)
+        if self.on("pre-vote-keeps-timeout") and self.role == "precandidate" and kind == "usual":
+            self.timeout = timeout
+
+    def tick(self):
+        if self.on("unsaved-snapshot-waits") and self.role != "leader" and self.restored:
+            self.elapsed += 1
+        else:
+            super().tick()
+
+    # Messages
+
+    def step(self, m):
+        if self.on("stranger-ignored") and m.kind in ANSWERS and m.sender not in self.config.members():
+            return self.ignore(m)
+        return super().step(m)
+
+    def take_beat_answer(self, m):
+        view = self.views.get(m.sender)
+        if view is None or not self.on("full-window-frees"):
+            return super().take_beat_answer(m)
+        view.active, view.waiting = True, False
+        if view.state == "replicate" and len(view.window) >= self.options.inflight:
+            view.window = view.window[1:]
+        if view.match < self.last():
+            self.sends(m.sender, "tell")
+        return None
+
+    def take_acceptance(self, m, view):
+        if not self.on("probe-ends-above"):
+            return super().take_acceptance(m, view)
+        index, was_paused = min(m.index, self.last()), view.is_paused(self.options.inflight)
+        view.next = max(view.next, index + 1)
+        if index <= view.match:
+            return None
+        view.match = index
+        if view.state == "probe" or view.state == "snapshot" and view.match >= view.pending:
+            view.to_replicate()
+        elif view.state == "replicate":
+            view.free_through(index)
+        view.waiting = False
+        if not self.commits() and was_paused:
+            self.sends(m.sender, "tell")
+        self.sends(m.sender, "news")
+        if m.sender == self.transferee and view.match == self.last():
+            self.send("MsgTimeoutNow", m.sender)
+        return None
+
+    def take_refusal(self, m, view):
+        if self.on("refusal-has-term") and m.log_term:
+            m = m._replace(hint=self.hint(m.hint, m.log_term))
+        return super().take_refusal(m, view)
+
+    def take_append(self, m):
+        is_refused = m.index >= self.commit and self.term_at(m.index) != m.log_term
+        if self.on("refusal-has-term") and is_refused:
+            hint = self.hint(m.index, m.log_term)
+            return self.answer_append(m, refused=True, index=m.index, hint=hint, log_term=self.term_at(hint) or 0)
+        if self.on("refusal-hints-last") and is_refused:
+            return self.answer_append(m, refused=True, index=m.index, hint=self.last())
+        if self.on("old-append-answered") and m.index < self.commit:
+            return self.answer_append(m, index=self.commit)
+        return super().take_append(m)
+
+    def answer_append(self, m, **parts):
+        self.lead, self.elapsed = m.sender, 0
+        self.send("MsgAppResp", m.sender, **parts)
+
+    def take_snapshot(self, m):
+        config = m.snapshot.config
+        is_strange = m.snapshot.index > self.commit and self.id not in config.voters() | config.learners
+        if self.on("strange-snapshot-ignored") and is_strange:
+            return self.answer_append(m, index=self.commit)
+        return super().take_snapshot(m)
+
+    def pass_transfer(self, m):
+        super().pass_transfer(m._replace(target=self.id) if self.on("transfer-to-passer") else m)
+
+    def start_transfer(self, m):
+        if self.on("transfer-to-itself-ends") and m.target == self.id and self.transferee and m.target in self.config.voters():
+            return self.end_transfer()
+        return super().start_transfer(m)

@@ -1,0 +1,90 @@
+/* One node of libraft, with what libraft leaves to its user: a disk, a clock, and a state machine, all in memory.
+ *
+ * What the node writes and sends is kept until it is asked for (`node_ready`): then the disk has written, and the messages that
+ * waited for that are there too. */
+#ifndef NODE_H
+#define NODE_H
+
+#include <raft.h>
+#include <stdbool.h>
+#include <stddef.h>
+
+enum { MILLISECONDS_OF_TICK = 100, TICKS_OF_TIMEOUT = 3 };
+
+/* A message on its way. What it points to is its own. */
+struct letter {
+    raft_id from;
+    raft_id to;
+    struct raft_message content;
+};
+
+struct letters {
+    struct letter **all;
+    size_t count;
+};
+
+/* A write of entries that isn't done. */
+struct write {
+    struct raft_io_append *request;
+    raft_io_append_cb done;
+    raft_index last;
+};
+
+struct sending {
+    struct raft_io_send *request;
+    raft_io_send_cb done;
+};
+
+struct node {
+    struct raft raft;
+    struct raft_io io;
+    struct raft_fsm machine;
+    raft_io_tick_cb tick;
+    raft_io_recv_cb receive;
+    raft_time now;
+    /* What it begins with. */
+    raft_index base;
+    raft_term base_term;
+    struct raft_configuration members;
+    struct raft_buffer base_content;
+    /* The payloads that were applied, one behind the other. */
+    struct raft_buffer content;
+    struct write writes[256];
+    size_t write_count;
+    struct sending sendings[4096];
+    size_t sending_count;
+    struct letters outbox;
+    raft_term shown_term;
+    raft_id shown_vote;
+    raft_index shown_commit;
+    raft_index shown_stored;
+    bool led;
+    struct raft_transfer transfer;
+};
+
+/* A started node, or NULL where libraft refuses; `members` and `content` are copied. */
+struct node *node_start(raft_id id, raft_index base, raft_term base_term, const struct raft_configuration *members,
+                        struct raft_buffer content, bool pre_vote);
+void node_campaign(struct node *n);
+void node_tick(struct node *n);
+void node_set_timeout(struct node *n, unsigned ticks);
+void node_propose(struct node *n, struct raft_buffer payload);
+void node_transfer(struct node *n, raft_id to);
+void node_receive(struct node *n, const struct letter *letter);
+
+bool node_has_ready(const struct node *n);
+/* Finishes what was being written. What it wants to send is in `outbox` then. */
+void node_write(struct node *n);
+/* The messages have gone out. */
+void node_sent(struct node *n);
+
+raft_term node_term_at(const struct node *n, raft_index index);
+const struct raft_entry *node_entry(const struct node *n, raft_index index);
+raft_index node_log_base(const struct node *n);
+raft_index node_log_last(const struct node *n);
+
+/* Memory of libraft's kind; ends the program where there is none. */
+void *allocated(size_t size);
+struct raft_buffer copied(struct raft_buffer from);
+
+#endif

@@ -1,0 +1,210 @@
+"""A plain cluster: nodes, a network and a level; and what each directive does to it and prints. It is written from
+docs/DIRECTIVES.md, section by section.
+
+Its nodes are plain nodes, or whatever a subclass's `new_node` makes that has the calls of plain.node.Node which `call` and
+`process` make.
+"""
+from .config import Config
+from .directives import LEVELS, MOST_NODES, Refused, Request, change_asked
+from .network import Network
+from .node import Node, Options
+from .texts import config_text, entry_text, log_texts, message_text, state_text, status_texts
+
+
+class Cluster:
+    def __init__(self):
+        self.nodes, self.network, self.level = {}, Network(), "debug"
+        self.lines, self.shown = [], "debug"
+        # Of the directive that runs: the nodes that were called, and the messages that they gave.
+        self.touched, self.sent = set(), []
+
+    def new_node(self, id, config, index, content, options):
+        return Node(id, config, index, content, options)
+
+    def frozen(self):
+        """All of the state, as a value that can be compared."""
+        return tuple(node.frozen() for node in self.nodes.values()), self.network.frozen(), self.level
+
+    def run(self, directive):
+        """Carries out a directive; answers the lines that it prints."""
+        name, arguments, given = directive
+        self.lines, self.touched, self.sent = [], set(), []
+        try:
+            request = Request(name, arguments)
+            for id in request.named():
+                if id not in self.nodes:
+                    raise Refused(f"no node {id}")
+            self.shown = request.options.get("log-level", self.level)
+            getattr(self, "do_" + request.name.replace("-", "_"))(request.words, request.options, given)
+        except Refused as refused:
+            return [f"error: {refused}"]
+        return self.lines or ["ok"]
+
+    # What is shown
+
+    def put(self, line):
+        if self.shown != "none":
+            self.lines.append(line)
+
+    def put_events(self, node):
+        for event_level, line in node.events:
+            if self.shown not in ("fatal", "none") and LEVELS.index(event_level.lower()) >= LEVELS.index(self.shown):
+                self.lines.append(f"{event_level} {line}")
+        node.events = []
+
+    # Nodes
+
+    def do_add_nodes(self, words, options, _):
+        count, index = words[0], options.get("index", 0)
+        if len(self.nodes) + count > MOST_NODES:
+            raise Refused("too many nodes")
+        if index < 2 and any(key in options for key in ("index", "voters", "learners", "content")):
+            raise Refused("index must be above 1")
+        config = Config(frozenset(options.get("voters", [])), learners=frozenset(options.get("learners", [])))
+        chosen = Options(
+            options.get("inflight", 256), options.get("prevote", False), options.get("checkquorum", False),
+            options.get("step-down-on-removal", False),
+        )
+        for _ in range(count):
+            id = len(self.nodes) + 1
+            node = self.nodes[id] = self.new_node(id, config, index, options.get("content", b""), chosen)
+            self.touch(id)
+            node.events.insert(0, ("INFO", f"{id} started at {1 if index else 0}/{index} with {config_text(config)}"))
+            self.put_events(node)
+
+    def do_raft_state(self, *_):
+        for node in self.nodes.values():
+            self.put(state_text(node))
+
+    def do_raft_log(self, words, *_):
+        for line in log_texts(self.nodes[words[0]]):
+            self.put(line)
+
+    def do_status(self, words, *_):
+        for line in status_texts(self.nodes[words[0]]):
+            self.put(line)
+
+    def do_log_level(self, words, *_):
+        self.level = words[0]
+
+    # Calls of a node
+
+    def touch(self, id):
+        """Takes note that a node was called."""
+        self.touched.add(id)
+
+    def call(self, id, name, *parts):
+        getattr(self.nodes[id], name)(*parts)
+        self.touch(id)
+        self.put_events(self.nodes[id])
+
+    def do_campaign(self, words, *_):
+        self.call(words[0], "campaign")
+
+    def do_propose(self, words, *_):
+        self.call(words[0], "propose", words[1])
+
+    def do_propose_conf_change(self, words, options, given):
+        self.call(words[0], "propose_change", change_asked(options, given), options.get("v1", False))
+
+    def do_transfer_leadership(self, _, options, __):
+        self.call(options["from"], "transfer", options["to"])
+
+    def do_tick_election(self, words, *_):
+        for _ in range(3):
+            self.call(words[0], "tick")
+
+    def do_tick_heartbeat(self, words, *_):
+        self.call(words[0], "tick")
+
+    def do_set_randomized_election_timeout(self, words, options, _):
+        self.call(words[0], "set_timeout", options["timeout"])
+
+    def do_forget_leader(self, words, *_):
+        self.call(words[0], "forget_leader")
+
+    def do_report_unreachable(self, words, *_):
+        self.call(words[0], "report_unreachable", words[1])
+
+    def do_compact(self, words, *_):
+        node, index = self.nodes[words[0]], words[1]
+        if index <= node.base:
+            raise Refused("already compacted")
+        if index > node.applied:
+            raise Refused("index past applied")
+        self.call(words[0], "compact", index)
+        self.do_raft_log(words)
+
+    # Messages on their way
+
+    def queue(self, message, verb=None):
+        """Puts a message behind the pending ones, if there is room."""
+        self.sent.append(message)
+        if not self.network.put(message):
+            self.put("no room for " + message_text(message))
+        elif verb:
+            self.put(f"{verb} {message_text(message)}")
+
+    def deliver(self, id, types=None):
+        taken = self.network.take(id, types)
+        for message in taken:
+            self.put("deliver " + message_text(message))
+            self.call(id, "step", message)
+        return len(taken)
+
+    def process(self, id):
+        """What is ready is printed and done; answers whether anything was."""
+        node = self.nodes[id]
+        if not node.has_ready():
+            return False
+        self.put(f"{id} ready")
+        ready = node.ready()
+        if ready.hard:
+            self.put("  hard term=%d vote=%d commit=%d" % ready.hard)
+        if ready.snapshot:
+            self.put("  snapshot %d/%d" % ready.snapshot[::-1])
+        for verb, entries in (("save", ready.entries), ("apply", ready.committed)):
+            for index, entry in entries:
+                self.put(f"  {verb} {entry_text(index, entry)}")
+        for message in ready.messages:
+            self.put("  send " + message_text(message))
+        node.advance()
+        self.touch(id)
+        for message in ready.messages:
+            self.queue(message)
+        self.put_events(node)
+        return True
+
+    def do_process_ready(self, words, *_):
+        for id in words:
+            if not self.process(id):
+                self.put(f"{id} has nothing ready")
+
+    def do_deliver_msgs(self, words, options, _):
+        types, met = options.get("type"), 0
+        for id in words:
+            met += self.deliver(id, types)
+        for id in options.get("drop", []):
+            for message in self.network.take(id, types):
+                self.put("drop " + message_text(message))
+                met += 1
+        if not met:
+            self.put("no messages")
+
+    def has_work(self, chosen):
+        return any(self.nodes[id].has_ready() for id in chosen) or self.network.has_for(chosen)
+
+    def do_stabilize(self, words, options, _):
+        chosen, rounds = sorted(set(words)) or list(self.nodes), options.get("rounds", 200)
+        for _ in range(rounds):
+            if not self.has_work(chosen):
+                return
+            for id in chosen:
+                self.process(id)
+            for id in chosen:
+                self.deliver(id)
+        if self.has_work(chosen):
+            self.put(f"stopped after {rounds} rounds")
+
+    def do_send_snapshot(self, words, *_):
+        self.queue(self.nodes[words[0]].snapshot_for(words[1]), "queue")

@@ -1,0 +1,627 @@
+"""A plain Raft node: one list of entries with a number, views as lists, sets and counts. It is written from the rules in
+docs/NODE.md and docs/DIRECTIVES.md, which are Ongaro's thesis and the documentation of etcd's raft: it shows what a node does
+in the plainest way, as slowly as it likes.
+"""
+import collections
+from typing import NamedTuple
+
+from .config import Change, ChangeFault, Config, both, changed, commit_of, vote_result
+from .texts import config_text
+
+TIMEOUT = 3
+GREATEST_TIMEOUT = 1000
+TERM_LIMIT = INDEX_LIMIT = 2_000_000_000
+# How often a message of each type met a node of each role.
+MET = collections.Counter()
+
+
+class Entry(NamedTuple):
+    term: int
+    body: object  # bytes, or a Change
+
+
+class Snapshot(NamedTuple):
+    index: int
+    term: int
+    content: bytes
+    config: Config
+
+
+class Message(NamedTuple):
+    """A message; which parts it has depends on its type, `kind`."""
+
+    kind: str
+    sender: int
+    to: int
+    term: int = 0
+    index: int = 0  # of the last entry, the entry before an append, or what is answered
+    log_term: int = 0  # the term of the entry at that index
+    commit: int = 0
+    entries: tuple = ()
+    refused: bool = False
+    hint: int = 0
+    by_transfer: bool = False
+    snapshot: Snapshot = None
+    body: object = None
+    target: int = 0
+
+
+class Options(NamedTuple):
+    inflight: int = 256
+    prevote: bool = False
+    checkquorum: bool = False
+    step_down_on_removal: bool = False
+
+
+class Ready(NamedTuple):
+    """What a node wants done: a term, a vote and a commit to save, or None; index and term of a restored snapshot, or None; entries to save and
+    entries to apply, with their indexes; messages."""
+
+    hard: tuple
+    snapshot: tuple
+    entries: list
+    committed: list
+    messages: list
+
+
+class View:
+    """What a leader knows of a member (etcd's Progress)."""
+
+    def __init__(self, state, match, next, active):
+        self.state, self.match, self.next, self.active = state, match, next, active
+        self.waiting, self.pending, self.window = False, 0, []
+
+    def to_probe(self):
+        self.state, self.next, self.waiting, self.pending, self.window = "probe", self.match + 1, False, 0, []
+
+    def to_replicate(self):
+        self.state, self.next, self.waiting, self.pending, self.window = "replicate", self.match + 1, False, 0, []
+
+    def to_snapshot(self, index):
+        self.state, self.next, self.waiting, self.pending, self.window = "snapshot", index + 1, False, index, []
+
+    def is_paused(self, inflight):
+        if self.state == "probe":
+            return self.waiting
+        return self.state == "snapshot" or len(self.window) >= inflight
+
+    @property
+    def inflight(self):
+        """How many appends are on their way."""
+        return len(self.window)
+
+    def free_through(self, index):
+        self.window = [last for last in self.window if last > index]
+
+    def frozen(self):
+        return self.state, self.match, self.next, self.active, self.waiting, self.pending, tuple(self.window)
+
+
+class Node:
+    def __init__(self, id, config, index, content, options):
+        self.id, self.config, self.content, self.options = id, config, content, options
+        self.base, self.base_term, self.entries = index, 1 if index else 0, []
+        self.durable = self.commit = self.applied = index
+        self.term = self.vote = self.lead = 0
+        self.role, self.timeout = "follower", TIMEOUT
+        self.views, self.votes = {}, {}
+        self.elapsed = self.beat_elapsed = self.transferee = self.pending_change = 0
+        self.saved, self.restored = (0, 0, index), False
+        self.sent, self.waiting, self.events = [], [], []
+
+    def frozen(self):
+        """All of the state, as a value that can be compared; events are none of it."""
+        return (
+            self.id, self.config, self.content, self.options, self.base, self.base_term, tuple(self.entries), self.durable,
+            self.commit, self.applied, self.term, self.vote, self.lead, self.role, self.timeout,
+            tuple((id, self.views[id].frozen()) for id in sorted(self.views)), frozenset(self.votes.items()),
+            self.elapsed, self.beat_elapsed, self.transferee, self.pending_change, self.saved, self.restored,
+            tuple(self.sent), tuple(self.waiting),
+        )
+
+    # The log
+
+    def last(self):
+        return self.base + len(self.entries)
+
+    def term_at(self, index):
+        """The term of the entry at an index, or None where that is not in the log."""
+        if index == self.base:
+            return self.base_term
+        return self.entries[index - self.base - 1].term if self.base < index <= self.last() else None
+
+    def entries_from(self, index, to=None):
+        """Pairs of an index and its entry."""
+        to = self.last() if to is None else to
+        return [(at, self.entries[at - self.base - 1]) for at in range(index, to + 1)]
+
+    def is_new(self, term, index):
+        """Whether a log that ends so is at least as new (3.6.1)."""
+        return (term, index) >= (self.term_at(self.last()), self.last())
+
+    def hint(self, index, term):
+        """The greatest index that may still agree with a log that has this term there; 0 if none may."""
+        fits = [at for at in range(self.base, min(index, self.last()) + 1) if self.term_at(at) <= term]
+        return max(fits, default=0)
+
+    def snapshot(self):
+        return Snapshot(self.applied, self.term_at(self.applied), self.content, self.config)
+
+    def snapshot_for(self, to):
+        """A message with all that is applied."""
+        return Message("MsgSnap", self.id, to, self.term, snapshot=self.snapshot())
+
+    def compact(self, index):
+        self.base_term, self.entries = self.term_at(index), self.entries[index - self.base:]
+        self.base = index
+
+    # What it says
+
+    def tell(self, level, text):
+        self.events.append((level, f"{self.id} {text}"))
+
+    def ignore(self, m):
+        self.tell("DEBUG", f"ignored {m.kind} from {m.sender}")
+
+    def send(self, kind, to, **parts):
+        """Answers to votes and appends wait until what they rest on is durable (3.8); all else goes out at once."""
+        parts.setdefault("term", self.term)
+        waits = kind in ("MsgVoteResp", "MsgPreVoteResp", "MsgAppResp")
+        (self.waiting if waits else self.sent).append(Message(kind, self.id, to, **parts))
+
+    # Roles
+
+    def reset(self, term):
+        if term != self.term:
+            self.vote = 0
+        self.term, self.lead, self.elapsed, self.beat_elapsed, self.timeout = term, 0, 0, 0, TIMEOUT
+        self.votes, self.views, self.transferee, self.pending_change = {}, {}, 0, 0
+
+    def become(self, role):
+        self.role = role
+        self.tell("INFO", f"became {role} at term {self.term}")
+
+    def follow(self, term, lead):
+        self.reset(term)
+        self.lead = lead
+        self.become("follower")
+
+    def why_not(self):
+        """Why it can't campaign, or None."""
+        coming = self.entries_from(self.applied + 1, self.commit)
+        reasons = [
+            ("leader", self.role == "leader"),
+            ("not a voter", self.id not in self.config.voters()),
+            ("snapshot pending", self.restored),
+            ("change pending", any(isinstance(entry.body, Change) for _, entry in coming)),
+            ("term limit", self.term + 1 > TERM_LIMIT),
+        ]
+        return next((why for why, holds in reasons if holds), None)
+
+    def campaign(self, kind="usual"):
+        """Kinds are `usual`, `transfer` (told by the leader to), and `elected` (the question before the vote was won)."""
+        why = self.why_not()
+        if why:
+            self.tell("WARN", f"can't campaign: {why}")
+        elif self.options.prevote and kind == "usual":
+            self.votes, self.lead, self.timeout = {}, 0, TIMEOUT
+            self.become("precandidate")
+            self.ask("MsgPreVote", self.term + 1, False)
+        else:
+            self.reset(self.term + 1)
+            self.vote = self.id
+            self.become("candidate")
+            self.ask("MsgVote", self.term, kind == "transfer")
+
+    def ask(self, kind, term, by_transfer):
+        for id in sorted(self.config.voters()):
+            if id == self.id:
+                self.send(kind + "Resp", id, term=term)
+            else:
+                last = self.last()
+                self.send(kind, id, term=term, index=last, log_term=self.term_at(last), by_transfer=by_transfer)
+
+    def new_view(self, id, active):
+        if id == self.id:
+            view = View("replicate", self.durable, self.last() + 1, True)
+        else:
+            view = View("probe", 0, self.last() + 1, active)
+        self.views[id] = view
+
+    def lead_on(self):
+        """It has won: it leads, and an empty entry of its term is the first that it can commit (6.4)."""
+        self.reset(self.term)
+        self.lead = self.id
+        for id in self.config.members():
+            self.new_view(id, not self.options.checkquorum)
+        self.pending_change = self.last()
+        self.become("leader")
+        self.append(b"")
+        self.tell_all()
+
+    def append(self, body):
+        if self.last() >= INDEX_LIMIT:
+            self.tell("WARN", "appends nothing: index limit")
+            return False
+        self.entries.append(Entry(self.term, body))
+        self.send("MsgAppResp", self.id, index=self.last())
+        return True
+
+    # What a leader sends
+
+    def others(self):
+        return [id for id in sorted(self.views) if id != self.id]
+
+    def tell_all(self):
+        for id in self.others():
+            self.sends(id, "tell")
+
+    def sends(self, id, mode):
+        """Sends what a member lacks, as its view allows; modes are `tell`, `news` (only what is new) and `ping`."""
+        view = self.views.get(id)
+        if id == self.id or view is None:
+            return
+        if view.state == "snapshot" or view.state == "probe" and view.waiting:
+            return
+        if view.next - 1 < self.base:
+            self.send("MsgSnap", id, snapshot=self.snapshot())
+            view.to_snapshot(self.applied)
+        elif view.state == "replicate" and len(view.window) >= self.options.inflight:
+            if mode == "ping":
+                self.send_append(id, view, ())
+        elif mode != "news" or view.next <= self.last():
+            self.send_news(id, view)
+
+    def send_news(self, id, view):
+        entries = tuple(entry for _, entry in self.entries_from(view.next))
+        self.send_append(id, view, entries)
+        if view.state == "probe":
+            view.waiting = True
+        elif entries:
+            view.window.append(self.last())
+            view.next = self.last() + 1
+
+    def send_append(self, id, view, entries):
+        prev = view.next - 1
+        self.send("MsgApp", id, index=prev, log_term=self.term_at(prev), commit=self.commit, entries=entries)
+
+    # Messages
+
+    def step(self, m):
+        MET[m.kind, self.role] += 1
+        if m.kind not in ("MsgProp", "MsgTransferLeader"):
+            if self.is_undisturbed(m):
+                return self.ignore(m)
+            if m.term > self.term:
+                self.raise_term(m)
+            elif m.term < self.term:
+                return self.answer_older(m)
+        if m.kind in ("MsgVote", "MsgPreVote"):
+            return self.answer_candidate(m)
+        return self.by_role(m)
+
+    def is_undisturbed(self, m):
+        """Whether it has heard of its leader lately, and so ignores who asks for votes (4.2.3)."""
+        asks = m.kind in ("MsgVote", "MsgPreVote") and m.term > self.term and not m.by_transfer
+        return asks and self.options.checkquorum and self.lead != 0 and self.elapsed < 3
+
+    def raise_term(self, m):
+        if m.kind == "MsgPreVote" or m.kind == "MsgPreVoteResp" and not m.refused:
+            return
+        self.follow(m.term, m.sender if m.kind in ("MsgApp", "MsgHeartbeat", "MsgSnap") else 0)
+
+    def answer_older(self, m):
+        if m.kind == "MsgPreVote":
+            self.send("MsgPreVoteResp", m.sender, refused=True)
+        elif m.kind in ("MsgApp", "MsgHeartbeat") and (self.options.prevote or self.options.checkquorum):
+            self.send("MsgAppResp", m.sender)
+        else:
+            self.ignore(m)
+
+    def answer_candidate(self, m):
+        is_free = self.vote == m.sender or self.vote == 0 and self.lead == 0 or m.kind == "MsgPreVote" and m.term > self.term
+        if not (is_free and self.is_new(m.log_term, m.index)):
+            self.send(m.kind + "Resp", m.sender, refused=True)
+            return
+        self.send(m.kind + "Resp", m.sender, term=m.term)
+        if m.kind == "MsgVote":
+            self.vote, self.elapsed = m.sender, 0
+
+    def by_role(self, m):
+        if self.role in ("candidate", "precandidate") and m.kind in ("MsgApp", "MsgHeartbeat", "MsgSnap"):
+            self.follow(self.term, m.sender)
+        getattr(self, CASES.get((self.role, m.kind), "ignore"))(m)
+
+    def count_vote(self, m):
+        self.votes.setdefault(m.sender, not m.refused)
+        result = vote_result(self.config, self.votes)
+        self.tell("INFO", f"has {m.kind} {'refused' if m.refused else 'granted'} from {m.sender}: {result}")
+        if result == "won":
+            self.lead_on() if self.role == "candidate" else self.campaign("elected")
+        elif result == "lost":
+            self.follow(self.term, 0)
+
+    def drop(self, _):
+        self.tell("WARN", "dropped a proposal")
+
+    def pass_proposal(self, m):
+        if self.lead == 0:
+            self.drop(m)
+        else:
+            self.send("MsgProp", self.lead, term=0, body=m.body)
+
+    def pass_transfer(self, m):
+        if self.lead == 0:
+            self.ignore(m)
+        else:
+            self.send("MsgTransferLeader", self.lead, term=0, target=m.target)
+
+    def campaign_by_transfer(self, _):
+        self.campaign("transfer")
+
+    def take_beat(self, m):
+        self.lead, self.elapsed = m.sender, 0
+        self.commit = max(self.commit, min(m.commit, self.last()))
+        self.send("MsgHeartbeatResp", m.sender)
+
+    def take_append(self, m):
+        self.lead, self.elapsed = m.sender, 0
+        numbered = list(enumerate(m.entries, m.index + 1))
+        if m.index < self.commit:
+            wrong = (at for at, entry in numbered if self.base < at <= self.commit and self.term_at(at) not in (None, entry.term))
+            conflict = next(wrong, None)
+            if conflict is None:
+                self.send("MsgAppResp", m.sender, index=self.commit)
+            else:
+                self.tell("ERROR", f"conflict at {conflict}, commit {self.commit}")
+        elif self.term_at(m.index) != m.log_term:
+            self.send("MsgAppResp", m.sender, refused=True, index=m.index, hint=self.hint(m.index, m.log_term))
+        else:
+            self.put_after(numbered)
+            self.commit = max(self.commit, min(m.commit, m.index + len(m.entries)))
+            self.send("MsgAppResp", m.sender, index=m.index + len(m.entries))
+
+    def put_after(self, numbered):
+        """The first entry that differs and all behind it give way to what was sent."""
+        differs = next((at for at, entry in numbered if self.term_at(at) != entry.term), None)
+        if differs is not None:
+            self.entries = self.entries[:differs - self.base - 1] + [entry for at, entry in numbered if at >= differs]
+            self.durable = min(self.durable, differs - 1)
+
+    def take_snapshot(self, m):
+        self.lead, self.elapsed, new = m.sender, 0, m.snapshot
+        if new.index <= self.commit:
+            pass
+        elif self.term_at(new.index) == new.term:
+            self.commit = new.index
+        else:
+            self.base, self.base_term, self.entries = new.index, new.term, []
+            self.durable = self.commit = self.applied = new.index
+            self.content, self.config, self.restored = new.content, new.config, True
+            self.tell("INFO", f"restored snapshot {new.term}/{new.index}")
+        self.send("MsgAppResp", m.sender, index=self.commit)
+
+    # What clients and operators ask for
+
+    def propose(self, body):
+        self.step(Message("MsgProp", self.id, self.id, body=body))
+
+    def propose_change(self, change, is_v1=False):
+        """Proposes a change; that it was asked for in etcd's first form makes no difference here."""
+        self.propose(change)
+
+    def transfer(self, to):
+        self.step(Message("MsgTransferLeader", self.id, self.id, target=to))
+
+    def set_timeout(self, ticks):
+        self.timeout = ticks
+
+    def forget_leader(self):
+        if self.role == "follower":
+            self.lead = 0
+
+    def report_unreachable(self, id):
+        view = self.views.get(id)
+        if view and view.state == "replicate":
+            view.to_probe()
+
+    # A leader's cases
+
+    def take_proposal(self, m):
+        if self.id not in self.views or self.transferee:
+            self.drop(m)
+        elif isinstance(m.body, Change):
+            self.append_change(m.body)
+        else:
+            self.append(m.body)
+            self.tell_all()
+
+    def append_change(self, change):
+        joint, leaves = self.config.is_joint(), not change.words
+        reasons = [("unapplied", self.pending_change > self.applied), ("joint", joint and not leaves), ("not joint", leaves and not joint)]
+        why = next((why for why, holds in reasons if holds), None)
+        if self.last() >= INDEX_LIMIT:
+            self.append(change)
+        elif why:
+            self.tell("INFO", f"replaced change at {self.last() + 1} by an empty entry: {why}")
+            self.append(b"")
+        else:
+            self.append(change)
+            self.pending_change = self.last()
+        self.tell_all()
+
+    def take_answer(self, m):
+        view = self.views.get(m.sender)
+        if view is None:
+            return self.ignore(m)
+        view.active = True
+        return self.take_refusal(m, view) if m.refused else self.take_acceptance(m, view)
+
+    def take_refusal(self, m, view):
+        if view.state == "replicate" and m.index > view.match:
+            view.to_probe()
+        elif view.state == "probe" and m.index == view.next - 1:
+            view.next, view.waiting = max(view.match + 1, min(m.index, m.hint + 1)), False
+        else:
+            return self.ignore(m)
+        return self.sends(m.sender, "tell")
+
+    def take_acceptance(self, m, view):
+        index, was_paused = min(m.index, self.last()), view.is_paused(self.options.inflight)
+        if index < view.match or index == view.match and view.state != "probe":
+            if view.state == "replicate":
+                view.free_through(index)
+            return
+        view.match, view.next = index, max(view.next, index + 1)
+        if view.state == "probe" or view.state == "snapshot" and view.match >= view.pending:
+            view.to_replicate()
+        elif view.state == "replicate":
+            view.free_through(index)
+        if not self.commits() and m.sender != self.id:
+            self.sends(m.sender, "tell" if was_paused else "news")
+        if m.sender == self.transferee and view.match == self.last():
+            self.send("MsgTimeoutNow", m.sender)
+
+    def commits(self):
+        """Commits what a quorum holds, if it is of the leader's own term (3.6.2), and tells all."""
+        held = commit_of(self.config, {id: view.match for id, view in self.views.items()})
+        if held <= self.commit or self.term_at(held) != self.term:
+            return False
+        self.commit = held
+        self.tell_all()
+        return True
+
+    def take_beat_answer(self, m):
+        view = self.views.get(m.sender)
+        if view is None:
+            return self.ignore(m)
+        view.active, view.waiting = True, False
+        if view.match < self.last() or view.state == "probe":
+            self.sends(m.sender, "ping")
+        return None
+
+    def start_transfer(self, m):
+        if m.target not in self.config.voters() or m.target in (self.id, self.transferee):
+            return self.ignore(m)
+        self.end_transfer()
+        self.elapsed, self.transferee = 0, m.target
+        self.tell("INFO", f"starts transfer to {m.target}")
+        if m.target in self.views and self.views[m.target].match == self.last():
+            return self.send("MsgTimeoutNow", m.target)
+        return self.sends(m.target, "tell")
+
+    def end_transfer(self):
+        if self.transferee:
+            self.tell("INFO", f"ends transfer to {self.transferee}")
+        self.transferee = 0
+
+    # Time
+
+    def tick(self):
+        self.elapsed = min(self.elapsed + 1, GREATEST_TIMEOUT)
+        if self.role != "leader":
+            if self.id in self.config.voters() and self.elapsed >= self.timeout:
+                self.elapsed = 0
+                self.campaign()
+            return
+        self.beat_elapsed += 1
+        if self.elapsed >= 3 and not self.keeps_lead():
+            return
+        if self.beat_elapsed >= 1:
+            self.beat_elapsed = 0
+            for id in self.others():
+                self.send("MsgHeartbeat", id, commit=min(self.views[id].match, self.commit))
+
+    def keeps_lead(self):
+        """What a leader looks at after each timeout: whether a quorum answers, and whether a transfer takes too long."""
+        self.elapsed = 0
+        if self.options.checkquorum:
+            if not both(self.config, lambda id: id in self.views and self.views[id].active):
+                self.tell("WARN", "lost its quorum")
+                self.follow(self.term, 0)
+                return False
+            for id in self.others():
+                self.views[id].active = False
+        self.end_transfer()
+        return True
+
+    # What is ready
+
+    def hard_state(self):
+        return self.term, self.vote, self.commit
+
+    def has_ready(self):
+        rest = self.restored or self.commit > self.applied or self.sent or self.waiting
+        return bool(self.hard_state() != self.saved or self.last() > self.durable or rest)
+
+    def ready(self):
+        return Ready(
+            self.hard_state() if self.hard_state() != self.saved else None, (self.base, self.base_term) if self.restored else None,
+            self.entries_from(self.durable + 1), self.entries_from(self.applied + 1, self.commit),
+            self.sent + [m for m in self.waiting if m.to != self.id],
+        )
+
+    def advance(self):
+        """Saves and applies what was ready, and takes its own answers in."""
+        own = [m for m in self.waiting if m.to == self.id]
+        coming = self.entries_from(self.applied + 1, self.commit)
+        self.saved, self.durable, self.restored = self.hard_state(), self.last(), False
+        self.sent, self.waiting = [], []
+        for index, entry in coming:
+            self.applied = index
+            if isinstance(entry.body, Change):
+                self.apply_change(index, entry.body)
+            else:
+                self.content += entry.body
+        self.leave_by_itself()
+        for m in own:
+            self.step(m)
+
+    def leave_by_itself(self):
+        leaves = self.role == "leader" and self.config.is_joint() and self.config.auto
+        if leaves and not self.transferee and self.applied >= self.pending_change and self.append(Change("auto", ())):
+            self.pending_change = self.last()
+            self.tell_all()
+
+    def apply_change(self, index, change):
+        try:
+            self.config = changed(self.config, change)
+        except ChangeFault as fault:
+            return self.tell("ERROR", f"refused change at {index}: {fault}")
+        self.tell("INFO", f"switched to {config_text(self.config)}")
+        if self.role != "leader":
+            return None
+        if self.options.step_down_on_removal and self.id not in self.config.voters():
+            return self.follow(self.term, 0)
+        return self.view_members()
+
+    def view_members(self):
+        members = self.config.members()
+        self.views = {id: view for id, view in self.views.items() if id in members}
+        added = sorted(members - set(self.views))
+        for id in added:
+            self.new_view(id, True)
+        if self.transferee not in members:
+            self.end_transfer()
+        if not self.commits():
+            for id in added:
+                self.sends(id, "tell")
+
+
+# What a node of a role does with a message, by name, so that a node which changes a rule is asked for its own.
+CASES = {
+    ("candidate", "MsgVoteResp"): "count_vote",
+    ("precandidate", "MsgPreVoteResp"): "count_vote",
+    ("candidate", "MsgProp"): "drop",
+    ("precandidate", "MsgProp"): "drop",
+    ("follower", "MsgProp"): "pass_proposal",
+    ("follower", "MsgTransferLeader"): "pass_transfer",
+    ("follower", "MsgTimeoutNow"): "campaign_by_transfer",
+    ("follower", "MsgHeartbeat"): "take_beat",
+    ("follower", "MsgApp"): "take_append",
+    ("follower", "MsgSnap"): "take_snapshot",
+    ("leader", "MsgProp"): "take_proposal",
+    ("leader", "MsgAppResp"): "take_answer",
+    ("leader", "MsgHeartbeatResp"): "take_beat_answer",
+    ("leader", "MsgTransferLeader"): "start_transfer",
+}

@@ -1,0 +1,221 @@
+"""The format of scripts, in the plainest way: docs/SCRIPT-FORMAT.md, rule by rule, over lists of lines of bytes."""
+import re
+from typing import NamedTuple
+
+LONGEST_SCRIPT = 4_194_304
+LONGEST_LINE = 65_536
+MOST_DIRECTIVES = 20_000
+MOST_ARGUMENTS = MOST_VALUES = 64
+RULE = b"----"
+
+TOKEN = rb"[^ \t=()]+"
+NAME = re.compile(rb"[ \t]*(" + TOKEN + rb")(?=[ \t]|$)", re.DOTALL)
+ARGUMENT = re.compile(rb"[ \t]+(" + TOKEN + rb")(?:(=)(?:\(([^()]*)\)|((?!\()[^ \t]*)))?(?=[ \t]|$)", re.DOTALL)
+
+
+class Fault(Exception):
+    """Why a text or an edit is refused; as text, its name, with its line where it has one."""
+
+    def __str__(self):
+        return self.args[0] + (f" at line {self.args[1]}" if len(self.args) > 1 else "")
+
+
+class Argument(NamedTuple):
+    key: bytes
+    has_equals: bool
+    values: tuple
+
+
+class Block(NamedTuple):
+    lead: tuple
+    head: tuple
+    input: tuple
+    expected: tuple
+
+    def text(self, expected=None):
+        """The canonical text, with other expected lines where these are given."""
+        expected = self.expected if expected is None else expected
+        rules = [RULE, RULE] if any(is_blank(line) or line == RULE for line in expected) else [RULE]
+        closing = rules if len(rules) > 1 else []
+        return joined([*self.lead, *self.head, *self.input, *rules, *expected, *closing, b""])
+
+    def directive(self):
+        """The name, the arguments and the input lines, or None where the head is not in the grammar."""
+        parsed = parsed_head(joined_head(self.head))
+        return parsed and (*parsed, self.input)
+
+
+class Script(NamedTuple):
+    blocks: tuple
+    tail: tuple
+
+    def text(self, outputs=None):
+        outputs = [None] * len(self.blocks) if outputs is None else outputs
+        return b"".join(block.text(lines) for block, lines in zip(self.blocks, outputs)) + joined(self.tail)
+
+
+def joined(lines):
+    return b"".join(line + b"\n" for line in lines)
+
+
+def lines_of(data):
+    """The lines of a text: each without its LF and the carriage returns directly before it."""
+    if data and not data.endswith(b"\n"):
+        data += b"\n"
+    return [line.rstrip(b"\r") for line in data.split(b"\n")[:-1]]
+
+
+def is_blank(line):
+    return not line.strip(b" \t")
+
+
+def is_lead(line):
+    return is_blank(line) or line.lstrip(b" \t").startswith(b"#")
+
+
+def is_continued(line):
+    return line.rstrip(b" \t").endswith(b"\\")
+
+
+def is_readable(lines):
+    """Whether lines can be read back as an expectation."""
+    pair = any(a == RULE == b for a, b in zip(lines, lines[1:]))
+    wrong = any(b"\n" in line or line.endswith(b"\r") or len(line) > LONGEST_LINE for line in lines)
+    return not pair and not wrong and (not lines or lines[-1] != RULE)
+
+
+def joined_head(lines):
+    """The head in one line; a last backslash with no line behind it is followed by an empty one."""
+    return b"".join(line.rstrip(b" \t")[:-1] + b" " if is_continued(line) else line for line in lines)
+
+
+def parsed_head(text):
+    """The name and the arguments of a joined head, or None."""
+    found = NAME.match(text)
+    if not found:
+        return None
+    name, at, arguments = found.group(1), found.end(), []
+    while found := ARGUMENT.match(text, at):
+        key, equals, listed, value = found.groups()
+        values = () if not equals else (value,) if listed is None else tuple(piece for piece in re.split(rb"[ \t,]", listed) if piece)
+        arguments.append(Argument(key, bool(equals), values))
+        at = found.end()
+    return (name, tuple(arguments)) if is_blank(text[at:]) else None
+
+
+class Reader:
+    """Takes blocks from lines, one after the other; lines are told by their number from 1 on."""
+
+    def __init__(self, lines):
+        self.lines, self.at = lines, 0
+        self.heads = []  # the number of the first line of each head
+
+    def take_while(self, holds):
+        start = self.at
+        while self.at < len(self.lines) and holds(self.lines[self.at]):
+            self.at += 1
+        return tuple(self.lines[start:self.at])
+
+    def block(self, is_allowed):
+        """The next block, or what is left where there is no head."""
+        lead = self.take_while(is_lead)
+        if self.at == len(self.lines):
+            return lead
+        if not is_allowed:
+            raise Fault("TooManyDirectives")
+        first = self.at + 1
+        self.heads.append(first)
+        head = self.head(first)
+        given = self.take_while(lambda line: line.strip(b" \t") != RULE)
+        if self.at == len(self.lines):
+            raise Fault("NoSeparator", first)
+        self.at += 1
+        return Block(lead, head, given, self.expected(self.at))
+
+    def head(self, first):
+        """The lines that ask for a further one, and the one behind them, if there is one."""
+        head = self.take_while(is_continued) + tuple(self.lines[self.at:self.at + 1])
+        self.at = min(self.at + 1, len(self.lines))
+        parsed = parsed_head(joined_head(head))
+        if parsed is None:
+            raise Fault("BadLine", first)
+        if len(parsed[1]) > MOST_ARGUMENTS or any(len(a.values) > MOST_VALUES for a in parsed[1]):
+            raise Fault("TooManyArguments", first)
+        return head
+
+    def expected(self, separator):
+        if self.lines[self.at:self.at + 1] == [RULE]:
+            return self.double_form(separator)
+        lines = self.take_while(lambda line: not is_blank(line))
+        self.at = min(self.at + 1, len(self.lines))
+        if not is_readable(lines):
+            raise Fault("NotClosed", separator)
+        return lines
+
+    def double_form(self, separator):
+        start = self.at + 1
+        for at in range(start, len(self.lines) - 1):
+            if self.lines[at] == RULE == self.lines[at + 1]:
+                self.at = at + 2
+                if self.at < len(self.lines) and is_blank(self.lines[self.at]):
+                    self.at += 1
+                return tuple(self.lines[start:at])
+        raise Fault("NotClosed", separator)
+
+
+def read_with_lines(data):
+    """The script of a text, and the line of each directive's head; a Fault where there is none."""
+    if len(data) > LONGEST_SCRIPT:
+        raise Fault("TooLong")
+    lines = lines_of(data)
+    for number, line in enumerate(lines, 1):
+        if len(line) > LONGEST_LINE:
+            raise Fault("LineTooLong", number)
+    reader, blocks = Reader(lines), []
+    while isinstance(block := reader.block(len(blocks) < MOST_DIRECTIVES), Block):
+        blocks.append(block)
+    return Script(tuple(blocks), block), reader.heads
+
+
+def read(data):
+    """The script of a text; a Fault where there is none."""
+    return read_with_lines(data)[0]
+
+
+def read_script(data):
+    script = read(data)
+    if len(script.text()) > LONGEST_SCRIPT:
+        raise Fault("TooLong")
+    return script
+
+
+def read_block(data):
+    """The block that a text is, alone."""
+    script = read(data)
+    if len(script.blocks) != 1 or script.tail:
+        raise Fault("NotOneBlock")
+    if len(script.text()) > LONGEST_SCRIPT:
+        raise Fault("TooLong")
+    return script.blocks[0]
+
+
+def edited(script, kind, place, given, outputs):
+    """A script with an edit made: given is a block, or expected lines. Faults are those of docs/SESSION.md, in their order."""
+    blocks, count = list(script.blocks), len(script.blocks)
+    if kind != "accept" and not 1 <= place <= count + (kind == "insert"):
+        raise Fault("NoSuchPlace")
+    expectations = outputs if kind == "accept" else [given] if kind == "expect" else []
+    if not all(map(is_readable, expectations)):
+        raise Fault("BadExpectation")
+    if kind == "insert" and count == MOST_DIRECTIVES:
+        raise Fault("TooManyDirectives")
+    if kind == "accept":
+        blocks = [block._replace(expected=tuple(lines)) for block, lines in zip(blocks, outputs)]
+    elif kind == "expect":
+        blocks[place - 1] = blocks[place - 1]._replace(expected=tuple(given))
+    else:
+        blocks[place - 1:place - (kind == "insert")] = [] if kind == "remove" else [given]
+    new = Script(tuple(blocks), script.tail)
+    if len(new.text()) > LONGEST_SCRIPT:
+        raise Fault("TooLong")
+    return new

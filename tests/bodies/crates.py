@@ -1,0 +1,108 @@
+"""The crates of the repository, and the toolchain's check of a copy of one."""
+import dataclasses
+import functools
+import pathlib
+import shutil
+import subprocess
+import tempfile
+
+from edits import PARTS
+
+ROOT = pathlib.Path(__file__).resolve().parents[2]
+
+
+class NotReady(Exception):
+    """A crate that isn't proved as it stands, so that no edit of it can be judged."""
+
+
+@dataclasses.dataclass(frozen=True)
+class Crate:
+    """A crate: its name, the toolchain's libraries and the crates that it names."""
+
+    name: str
+    libraries: tuple[str, ...]
+    named: tuple["Crate", ...]
+
+    @property
+    def folder(self) -> pathlib.Path:
+        return ROOT / "crates" / self.name
+
+    @property
+    def built(self) -> pathlib.Path:
+        """The built library, which is there where the crate was proved."""
+        return self.folder / "out" / "rlib" / f"{self.name}.rlib"
+
+    def below(self) -> list["Crate"]:
+        """All crates below this one, each behind those that it names."""
+        found: list[Crate] = []
+        for crate in self.named:
+            found += [it for it in [*crate.below(), crate] if it not in found]
+        return found
+
+    def files(self) -> list[pathlib.Path]:
+        """The files that a check reads."""
+        return [path for part in PARTS for path in sorted((self.folder / part).rglob("*")) if path.is_file()]
+
+
+def crates_of(root: pathlib.Path = ROOT) -> dict[str, Crate]:
+    """The crates that crates.txt lists, by name."""
+    lines = [line.partition("#")[0].partition(":") for line in (root / "crates.txt").read_text().splitlines()]
+    named = {name.split()[0]: names.split() for name, _, names in lines if name.strip()}
+
+    @functools.lru_cache(maxsize=None)
+    def made(name: str) -> Crate:
+        libraries = tuple(it for it in named[name] if it not in named)
+        return Crate(name, libraries, tuple(made(it) for it in named[name] if it in named))
+
+    return {name: made(name) for name in named}
+
+
+@functools.lru_cache(maxsize=None)
+def toolchain() -> pathlib.Path:
+    """The toolchain's folder, where the page is to which `rt doc` points."""
+    page = subprocess.run(["rt", "doc"], check=True, capture_output=True, text=True).stdout
+    return pathlib.Path(page.strip()).parent
+
+
+def is_left_by_the_gate(crates: list[Crate]) -> bool:
+    """Whether the built libraries are those of one `rt ci`: they have no stamp, and each is newer than all that it is made of."""
+    for crate in crates:
+        if not crate.built.is_dir() or (crate.built.parent / "stamp").exists():
+            return False
+        parts = [*crate.files(), *(it.built for it in crate.below())]
+        if crate.built.stat().st_mtime < max(part.stat().st_mtime for part in parts):
+            return False
+    return True
+
+
+def make_ready(crate: Crate) -> None:
+    """Proves the crate and those below it where that is not done. Raises NotReady where one isn't proved."""
+    if is_left_by_the_gate([*crate.below(), crate]):
+        return
+    made = subprocess.run(["rt", "lib", "--jobs", "1"], cwd=crate.folder, stdin=subprocess.DEVNULL, capture_output=True, text=True, errors="replace")
+    if made.returncode:
+        said = (made.stdout + made.stderr).strip().splitlines()
+        raise NotReady(f"{crate.name} isn't proved as it stands: {said[-1] if said else made.returncode}")
+
+
+def check(crate: Crate, texts: dict[str, str], functions: list[str], kept: pathlib.Path) -> str:
+    """What the toolchain's check says of these functions in a copy of the crate with these texts. It keeps its work in the folder `kept`."""
+    kit = toolchain()
+    with tempfile.TemporaryDirectory(prefix="bodies-") as room:
+        for part in PARTS:
+            if (crate.folder / part).is_dir():
+                shutil.copytree(crate.folder / part, pathlib.Path(room, part))
+        for file, text in texts.items():
+            pathlib.Path(room, file).write_text(text)
+        words = [str(kit / "bin" / "rattle"), "check", "--crate-name", crate.name, "src/lib.rt", "--jobs", "1"]
+        for library in ("std", *crate.libraries):
+            words += ["--extern", f"{library}={kit}/rlibs/{library}.rlib"]
+        for it in crate.named:
+            words += ["--extern", f"{it.name}={it.built}"]
+        for folder in [kit / "rlibs", *(it.built.parent for it in crate.below())]:
+            words += ["-L", f"dependency={folder}"]
+        words += ["--antt-project", f"{kit}/rattle/logic/antt-project.json", "--logic-built", f"{kit}/logic_built", "--incremental", str(kept)]
+        for function in functions:
+            words += ["--only", function]
+        ran = subprocess.run(words, cwd=room, stdin=subprocess.DEVNULL, stdout=subprocess.PIPE, stderr=subprocess.STDOUT, text=True, errors="replace")
+        return ran.stdout

@@ -1,0 +1,272 @@
+"""The rows of a page in the plainest way: a run of the plain bench (tests/beside), watched. It is written from docs/PAGE.md and shares
+nothing with the code in crates/.
+
+    plain_steps.py FILE [NAME]     writes the JSON text of the script's page
+"""
+import pathlib
+import re
+import sys
+
+HERE = pathlib.Path(__file__).resolve().parent
+sys.path.insert(0, str(HERE.parent / "beside"))
+
+from plain_cluster import MOST_PENDING, Cluster, Refused  # noqa: E402
+from plain_script import read_script  # noqa: E402
+from plain_texts import body_text, config_text  # noqa: E402
+
+FORMAT = 1
+SHOWN_CONTENT = 32
+# What a node tells, as its line shows it, and the row of it; a group that is all digits is a number.
+EVENTS = [
+    (r"(\d+) became (\w+) at term (\d+)", "became"),
+    (r"(\d+) can't campaign: (.*)", "cannot-campaign"),
+    (r"(\d+) ignored (\w+) from (\d+)", "ignored"),
+    (r"(\d+) dropped a proposal", "dropped-proposal"),
+    (r"(\d+) conflict at (\d+), commit (\d+)", "conflict"),
+    (r"(\d+) appends nothing: index limit", "appends-nothing"),
+    (r"(\d+) replaced change at (\d+) by an empty entry: (.*)", "replaced-change"),
+    (r"(\d+) switched to (.*)", "switched"),
+    (r"(\d+) refused change at (\d+): (\w+)", "refused-change"),
+    (r"(\d+) restored snapshot (\d+)/(\d+)", "restored"),
+    (r"(\d+) starts transfer to (\d+)", "transfer-starts"),
+    (r"(\d+) ends transfer to (\d+)", "transfer-ends"),
+    (r"(\d+) lost its quorum", "lost-quorum"),
+    (r"(\d+) started at .*", "started"),
+]
+VOTE = re.compile(r"(\d+) has (\w+) (granted|refused) from (\d+): (\w+)")
+
+
+def number_or_text(word):
+    return int(word) if word.isdigit() else word
+
+
+def event_row(text):
+    """The row of what a node tells: a list that begins with a name."""
+    if found := VOTE.fullmatch(text):
+        id, kind, answer, sender, result = found.groups()
+        return ["vote", int(id), kind, int(answer == "granted"), int(sender), result]
+    for form, name in EVENTS:
+        if found := re.fullmatch(form, text):
+            return [name, *map(number_or_text, found.groups())]
+    raise ValueError(text)
+
+
+def said(m):
+    """The cells of what a message says, after its type and its term."""
+    if m.kind in ("MsgVote", "MsgPreVote"):
+        return [m.log_term, m.index, int(m.by_transfer)]
+    if m.kind in ("MsgVoteResp", "MsgPreVoteResp"):
+        return [int(not m.refused)]
+    if m.kind == "MsgApp":
+        return [m.log_term, m.index, m.commit, len(m.entries)]
+    if m.kind == "MsgAppResp":
+        return [1, m.index, m.hint] if m.refused else [0, m.index]
+    if m.kind == "MsgHeartbeat":
+        return [m.commit]
+    if m.kind == "MsgSnap":
+        return [m.snapshot.term, m.snapshot.index]
+    if m.kind == "MsgProp":
+        return [body_text(m.body)]
+    return [m.target] if m.kind == "MsgTransferLeader" else []
+
+
+def message_row(verb, m):
+    return [verb, m.sender, m.to, m.kind, m.term, *said(m)]
+
+
+def entry_row(verb, index, entry):
+    return [verb, index, entry.term, body_text(entry.body)]
+
+
+class Watched(Cluster):
+    """A cluster that also keeps the rows of what it did: what each directive can show, at any level."""
+
+    def __init__(self):
+        super().__init__()
+        self.rows = []
+
+    def run(self, directive):
+        self.rows = []
+        lines = super().run(directive)
+        if lines and lines[0].startswith("error: "):
+            self.rows = [["error", lines[0].removeprefix("error: ")]]
+        return lines
+
+    def put_events(self, node):
+        self.rows += [event_row(text) for _, text in node.events]
+        super().put_events(node)
+
+    def queue(self, message, verb=None):
+        if len(self.pending) >= MOST_PENDING:
+            self.rows.append(message_row("no-room", message))
+        elif verb:
+            self.rows.append(message_row(verb, message))
+        super().queue(message, verb)
+
+    def deliver(self, id, types=None):
+        taken = self.take(id, types)
+        for message in taken:
+            self.rows.append(message_row("deliver", message))
+            self.put("deliver x")
+            self.step(id, message)
+        return len(taken)
+
+    def do_deliver_msgs(self, words, options, given):
+        before = len(self.rows)
+        types = options.get("type")
+        for id in words:
+            self.deliver(id, types)
+        for id in options.get("drop", []):
+            self.rows += [message_row("drop", message) for message in self.take(id, types)]
+        if len(self.rows) == before:
+            self.rows.append(["no-messages"])
+
+    def process(self, id):
+        node = self.nodes[id]
+        if not node.has_ready():
+            return False
+        self.rows.append(["ready", id])
+        if node.hard_state() != node.saved:
+            self.rows.append(["hard", node.term, node.vote, node.commit])
+        if node.restored:
+            self.rows.append(["snapshot", node.base_term, node.base])
+        self.rows += [entry_row("save", *pair) for pair in node.entries_from(node.durable + 1)]
+        self.rows += [entry_row("apply", *pair) for pair in node.entries_from(node.applied + 1, node.commit)]
+        self.rows += [message_row("send", m) for m in node.going_out()]
+        for message in node.advance():
+            self.queue(message)
+        self.put_events(node)
+        return True
+
+    def do_process_ready(self, words, *_):
+        for id in words:
+            if not self.process(id):
+                self.rows.append(["nothing-ready", id])
+
+    def do_stabilize(self, words, options, given):
+        super().do_stabilize(words, options, given)
+        chosen = sorted(set(words)) or list(self.nodes)
+        if self.has_work(chosen):
+            self.rows.append(["stopped", options.get("rounds", 200)])
+
+
+def numbers_of(node):
+    hard = [node.role, node.term, node.vote, node.lead, node.commit, node.applied, node.durable]
+    return [*hard, len(node.content), node.content[-SHOWN_CONTENT:]]
+
+
+def view_cells(view):
+    return [view.state, view.match, view.next, len(view.window), int(view.waiting), view.pending, int(view.active)]
+
+
+class Kept:
+    """What the rows have said of a node so far."""
+
+    def __init__(self):
+        self.numbers, self.config, self.base, self.entries, self.views = None, None, None, [], {}
+
+    def rows(self, node):
+        """What of a node is not as it was."""
+        yield from self.number_rows(node)
+        yield from self.log_rows(node)
+        yield from self.view_rows(node)
+
+    def number_rows(self, node):
+        if numbers_of(node) != self.numbers:
+            self.numbers = numbers_of(node)
+            yield ["node", node.id, *self.numbers]
+        if config_text(node.config) != self.config:
+            self.config = config_text(node.config)
+            yield ["config", node.id, self.config]
+
+    def log_rows(self, node):
+        """The new base, and up to which index the entries stay; those behind it follow."""
+        old_base = self.base[1] if self.base else 0
+        old = self.entries[max(0, node.base - old_base):] if old_base <= node.base else []
+        stays = node.base + common(old, node.entries)
+        base = (node.base_term, node.base)
+        if base != self.base or stays < node.last() or stays < old_base + len(self.entries):
+            yield ["log", node.id, *base, stays]
+            for index, entry in node.entries_from(stays + 1):
+                yield entry_row("entry", index, entry)
+        self.base, self.entries = base, list(node.entries)
+
+    def view_rows(self, node):
+        views = {id: view_cells(view) for id, view in node.views.items()}
+        for id in sorted(set(self.views) - set(views)):
+            yield ["no-view", node.id, id]
+        for id in sorted(views):
+            if views[id] != self.views.get(id):
+                yield ["view", node.id, id, *views[id]]
+        self.views = views
+
+
+def common(old, new):
+    """How many elements are the same at the beginnings of two lists."""
+    if new[:len(old)] == old:
+        return len(old)
+    return next((at for at, pair in enumerate(zip(old, new)) if pair[0] != pair[1]), min(len(old), len(new)))
+
+
+def state_rows(cluster, kept):
+    for id, node in cluster.nodes.items():
+        yield from kept.setdefault(id, Kept()).rows(node)
+
+
+def rows_of(data, name):
+    """The rows of a script's page; a Fault where it is refused."""
+    script, cluster, plain, kept, at, wrong = read_script(data), Watched(), Cluster(), {}, 1, 0
+    yield ["raftbench", FORMAT, name]
+    for block, line in zip(script.blocks, head_lines(data)):
+        yield from (["lead", text] for text in block.lead)
+        yield ["step", line]
+        yield from (["head", text] for text in block.head)
+        yield from (["input", text] for text in block.input)
+        cluster.run(block.directive())
+        output = tuple(text.encode() for text in plain.run(block.directive()))
+        yield from (["output", text] for text in output)
+        if output != block.expected:
+            wrong += 1
+            yield ["mismatch"]
+            yield from (["expected", text] for text in block.expected)
+        yield from cluster.rows
+        yield from state_rows(cluster, kept)
+    yield from (["lead", text] for text in script.tail)
+    yield ["end", len(script.blocks), wrong]
+
+
+def head_lines(data):
+    """The line of each head, from 1 on."""
+    from plain_script import Block, Reader, lines_of
+    reader = Reader(lines_of(data))
+    while True:
+        start = reader.at
+        block = reader.block(True)
+        if not isinstance(block, Block):
+            return
+        yield start + len(block.lead) + 1
+
+
+def text_cell(data):
+    """Bytes as a text of JSON: a byte that isn't printable, and each of `"\\<>&`, as its number."""
+    return '"' + "".join(chr(b) if 32 <= b <= 126 and b not in b'"\\<>&' else f"\\u{b:04x}" for b in data) + '"'
+
+
+def cell(value):
+    if isinstance(value, int):
+        return str(value)
+    return text_cell(value.encode() if isinstance(value, str) else value)
+
+
+def json_text(rows):
+    return "[" + ",\n".join("[" + ",".join(map(cell, row)) + "]" for row in rows) + "]\n"
+
+
+def main():
+    path = sys.argv[1]
+    name = sys.argv[2] if len(sys.argv) > 2 else pathlib.Path(path).name
+    sys.stdout.write(json_text(rows_of(pathlib.Path(path).read_bytes(), name)))
+
+
+if __name__ == "__main__":
+    main()
