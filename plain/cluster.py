@@ -46,6 +46,9 @@ class Cluster:
         if self.shown != "none":
             self.lines.append(line)
 
+    def put_message(self, verb, message):
+        self.put(f"{verb} {message_text(message)}")
+
     def put_events(self, node):
         for event_level, line in node.events:
             if self.shown not in ("fatal", "none") and LEVELS.index(event_level.lower()) >= LEVELS.index(self.shown):
@@ -141,14 +144,14 @@ class Cluster:
         """Puts a message behind the pending ones, if there is room."""
         self.sent.append(message)
         if not self.network.put(message):
-            self.put("no room for " + message_text(message))
+            self.put_message("no room for", message)
         elif verb:
-            self.put(f"{verb} {message_text(message)}")
+            self.put_message(verb, message)
 
     def deliver(self, id, types=None):
         taken = self.network.take(id, types)
         for message in taken:
-            self.put("deliver " + message_text(message))
+            self.put_message("deliver", message)
             self.call(id, "step", message)
         return len(taken)
 
@@ -186,7 +189,7 @@ class Cluster:
             met += self.deliver(id, types)
         for id in options.get("drop", []):
             for message in self.network.take(id, types):
-                self.put("drop " + message_text(message))
+                self.put_message("drop", message)
                 met += 1
         if not met:
             self.put("no messages")

@@ -1,4 +1,4 @@
-"""The rows of a page in the plainest way: a run of the plain bench (tests/beside), watched. It is written from docs/PAGE.md and shares
+"""The rows of a page in the plainest way: a run of the plain bench (plain/), watched. It is written from docs/PAGE.md and shares
 nothing with the code in crates/.
 
     plain_steps.py FILE [NAME]     writes the JSON text of the script's page
@@ -7,12 +7,12 @@ import pathlib
 import re
 import sys
 
-HERE = pathlib.Path(__file__).resolve().parent
-sys.path.insert(0, str(HERE.parent / "beside"))
+sys.dont_write_bytecode = True
+sys.path.insert(0, str(pathlib.Path(__file__).resolve().parents[2]))
 
-from plain_cluster import MOST_PENDING, Cluster, Refused  # noqa: E402
-from plain_script import read_script  # noqa: E402
-from plain_texts import body_text, config_text  # noqa: E402
+from plain.cluster import Cluster  # noqa: E402
+from plain.script import read_script, read_with_lines  # noqa: E402
+from plain.texts import body_text, config_text  # noqa: E402
 
 FORMAT = 1
 SHOWN_CONTENT = 32
@@ -78,6 +78,23 @@ def entry_row(verb, index, entry):
     return [verb, index, entry.term, body_text(entry.body)]
 
 
+# The rows of what happens to a message, by the words that its line begins with.
+VERBS = {"queue": "queue", "deliver": "deliver", "drop": "drop", "no room for": "no-room"}
+
+
+def ready_rows(node):
+    """What a node has ready."""
+    ready = node.ready()
+    yield ["ready", node.id]
+    if ready.hard:
+        yield ["hard", *ready.hard]
+    if ready.snapshot:
+        yield ["snapshot", *ready.snapshot[::-1]]
+    yield from (entry_row("save", *pair) for pair in ready.entries)
+    yield from (entry_row("apply", *pair) for pair in ready.committed)
+    yield from (message_row("send", message) for message in ready.messages)
+
+
 class Watched(Cluster):
     """A cluster that also keeps the rows of what it did: what each directive can show, at any level."""
 
@@ -88,7 +105,7 @@ class Watched(Cluster):
     def run(self, directive):
         self.rows = []
         lines = super().run(directive)
-        if lines and lines[0].startswith("error: "):
+        if lines[0].startswith("error: "):
             self.rows = [["error", lines[0].removeprefix("error: ")]]
         return lines
 
@@ -96,57 +113,28 @@ class Watched(Cluster):
         self.rows += [event_row(text) for _, text in node.events]
         super().put_events(node)
 
-    def queue(self, message, verb=None):
-        if len(self.pending) >= MOST_PENDING:
-            self.rows.append(message_row("no-room", message))
-        elif verb:
-            self.rows.append(message_row(verb, message))
-        super().queue(message, verb)
-
-    def deliver(self, id, types=None):
-        taken = self.take(id, types)
-        for message in taken:
-            self.rows.append(message_row("deliver", message))
-            self.put("deliver x")
-            self.step(id, message)
-        return len(taken)
-
-    def do_deliver_msgs(self, words, options, given):
-        before = len(self.rows)
-        types = options.get("type")
-        for id in words:
-            self.deliver(id, types)
-        for id in options.get("drop", []):
-            self.rows += [message_row("drop", message) for message in self.take(id, types)]
-        if len(self.rows) == before:
-            self.rows.append(["no-messages"])
+    def put_message(self, verb, message):
+        self.rows.append(message_row(VERBS[verb], message))
+        super().put_message(verb, message)
 
     def process(self, id):
-        node = self.nodes[id]
-        if not node.has_ready():
-            return False
-        self.rows.append(["ready", id])
-        if node.hard_state() != node.saved:
-            self.rows.append(["hard", node.term, node.vote, node.commit])
-        if node.restored:
-            self.rows.append(["snapshot", node.base_term, node.base])
-        self.rows += [entry_row("save", *pair) for pair in node.entries_from(node.durable + 1)]
-        self.rows += [entry_row("apply", *pair) for pair in node.entries_from(node.applied + 1, node.commit)]
-        self.rows += [message_row("send", m) for m in node.going_out()]
-        for message in node.advance():
-            self.queue(message)
-        self.put_events(node)
-        return True
+        if self.nodes[id].has_ready():
+            self.rows += ready_rows(self.nodes[id])
+        return super().process(id)
 
-    def do_process_ready(self, words, *_):
+    def do_process_ready(self, words, *rest):
         for id in words:
-            if not self.process(id):
-                self.rows.append(["nothing-ready", id])
+            is_idle = not self.nodes[id].has_ready()
+            super().do_process_ready([id], *rest)
+            self.rows += [["nothing-ready", id]] if is_idle else []
+
+    def do_deliver_msgs(self, *asked):
+        super().do_deliver_msgs(*asked)
+        self.rows += [] if self.rows else [["no-messages"]]
 
     def do_stabilize(self, words, options, given):
         super().do_stabilize(words, options, given)
-        chosen = sorted(set(words)) or list(self.nodes)
-        if self.has_work(chosen):
+        if self.has_work(sorted(set(words)) or list(self.nodes)):
             self.rows.append(["stopped", options.get("rounds", 200)])
 
 
@@ -215,15 +203,14 @@ def state_rows(cluster, kept):
 
 def rows_of(data, name):
     """The rows of a script's page; a Fault where it is refused."""
-    script, cluster, plain, kept, at, wrong = read_script(data), Watched(), Cluster(), {}, 1, 0
+    script, cluster, kept, wrong = read_script(data), Watched(), {}, 0
     yield ["raftbench", FORMAT, name]
-    for block, line in zip(script.blocks, head_lines(data)):
+    for block, line in zip(script.blocks, read_with_lines(data)[1]):
         yield from (["lead", text] for text in block.lead)
         yield ["step", line]
         yield from (["head", text] for text in block.head)
         yield from (["input", text] for text in block.input)
-        cluster.run(block.directive())
-        output = tuple(text.encode() for text in plain.run(block.directive()))
+        output = tuple(text.encode() for text in cluster.run(block.directive()))
         yield from (["output", text] for text in output)
         if output != block.expected:
             wrong += 1
@@ -233,18 +220,6 @@ def rows_of(data, name):
         yield from state_rows(cluster, kept)
     yield from (["lead", text] for text in script.tail)
     yield ["end", len(script.blocks), wrong]
-
-
-def head_lines(data):
-    """The line of each head, from 1 on."""
-    from plain_script import Block, Reader, lines_of
-    reader = Reader(lines_of(data))
-    while True:
-        start = reader.at
-        block = reader.block(True)
-        if not isinstance(block, Block):
-            return
-        yield start + len(block.lead) + 1
 
 
 def text_cell(data):

@@ -6,11 +6,10 @@ const SLOT = 19;
 const ROW_TOP = 26;
 const ROW_BOTTOM = 8;
 const GUTTER = 160;
-const LEFT = 108;
+const LEFT = 118;
 const LEAST_GAP = 104;
 const GREATEST_GAP = 250;
 const HALF_BAND = 5;
-const ROWS_A_BLOCK = 32;
 
 // How wide a label is, in pixels.
 const pen = document.createElement("canvas").getContext("2d");
@@ -28,10 +27,10 @@ function fitted(text, room) {
     return text;
   }
   let cut = text.length;
-  while (cut > 1 && widthOf(text.slice(0, cut) + "…") > room) {
+  while (cut > 1 && widthOf(beginning(text, cut) + "…") > room) {
     cut -= Math.max(1, Math.floor(cut / 8));
   }
-  return text.slice(0, cut) + "…";
+  return beginning(text, cut) + "…";
 }
 
 // The events of a step as marks want them: of what a node has ready, which entries it saves and how far it commits.
@@ -46,6 +45,9 @@ function gathered(step, commits) {
     } else if (event.name === "hard" && event.cells[2] > commits[event.id]) {
       commits[event.id] = event.cells[2];
       events.push({ name: "committed", id: event.id, cells: [event.id, event.cells[2]] });
+    } else if (event.name === "restored") {
+      commits[event.id] = event.cells[2]; // its mark says so
+      events.push(event);
     } else {
       events.push(event);
     }
@@ -59,7 +61,6 @@ class Layout {
     this.tops = [];
     this.rows = [];
     this.bands = model.nodes.map(() => ({ tops: [], roles: [] }));
-    this.blocks = [];
     this.commits = [];
     this.bases = [];
     this.lasts = [];
@@ -67,7 +68,6 @@ class Layout {
     model.steps.forEach((step) => this.addRow(step));
     this.tops.push(this.height);
     this.gap = LEAST_GAP;
-    this.indexMessages();
   }
 
   addRow(step) {
@@ -127,6 +127,8 @@ class Layout {
       this.setRole(event.id, y, "follower");
     } else if (event.name === "became") {
       this.setRole(event.id, y, event.cells[1]);
+    } else if (event.name === "restored") {
+      this.bases[event.id] = event.cells[2];
     }
   }
 
@@ -184,25 +186,6 @@ class Layout {
     }
   }
 
-  // Which messages a block of rows has to draw.
-  indexMessages() {
-    for (const message of this.model.messages) {
-      const first = Math.floor((message.sent.place - 1) / ROWS_A_BLOCK);
-      const last = Math.floor(((message.met || message.sent).place - 1) / ROWS_A_BLOCK);
-      for (let block = first; block <= last; block += 1) {
-        (this.blocks[block] ||= []).push(message);
-      }
-    }
-  }
-
-  messagesOf(firstRow, lastRow) {
-    const found = new Set();
-    for (let block = Math.floor(firstRow / ROWS_A_BLOCK); block <= Math.floor(lastRow / ROWS_A_BLOCK); block += 1) {
-      (this.blocks[block] || []).forEach((message) => found.add(message));
-    }
-    return found;
-  }
-
   rowAt(y) {
     return Math.min(Math.max(firstAbove(this.tops, y) - 1, 0), this.rows.length - 1);
   }
@@ -210,13 +193,23 @@ class Layout {
   // Columns stand as far apart as labels want, and further where there is room.
   spread(room) {
     const count = this.model.nodes.length;
-    if (!this.wanted) {
-      this.wanted = new Set(this.model.messages.map(messageLabel)).values().reduce((most, text) => Math.max(most, widthOf(text)), 0) + 26;
-    }
+    this.wanted ??= Math.max(0, ...this.longestLabels().map(widthOf)) + 26;
     const free = (room - GUTTER - LEFT - 8) / Math.max(count, 1);
     const narrow = free >= LEAST_GAP ? LEAST_GAP : Math.min(this.wanted, 150);
     this.gap = Math.min(Math.max(narrow, free), GREATEST_GAP);
     this.width = Math.max(room, GUTTER + LEFT + this.gap * count + 8);
+  }
+
+  // Of each type of message the label that has the most letters: to measure all of them would take long.
+  longestLabels() {
+    const longest = new Map();
+    for (const message of this.model.messages) {
+      const label = messageLabel(message);
+      if (label.length > (longest.get(message.type) ?? "").length) {
+        longest.set(message.type, label);
+      }
+    }
+    return [...longest.values()];
   }
 
   x(id) {

@@ -94,6 +94,7 @@ class Picture {
     this.drawing.setAttribute("width", this.viewWidth);
     this.drawing.setAttribute("height", this.viewHeight);
     this.scrollTo(this.top);
+    this.show(this.layout.rows[this.chosen - 1]);
   }
 
   // How many pixels of the picture a pixel of the scroll bar is.
@@ -127,14 +128,18 @@ class Picture {
 
   choose(place) {
     this.chosen = place;
-    const row = this.layout.rows[place - 1];
+    this.show(this.layout.rows[place - 1]);
+    this.drawSoon();
+  }
+
+  // Brings a row into view.
+  show(row) {
     const below = row.top + row.height - (this.top + this.viewHeight);
     if (row.top < this.top) {
       this.scrollTo(row.top - 40);
     } else if (below > 0) {
       this.scrollTo(Math.min(this.top + below + 40, row.top - 40));
     }
-    this.drawSoon();
   }
 
   // ---- drawing
@@ -158,7 +163,7 @@ class Picture {
     all.setAttribute("transform", `translate(${-left} ${-this.top})`);
     this.drawRows(all, rows);
     this.drawBands(all, first, last);
-    this.drawMessages(all, this.layout.messagesOf(first, last));
+    this.drawMessages(all, this.model.spans.between(first + 1, last + 1));
     rows.forEach((row) => this.drawMarks(all, row));
     const gutter = svg(all, "g", { transform: `translate(${left} 0)` });
     rows.forEach((row) => this.drawHead(gutter, row));
@@ -225,9 +230,9 @@ class Picture {
       lines.add(look, `M${n(from)} ${n(message.start)}L${n(to)} ${n(end)}`);
       lines.add(`tip ${kind}`, tipAt(to, end, to - from, end - message.start));
     } else if (message.fate === "dropped") {
-      const [x, y] = [to - side * 18, message.start + ((end - message.start) * (to - side * 18 - from)) / (to - from)];
-      lines.add(look, `M${n(from)} ${n(message.start)}L${n(x)} ${n(y)}`);
-      lines.add("cross", crossAt(x, y));
+      const short = to - side * 18;
+      lines.add(look, `M${n(from)} ${n(message.start)}L${n(short)} ${n(end)}`);
+      lines.add("cross", crossAt(short, end));
     } else {
       const reach = from + side * (message.fate === "waiting" ? 0.55 : 0.3) * this.layout.gap;
       lines.add(look, `M${n(from)} ${n(message.start)}L${n(reach)} ${n(message.start + SLOT * 0.45)}`);
@@ -297,6 +302,6 @@ class Picture {
   // The head in letters of one width, cut where the first column's labels begin.
   headText(head, isWrong) {
     const most = isWrong ? 22 : 24;
-    return (isWrong ? "✗ " : "") + (head.length > most ? head.slice(0, most - 1) + "…" : head);
+    return (isWrong ? "✗ " : "") + (head.length > most ? beginning(head, most - 1) + "…" : head);
   }
 }

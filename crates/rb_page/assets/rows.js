@@ -46,12 +46,14 @@ function firstAbove(numbers, number) {
   return low;
 }
 
-// The bytes of a cell as people read them: UTF-8 where they are, and else each byte past ASCII as \xNN.
 const utf8 = new TextDecoder("utf-8", { fatal: true });
+const printable = /^[\t -~]*$/;
+// Characters that have no look of their own, or turn the text around, are shown by their numbers.
+const unseen = /[\u0000-\u0008\u000a-\u001f\u007f-\u009f\u00ad\u061c\u200b-\u200f\u2028-\u202e\u2060-\u2069\ufeff]/g;
+
+// The bytes of a cell as people read them: UTF-8 where they are, and else each byte past ASCII as \xNN.
 function shown(cell) {
-  // Characters that have no look of their own, or turn the text around, are shown by their numbers.
-  const unseen = /[\u0000-\u0008\u000a-\u001f\u007f-\u009f\u00ad\u061c\u200b-\u200f\u2028-\u202e\u2060-\u2069\ufeff]/g;
-  if (/^[\t -~]*$/.test(cell)) {
+  if (printable.test(cell)) {
     return cell;
   }
   try {
@@ -60,6 +62,12 @@ function shown(cell) {
   } catch {
     return cell.replace(/[^\t -~]/g, (letter) => "\\x" + letter.charCodeAt(0).toString(16).padStart(2, "0"));
   }
+}
+
+// The beginning of a text, of at most so many letters; a letter that takes two places is not cut in half.
+function beginning(text, most) {
+  const isCut = /[\ud800-\udbff]/.test(text.charAt(most - 1));
+  return text.slice(0, isCut ? most - 1 : most);
 }
 
 class Node {
@@ -109,6 +117,39 @@ class Mail {
   }
 }
 
+const STEPS_A_BLOCK = 32;
+
+// Messages by when they were on their way, so that those of some steps are found without going over all.
+class Spans {
+  constructor(messages) {
+    this.blocks = [];
+    this.waiting = messages.filter((message) => message.met === null);
+    for (const message of messages) {
+      const last = this.block((message.met || message.sent).place);
+      for (let block = this.block(message.sent.place); block <= last; block += 1) {
+        (this.blocks[block] ||= []).push(message);
+      }
+    }
+  }
+
+  block(place) {
+    return Math.floor(place / STEPS_A_BLOCK);
+  }
+
+  // Those that were sent or met at these steps or about them, or that passed them; those that still wait at the end count where they were sent.
+  between(first, last) {
+    return new Set(this.blocks.slice(this.block(first), this.block(last) + 1).flat());
+  }
+
+  // Those that are on their way after a step, in order.
+  pendingAfter(place) {
+    const near = this.blocks[this.block(place)] || [];
+    const met = near.filter((message) => message.met !== null && message.sent.place <= place && message.met.place > place);
+    const waiting = this.waiting.filter((message) => message.sent.place <= place);
+    return [...met, ...waiting].sort((one, other) => one.number - other.number);
+  }
+}
+
 class Reader {
   constructor() {
     this.name = "";
@@ -127,7 +168,8 @@ class Reader {
   }
 
   read(row) {
-    const [name, ...cells] = row;
+    const name = row[0];
+    const cells = row.slice(1);
     const read = ROWS[name];
     if (read) {
       read.call(this, cells, name);
@@ -288,5 +330,6 @@ function readRows(rows) {
   if (!reader.isWhole) {
     throw new Error("the rows have no end");
   }
+  reader.spans = new Spans(reader.messages);
   return reader;
 }

@@ -20,19 +20,15 @@ class State {
   choose(place) {
     const step = this.model.steps[place - 1];
     const nodes = this.model.nodes.filter((node) => node.since <= place);
-    const pending = this.model.messages.filter((message) => message.sent.place <= place && this.isPending(message, place));
+    const pending = this.model.spans.pendingAfter(place);
     this.pane.replaceChildren(
       this.happened(step),
       element("h2", "", `After line ${step.line}`),
       ...nodes.map((node) => this.node(node, step)),
-      element("h2", "", `${pending.length === 0 ? "No" : pending.length} ${pending.length === 1 ? "message" : "messages"} on their way`.replace("message on their", "message on its")),
+      element("h2", "", pending.length === 1 ? "1 message on its way" : `${pending.length || "No"} messages on their way`),
       this.list(pending.map(messageText)),
     );
     this.pane.scrollTop = 0;
-  }
-
-  isPending(message, place) {
-    return message.met === null || message.met.place > place;
   }
 
   happened(step) {
@@ -88,7 +84,7 @@ class State {
   entry(index, { term, body }, { commit, applied, durable }) {
     const signs = [index <= commit ? "committed" : "", index <= applied ? "applied" : "", index > durable ? "unsaved" : ""].filter(Boolean);
     const text = shown(body);
-    const short = text.length > 18 ? text.slice(0, 17) + "…" : text;
+    const short = text.length > 18 ? beginning(text, 17) + "…" : text;
     const sign = index > durable ? " unsaved" : index <= commit ? " ✓" : "";
     return this.box(signs.join(" "), `${term}/${index} ${short}${sign}`, `${term}/${index} ${text}${signs.length ? ", " + signs.join(", ") : ""}`);
   }

@@ -37,7 +37,7 @@ function messageLabel(message) {
 
 // The same where there is less room.
 function shortLabel(message) {
-  return SAID[message.type](message.said) || message.type.slice(3);
+  return SAID[message.type](message.said) || message.type.slice(3).replace("Heartbeat", "Beat");
 }
 
 function messageText(message) {
@@ -59,8 +59,8 @@ const MARKS = {
   became: ([, role, term]) => (role === "leader" ? [`★ leader, t${term}`, "won"] : [`${role}, t${term}`, "turn"]),
   "cannot-campaign": ([, why]) => [`! can't campaign: ${why}`, "bad"],
   vote: ([id, , granted, from, result]) => [`${from === id ? "own vote" : granted ? `vote of ${from}` : `no vote of ${from}`}: ${result}`, "quiet"],
-  ignored: () => ["ignored", "quiet"],
-  "dropped-proposal": () => ["! dropped a proposal", "bad"],
+  ignored: ([, type]) => [`ignores ${type.slice(3)}`, "quiet"],
+  "dropped-proposal": () => ["! proposal dropped", "bad"],
   conflict: ([, index, commit]) => [`! conflict at ${index}, commit ${commit}`, "bad"],
   "appends-nothing": () => ["! appends nothing: index limit", "bad"],
   "replaced-change": ([, index, why]) => [`! change ${index} made empty: ${why}`, "bad"],
@@ -74,7 +74,7 @@ const MARKS = {
   committed: ([, index]) => [`✓ commit ${index}`, "moved"],
   saved: ([, first, last]) => [`saves ${first === last ? first : `${first}–${last}`}`, "quiet"],
   appended: ([, index, body]) => [`+ ${index} ${shown(body)}`, "quiet"],
-  replaced: ([, index]) => [`↺ ${index} and on replaced`, "change"],
+  replaced: ([, index]) => [`↺ ${index}+ replaced`, "change"],
   compacted: ([, index]) => [`▣ compacted to ${index}`, "installed"],
 };
 
