@@ -1,0 +1,458 @@
+"""Wrong rules: plain nodes with one rule changed, by name, beside the well-known bugs of nodes/hosted/bugs.py. Each script of this
+folder names those that it must notice.
+"""
+
+
+from nodes.hosted.bugs import BUGS
+from plain.config import changed
+from plain.node import Node
+
+
+def wrong(Kind):
+    """Puts a kind of node under its name, in small letters with hyphens."""
+    name = "".join(f"-{letter.lower()}" if letter.isupper() else letter for letter in Kind.__name__)
+    WRONG[name.lstrip("-")] = Kind
+    return Kind
+
+
+WRONG = dict(BUGS)
+
+
+# Terms
+
+
+@wrong
+class LeaseBindsTransfers(Node):
+    def is_undisturbed(self, m):
+        return super().is_undisturbed(m._replace(by_transfer=False))
+
+
+@wrong
+class LeadsOnInALaterTerm(Node):
+    def raise_term(self, m):
+        if self.role == "leader":
+            self.term = m.term
+        else:
+            super().raise_term(m)
+
+
+@wrong
+class AsksAndLeads(Node):
+    def raise_term(self, m):
+        super().raise_term(m)
+        if m.kind == "MsgVote":
+            self.lead = m.sender
+
+
+@wrong
+class QuestionRaisesTerm(Node):
+    def raise_term(self, m):
+        self.follow(m.term, 0) if m.kind == "MsgPreVote" else super().raise_term(m)
+
+
+@wrong
+class QuestionOfOldIsIgnored(Node):
+    def answer_older(self, m):
+        self.ignore(m) if m.kind == "MsgPreVote" else super().answer_older(m)
+
+
+@wrong
+class LeaderOfOldIsIgnored(Node):
+    def answer_older(self, m):
+        self.ignore(m) if m.kind in ("MsgApp", "MsgHeartbeat") else super().answer_older(m)
+
+
+@wrong
+class LeaderOfOldIsAnswered(Node):
+    def answer_older(self, m):
+        self.send("MsgAppResp", m.sender) if m.kind in ("MsgApp", "MsgHeartbeat") else super().answer_older(m)
+
+
+@wrong
+class ProposalsHaveATerm(Node):
+    def step(self, m):
+        if m.term < self.term and m.kind == "MsgProp":
+            self.ignore(m)
+        else:
+            super().step(m)
+
+
+# Votes
+
+
+@wrong
+class VotesUnderALeader(Node):
+    def answer_candidate(self, m):
+        lead, self.lead = self.lead, 0
+        super().answer_candidate(m)
+        self.lead = lead
+
+
+@wrong
+class VoteKeepsTheTimer(Node):
+    def answer_candidate(self, m):
+        elapsed = self.elapsed
+        super().answer_candidate(m)
+        self.elapsed = elapsed
+
+
+@wrong
+class PreVoteIsBound(Node):
+    def answer_candidate(self, m):
+        if m.kind == "MsgPreVote" and (self.lead or self.vote not in (0, m.sender)):
+            self.send("MsgPreVoteResp", m.sender, refused=True)
+        else:
+            super().answer_candidate(m)
+
+
+@wrong
+class PrecandidateLeads(Node):
+    def campaign(self, kind="usual"):
+        self.lead_on() if kind == "elected" else super().campaign(kind)
+
+
+@wrong
+class StandsOnWhenLost(Node):
+    def follow(self, term, lead):
+        if term != self.term or lead or self.role == "leader":
+            super().follow(term, lead)
+
+
+@wrong
+class CountsVotesForEver(Node):
+    def by_role(self, m):
+        self.count_vote(m) if m.kind == "MsgVoteResp" else super().by_role(m)
+
+
+@wrong
+class CandidateAppends(Node):
+    def drop(self, m):
+        self.append(m.body)
+
+
+# Followers
+
+
+@wrong
+class ProposalsAreDropped(Node):
+    def pass_proposal(self, m):
+        self.drop(m)
+
+
+@wrong
+class ProposalsAreLost(Node):
+    def pass_proposal(self, m):
+        if self.lead:
+            super().pass_proposal(m)
+
+
+@wrong
+class TransfersAreIgnored(Node):
+    def pass_transfer(self, m):
+        self.ignore(m)
+
+
+@wrong
+class AsksBeforeATransfer(Node):
+    def campaign_by_transfer(self, _):
+        self.campaign()
+
+
+@wrong
+class BeatsCommitNothing(Node):
+    def take_beat(self, m):
+        super().take_beat(m._replace(commit=0))
+
+
+@wrong
+class HintsAtNothing(Node):
+    def hint(self, index, term):
+        return 0
+
+
+@wrong
+class TakesBelowCommit(Node):
+    def take_append(self, m):
+        if m.index < self.commit:
+            past = self.commit - m.index
+            m = m._replace(index=self.commit, log_term=self.term_at(self.commit), entries=m.entries[past:])
+        super().take_append(m)
+
+
+@wrong
+class ConflictIsAnswered(Node):
+    def tell(self, level, text):
+        super().tell(level, text)
+        if text.startswith("conflict"):
+            self.send("MsgAppResp", self.lead, index=self.commit)
+
+
+@wrong
+class SnapshotWithoutContent(Node):
+    def take_snapshot(self, m):
+        super().take_snapshot(m._replace(snapshot=m.snapshot._replace(content=self.content)))
+
+
+@wrong
+class SnapshotIsAlwaysRestored(Node):
+    def take_snapshot(self, m):
+        if m.snapshot.index > self.commit:
+            self.entries = self.entries[:self.commit - self.base]
+        super().take_snapshot(m)
+
+
+# Leaders
+
+
+@wrong
+class TellsNobody(Node):
+    def take_proposal(self, m):
+        self.tell_all = lambda: None
+        super().take_proposal(m)
+        del self.tell_all
+
+
+@wrong
+class ChangesWhileJoint(Node):
+    def append_change(self, change):
+        if change.words and self.config.is_joint() and self.pending_change <= self.applied:
+            self.append(change)
+            self.tell_all()
+        else:
+            super().append_change(change)
+
+
+@wrong
+class LeavesNothing(Node):
+    def append_change(self, change):
+        if change.words or self.config.is_joint():
+            super().append_change(change)
+        else:
+            self.append(change)
+            self.tell_all()
+
+
+@wrong
+class FirstAnswerCommits(Node):
+    def commits(self):
+        held = sorted(view.match for view in self.views.values())[-2]
+        if held <= self.commit or self.term_at(held) != self.term:
+            return False
+        self.commit = held
+        self.tell_all()
+        return True
+
+
+@wrong
+class AnswersBringNothing(Node):
+    def take_acceptance(self, m, view):
+        self.sends = lambda *_: None
+        super().take_acceptance(m, view)
+        del self.sends
+
+
+@wrong
+class BeatAnswersWakeNobody(Node):
+    def take_beat_answer(self, m):
+        self.views[m.sender].active = True
+
+
+@wrong
+class TransferWaitsForAnAnswer(Node):
+    def start_transfer(self, m):
+        sent = len(self.sent)
+        super().start_transfer(m)
+        self.sent = self.sent[:sent] + [it for it in self.sent[sent:] if it.kind != "MsgTimeoutNow"]
+
+
+@wrong
+class SendsBehindASnapshot(Node):
+    def sends(self, id, mode):
+        if id in self.views and self.views[id].state == "snapshot":
+            self.views[id].to_replicate()
+            self.views[id].next = self.last()
+        super().sends(id, mode)
+
+
+@wrong
+class ProbesGoOn(Node):
+    def sends(self, id, mode):
+        if id in self.views and self.views[id].state == "probe":
+            self.views[id].waiting = False
+        super().sends(id, mode)
+
+
+# Campaigns and ticks
+
+
+@wrong
+class LeaderCampaigns(Node):
+    def why_not(self):
+        why = super().why_not()
+        return None if why == "leader" else why
+
+
+@wrong
+class LearnerCampaigns(Node):
+    def why_not(self):
+        why = super().why_not()
+        return None if why == "not a voter" else why
+
+
+@wrong
+class CampaignsUnsaved(Node):
+    def why_not(self):
+        why = super().why_not()
+        return None if why == "snapshot pending" else why
+
+
+@wrong
+class PendingChangeCampaigns(Node):
+    def why_not(self):
+        why = super().why_not()
+        return None if why == "change pending" else why
+
+
+@wrong
+class CandidateHasNoVote(Node):
+    def campaign(self, kind="usual"):
+        super().campaign(kind)
+        if self.role == "candidate":
+            self.vote = 0
+
+
+@wrong
+class LeadsAtOnce(Node):
+    def campaign(self, kind="usual"):
+        super().campaign(kind)
+        if self.role == "candidate" and self.config.voters() == {self.id}:
+            self.waiting = []
+            self.lead_on()
+
+
+@wrong
+class BeatsEverySecondTick(Node):
+    def tick(self):
+        sent = len(self.sent)
+        super().tick()
+        if self.elapsed % 2 == 1:
+            self.sent = self.sent[:sent]
+
+
+@wrong
+class TimeoutIsOneMore(Node):
+    def tick(self):
+        self.timeout += 1
+        super().tick()
+        self.timeout = max(self.timeout - 1, 3)
+
+
+@wrong
+class LearnerTimesOut(Node):
+    def tick(self):
+        super().tick()
+        if self.id not in self.config.voters() and self.elapsed >= self.timeout:
+            self.campaign()
+
+
+@wrong
+class TransferStopsTheLook(Node):
+    def keeps_lead(self):
+        if not self.transferee:
+            return super().keeps_lead()
+        self.elapsed = 0
+        self.end_transfer()
+        return True
+
+
+@wrong
+class TransferGoesOn(Node):
+    def keeps_lead(self):
+        transferee, self.transferee = self.transferee, 0
+        leads = super().keeps_lead()
+        self.transferee = transferee
+        return leads
+
+
+# What is ready, and what is applied
+
+
+@wrong
+class AlwaysSaves(Node):
+    def ready(self):
+        return super().ready()._replace(hard=self.hard_state())
+
+
+@wrong
+class AnswersGoFirst(Node):
+    def ready(self):
+        return super().ready()._replace(messages=[m for m in self.waiting if m.to != self.id] + self.sent)
+
+
+@wrong
+class ChangesTakeEffectAtOnce(Node):
+    def append_change(self, change):
+        super().append_change(change)
+        self.config = changed(self.config, change)
+
+
+@wrong
+class NewMembersWait(Node):
+    def view_members(self):
+        self.sends = lambda *_: None
+        super().view_members()
+        del self.sends
+
+
+@wrong
+class NewQuorumWaits(Node):
+    def view_members(self):
+        self.commits = lambda: False
+        super().view_members()
+        del self.commits
+
+
+@wrong
+class TransferOutlivesItsTarget(Node):
+    def view_members(self):
+        transferee, self.transferee = self.transferee, 0
+        super().view_members()
+        self.transferee = transferee
+
+
+@wrong
+class RefusedChangesAreSilent(Node):
+    def tell(self, level, text):
+        if not text.startswith("refused change"):
+            super().tell(level, text)
+
+
+@wrong
+class RemovedLeaderLeadsOn(Node):
+    def apply_change(self, index, change):
+        options, self.options = self.options, self.options._replace(step_down_on_removal=False)
+        super().apply_change(index, change)
+        self.options = options
+
+
+# Other calls
+
+
+@wrong
+class NeverForgets(Node):
+    def forget_leader(self):
+        pass
+
+
+@wrong
+class GoesOnReplicating(Node):
+    def report_unreachable(self, id):
+        pass
+
+
+@wrong
+class TimeoutStays(Node):
+    def reset(self, term):
+        timeout = self.timeout
+        super().reset(term)
+        self.timeout = timeout
