@@ -27,6 +27,7 @@ SWITCHES = {
     "probe-ends-above": "a probe ends only by an answer above its match",
     "old-append-answered": "an append below commit is answered, also where it differs",
     "strange-snapshot-ignored": "a snapshot whose configuration lacks the node is ignored",
+    "outgoing-snapshot-ignored": "a snapshot in whose joint configuration the node is only an outgoing voter is ignored",
     "stranger-ignored": "an answer of a node that is no member is ignored, whatever its term",
     "transfer-ends-with-voter": "a transfer ends where its target votes no more",
     "transfer-to-itself-ends": "a transfer to the leader itself ends another",
@@ -271,11 +272,15 @@ class Switched(Node):
         self.send("MsgAppResp", m.sender, **parts)
 
     def take_snapshot(self, m):
-        config = m.snapshot.config
-        is_strange = m.snapshot.index > self.commit and self.id not in config.voters() | config.learners
-        if self.on("strange-snapshot-ignored") and is_strange:
+        if m.snapshot.index > self.commit and self.is_left_out(m.snapshot.config):
             return self.answer_append(m, index=self.commit)
         return super().take_snapshot(m)
+
+    def is_left_out(self, config):
+        """Whether it takes a configuration for one that it isn't in."""
+        if self.id in config.incoming | config.learners:
+            return False
+        return self.on("outgoing-snapshot-ignored" if self.id in config.outgoing else "strange-snapshot-ignored")
 
     def pass_transfer(self, m):
         super().pass_transfer(m._replace(target=self.id) if self.on("transfer-to-passer") else m)

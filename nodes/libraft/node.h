@@ -11,6 +11,9 @@
 
 enum { MILLISECONDS_OF_TICK = 100, TICKS_OF_TIMEOUT = 3 };
 
+/* libraft takes 0 for the time when an append was last sent: on a clock that begins there, a new leader sends no first one. */
+enum { CLOCK_AT_START = 1000 * MILLISECONDS_OF_TICK };
+
 /* A message on its way. What it points to is its own. */
 struct letter {
     raft_id from;
