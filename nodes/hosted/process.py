@@ -150,7 +150,7 @@ class Process:
             if taken in self.ended:
                 raise self.failed(call, self.how_it_ended())
             if time.monotonic() >= end:
-                raise self.failed(call, self.too_late(seconds))
+                raise self.failed(call, self.too_late(call, seconds))
 
     def written(self, call, piece):
         try:
@@ -172,10 +172,10 @@ class Process:
     def take_errors(self):
         self.errors = (self.errors + self.read(self.pipes[2]))[-MOST_ERRORS:]
 
-    def too_late(self, seconds):
+    def too_late(self, call, seconds):
         if time.monotonic() >= self.until:
             return f"the script took more than {self.script_seconds:g} s"
-        return f"no answer within {seconds:g} s"
+        return f"no answer within {seconds:g} s" + (": is each answer flushed?" if call["call"] == "hello" else "")
 
     def how_it_ended(self):
         try:
