@@ -466,8 +466,12 @@ class Node:
             return self.ignore(m)
         return self.sends(m.sender, "tell")
 
+    def acknowledged(self, m):
+        """What an answer says that its sender holds: no more than the leader has."""
+        return min(m.index, self.last())
+
     def take_acceptance(self, m, view):
-        index, was_paused = min(m.index, self.last()), view.is_paused(self.options.inflight)
+        index, was_paused = self.acknowledged(m), view.is_paused(self.options.inflight)
         if index < view.match or index == view.match and view.state != "probe":
             if view.state == "replicate":
                 view.free_through(index)
@@ -583,9 +587,12 @@ class Node:
             self.pending_change = self.last()
             self.tell_all()
 
+    def config_after(self, change):
+        return changed(self.config, change)
+
     def apply_change(self, index, change):
         try:
-            self.config = changed(self.config, change)
+            self.config = self.config_after(change)
         except ChangeFault as fault:
             return self.tell("ERROR", f"refused change at {index}: {fault}")
         self.tell("INFO", f"switched to {config_text(self.config)}")

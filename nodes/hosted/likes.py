@@ -5,10 +5,11 @@ The proved program has no switches: a switched reference is the plain node alone
 """
 import pathlib
 
-from plain.config import Change, vote_result
+from plain.config import Change, enter_joint, vote_result
 from plain.node import Node
 
 LIKE = pathlib.Path(__file__).resolve().parents[1] / "like"
+FROM_LEADERS = ("MsgApp", "MsgHeartbeat", "MsgSnap")
 ANSWERS = ("MsgAppResp", "MsgVoteResp", "MsgPreVoteResp", "MsgHeartbeatResp")
 LEAVING = Change("auto", ())
 
@@ -39,6 +40,12 @@ SWITCHES = {
     "pre-vote-keeps-timeout": "asking before the vote leaves the timeout as it is",
     "unsaved-snapshot-waits": "no campaign falls due while a restored snapshot isn't saved",
     "pending-change-campaigns": "a change that isn't applied keeps nobody from campaigning",
+    "term-0-is-taken": "a message of term 0 is of no term, and is taken; a candidate that hears a leader in one goes back to term 0",
+    "acknowledged-past-last": "an acknowledged index past the leader's last is taken as it is",
+    "removed-and-added-anew": "a learner that one change removes and adds gets a new view",
+    "proposal-keeps-sender": "a proposal that is passed on is from whom it came from first",
+    "transfer-has-term": "a request to hand over the lead that is passed on has its sender's term, and is ignored where that is old",
+    "no-words-leave-with-auto": "a change without words leaves a joint configuration with `auto` alone, and else would enter one",
 }
 
 
@@ -78,6 +85,7 @@ class Switched(Node):
     # While it is true: own answers are of itself; nothing is told; views begin as those of added members.
     is_own = is_quiet = is_growing = False
     applies = True
+    removed = frozenset()  # by the change that is applied
 
     def on(self, name):
         return name in self.switches
@@ -152,8 +160,19 @@ class Switched(Node):
             self.pending_change = self.last()
         return None
 
+    def config_after(self, change):
+        if self.on("no-words-leave-with-auto") and not change.words and change.transition != "auto":
+            return enter_joint(self.config, (), change.transition == "implicit")
+        return super().config_after(change)
+
+    def apply_change(self, index, change):
+        if self.on("removed-and-added-anew"):
+            self.removed = {id for letter, id in change.words if letter == "r"} - self.config.incoming
+        super().apply_change(index, change)
+
     def view_members(self):
         self.is_growing = True
+        self.views = {id: view for id, view in self.views.items() if id not in self.removed}
         if self.on("demoted-leader-stops") and self.id not in self.config.voters():
             self.view_added()
         elif self.on("change-tells-all"):
@@ -195,6 +214,12 @@ class Switched(Node):
         if self.on("empty-probe-goes-on") and view.state == "probe" and not has_news:
             view.waiting = was_waiting
 
+    def send_append(self, id, view, entries):
+        if view.next - 1 > self.last():
+            self.send("MsgApp", id, index=view.next - 1, commit=self.commit)
+        else:
+            super().send_append(id, view, entries)
+
     # Campaigns and time
 
     def why_not(self):
@@ -218,7 +243,19 @@ class Switched(Node):
     def step(self, m):
         if self.on("stranger-ignored") and m.kind in ANSWERS and m.sender not in self.config.members():
             return self.ignore(m)
+        if m.kind == "MsgTransferLeader" and m.term:
+            if m.term < self.term:
+                return self.ignore(m)
+            if m.term > self.term:
+                self.raise_term(m)
+        if self.on("term-0-is-taken") and m.term == 0:
+            if self.role in ("candidate", "precandidate") and m.kind in FROM_LEADERS:
+                self.follow(0, m.sender)
+            m = m._replace(term=self.term)
         return super().step(m)
+
+    def acknowledged(self, m):
+        return m.index if self.on("acknowledged-past-last") else super().acknowledged(m)
 
     def take_beat_answer(self, m):
         view = self.views.get(m.sender)
@@ -234,7 +271,7 @@ class Switched(Node):
     def take_acceptance(self, m, view):
         if not self.on("probe-ends-above"):
             return super().take_acceptance(m, view)
-        index, was_paused = min(m.index, self.last()), view.is_paused(self.options.inflight)
+        index, was_paused = self.acknowledged(m), view.is_paused(self.options.inflight)
         view.next = max(view.next, index + 1)
         if index <= view.match:
             return None
@@ -282,8 +319,15 @@ class Switched(Node):
             return False
         return self.on("outgoing-snapshot-ignored" if self.id in config.outgoing else "strange-snapshot-ignored")
 
+    def pass_proposal(self, m):
+        super().pass_proposal(m)
+        if self.on("proposal-keeps-sender") and self.lead:
+            self.sent[-1] = self.sent[-1]._replace(sender=m.sender)
+
     def pass_transfer(self, m):
         super().pass_transfer(m._replace(target=self.id) if self.on("transfer-to-passer") else m)
+        if self.on("transfer-has-term") and self.lead:
+            self.sent[-1] = self.sent[-1]._replace(term=self.term)
 
     def start_transfer(self, m):
         if self.on("transfer-to-itself-ends") and m.target == self.id and self.transferee and m.target in self.config.voters():
