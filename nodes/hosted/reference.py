@@ -34,11 +34,14 @@ class Judge:
         self.is_there = self.program.exists()
 
     def outputs(self, blocks):
-        """What each directive prints, in lines of text."""
+        """What each directive prints, in lines of text; Unjudged where the program doesn't say."""
         text = Script(tuple(blocks), ()).text()
-        done = subprocess.run([self.program, "rewrite", "-"], input=text, capture_output=True, timeout=MOST_SECONDS)
+        try:
+            done = subprocess.run([self.program, "rewrite", "-"], input=text, capture_output=True, timeout=MOST_SECONDS)
+        except (OSError, subprocess.TimeoutExpired) as fault:
+            raise Unjudged(f"{self.program}: {fault}") from None
         if done.returncode:
-            raise Unjudged(f"{self.program}: {done.stderr.decode('utf-8', 'replace').strip()}")
+            raise Unjudged(f"{self.program}: status {done.returncode}: {done.stderr.decode('utf-8', 'replace').strip()}")
         return [[line.decode() for line in block.expected] for block in read_script(done.stdout).blocks]
 
     def first_wrong(self, blocks, outputs):

@@ -4,13 +4,14 @@ import queue
 import time
 
 from .process import Failed
+from .reference import Unjudged
 
 FORKED = multiprocessing.get_context("fork")
 LOOK_SECONDS = 0.2
 
 
 class Broken(Exception):
-    """The nodes could not be started, or a worker ended."""
+    """The nodes could not be started, the reference not judged, or a worker ended."""
 
 
 def work(make, task, items, until, results):
@@ -24,6 +25,8 @@ def work(make, task, items, until, results):
         results.put(("done", explorer.process.name, explorer.met))
     except Failed as failed:
         results.put(("failed", str(failed), None))
+    except Unjudged as fault:
+        results.put(("failed", f"the reference could not be judged: {fault}", None))
     finally:
         explorer.process.close()
 
@@ -31,7 +34,7 @@ def work(make, task, items, until, results):
 def side_by_side(jobs, make, task, items, until, met, look):
     """The results of the items that were begun before a time, in their order. `met` takes what workers met, `look` each result as it comes.
 
-    Broken where the nodes don't start.
+    Broken where the nodes don't start, or nothing judges the reference.
     """
     numbered = list(enumerate(items))
     jobs = max(1, min(jobs, len(numbered)))
