@@ -7,7 +7,7 @@ use Rattle.rb_script.specs.Reads.{Reads}
 use Rattle.rb_script.specs.Writes.{AppendsFront}
 use Rattle.rb_script.specs.declared.fault.ScriptFault.{ScriptFault}
 use Rattle.rb_script.proofs.ScriptLaws.{reads_once}
-use Rattle.rb_cluster.specs.Cluster.{Cluster}
+use Rattle.rb_machine.specs.Cluster.{Cluster}
 use Rattle.rb_replay.specs.Run.{state, outputs}
 use Rattle.rb_replay.specs.Report.{mismatches}
 use Rattle.rb_replay.specs.Points.{start_points}

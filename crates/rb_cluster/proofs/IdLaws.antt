@@ -3,7 +3,7 @@ use Rattle.std.proofs.Common.{◌≡◌, ℕ, ◌+◌, ◌-◌, ◌<◌, ◌≤�
 use Rattle.std.specs.List.{filter, range_with_len}
 use Rattle.rb_directive.specs.declared.limits.TheConstants.{MAX_ID}
 use Rattle.rb_directive.specs.IdLists.{holds}
-use Rattle.rb_cluster.specs.AddNodes.{id_set}
+use Rattle.rb_machine.specs.AddNodes.{id_set}
 use Rattle.rb_cluster.proofs.ListLaws.{range_more, range_none}
 
 pub named_from : List ℕ → ℕ → List ℕ

@@ -4,8 +4,8 @@ use Rattle.std.specs.List.{range_with_len}
 use Rattle.rb_raftlog.specs.declared.snapshot.Snapshot.{Snapshot}
 use Rattle.rb_step.specs.declared.options.Options.{Options}
 use Rattle.rb_node.specs.Calls.{node_started}
-use Rattle.rb_cluster.specs.AddNodes.{began, added_each}
-use Rattle.rb_cluster.specs.Scenes.{Scene}
+use Rattle.rb_machine.specs.AddNodes.{began, added_each}
+use Rattle.rb_machine.specs.Scenes.{Scene}
 use Rattle.rb_cluster.proofs.ListLaws.{range_more}
 
 -- one node more joins, and one less is left

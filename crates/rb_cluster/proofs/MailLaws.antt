@@ -6,11 +6,11 @@ use Rattle.std.specs.List.{filter, list_any}
 use Rattle.rb_directive.specs.declared.message_type.TypeSet.{TypeSet}
 use Rattle.rb_message.specs.declared.message.Message.{Message}
 use Rattle.rb_step.specs.Node.{PlainNode, Turn}
-use Rattle.rb_cluster.specs.Cluster.{node_at}
-use Rattle.rb_cluster.specs.Deliveries.{left_by, received, all_received, delivered, delivered_each}
-use Rattle.rb_cluster.specs.Pending.{is_for, mail, other_mail, with_pending}
-use Rattle.rb_cluster.specs.Rounds.{has_mail}
-use Rattle.rb_cluster.specs.Scenes.{Scene, acted_by, with_cluster}
+use Rattle.rb_machine.specs.Cluster.{node_at}
+use Rattle.rb_machine.specs.Deliveries.{left_by, received, all_received, delivered, delivered_each}
+use Rattle.rb_machine.specs.Pending.{is_for, mail, other_mail, with_pending}
+use Rattle.rb_machine.specs.Rounds.{has_mail}
+use Rattle.rb_machine.specs.Scenes.{Scene, acted_by, with_cluster}
 
 -- ---- lists in which nothing passes a test
 

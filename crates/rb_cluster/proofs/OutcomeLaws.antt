@@ -28,11 +28,11 @@ use Rattle.rb_texts.specs.Shapes.{is_solid}
 use Rattle.rb_texts.specs.Texts.{line_of}
 use Rattle.rb_texts.proofs.ShownLaws.{all_solid}
 use Rattle.rb_texts.proofs.PrintedLaws.{printed_expected, printed_plain}
-use Rattle.rb_cluster.specs.AddNodes.{add_nodes_fault, is_low, start, options, began, added_each, nodes_added}
-use Rattle.rb_cluster.specs.Cluster.{Cluster, node_at}
-use Rattle.rb_cluster.specs.Outcome.{absent, first_absent, missing_node, own_fault, fault, refusal_of, refusal, effect, level_set, or_ok, ended, screen_of, unless_refused, outcome_of, refused, outcome, is_output}
-use Rattle.rb_cluster.specs.Scenes.{Scene, scene}
-use Rattle.rb_cluster.specs.Views.{log_shown_by, status_shown_by}
+use Rattle.rb_machine.specs.AddNodes.{add_nodes_fault, is_low, start, options, began, added_each, nodes_added}
+use Rattle.rb_machine.specs.Cluster.{Cluster, node_at}
+use Rattle.rb_machine.specs.Outcome.{absent, first_absent, missing_node, own_fault, fault, refusal_of, refusal, effect, level_set, or_ok, ended, screen_of, unless_refused, outcome_of, refused, outcome, is_output}
+use Rattle.rb_machine.specs.Scenes.{Scene, scene}
+use Rattle.rb_machine.specs.Views.{log_shown_by, status_shown_by}
 use Rattle.rb_cluster.proofs.ListLaws.{left_more}
 use Rattle.rb_cluster.proofs.SolidLaws.{IsSolidScreen, effect_solid}
 

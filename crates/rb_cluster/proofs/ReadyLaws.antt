@@ -5,11 +5,11 @@ use Rattle.rb_step.specs.Node.{PlainNode}
 use Rattle.rb_node.specs.Readying.{has_ready}
 use Rattle.rb_texts.specs.Items.{PlainItem}
 use Rattle.rb_texts.specs.Items as items
-use Rattle.rb_cluster.specs.declared.screen.Screen.{Screen}
-use Rattle.rb_cluster.specs.Entries.{entry_items}
-use Rattle.rb_cluster.specs.Cluster.{node_at}
-use Rattle.rb_cluster.specs.Readies.{ready_items, node_advanced, all_done, ready_done_by, ready_done}
-use Rattle.rb_cluster.specs.Scenes.{Scene, showing, showing_all, shown, all_shown}
+use Rattle.rb_machine.specs.declared.screen.Screen.{Screen}
+use Rattle.rb_machine.specs.Entries.{entry_items}
+use Rattle.rb_machine.specs.Cluster.{node_at}
+use Rattle.rb_machine.specs.Readies.{ready_items, node_advanced, all_done, ready_done_by, ready_done}
+use Rattle.rb_machine.specs.Scenes.{Scene, showing, showing_all, shown, all_shown}
 use Rattle.rb_cluster.proofs.ViewLaws.{shown_first, left_some}
 
 -- one entry more is printed, and one less is left

@@ -3,8 +3,8 @@ use Rattle.std.proofs.Common.{length, append_assoc, append-nil, ◌≡◌, ◌<�
 use Rattle.std.specs.List.{filter, range_with_len}
 use Rattle.rb_directive.specs.IdLists.{holds}
 use Rattle.rb_texts.specs.Items.{stopped}
-use Rattle.rb_cluster.specs.Rounds.{is_chosen, has_work, round, settled}
-use Rattle.rb_cluster.specs.Scenes.{Scene, shown}
+use Rattle.rb_machine.specs.Rounds.{is_chosen, has_work, round, settled}
+use Rattle.rb_machine.specs.Scenes.{Scene, shown}
 
 -- ---- rounds
 

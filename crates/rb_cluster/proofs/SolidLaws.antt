@@ -24,17 +24,17 @@ use Rattle.rb_texts.specs.declared.item.Verb.TheVariants as verbs
 use Rattle.rb_texts.specs.Shapes.{is_solid}
 use Rattle.rb_texts.specs.Texts.{line_of}
 use Rattle.rb_texts.proofs.ShownLaws.{all_solid}
-use Rattle.rb_cluster.specs.declared.screen.Screen.{Screen}
-use Rattle.rb_cluster.specs.AddNodes.{start, options, began, added_each, nodes_added}
-use Rattle.rb_cluster.specs.Cluster.{node_at, with_node}
-use Rattle.rb_cluster.specs.Deliveries.{left_by, received, all_received, delivered, delivered_each, drop_item, dropped, dropped_each, meets_any, msgs_delivered}
-use Rattle.rb_cluster.specs.Outcome.{effect}
-use Rattle.rb_cluster.specs.Pending.{has_room, mail, pushed, sent, all_sent}
-use Rattle.rb_cluster.specs.Readies.{advanced_by, all_done, ready_done, ready_done_by, ready_done_each, ready_items}
-use Rattle.rb_cluster.specs.Rounds.{chosen, is_ready, has_work, readied_each, round, settled}
-use Rattle.rb_cluster.specs.Scenes.{Scene, showing, showing_all, shown, all_shown, with_cluster, acted, acted_by}
-use Rattle.rb_cluster.specs.Snapshots.{queued, snapshot_sent_by, compact, compact_by}
-use Rattle.rb_cluster.specs.Views.{log_shown_by, status_shown_by}
+use Rattle.rb_machine.specs.declared.screen.Screen.{Screen}
+use Rattle.rb_machine.specs.AddNodes.{start, options, began, added_each, nodes_added}
+use Rattle.rb_machine.specs.Cluster.{node_at, with_node}
+use Rattle.rb_machine.specs.Deliveries.{left_by, received, all_received, delivered, delivered_each, drop_item, dropped, dropped_each, meets_any, msgs_delivered}
+use Rattle.rb_machine.specs.Outcome.{effect}
+use Rattle.rb_machine.specs.Pending.{has_room, mail, pushed, sent, all_sent}
+use Rattle.rb_machine.specs.Readies.{advanced_by, all_done, ready_done, ready_done_by, ready_done_each, ready_items}
+use Rattle.rb_machine.specs.Rounds.{chosen, is_ready, has_work, readied_each, round, settled}
+use Rattle.rb_machine.specs.Scenes.{Scene, showing, showing_all, shown, all_shown, with_cluster, acted, acted_by}
+use Rattle.rb_machine.specs.Snapshots.{queued, snapshot_sent_by, compact, compact_by}
+use Rattle.rb_machine.specs.Views.{log_shown_by, status_shown_by}
 
 -- every line on the screen is solid
 pub record IsSolidScreen (screen : Screen) : Type 0 where

@@ -2,7 +2,7 @@
 use Rattle.std.proofs.Common.{◌≡◌, ◌<◌, ◌≤◌, ◌+◌, ◌-◌, ℕ, suc, zero, ap, sym, ◌∙◌, arith}
 use Rattle.rb_step.specs.Node.{Turn}
 use Rattle.rb_node.specs.Ticking.{ticked}
-use Rattle.rb_cluster.specs.Acts.{ticked_times}
+use Rattle.rb_machine.specs.Acts.{ticked_times}
 
 -- one more passes, and one less is left
 pub ticked_on : (times done : ℕ) (t after : Turn) → done < times → after ≡ ticked t → ticked_times (times - done) t ≡ ticked_times (times - (done + 1)) after

@@ -12,9 +12,9 @@ use Rattle.rb_node.specs.Readying.{others}
 use Rattle.rb_texts.specs.Items.{PlainItem}
 use Rattle.rb_texts.specs.Items as items
 use Rattle.rb_texts.specs.Texts.{line_of}
-use Rattle.rb_cluster.specs.declared.screen.Screen.{Screen}
-use Rattle.rb_cluster.specs.Entries.{entry_items}
-use Rattle.rb_cluster.specs.Scenes.{showing, showing_all}
+use Rattle.rb_machine.specs.declared.screen.Screen.{Screen}
+use Rattle.rb_machine.specs.Entries.{entry_items}
+use Rattle.rb_machine.specs.Scenes.{showing, showing_all}
 use Rattle.rb_cluster.proofs.ListLaws.{left_more, left_none}
 
 -- ---- items

@@ -2,12 +2,12 @@
 
 ghost use Rattle.std.specs.Prelude.{◌≡◌, OnOk};
 ghost use Rattle.rb_step.specs.Node.{turn};
-ghost use Rattle.rb_cluster.specs.Acts.{campaign, propose, ticked_times, tick_election, tick_heartbeat, set_timeout, transfer, forget_leader, report_unreachable};
-ghost use Rattle.rb_cluster.specs.Scenes.{scene};
+ghost use Rattle.rb_machine.specs.Acts.{campaign, propose, ticked_times, tick_election, tick_heartbeat, set_timeout, transfer, forget_leader, report_unreachable};
+ghost use Rattle.rb_machine.specs.Scenes.{scene};
 
 use crate::cluster::{Cluster, place_of};
-use crate::screen::Screen;
 use rb_level::Word;
+use rb_machine::Screen;
 use rb_message::Event;
 use rb_node::Node;
 use rb_raftlog::{RaftLog, Shared};

@@ -6,13 +6,13 @@ ghost use Rattle.std.specs.Option.{unwrap_or};
 ghost use Rattle.rb_raftlog.specs.declared.limits.TheConstants.{MAX_INDEX};
 ghost use Rattle.rb_directive.specs.declared.limits.TheConstants.{MAX_NODES};
 ghost use Rattle.rb_node.specs.Calls.{node_started};
-ghost use Rattle.rb_cluster.specs.AddNodes.{id_set, config, options, base_term, start, needs_index, is_low, add_nodes_fault, began, added_each, nodes_added};
-ghost use Rattle.rb_cluster.specs.Scenes.{scene};
+ghost use Rattle.rb_machine.specs.AddNodes.{id_set, config, options, base_term, start, needs_index, is_low, add_nodes_fault, began, added_each, nodes_added};
+ghost use Rattle.rb_machine.specs.Scenes.{scene};
 
 use crate::cluster::Cluster;
-use crate::screen::Screen;
 use rb_directive::{AddNodes, IdList, MAX_ID, MAX_NODES};
 use rb_level::{DirectiveError, Word};
+use rb_machine::Screen;
 use rb_node::Node;
 use rb_raftlog::{ConfState, Content, RaftLog, Shared, Snapshot};
 use rb_step::Options;
@@ -36,7 +36,7 @@ fn is_low(asked: &AddNodes<'_>) -> bool
 }
 
 /// Why the nodes can't join as many as there are.
-#[tactic(auto, unfolding(crate::specs::AddNodes::add_nodes_fault))]
+#[tactic(auto, unfolding(rb_machine::specs::AddNodes::add_nodes_fault))]
 pub(crate) fn add_nodes_fault<L: RaftLog>(
     asked: &AddNodes<'_>,
     nodes: &[Node<L>],
@@ -120,7 +120,7 @@ fn base_term(index: Option<u64>) -> u64
 }
 
 // Where the nodes start.
-#[tactic(auto, unfolding(crate::specs::AddNodes::start))]
+#[tactic(auto, unfolding(rb_machine::specs::AddNodes::start))]
 fn start(alloc: Global, asked: &AddNodes<'_>) -> Result<Snapshot, AllocError>
     requires { unwrap_or asked.now.index 0 ≤ MAX_INDEX }
     ensures value { IfOk result (λ s. s ≡ start asked.now) }
@@ -171,7 +171,7 @@ impl<L: RaftLog> Cluster<L> {
     }
 
     /// Adds the nodes that are asked for.
-    #[tactic(auto, unfolding(crate::specs::AddNodes::nodes_added))]
+    #[tactic(auto, unfolding(rb_machine::specs::AddNodes::nodes_added))]
     pub(crate) fn add_nodes(
         &mut self,
         asked: &AddNodes<'_>,

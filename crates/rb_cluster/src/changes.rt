@@ -2,12 +2,12 @@
 
 ghost use Rattle.std.specs.Prelude.{◌≡◌, IfOk, OnOk};
 ghost use Rattle.rb_directive.specs.Changes.{input_words};
-ghost use Rattle.rb_cluster.specs.Changes.{transition_of, kind_of, word_of, words_of, propose_change};
-ghost use Rattle.rb_cluster.specs.Scenes.{scene};
+ghost use Rattle.rb_machine.specs.Changes.{transition_of, kind_of, word_of, words_of, propose_change};
+ghost use Rattle.rb_machine.specs.Scenes.{scene};
 
 use crate::cluster::{Cluster, place_of};
-use crate::screen::Screen;
 use rb_directive::{Change, ChangeKind, Inputs, ProposeConfChange, change_of};
+use rb_machine::Screen;
 use rb_raftlog::{RaftLog, Shared, Transition, Word, WordKind};
 use std::alloc::{AllocError, Global};
 

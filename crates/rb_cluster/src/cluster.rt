@@ -1,13 +1,13 @@
 //! A cluster, as a machine that runs directives.
 
 ghost use Rattle.std.specs.Prelude.{◌≡◌, ◌-◌, ◌↔◌, IsTrue};
-ghost use Rattle.rb_cluster.specs.Cluster.{empty};
+ghost use Rattle.rb_machine.specs.Cluster.{empty};
 
 use crate::letter::Letter;
 use crate::lists::{Alike, Numbered, copies_of, have_numbers_of, same_list};
-use crate::machine::Machine;
 use crate::meter::Meter;
 use rb_level::Level;
+use rb_machine::Machine;
 use rb_node::Node;
 use rb_raftlog::RaftLog;
 use rb_script::{DirectiveRef, Lines};
@@ -25,7 +25,7 @@ pub struct Cluster<L: RaftLog> {
 }
 
 impl<L: RaftLog> Model for Cluster<L> {
-    ghost use Rattle.rb_cluster.specs.Cluster.{Cluster};
+    ghost use Rattle.rb_machine.specs.Cluster.{Cluster};
 
     ghost Value = { Cluster };
 
@@ -41,7 +41,7 @@ pub(crate) fn place_of(id: u64) -> usize
 
 impl<L: RaftLog> Cluster<L> {
     ghost use Rattle.std.specs.Prelude.{MatchOption, Some, None};
-    ghost use Rattle.rb_cluster.specs.Cluster.{node_at};
+    ghost use Rattle.rb_machine.specs.Cluster.{node_at};
 
     /// The node with this id.
     pub(crate) fn node_with(&self, id: u64) -> Option<&Node<L>>
@@ -56,7 +56,7 @@ impl<L: RaftLog> Machine for Cluster<L> {
 
     ghost meaning = { λ c. c };
 
-    #[tactic(auto, unfolding(crate::specs::Cluster::empty))]
+    #[tactic(auto, unfolding(rb_machine::specs::Cluster::empty))]
     fn empty(alloc: Global) -> Result<Cluster<L>, AllocError> {
         Ok(Cluster {
             nodes: Vec::new(alloc),

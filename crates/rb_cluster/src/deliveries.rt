@@ -1,15 +1,15 @@
 //! `deliver-msgs`: pending messages reach their nodes, or are dropped.
 
 ghost use Rattle.std.specs.Prelude.{◌≡◌, [], OnOk, map};
-ghost use Rattle.rb_cluster.specs.Pending.{with_pending};
-ghost use Rattle.rb_cluster.specs.Deliveries.{received, all_received, delivered, delivered_each, drop_item, dropped, dropped_each, is_for_any, meets_any, msgs_delivered};
-ghost use Rattle.rb_cluster.specs.Scenes.{scene, showing_all};
+ghost use Rattle.rb_machine.specs.Pending.{with_pending};
+ghost use Rattle.rb_machine.specs.Deliveries.{received, all_received, delivered, delivered_each, drop_item, dropped, dropped_each, is_for_any, meets_any, msgs_delivered};
+ghost use Rattle.rb_machine.specs.Scenes.{scene, showing_all};
 
 use crate::cluster::{Cluster, place_of};
 use crate::letter::Letter;
 use crate::pending::{is_for, split};
-use crate::screen::Screen;
 use rb_directive::{DeliverMsgs, TypeSet};
+use rb_machine::Screen;
 use rb_message::Message;
 use rb_raftlog::RaftLog;
 use rb_texts::{Item, Verb};
@@ -91,7 +91,7 @@ impl<L: RaftLog> Cluster<L> {
     }
 
     /// A node gets its pending messages of the types.
-    #[tactic(auto, unfolding(crate::specs::Deliveries::delivered))]
+    #[tactic(auto, unfolding(rb_machine::specs::Deliveries::delivered))]
     pub(crate) fn deliver(
         &mut self,
         id: u64,
@@ -121,7 +121,7 @@ impl<L: RaftLog> Cluster<L> {
     }
 
     // A node's pending messages of the types go.
-    #[tactic(auto, unfolding(crate::specs::Deliveries::dropped))]
+    #[tactic(auto, unfolding(rb_machine::specs::Deliveries::dropped))]
     fn drop_for(
         &mut self,
         id: u64,
@@ -151,7 +151,7 @@ impl<L: RaftLog> Cluster<L> {
     }
 
     /// Delivers messages to nodes in their order, then drops messages.
-    #[tactic(auto, unfolding(crate::specs::Deliveries::msgs_delivered))]
+    #[tactic(auto, unfolding(rb_machine::specs::Deliveries::msgs_delivered))]
     pub(crate) fn deliver_msgs(
         &mut self,
         asked: &DeliverMsgs,

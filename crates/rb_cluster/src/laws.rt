@@ -14,8 +14,8 @@ ghost use Rattle.rb_directive.specs.declared.asking.AddNodes.{AddNodes};
 ghost use Rattle.rb_directive.specs.declared.asking.Request.TheVariants as requests;
 ghost use Rattle.rb_directive.specs.Requests.{request};
 ghost use Rattle.rb_step.specs.Node.{PlainNode};
-ghost use Rattle.rb_cluster.specs.Cluster.{Cluster};
-ghost use Rattle.rb_cluster.specs.Outcome.{outcome, refusal, refused, level_set, is_output};
+ghost use Rattle.rb_machine.specs.Cluster.{Cluster};
+ghost use Rattle.rb_machine.specs.Outcome.{outcome, refusal, refused, level_set, is_output};
 
 /// What a directive prints has at least one line, and none that is blank or `----` or holds a byte outside 32 to 126.
 pub fn outputs_have_lines()

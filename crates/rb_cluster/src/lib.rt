@@ -1,8 +1,8 @@
 //! A cluster of Raft nodes in memory, and what directives do to it.
 //!
-//! [`Cluster`] is a [`Machine`]: it runs one directive after another, and gives the lines that each prints. What a
-//! directive asks for is read by rb_directive; here are the nodes that must exist, what this cluster refuses, and one
-//! effect a request. What a node does is rb_node's, how it is printed rb_texts'.
+//! [`Cluster`] is a [`Machine`](rb_machine::Machine): it runs one directive after another, and gives the lines that
+//! each prints. What a directive asks for is read by rb_directive; here are the nodes that must exist, what this
+//! cluster refuses, and one effect a request. What a node does is rb_node's, how it is printed rb_texts'.
 #![tactic(auto)]
 
 mod acts;
@@ -12,16 +12,13 @@ mod cluster;
 mod deliveries;
 mod laws;
 mod letter;
-mod limits;
 mod lists;
-mod machine;
 mod message_types;
 mod meter;
 mod outcome;
 mod pending;
 mod readies;
 mod rounds;
-mod screen;
 mod snapshots;
 mod views;
 
@@ -30,6 +27,4 @@ pub use laws::{
     add_nodes_keeps_nodes, log_level_sets_the_level, outputs_can_be_expected, outputs_have_lines,
     reading_is_the_same_everywhere, refused_changes_nothing, views_change_nothing,
 };
-pub use limits::limits_are;
-pub use machine::{Count, Machine};
 pub use meter::Meter;

@@ -1,7 +1,7 @@
 //! Types of messages, as `type=` names them.
 
 ghost use Rattle.std.specs.Prelude.{◌≡◌};
-ghost use Rattle.rb_cluster.specs.MessageTypes.{name_of, is_meant};
+ghost use Rattle.rb_machine.specs.MessageTypes.{name_of, is_meant};
 
 use rb_directive::TypeSet;
 

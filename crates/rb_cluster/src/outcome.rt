@@ -9,15 +9,15 @@ ghost use Rattle.rb_directive.specs.Requests.{request, IsWithin};
 ghost use Rattle.rb_step.specs.Node.{PlainNode};
 ghost use Rattle.rb_texts.specs.Items.{error};
 ghost use Rattle.rb_texts.specs.Texts.{line_of};
-ghost use Rattle.rb_cluster.specs.Cluster.{is_node};
-ghost use Rattle.rb_cluster.specs.Outcome.{absent, first_absent, missing_node, own_fault, fault, effect, level_set, unless_refused, refused, outcome_of, outcome};
-ghost use Rattle.rb_cluster.specs.Scenes.{scene};
+ghost use Rattle.rb_machine.specs.Cluster.{is_node};
+ghost use Rattle.rb_machine.specs.Outcome.{absent, first_absent, missing_node, own_fault, fault, effect, level_set, unless_refused, refused, outcome_of, outcome};
+ghost use Rattle.rb_machine.specs.Scenes.{scene};
 
 use crate::add_nodes::add_nodes_fault;
 use crate::cluster::Cluster;
-use crate::screen::Screen;
 use rb_directive::{Asked, Named, Request, request};
 use rb_level::{DirectiveError, Level};
+use rb_machine::Screen;
 use rb_node::Node;
 use rb_raftlog::RaftLog;
 use rb_script::{DirectiveRef, Lines};
@@ -106,7 +106,7 @@ impl<L: RaftLog> Cluster<L> {
     }
 
     // The first thing for which this cluster refuses a request: a node that doesn't exist, or what it can't do.
-    #[tactic(auto, unfolding(crate::specs::Outcome::fault))]
+    #[tactic(auto, unfolding(rb_machine::specs::Outcome::fault))]
     fn fault<'d>(&self, wanted: &Request<'d>) -> Option<DirectiveError<'d>>
         ensures { result ≡ fault wanted.now self.now }
     {
@@ -184,7 +184,7 @@ impl<L: RaftLog> Cluster<L> {
     }
 
     /// Runs a directive, and gives what it prints.
-    #[tactic(auto, unfolding(crate::specs::Outcome::outcome))]
+    #[tactic(auto, unfolding(rb_machine::specs::Outcome::outcome))]
     pub(crate) fn carry_out(&mut self, directive: &DirectiveRef<'_>) -> Result<Lines, AllocError>
         ensures cluster { OnOk result (self.new ≡ (outcome self.old (plain directive.now)).cluster) }
         ensures output { IfOk result (λ lines. lines ≡ (outcome self.old (plain directive.now)).output) }

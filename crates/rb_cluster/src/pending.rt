@@ -3,15 +3,14 @@
 //! They stand in one list, in the order in which they were sent. A message never changes, so a copy of the list costs a pointer a message.
 
 ghost use Rattle.std.specs.Prelude.{◌≡◌, ◌++◌, ◌∷◌, [], IfOk, OnOk, not, filter};
-ghost use Rattle.rb_cluster.specs.Pending.{is_for, mail, other_mail, has_room, with_pending, sent, all_sent};
-ghost use Rattle.rb_cluster.specs.Scenes.{scene};
+ghost use Rattle.rb_machine.specs.Pending.{is_for, mail, other_mail, has_room, with_pending, sent, all_sent};
+ghost use Rattle.rb_machine.specs.Scenes.{scene};
 
 use crate::cluster::Cluster;
 use crate::letter::Letter;
-use crate::limits::MAX_PENDING;
 use crate::message_types::is_meant;
-use crate::screen::Screen;
 use rb_directive::TypeSet;
+use rb_machine::{MAX_PENDING, Screen};
 use rb_message::Message;
 use rb_raftlog::RaftLog;
 use rb_texts::{Item, Verb};

@@ -3,12 +3,12 @@
 ghost use Rattle.std.specs.Prelude.{◌≡◌, ◌+◌, ◌++◌, OnOk, map};
 ghost use Rattle.rb_node.specs.Readying.{ready, applying, others};
 ghost use Rattle.rb_texts.specs.Items as items;
-ghost use Rattle.rb_cluster.specs.Entries.{entry_items};
-ghost use Rattle.rb_cluster.specs.Readies.{hard_items, snapshot_items, ready_items, node_advanced, ready_done, ready_done_each};
-ghost use Rattle.rb_cluster.specs.Scenes.{scene, showing_all};
+ghost use Rattle.rb_machine.specs.Entries.{entry_items};
+ghost use Rattle.rb_machine.specs.Readies.{hard_items, snapshot_items, ready_items, node_advanced, ready_done, ready_done_each};
+ghost use Rattle.rb_machine.specs.Scenes.{scene, showing_all};
 
 use crate::cluster::{Cluster, place_of};
-use crate::screen::Screen;
+use rb_machine::Screen;
 use rb_message::Mail;
 use rb_node::{Node, ReadyView};
 use rb_raftlog::RaftLog;
@@ -88,7 +88,7 @@ fn show_waited(screen: &mut Screen, id: u64, mail: &Mail) -> Result<(), AllocErr
 }
 
 // Prints what is ready at a node.
-#[tactic(auto, unfolding(crate::specs::Readies::ready_items))]
+#[tactic(auto, unfolding(rb_machine::specs::Readies::ready_items))]
 fn show_ready<L: RaftLog>(screen: &mut Screen, id: u64, node: &Node<L>) -> Result<(), AllocError>
     ensures { OnOk result (screen.new ≡ showing_all screen.old (ready_items id node.now)) }
 {
@@ -118,7 +118,7 @@ impl<L: RaftLog> Cluster<L> {
     }
 
     /// Does what is ready at a node, or prints that there is nothing.
-    #[tactic(auto, unfolding(crate::specs::Readies::all_done))]
+    #[tactic(auto, unfolding(rb_machine::specs::Readies::all_done))]
     pub(crate) fn do_ready(&mut self, id: u64, screen: &mut Screen) -> Result<(), AllocError>
         ensures { OnOk result (scene self.new screen.new ≡ ready_done (scene self.old screen.old) id) }
     {

@@ -4,15 +4,15 @@
 //! found in one look at all of them, so that a round costs what it does and one look, not a look a node.
 
 ghost use Rattle.std.specs.Prelude.{◌≡◌, OnOk, IfOk, None};
-ghost use Rattle.rb_cluster.specs.Deliveries.{delivered_each};
-ghost use Rattle.rb_cluster.specs.Rounds.{is_chosen, chosen, is_ready, has_mail, has_work, readied_each, round, settled, stabilized};
+ghost use Rattle.rb_machine.specs.Deliveries.{delivered_each};
+ghost use Rattle.rb_machine.specs.Rounds.{is_chosen, chosen, is_ready, has_mail, has_work, readied_each, round, settled, stabilized};
 ghost use Rattle.rb_cluster.specs.Marks.{IsMarked, is_marked};
-ghost use Rattle.rb_cluster.specs.Scenes.{scene};
+ghost use Rattle.rb_machine.specs.Scenes.{scene};
 
 use crate::cluster::Cluster;
 use crate::letter::Letter;
-use crate::screen::Screen;
 use rb_directive::{IdList, MAX_ID};
+use rb_machine::Screen;
 use rb_raftlog::RaftLog;
 use rb_texts::Item;
 use std::alloc::AllocError;
@@ -94,7 +94,7 @@ impl<L: RaftLog> Cluster<L> {
     }
 
     // Whether a node has something ready, or a message is pending for it.
-    #[tactic(auto, unfolding(crate::specs::Rounds::has_work))]
+    #[tactic(auto, unfolding(rb_machine::specs::Rounds::has_work))]
     fn has_work(&self, ids: &[u64]) -> bool
         ensures { result ≡ has_work self.now ids.now }
     {
@@ -132,7 +132,7 @@ impl<L: RaftLog> Cluster<L> {
         Ok(())
     }
 
-    #[tactic(auto, unfolding(crate::specs::Rounds::round))]
+    #[tactic(auto, unfolding(rb_machine::specs::Rounds::round))]
     fn round(&mut self, ids: &[u64], screen: &mut Screen) -> Result<(), AllocError>
         ensures { OnOk result (scene self.new screen.new ≡ round (scene self.old screen.old) ids.now) }
     {

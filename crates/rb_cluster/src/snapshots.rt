@@ -5,14 +5,14 @@ ghost use Rattle.rb_message.specs.declared.kind.MessageKind.TheVariants as kinds
 ghost use Rattle.rb_raftlog.specs.Log.{compact_fault};
 ghost use Rattle.rb_step.specs.Node.{message};
 ghost use Rattle.rb_step.specs.Sends.{snapshot_of};
-ghost use Rattle.rb_cluster.specs.Snapshots.{queued, snapshot_sent, error_of, compact_error, compact};
-ghost use Rattle.rb_cluster.specs.Scenes.{scene};
+ghost use Rattle.rb_machine.specs.Snapshots.{queued, snapshot_sent, error_of, compact_error, compact};
+ghost use Rattle.rb_machine.specs.Scenes.{scene};
 
 use crate::cluster::{Cluster, place_of};
 use crate::pending::has_room;
-use crate::screen::Screen;
 use crate::views::show_log;
 use rb_level::DirectiveError;
+use rb_machine::Screen;
 use rb_message::{Install, Message, MessageKind};
 use rb_node::Node;
 use rb_raftlog::{CompactFault, RaftLog};
@@ -56,7 +56,7 @@ fn snapshot_message<L: RaftLog>(node: &Node<L>, from: u64, to: u64) -> Result<Me
 
 impl<L: RaftLog> Cluster<L> {
     // Puts a message among the pending ones by hand, where there is room.
-    #[tactic(auto, unfolding(crate::specs::Snapshots::queued))]
+    #[tactic(auto, unfolding(rb_machine::specs::Snapshots::queued))]
     fn queue(&mut self, message: Message, screen: &mut Screen) -> Result<(), AllocError>
         ensures { OnOk result (scene self.new screen.new ≡ queued (scene self.old screen.old) message) }
     {
@@ -84,7 +84,7 @@ impl<L: RaftLog> Cluster<L> {
     }
 
     /// Why a node's log can't be compacted to an index.
-    #[tactic(auto, unfolding(crate::specs::Snapshots::compact_error))]
+    #[tactic(auto, unfolding(rb_machine::specs::Snapshots::compact_error))]
     pub(crate) fn compact_error(&self, id: u64, index: u64) -> Option<DirectiveError<'static>>
         ensures { result ≡ compact_error id index self.now }
     {

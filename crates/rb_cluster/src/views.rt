@@ -2,12 +2,12 @@
 
 ghost use Rattle.std.specs.Prelude.{◌≡◌, ◌+◌, OnOk, map};
 ghost use Rattle.rb_texts.specs.Items.{plain_node};
-ghost use Rattle.rb_cluster.specs.Entries.{entry_items};
-ghost use Rattle.rb_cluster.specs.Scenes.{scene, showing_all};
-ghost use Rattle.rb_cluster.specs.Views.{log_line, held_item, log_items, log_shown, view_item, status_items, status_shown, node_line, state_item, states_shown};
+ghost use Rattle.rb_machine.specs.Entries.{entry_items};
+ghost use Rattle.rb_machine.specs.Scenes.{scene, showing_all};
+ghost use Rattle.rb_machine.specs.Views.{log_line, held_item, log_items, log_shown, view_item, status_items, status_shown, node_line, state_item, states_shown};
 
 use crate::cluster::Cluster;
-use crate::screen::Screen;
+use rb_machine::Screen;
 use rb_node::Node;
 use rb_raftlog::RaftLog;
 use rb_step::State;
@@ -44,7 +44,7 @@ fn show_entries<L: RaftLog>(screen: &mut Screen, log: &L) -> Result<(), AllocErr
 }
 
 /// Prints a node's log.
-#[tactic(auto, unfolding(crate::specs::Views::log_items))]
+#[tactic(auto, unfolding(rb_machine::specs::Views::log_items))]
 pub(crate) fn show_log<L: RaftLog>(screen: &mut Screen, node: &Node<L>) -> Result<(), AllocError>
     ensures { OnOk result (screen.new ≡ showing_all screen.old (log_items node.now)) }
 {
@@ -66,7 +66,7 @@ fn show_views(screen: &mut Screen, tracker: &Tracker) -> Result<(), AllocError>
     Ok(())
 }
 
-#[tactic(auto, unfolding(crate::specs::Views::status_items))]
+#[tactic(auto, unfolding(rb_machine::specs::Views::status_items))]
 fn show_status<L: RaftLog>(screen: &mut Screen, node: &Node<L>) -> Result<(), AllocError>
     ensures { OnOk result (screen.new ≡ showing_all screen.old (status_items node.now)) }
 {

@@ -3,8 +3,9 @@
 #![tactic(auto)]
 
 use rb_bench::read_up_to;
-use rb_cluster::{Cluster, Machine, Meter};
+use rb_cluster::{Cluster, Meter};
 use rb_line::Incoming;
+use rb_machine::Machine;
 use rb_raftlog::PlainLog;
 use rb_replay::{MAX_SPACING, Session};
 use rb_script::{MAX_SCRIPT, Through};

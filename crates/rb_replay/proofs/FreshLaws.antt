@@ -5,7 +5,7 @@ use Rattle.std.proofs.lemmas.Bool.Decides.{nat_tests}
 use Rattle.std.proofs.lemmas.List.{map-append, take-map, drop-map}
 use Rattle.rb_script.specs.declared.limits.TheConstants.{MAX_DIRECTIVES}
 use Rattle.rb_script.specs.Script.{PlainScript}
-use Rattle.rb_cluster.specs.Cluster.{Cluster}
+use Rattle.rb_machine.specs.Cluster.{Cluster}
 use Rattle.rb_script.specs.Lines.{Line}
 use Rattle.rb_replay.specs.Run.{directives, state, outputs}
 use Rattle.rb_replay.specs.Report.{differing, mismatches}

@@ -6,7 +6,7 @@ use Rattle.std.proofs.lemmas.Bool.Decides.{nat_tests, leb_tells}
 use Rattle.std.proofs.lemmas.List.{take-append-drop, map-append, take-map, drop-map, take-take, drop_all, append-nil, length-append, length-take-le}
 use Rattle.rb_script.specs.Lines.{Line}
 use Rattle.rb_script.specs.Reading.{directive_of}
-use Rattle.rb_cluster.specs.Cluster.{Cluster}
+use Rattle.rb_machine.specs.Cluster.{Cluster}
 use Rattle.rb_replay.specs.declared.cut.Cut.{Cut}
 use Rattle.rb_replay.specs.declared.seam.Seam.{Seam}
 use Rattle.rb_replay.specs.Run.{directives, state, outputs}

@@ -6,8 +6,8 @@ use Rattle.rb_script.specs.Lines.{Line}
 use Rattle.rb_script.specs.Script.{PlainBlock, PlainScript}
 use Rattle.rb_script.specs.Directive.{PlainDirective}
 use Rattle.rb_script.specs.Reading.{directive_of}
-use Rattle.rb_cluster.specs.Cluster.{Cluster, empty}
-use Rattle.rb_cluster.specs.Outcome.{outcome}
+use Rattle.rb_machine.specs.Cluster.{Cluster, empty}
+use Rattle.rb_machine.specs.Outcome.{outcome}
 use Rattle.rb_replay.specs.Run.{directives, led, answers, state, outputs}
 
 -- a function of two equal arguments

@@ -6,7 +6,7 @@ use Rattle.rb_replay.specs.declared.rerun.Rerun.{Rerun}
 use Rattle.rb_replay.specs.declared.seam.Seam.{Seam}
 use Rattle.rb_replay.specs.declared.ready.Ready.{Ready}
 use Rattle.rb_script.specs.Lines.{Line}
-use Rattle.rb_cluster.specs.Cluster.{Cluster}
+use Rattle.rb_machine.specs.Cluster.{Cluster}
 use Rattle.rb_replay.specs.Course.{HasRun}
 use Rattle.rb_replay.specs.Run.{state, outputs}
 use Rattle.rb_replay.specs.Report.{mismatches}

@@ -3,7 +3,7 @@ use Rattle.std.specs.Prelude.{◌≡◌, ℕ, ◌≤◌, true, List, map, length
 use Rattle.rb_script.specs.declared.limits.TheConstants.{MAX_DIRECTIVES}
 use Rattle.rb_script.specs.Lines.{Line}
 use Rattle.rb_script.specs.Script.{PlainScript}
-use Rattle.rb_cluster.specs.Cluster.{Cluster}
+use Rattle.rb_machine.specs.Cluster.{Cluster}
 use Rattle.rb_replay.specs.Run.{state, outputs}
 use Rattle.rb_replay.specs.Report.{mismatches}
 use Rattle.rb_replay.specs.Points.{AreKept}

@@ -4,8 +4,8 @@ use Rattle.rb_script.specs.Lines.{Line}
 use Rattle.rb_script.specs.Script.{PlainScript}
 use Rattle.rb_script.specs.Directive.{PlainDirective}
 use Rattle.rb_script.specs.Reading.{directive_of}
-use Rattle.rb_cluster.specs.Cluster.{Cluster, empty}
-use Rattle.rb_cluster.specs.Outcome.{outcome}
+use Rattle.rb_machine.specs.Cluster.{Cluster, empty}
+use Rattle.rb_machine.specs.Outcome.{outcome}
 
 -- the directives of a script, in order
 abbrev pub directives : PlainScript → List PlainDirective

@@ -7,7 +7,7 @@ ghost use Rattle.rb_replay.specs.Run.{state};
 ghost use Rattle.rb_replay.specs.Course.{HasRun, PacedAt, PacedOn};
 
 use crate::blocks::block_at;
-use rb_cluster::{Count, Machine};
+use rb_machine::{Count, Machine};
 use rb_script::{Lines, Script};
 use std::alloc::{AllocError, Global};
 

@@ -3,7 +3,7 @@
 use crate::cut::{Cut, Effect, effect_of};
 use crate::ready::{make_room, take_over};
 use crate::session::{Changed, Session};
-use rb_cluster::{Count, Machine};
+use rb_machine::{Count, Machine};
 use rb_script::{Edit, EditFault, Script};
 use std::alloc::AllocError;
 

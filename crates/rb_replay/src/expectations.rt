@@ -2,7 +2,7 @@
 
 use crate::cut::Cut;
 use crate::session::{Changed, Session};
-use rb_cluster::Machine;
+use rb_machine::Machine;
 use rb_script::Script;
 use std::alloc::AllocError;
 

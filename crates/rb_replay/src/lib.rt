@@ -1,6 +1,6 @@
 //! A session keeps a script's outputs while the script is edited.
 //!
-//! [`Session::start`] reads a script and runs it whole on a [`Machine`](rb_cluster::Machine). An edit
+//! [`Session::start`] reads a script and runs it whole on a [`Machine`](rb_machine::Machine). An edit
 //! then runs only what it has to: from the last cluster that was kept before the change, up to where the
 //! old clusters are met again. What a session answers is always what one run of its script from the empty
 //! cluster gives.

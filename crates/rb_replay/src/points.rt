@@ -2,7 +2,7 @@
 
 ghost use Rattle.std.specs.Prelude.{◌≡◌, ◌+◌, ◌-◌, ◌<◌, ◌≤◌, ℕ, ◌++◌, length, take, drop, filter, map, nat_lt, nat_le, vec_len, vec_capacity, slice_index, IfOk, All};
 ghost use Rattle.rb_script.specs.declared.limits.TheConstants.{MAX_DIRECTIVES};
-ghost use Rattle.rb_cluster.specs.Cluster.{Cluster};
+ghost use Rattle.rb_machine.specs.Cluster.{Cluster};
 ghost use Rattle.rb_replay.specs.Points.{thin, IsRising, last_up_to};
 ghost use Rattle.rb_replay.specs.Cuts.{IsNext};
 

@@ -7,7 +7,7 @@ use crate::ready::Ready;
 use crate::rerun::Rerun;
 use crate::seam::Seam;
 use crate::session::Session;
-use rb_cluster::{Count, Machine};
+use rb_machine::{Count, Machine};
 use rb_script::{Lines, Script};
 use std::alloc::AllocError;
 

@@ -1,13 +1,13 @@
 //! What stands ready before a session is changed, and taking it over.
 
 ghost use Rattle.std.specs.Prelude.{◌≡◌, ◌+◌, ◌≤◌, ℕ, ◌++◌, length, take, drop, map, OnOk, vec_len, vec_capacity};
-ghost use Rattle.rb_cluster.specs.Cluster.{Cluster};
+ghost use Rattle.rb_machine.specs.Cluster.{Cluster};
 ghost use Rattle.rb_replay.specs.Points.{thin};
 
 use crate::course::Course;
 use crate::points::{put_between, thin};
 use crate::seam::Seam;
-use rb_cluster::Machine;
+use rb_machine::Machine;
 use rb_script::Lines;
 use std::alloc::AllocError;
 

@@ -1,7 +1,7 @@
 //! Running an edited script on from a kept cluster.
 
 ghost use Rattle.std.specs.Prelude.{◌≡◌, ◌+◌, ◌-◌, ◌<◌, ◌≤◌, ◌^◌, ℕ, length, map, IsTrue, false, Contains, slice_index};
-ghost use Rattle.rb_cluster.specs.Cluster.{Cluster};
+ghost use Rattle.rb_machine.specs.Cluster.{Cluster};
 ghost use Rattle.rb_replay.specs.Points.{IsRising};
 ghost use Rattle.rb_replay.specs.Cuts.{IsNext};
 
@@ -9,7 +9,7 @@ use crate::course::Course;
 use crate::cut::Cut;
 use crate::points::{count_below, find_start};
 use crate::session::Session;
-use rb_cluster::{Count, Machine};
+use rb_machine::{Count, Machine};
 use rb_script::Script;
 use std::alloc::AllocError;
 

@@ -4,7 +4,7 @@ use crate::cut::Cut;
 use crate::points::count_below;
 use crate::rerun::Rerun;
 use crate::session::Session;
-use rb_cluster::Machine;
+use rb_machine::Machine;
 use rb_script::Script;
 
 /// Up to where the old run stays, and from where on it is used again.

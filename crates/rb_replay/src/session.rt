@@ -1,6 +1,6 @@
 //! A session, and what can be read of it.
 
-use rb_cluster::Machine;
+use rb_machine::Machine;
 use rb_script::{Block, Lines, Script};
 use std::alloc::Global;
 use std::marker::Model;

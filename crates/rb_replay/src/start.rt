@@ -14,7 +14,7 @@ use crate::differing::list_differing;
 use crate::fault::StartFault;
 use crate::session::Session;
 use crate::spacing::is_spacing;
-use rb_cluster::{Count, Machine};
+use rb_machine::{Count, Machine};
 use rb_script::{Script, ScriptFault};
 use std::alloc::{AllocError, Global};
 

@@ -1,7 +1,7 @@
 -- The ticks that are left do from here what all were to do.
 use Rattle.std.proofs.Common.{◌≡◌, ◌-◌}
 use Rattle.rb_step.specs.Node.{turn}
-use Rattle.rb_cluster.specs.Acts.{ticked_times}
+use Rattle.rb_machine.specs.Acts.{ticked_times}
 use Rattle.rb_cluster.proofs.acts.tick_times.Given as goal
 
 abbrev pub invariant-loop-tick : goal.invariant-loop-tick

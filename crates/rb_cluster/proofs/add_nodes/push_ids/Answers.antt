@@ -1,7 +1,7 @@
 use Rattle.std.proofs.Common.{◌≡◌, ◌+◌, ◌<◌, ℕ, Bool, true, false, List, ◌∷◌, [], ◌++◌, cond, append_assoc, append-nil, subst, ap, sym, ◌∙◌}
 use Rattle.rb_directive.specs.declared.limits.TheConstants.{MAX_ID}
 use Rattle.rb_directive.specs.IdLists.{holds}
-use Rattle.rb_cluster.specs.AddNodes.{id_set}
+use Rattle.rb_machine.specs.AddNodes.{id_set}
 use Rattle.rb_cluster.proofs.IdLaws.{named_from, named_more, named_none}
 use Rattle.rb_cluster.proofs.add_nodes.push_ids.Goals as goal
 use Rattle.rb_cluster.proofs.add_nodes.push_ids.Goals.{then-holds+in_ok-push, else-holds}

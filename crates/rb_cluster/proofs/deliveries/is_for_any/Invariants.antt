@@ -1,6 +1,6 @@
 -- The message is for one of those that are left, or for none.
 use Rattle.std.proofs.Common.{◌≡◌, drop}
-use Rattle.rb_cluster.specs.Deliveries.{is_for_any}
+use Rattle.rb_machine.specs.Deliveries.{is_for_any}
 use Rattle.rb_cluster.proofs.deliveries.is_for_any.Given as goal
 
 abbrev pub invariant-loop-id : goal.invariant-loop-id

@@ -1,6 +1,6 @@
 -- One of those that are left is met, or none is.
 use Rattle.std.proofs.Common.{◌≡◌, drop}
-use Rattle.rb_cluster.specs.Deliveries.{meets_any}
+use Rattle.rb_machine.specs.Deliveries.{meets_any}
 use Rattle.rb_cluster.proofs.deliveries.meets_any.Given as goal
 
 abbrev pub invariant-loop-letter : goal.invariant-loop-letter

@@ -2,7 +2,7 @@
 use Rattle.std.proofs.Common.{◌≡◌, ◌++◌, map, drop}
 use Rattle.std.specs.List.{flat_map}
 use Rattle.rb_texts.specs.Texts.{line_of}
-use Rattle.rb_cluster.specs.Deliveries.{drop_item}
+use Rattle.rb_machine.specs.Deliveries.{drop_item}
 use Rattle.rb_cluster.proofs.deliveries.show_dropped.Given as goal
 
 abbrev pub invariant-loop-letter : goal.invariant-loop-letter

@@ -1,6 +1,6 @@
 -- The first of the ids that are left is the first of all.
 use Rattle.std.proofs.Common.{◌≡◌, drop}
-use Rattle.rb_cluster.specs.Outcome.{first_absent}
+use Rattle.rb_machine.specs.Outcome.{first_absent}
 use Rattle.rb_cluster.proofs.outcome.first_absent.Given as goal
 
 abbrev pub invariant-loop-id : goal.invariant-loop-id

@@ -1,6 +1,6 @@
 -- The messages so far, parted.
 use Rattle.std.proofs.Common.{◌≡◌}
-use Rattle.rb_cluster.specs.Pending.{mail, other_mail}
+use Rattle.rb_machine.specs.Pending.{mail, other_mail}
 use Rattle.rb_cluster.proofs.pending.split.Given as goal
 
 abbrev pub invariant-loop-letter : goal.invariant-loop-letter

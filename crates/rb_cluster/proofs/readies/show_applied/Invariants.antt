@@ -4,7 +4,7 @@ use Rattle.std.specs.List.{flat_map}
 use Rattle.rb_texts.specs.Items as items
 use Rattle.rb_texts.specs.Texts.{line_of}
 use Rattle.rb_node.specs.Readying.{applying}
-use Rattle.rb_cluster.specs.Entries.{entry_items}
+use Rattle.rb_machine.specs.Entries.{entry_items}
 use Rattle.rb_cluster.proofs.readies.show_applied.Given as goal
 
 abbrev pub invariant-loop-k : goal.invariant-loop-k

@@ -3,7 +3,7 @@ use Rattle.std.proofs.Common.{◌≡◌, ◌+◌, ◌++◌, drop}
 use Rattle.std.specs.List.{flat_map}
 use Rattle.rb_texts.specs.Items as items
 use Rattle.rb_texts.specs.Texts.{line_of}
-use Rattle.rb_cluster.specs.Entries.{entry_items}
+use Rattle.rb_machine.specs.Entries.{entry_items}
 use Rattle.rb_cluster.proofs.readies.show_saved.Given as goal
 
 abbrev pub invariant-loop-entry : goal.invariant-loop-entry

@@ -1,7 +1,7 @@
 -- What is printed from here on, of the messages that are left, is what was to be printed.
 use Rattle.std.proofs.Common.{◌≡◌, map, drop}
 use Rattle.rb_texts.specs.Items as items
-use Rattle.rb_cluster.specs.Scenes.{showing_all}
+use Rattle.rb_machine.specs.Scenes.{showing_all}
 use Rattle.rb_cluster.proofs.readies.show_sent.Given as goal
 
 abbrev pub invariant-loop-k : goal.invariant-loop-k

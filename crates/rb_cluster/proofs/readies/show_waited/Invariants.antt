@@ -2,7 +2,7 @@
 use Rattle.std.proofs.Common.{◌≡◌, map, drop}
 use Rattle.rb_texts.specs.Items as items
 use Rattle.rb_node.specs.Readying.{others}
-use Rattle.rb_cluster.specs.Scenes.{showing_all}
+use Rattle.rb_machine.specs.Scenes.{showing_all}
 use Rattle.rb_cluster.proofs.readies.show_waited.Given as goal
 
 abbrev pub invariant-loop-k : goal.invariant-loop-k

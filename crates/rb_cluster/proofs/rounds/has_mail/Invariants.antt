@@ -1,6 +1,6 @@
 -- One of those that are left is for the node, or none is.
 use Rattle.std.proofs.Common.{◌≡◌, drop}
-use Rattle.rb_cluster.specs.Rounds.{has_mail}
+use Rattle.rb_machine.specs.Rounds.{has_mail}
 use Rattle.rb_cluster.proofs.rounds.has_mail.Given as goal
 
 abbrev pub invariant-loop-letter : goal.invariant-loop-letter

@@ -1,10 +1,10 @@
 use Rattle.std.proofs.Common.{◌≡◌, ◌+◌, ◌<◌, ◌≤◌, ℕ, List, ap, ◌∙◌, arith}
 use Rattle.rb_raftlog.specs.declared.entry.Entry.{Entry}
 use Rattle.rb_raftlog.specs.Log.{LogValue, last}
-use Rattle.rb_cluster.specs.declared.screen.Screen.{Screen}
-use Rattle.rb_cluster.specs.Entries.{entry_items}
-use Rattle.rb_cluster.specs.Scenes.{showing, showing_all}
-use Rattle.rb_cluster.specs.Views.{held_item}
+use Rattle.rb_machine.specs.declared.screen.Screen.{Screen}
+use Rattle.rb_machine.specs.Entries.{entry_items}
+use Rattle.rb_machine.specs.Scenes.{showing, showing_all}
+use Rattle.rb_machine.specs.Views.{held_item}
 use Rattle.rb_cluster.proofs.ViewLaws.{left_first, entry_shown, entries_shown, entry_held}
 use Rattle.rb_cluster.proofs.views.show_entries.Goals as goal
 

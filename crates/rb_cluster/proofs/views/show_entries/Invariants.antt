@@ -1,8 +1,8 @@
 -- What is printed from here on, of the entries that are left, is what was to be printed.
 use Rattle.std.proofs.Common.{◌≡◌, ◌+◌}
-use Rattle.rb_cluster.specs.Entries.{entry_items}
-use Rattle.rb_cluster.specs.Scenes.{showing_all}
-use Rattle.rb_cluster.specs.Views.{held_item}
+use Rattle.rb_machine.specs.Entries.{entry_items}
+use Rattle.rb_machine.specs.Scenes.{showing_all}
+use Rattle.rb_machine.specs.Views.{held_item}
 use Rattle.rb_cluster.proofs.ViewLaws.{left_from}
 use Rattle.rb_cluster.proofs.views.show_entries.Given as goal
 

@@ -1,7 +1,7 @@
 -- What is printed from here on, of the nodes that are left, is what was to be printed.
 use Rattle.std.proofs.Common.{◌≡◌, map, drop}
-use Rattle.rb_cluster.specs.Scenes.{showing_all}
-use Rattle.rb_cluster.specs.Views.{state_item}
+use Rattle.rb_machine.specs.Scenes.{showing_all}
+use Rattle.rb_machine.specs.Views.{state_item}
 use Rattle.rb_cluster.proofs.views.show_states.Given as goal
 
 abbrev pub invariant-loop-node : goal.invariant-loop-node

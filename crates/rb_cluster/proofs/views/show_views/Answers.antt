@@ -1,4 +1,4 @@
-use Rattle.rb_cluster.specs.Views.{view_item}
+use Rattle.rb_machine.specs.Views.{view_item}
 use Rattle.rb_cluster.proofs.ViewLaws.{item_shown}
 use Rattle.rb_cluster.proofs.views.show_views.Goals as goal
 

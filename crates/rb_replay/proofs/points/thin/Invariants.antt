@@ -1,5 +1,5 @@
 use Rattle.std.proofs.Common.{◌≡◌, ◌-◌, ◌<◌, ◌≤◌, ℕ, map, vec_len}
-use Rattle.rb_cluster.specs.Cluster.{Cluster}
+use Rattle.rb_machine.specs.Cluster.{Cluster}
 use Rattle.rb_replay.specs.Points.{thin}
 use Rattle.rb_replay.proofs.PartLaws.{thinned_from}
 use Rattle.rb_replay.proofs.points.thin.Given as goal

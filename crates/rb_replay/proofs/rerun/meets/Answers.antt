@@ -1,6 +1,6 @@
 use Rattle.std.proofs.Common.{◌≡◌, ◌+◌, ◌-◌, ℕ, map, arith, sym, ap, ◌∙◌}
 use Rattle.std.specs.Prelude.{IsTrue}
-use Rattle.rb_cluster.specs.Cluster.{Cluster}
+use Rattle.rb_machine.specs.Cluster.{Cluster}
 use Rattle.rb_replay.proofs.PartLaws.{map_at}
 use Rattle.rb_replay.proofs.NextLaws.{next-on}
 use Rattle.rb_replay.proofs.rerun.meets.Goals as goal

@@ -1,5 +1,5 @@
 use Rattle.std.proofs.Common.{◌≡◌, ◌+◌, ◌-◌, length}
-use Rattle.rb_cluster.specs.Cluster.{empty}
+use Rattle.rb_machine.specs.Cluster.{empty}
 use Rattle.rb_replay.specs.Run.{state}
 use Rattle.rb_replay.specs.Course.{HasRun, PacedOn}
 use Rattle.rb_replay.proofs.start.run_whole.Given as goal

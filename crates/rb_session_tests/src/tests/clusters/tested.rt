@@ -2,7 +2,8 @@
 //!
 //! What the tests do is written for whatever is `Tested`. It is proved with little, since of such a cluster nothing is known.
 
-use rb_cluster::{Cluster, Count, Machine, Meter};
+use rb_cluster::{Cluster, Meter};
+use rb_machine::{Count, Machine};
 use rb_raftlog::RaftLog;
 use rb_script::{Block, Lines};
 use std::alloc::{AllocError, Global};

@@ -2,7 +2,8 @@
 //!
 //! What the tests do is written for whatever is `Tested`. It is proved with little, since of such a session nothing is known.
 
-use rb_cluster::{Count, Machine, Meter};
+use rb_cluster::Meter;
+use rb_machine::{Count, Machine};
 use rb_replay::{Changed, Session, StartFault};
 use rb_script::{Block, Edit, EditFault, Lines, Through};
 use std::alloc::Global;

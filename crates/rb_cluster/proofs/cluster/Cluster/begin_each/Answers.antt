@@ -1,4 +1,4 @@
-use Rattle.rb_cluster.specs.Scenes.{scene}
+use Rattle.rb_machine.specs.Scenes.{scene}
 use Rattle.rb_cluster.proofs.JoinLaws.{joined_more}
 use Rattle.rb_cluster.proofs.cluster.Cluster.begin_each.Goals as goal
 

@@ -1,8 +1,8 @@
 -- What joins from here on, of what is left, is what was to join.
 use Rattle.std.proofs.Common.{◌≡◌, ◌-◌}
 use Rattle.std.specs.List.{range_with_len}
-use Rattle.rb_cluster.specs.AddNodes.{added_each}
-use Rattle.rb_cluster.specs.Scenes.{scene}
+use Rattle.rb_machine.specs.AddNodes.{added_each}
+use Rattle.rb_machine.specs.Scenes.{scene}
 use Rattle.rb_cluster.proofs.cluster.Cluster.begin_each.Given as goal
 
 abbrev pub invariant-loop-id : goal.invariant-loop-id

@@ -1,5 +1,5 @@
 use Rattle.std.proofs.Common.{◌+◌, ◌<◌, ◌≤◌, ◌++◌, length, ◌∙◌, ap, sym, rules}
-use Rattle.rb_cluster.specs.Rounds.{chosen}
+use Rattle.rb_machine.specs.Rounds.{chosen}
 use Rattle.rb_cluster.proofs.RoundLaws.{chosen_from, chosen_put, chosen_pass, chosen_all}
 use Rattle.rb_cluster.proofs.cluster.Cluster.chosen.Goals as goal
 use Rattle.rb_cluster.proofs.cluster.Cluster.chosen.Goals.{then-is_chosen+in_ok-push, else-is_chosen}

@@ -1,8 +1,8 @@
 use Rattle.std.proofs.Common.{◌≡◌, true, false, ◌∙◌, ap, sym}
 use Rattle.std.proofs.lemmas.Result.{on_ok_weaker}
 use Rattle.rb_node.specs.Readying.{has_ready}
-use Rattle.rb_cluster.specs.Readies.{node_advanced}
-use Rattle.rb_cluster.specs.Scenes.{scene}
+use Rattle.rb_machine.specs.Readies.{node_advanced}
+use Rattle.rb_machine.specs.Scenes.{scene}
 use Rattle.rb_cluster.proofs.ReadyLaws.{ready_none, ready_some}
 use Rattle.rb_cluster.proofs.cluster.Cluster.do_ready.Goals as goal
 

@@ -1,7 +1,7 @@
 -- From here the nodes that are left do what all were to do.
 use Rattle.std.proofs.Common.{◌≡◌, drop}
-use Rattle.rb_cluster.specs.Readies.{ready_done_each}
-use Rattle.rb_cluster.specs.Scenes.{scene}
+use Rattle.rb_machine.specs.Readies.{ready_done_each}
+use Rattle.rb_machine.specs.Scenes.{scene}
 use Rattle.rb_cluster.proofs.cluster.Cluster.process_ready.Given as goal
 
 abbrev pub invariant-loop-id : goal.invariant-loop-id

@@ -1,7 +1,7 @@
 use Rattle.std.proofs.Common.{◌≡◌, None, get_or, ◌∙◌, ap, sym}
-use Rattle.rb_cluster.specs.Deliveries.{delivered}
-use Rattle.rb_cluster.specs.Rounds.{has_mail}
-use Rattle.rb_cluster.specs.Scenes.{scene}
+use Rattle.rb_machine.specs.Deliveries.{delivered}
+use Rattle.rb_machine.specs.Rounds.{has_mail}
+use Rattle.rb_machine.specs.Scenes.{scene}
 use Rattle.rb_cluster.proofs.MailLaws.{no_mail_after, reach_next, pass_next}
 use Rattle.rb_cluster.proofs.cluster.Cluster.reach_each.Goals as goal
 use Rattle.rb_cluster.proofs.cluster.Cluster.reach_each.Goals.{then-has+in_ok-deliver, else-has}

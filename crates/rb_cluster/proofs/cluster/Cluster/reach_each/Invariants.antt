@@ -1,9 +1,9 @@
 -- From here the nodes that are left do what all were to do, and whom no message was for, none is for.
 use Rattle.std.proofs.Common.{◌≡◌, ℕ, false, None, drop}
-use Rattle.rb_cluster.specs.Deliveries.{delivered_each}
+use Rattle.rb_machine.specs.Deliveries.{delivered_each}
 use Rattle.rb_cluster.specs.Marks.{is_marked}
-use Rattle.rb_cluster.specs.Rounds.{has_mail}
-use Rattle.rb_cluster.specs.Scenes.{scene}
+use Rattle.rb_machine.specs.Rounds.{has_mail}
+use Rattle.rb_machine.specs.Scenes.{scene}
 use Rattle.rb_cluster.proofs.cluster.Cluster.reach_each.Given as goal
 
 abbrev pub invariant-loop-id : goal.invariant-loop-id

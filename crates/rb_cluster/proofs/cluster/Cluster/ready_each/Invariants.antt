@@ -1,7 +1,7 @@
 -- From here the nodes that are left do what all were to do.
 use Rattle.std.proofs.Common.{◌≡◌, drop}
-use Rattle.rb_cluster.specs.Rounds.{readied_each}
-use Rattle.rb_cluster.specs.Scenes.{scene}
+use Rattle.rb_machine.specs.Rounds.{readied_each}
+use Rattle.rb_machine.specs.Scenes.{scene}
 use Rattle.rb_cluster.proofs.cluster.Cluster.ready_each.Given as goal
 
 abbrev pub invariant-loop-id : goal.invariant-loop-id

@@ -1,7 +1,7 @@
 -- From here the messages that are left do what all were to do.
 use Rattle.std.proofs.Common.{◌≡◌, drop}
-use Rattle.rb_cluster.specs.Deliveries.{all_received}
-use Rattle.rb_cluster.specs.Scenes.{scene}
+use Rattle.rb_machine.specs.Deliveries.{all_received}
+use Rattle.rb_machine.specs.Scenes.{scene}
 use Rattle.rb_cluster.proofs.cluster.Cluster.receive_all.Given as goal
 
 abbrev pub invariant-loop-letter : goal.invariant-loop-letter

@@ -1,6 +1,6 @@
 use Rattle.std.proofs.Common.{◌∙◌, ap, sym}
-use Rattle.rb_cluster.specs.Pending.{sent}
-use Rattle.rb_cluster.specs.Scenes.{scene}
+use Rattle.rb_machine.specs.Pending.{sent}
+use Rattle.rb_machine.specs.Scenes.{scene}
 use Rattle.rb_cluster.proofs.SendLaws.{sent_more}
 use Rattle.rb_cluster.proofs.cluster.Cluster.send_all.Goals as goal
 

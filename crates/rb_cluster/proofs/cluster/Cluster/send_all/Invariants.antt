@@ -1,7 +1,7 @@
 -- The messages so far were sent.
 use Rattle.std.proofs.Common.{◌≡◌}
-use Rattle.rb_cluster.specs.Pending.{all_sent}
-use Rattle.rb_cluster.specs.Scenes.{scene}
+use Rattle.rb_machine.specs.Pending.{all_sent}
+use Rattle.rb_machine.specs.Scenes.{scene}
 use Rattle.rb_cluster.proofs.cluster.Cluster.send_all.Given as goal
 
 abbrev pub invariant-loop-message : goal.invariant-loop-message

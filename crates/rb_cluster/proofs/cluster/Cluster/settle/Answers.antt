@@ -1,6 +1,6 @@
 use Rattle.std.proofs.Common.{◌-◌, ◌∙◌, ap, sym}
 use Rattle.std.proofs.lemmas.Result.{on_ok_weaker}
-use Rattle.rb_cluster.specs.Scenes.{scene}
+use Rattle.rb_machine.specs.Scenes.{scene}
 use Rattle.rb_cluster.proofs.RoundLaws.{settled_on, settled_quiet, settled_over}
 use Rattle.rb_cluster.proofs.cluster.Cluster.settle.Goals as goal
 

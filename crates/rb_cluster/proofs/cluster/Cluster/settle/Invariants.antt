@@ -1,7 +1,7 @@
 -- From here the rounds that are left do what all were to do.
 use Rattle.std.proofs.Common.{◌≡◌, ◌-◌}
-use Rattle.rb_cluster.specs.Rounds.{settled}
-use Rattle.rb_cluster.specs.Scenes.{scene}
+use Rattle.rb_machine.specs.Rounds.{settled}
+use Rattle.rb_machine.specs.Scenes.{scene}
 use Rattle.rb_cluster.proofs.cluster.Cluster.settle.Given as goal
 
 abbrev pub invariant-loop-round : goal.invariant-loop-round

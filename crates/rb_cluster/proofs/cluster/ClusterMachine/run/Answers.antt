@@ -1,6 +1,6 @@
 use Rattle.std.proofs.Common.{◌∙◌, ap}
 use Rattle.rb_script.specs.Tokens.{plain}
-use Rattle.rb_cluster.specs.Outcome.{is_output}
+use Rattle.rb_machine.specs.Outcome.{is_output}
 use Rattle.rb_cluster.proofs.OutcomeLaws.{outcome_is_output}
 use Rattle.rb_cluster.proofs.cluster.ClusterMachine.run.Goals as goal
 

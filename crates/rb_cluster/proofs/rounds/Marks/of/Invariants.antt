@@ -1,7 +1,7 @@
 -- An id is marked where one of the messages so far is for it.
 use Rattle.std.proofs.Common.{◌≡◌, ◌<◌, ℕ, true, length, take, get_or}
 use Rattle.rb_cluster.specs.declared.rounds.TheConstants.{MARKS}
-use Rattle.rb_cluster.specs.Rounds.{has_mail}
+use Rattle.rb_machine.specs.Rounds.{has_mail}
 use Rattle.rb_cluster.proofs.rounds.Marks.of.Given as goal
 
 abbrev pub invariant-loop-letter : goal.invariant-loop-letter

@@ -5,8 +5,8 @@ use Rattle.rb_script.specs.Lines.{Line}
 use Rattle.rb_script.specs.Directive.{PlainDirective}
 use Rattle.rb_script.specs.Reading.{directive_of}
 use Rattle.rb_script.specs.Tokens.{plain}
-use Rattle.rb_cluster.specs.Cluster.{Cluster}
-use Rattle.rb_cluster.specs.Outcome.{outcome}
+use Rattle.rb_machine.specs.Cluster.{Cluster}
+use Rattle.rb_machine.specs.Outcome.{outcome}
 use Rattle.rb_replay.specs.Run.{outputs}
 use Rattle.rb_replay.proofs.RunLaws.{state_next, outputs_next, both}
 use Rattle.rb_replay.proofs.course.Course.step.Goals as goal

@@ -1,6 +1,6 @@
 use Rattle.std.proofs.Common.{◌≡◌, length, arith, ap, sym, ◌∙◌, take, drop, ◌++◌, List, map, subst, refl}
 use Rattle.rb_script.specs.Lines.{Line}
-use Rattle.rb_cluster.specs.Cluster.{Cluster}
+use Rattle.rb_machine.specs.Cluster.{Cluster}
 use Rattle.rb_replay.specs.Run.{state, outputs}
 use Rattle.rb_replay.specs.Holding.{Holding, IsFresh}
 use Rattle.rb_replay.specs.Reuse.{change_by}

@@ -6,10 +6,10 @@ use Rattle.rb_message.specs.Messages.{type_of}
 use Rattle.rb_message.specs.declared.message.Message.{Message}
 use Rattle.rb_texts.specs.Items.{moved}
 use Rattle.rb_texts.specs.declared.item.Verb.TheVariants as verbs
-use Rattle.rb_cluster.specs.declared.limits.TheConstants.{MAX_PENDING}
-use Rattle.rb_cluster.specs.Cluster.{Cluster}
-use Rattle.rb_cluster.specs.MessageTypes.{is_meant}
-use Rattle.rb_cluster.specs.Scenes.{Scene, shown, with_cluster}
+use Rattle.rb_machine.specs.declared.limits.TheConstants.{MAX_PENDING}
+use Rattle.rb_machine.specs.Cluster.{Cluster}
+use Rattle.rb_machine.specs.MessageTypes.{is_meant}
+use Rattle.rb_machine.specs.Scenes.{Scene, shown, with_cluster}
 
 -- ---- which are meant
 

@@ -7,9 +7,9 @@ use Rattle.rb_tracker.specs.Progresses.{PlainProgress}
 use Rattle.rb_texts.specs.declared.item.LogLine.{LogLine}
 use Rattle.rb_texts.specs.Items.{PlainItem, PlainNodeLine}
 use Rattle.rb_texts.specs.Items as items
-use Rattle.rb_cluster.specs.Cluster.{node_at}
-use Rattle.rb_cluster.specs.Entries.{entry_items}
-use Rattle.rb_cluster.specs.Scenes.{Scene, all_shown}
+use Rattle.rb_machine.specs.Cluster.{node_at}
+use Rattle.rb_machine.specs.Entries.{entry_items}
+use Rattle.rb_machine.specs.Scenes.{Scene, all_shown}
 
 -- ---- raft-log
 

@@ -5,10 +5,10 @@ use Rattle.rb_step.specs.Node.{PlainNode, Turn, turn}
 use Rattle.rb_node.specs.Readying.{ready, has_ready, handed, advanced}
 use Rattle.rb_texts.specs.Items.{PlainItem}
 use Rattle.rb_texts.specs.Items as items
-use Rattle.rb_cluster.specs.Cluster.{node_at, with_node}
-use Rattle.rb_cluster.specs.Entries.{entry_items}
-use Rattle.rb_cluster.specs.Pending.{all_sent}
-use Rattle.rb_cluster.specs.Scenes.{Scene, shown, all_shown, events_shown, with_cluster}
+use Rattle.rb_machine.specs.Cluster.{node_at, with_node}
+use Rattle.rb_machine.specs.Entries.{entry_items}
+use Rattle.rb_machine.specs.Pending.{all_sent}
+use Rattle.rb_machine.specs.Scenes.{Scene, shown, all_shown, events_shown, with_cluster}
 
 -- ---- what is printed
 

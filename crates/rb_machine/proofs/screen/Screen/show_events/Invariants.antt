@@ -3,7 +3,7 @@ use Rattle.std.proofs.Common.{◌≡◌, ◌++◌, map, drop}
 use Rattle.std.specs.List.{flat_map}
 use Rattle.rb_texts.specs.Items.{event}
 use Rattle.rb_texts.specs.Texts.{line_of}
-use Rattle.rb_cluster.proofs.screen.Screen.show_events.Given as goal
+use Rattle.rb_machine.proofs.screen.Screen.show_events.Given as goal
 
 abbrev pub invariant-loop-event : goal.invariant-loop-event
 invariant-loop-event l = record {

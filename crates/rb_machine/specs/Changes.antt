@@ -16,7 +16,7 @@ use Rattle.rb_raftlog.specs.declared.entry.Word.{Word}
 use Rattle.rb_raftlog.specs.declared.entry.WordKind.{WordKind}
 use Rattle.rb_raftlog.specs.declared.entry.WordKind.TheVariants as words
 use Rattle.rb_node.specs.Calls.{called}
-use Rattle.rb_cluster.specs.Scenes.{Scene, acted}
+use Rattle.rb_machine.specs.Scenes.{Scene, acted}
 
 abbrev pub transition_of : asked.Transition → Transition
 transition_of asked_as.Auto = transitions.Auto

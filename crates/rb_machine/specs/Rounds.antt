@@ -7,11 +7,11 @@ use Rattle.rb_message.specs.declared.message.Message.{Message}
 use Rattle.rb_step.specs.Node.{PlainNode}
 use Rattle.rb_node.specs.Readying.{has_ready}
 use Rattle.rb_texts.specs.Items.{stopped}
-use Rattle.rb_cluster.specs.Cluster.{Cluster, node_at}
-use Rattle.rb_cluster.specs.Deliveries.{delivered_each}
-use Rattle.rb_cluster.specs.Pending.{is_for}
-use Rattle.rb_cluster.specs.Readies.{ready_done}
-use Rattle.rb_cluster.specs.Scenes.{Scene, shown}
+use Rattle.rb_machine.specs.Cluster.{Cluster, node_at}
+use Rattle.rb_machine.specs.Deliveries.{delivered_each}
+use Rattle.rb_machine.specs.Pending.{is_for}
+use Rattle.rb_machine.specs.Readies.{ready_done}
+use Rattle.rb_machine.specs.Scenes.{Scene, shown}
 
 -- ---- the nodes
 

@@ -17,17 +17,17 @@ use Rattle.rb_step.specs.Node.{PlainNode}
 use Rattle.rb_texts.specs.Items.{nothing_else, error}
 use Rattle.rb_texts.specs.Shapes.{is_solid}
 use Rattle.rb_texts.specs.Texts.{line_of}
-use Rattle.rb_cluster.specs.declared.screen.Screen.{Screen}
-use Rattle.rb_cluster.specs.Acts as acts
-use Rattle.rb_cluster.specs.AddNodes.{add_nodes_fault, nodes_added}
-use Rattle.rb_cluster.specs.Changes.{propose_change}
-use Rattle.rb_cluster.specs.Cluster.{Cluster, is_node}
-use Rattle.rb_cluster.specs.Deliveries.{msgs_delivered}
-use Rattle.rb_cluster.specs.Readies.{ready_done_each}
-use Rattle.rb_cluster.specs.Rounds.{stabilized}
-use Rattle.rb_cluster.specs.Scenes.{Scene, scene, with_cluster}
-use Rattle.rb_cluster.specs.Snapshots.{snapshot_sent, compact, compact_error}
-use Rattle.rb_cluster.specs.Views.{log_shown, status_shown, states_shown}
+use Rattle.rb_machine.specs.declared.screen.Screen.{Screen}
+use Rattle.rb_machine.specs.Acts as acts
+use Rattle.rb_machine.specs.AddNodes.{add_nodes_fault, nodes_added}
+use Rattle.rb_machine.specs.Changes.{propose_change}
+use Rattle.rb_machine.specs.Cluster.{Cluster, is_node}
+use Rattle.rb_machine.specs.Deliveries.{msgs_delivered}
+use Rattle.rb_machine.specs.Readies.{ready_done_each}
+use Rattle.rb_machine.specs.Rounds.{stabilized}
+use Rattle.rb_machine.specs.Scenes.{Scene, scene, with_cluster}
+use Rattle.rb_machine.specs.Snapshots.{snapshot_sent, compact, compact_error}
+use Rattle.rb_machine.specs.Views.{log_shown, status_shown, states_shown}
 
 -- the cluster that a directive leaves, and the lines that it gives
 pub record Outcome : Type 0 where

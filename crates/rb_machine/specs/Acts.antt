@@ -7,8 +7,8 @@ use Rattle.rb_step.specs.Node.{Turn}
 use Rattle.rb_step.specs.Campaigns.{campaigned}
 use Rattle.rb_node.specs.Calls.{called, leader_forgotten, reported}
 use Rattle.rb_node.specs.Ticking.{ticked}
-use Rattle.rb_cluster.specs.Cluster.{Cluster, changed}
-use Rattle.rb_cluster.specs.Scenes.{Scene, acted}
+use Rattle.rb_machine.specs.Cluster.{Cluster, changed}
+use Rattle.rb_machine.specs.Scenes.{Scene, acted}
 
 abbrev pub campaign : ℕ → Scene → Scene
 campaign id s = acted s id (λ t. campaigned t false)

@@ -5,8 +5,8 @@ use Rattle.rb_message.specs.declared.event.Event.{Event}
 use Rattle.rb_step.specs.Node.{PlainNode, Turn, turn}
 use Rattle.rb_texts.specs.Items.{PlainItem, event}
 use Rattle.rb_texts.specs.Texts.{line_of}
-use Rattle.rb_cluster.specs.declared.screen.Screen.{Screen}
-use Rattle.rb_cluster.specs.Cluster.{Cluster, node_at, with_node}
+use Rattle.rb_machine.specs.declared.screen.Screen.{Screen}
+use Rattle.rb_machine.specs.Cluster.{Cluster, node_at, with_node}
 
 -- ---- printing
 

@@ -8,8 +8,8 @@ use Rattle.rb_message.specs.declared.message.Message.{Message}
 use Rattle.rb_step.specs.Step.{stepped}
 use Rattle.rb_texts.specs.Items.{PlainItem, moved, no_messages}
 use Rattle.rb_texts.specs.declared.item.Verb.TheVariants as verbs
-use Rattle.rb_cluster.specs.Pending.{is_for, mail, other_mail, with_pending}
-use Rattle.rb_cluster.specs.Scenes.{Scene, shown, all_shown, acted, with_cluster}
+use Rattle.rb_machine.specs.Pending.{is_for, mail, other_mail, with_pending}
+use Rattle.rb_machine.specs.Scenes.{Scene, shown, all_shown, acted, with_cluster}
 
 -- all but a node's pending messages of the types
 abbrev pub left_by : Scene → ℕ → Option TypeSet → Scene

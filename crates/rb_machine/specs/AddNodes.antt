@@ -12,7 +12,7 @@ use Rattle.rb_raftlog.specs.declared.snapshot.Snapshot.{Snapshot}
 use Rattle.rb_step.specs.declared.options.Options.{Options}
 use Rattle.rb_step.specs.Node.{PlainNode, Turn}
 use Rattle.rb_node.specs.Calls.{node_started}
-use Rattle.rb_cluster.specs.Scenes.{Scene, events_shown, with_cluster}
+use Rattle.rb_machine.specs.Scenes.{Scene, events_shown, with_cluster}
 
 -- ---- what is asked for
 

@@ -11,10 +11,10 @@ use Rattle.rb_step.specs.Node.{PlainNode, message}
 use Rattle.rb_step.specs.Sends.{snapshot_of}
 use Rattle.rb_texts.specs.Items.{moved}
 use Rattle.rb_texts.specs.declared.item.Verb.TheVariants as verbs
-use Rattle.rb_cluster.specs.Cluster.{Cluster, node_at, with_node}
-use Rattle.rb_cluster.specs.Pending.{has_room, pushed}
-use Rattle.rb_cluster.specs.Scenes.{Scene, shown, all_shown, with_cluster}
-use Rattle.rb_cluster.specs.Views.{log_items}
+use Rattle.rb_machine.specs.Cluster.{Cluster, node_at, with_node}
+use Rattle.rb_machine.specs.Pending.{has_room, pushed}
+use Rattle.rb_machine.specs.Scenes.{Scene, shown, all_shown, with_cluster}
+use Rattle.rb_machine.specs.Views.{log_items}
 
 -- ---- send-snapshot
 
