@@ -1,6 +1,8 @@
 """Several processes side by side, each with nodes of its own: what comes of each item stands in the items' order, however many there are."""
+import contextlib
 import multiprocessing
 import queue
+import signal
 import time
 
 from .process import Failed
@@ -14,12 +16,13 @@ class Broken(Exception):
     """The nodes could not be started, the reference not judged, or a worker ended."""
 
 
-def work(make, task, items, until, results):
+def work(make, task, items, until, stop, results):
     """What a worker does: `make` gives its explorer, which has a `process` that is closed at the end, and what it `met`."""
+    signal.signal(signal.SIGINT, signal.SIG_IGN)
     explorer = make()
     try:
         for at, item in items:
-            if time.monotonic() > until:
+            if stop.value or time.monotonic() > until:
                 break
             results.put(("result", at, task(explorer, item)))
         results.put(("done", explorer.process.name, explorer.met))
@@ -31,26 +34,48 @@ def work(make, task, items, until, results):
         explorer.process.close()
 
 
+@contextlib.contextmanager
+def interruptible():
+    """A value that all workers see: an interrupt sets it, and a second one is a KeyboardInterrupt."""
+    stop = FORKED.RawValue("b", 0)
+
+    def interrupt(*_):
+        if stop.value:
+            raise KeyboardInterrupt
+        stop.value = 1
+
+    before = signal.signal(signal.SIGINT, interrupt)
+    try:
+        yield stop
+    finally:
+        signal.signal(signal.SIGINT, before)
+
+
 def side_by_side(jobs, make, task, items, until, met, look):
-    """The results of the items that were begun before a time, in their order. `met` takes what workers met, `look` each result as it comes.
+    """The results of the items that were begun before a time, or an interrupt, in their order. `met` takes what workers met, `look` each result as it comes.
 
     Broken where the nodes don't start, or nothing judges the reference.
     """
     numbered = list(enumerate(items))
     jobs = max(1, min(jobs, len(numbered)))
     results, found, names = FORKED.Queue(), {}, []
-    workers = [FORKED.Process(target=work, args=(make, task, numbered[at::jobs], until, results)) for at in range(jobs)]
-    for worker in workers:
-        worker.start()
-    try:
-        while len(names) < jobs:
-            take(results, workers, found, names, met, look)
-    finally:
+    with interruptible() as stop:
+        workers = [FORKED.Process(target=work, args=(make, task, numbered[at::jobs], until, stop, results)) for at in range(jobs)]
         for worker in workers:
-            worker.join(None if len(names) == jobs else 1)
-            if worker.is_alive():
-                worker.terminate()
+            worker.start()
+        try:
+            while len(names) < jobs:
+                take(results, workers, found, names, met, look)
+        finally:
+            end(workers, len(names) == jobs)
     return [found[at] for at in sorted(found)], names[0]
+
+
+def end(workers, are_done):
+    for worker in workers:
+        worker.join(None if are_done else 1)
+        if worker.is_alive():
+            worker.terminate()
 
 
 def take(results, workers, found, names, met, look):
