@@ -296,7 +296,8 @@ class Switched(Node):
     def take_append(self, m):
         is_refused = m.index >= self.commit and self.term_at(m.index) != m.log_term
         if self.on("refusal-has-term") and is_refused:
-            hint = self.hint(m.index, m.log_term)
+            # Below its base it takes each term for 0, which always agrees.
+            hint = self.hint(m.index, m.log_term) or max(self.base - 1, 0)
             return self.answer_append(m, refused=True, index=m.index, hint=hint, log_term=self.term_at(hint) or 0)
         if self.on("refusal-hints-last") and is_refused:
             return self.answer_append(m, refused=True, index=m.index, hint=self.last())
