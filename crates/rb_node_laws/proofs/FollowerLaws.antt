@@ -27,7 +27,7 @@ beats n from commit follows =
 -- ---- appends
 
 -- the entries that an append names are there after it
-Reaches : Appended → LogValue → ℕ → Type 0
+unfoldable pub Reaches : Appended → LogValue → ℕ → Type 0
 Reaches (Matched i) w commit = i ≤ max commit (last w)
 Reaches (Refused i) w commit = Unit {0}
 Reaches (BelowCommit i) w commit = Unit {0}
@@ -58,7 +58,7 @@ replaced_reaches v prev term es None e holds =
     omega (arith, all)
 replaced_reaches v prev term es (Some c) e holds = omega (arith, (append_size v prev term c es holds e).1)
 
-answer_reaches : (v : LogValue) (prev term : ℕ) (es : List Entry) (commit : ℕ) → Reaches (answer v prev term es commit) (appended v prev term es commit) commit
+pub answer_reaches : (v : LogValue) (prev term : ℕ) (es : List Entry) (commit : ℕ) → Reaches (answer v prev term es commit) (appended v prev term es commit) commit
 unfolding Reaches
 answer_reaches v prev term es commit =
     if_both (λ (a : Appended). Reaches a (appended v prev term es commit) commit) (nat_lt prev commit) _ _
@@ -70,7 +70,7 @@ answer_reaches v prev term es commit =
     omega (arith, reach)))
     (λ _. tt))
 
-after_log_keeps : {w : Ways} (a : Appended) (t : Turn) (from : ℕ) (append : PlainAppend) → (t.node.role ≡ role.Leader → ⊥) → Reaches a t.node.log t.node.commit → Keeps w (core t.node) (core (after_log a t from append).node)
+pub after_log_keeps : {w : Ways} (a : Appended) (t : Turn) (from : ℕ) (append : PlainAppend) → (t.node.role ≡ role.Leader → ⊥) → Reaches a t.node.log t.node.commit → Keeps w (core t.node) (core (after_log a t from append).node)
 unfolding Reaches
 after_log_keeps (Matched i) t from append follows reach =
     committed (core t.node) (max t.node.commit (min append.commit i)) (omega arith) (λ o. (let held = o.is_held in omega (arith, held, reach))) (λ r. absurd (follows r))

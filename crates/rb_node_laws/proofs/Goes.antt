@@ -1,5 +1,5 @@
 -- What each call keeps of a node, as one relation between the node before it and after it
-use Rattle.std.proofs.Common.{◌≡◌, ℕ, ◌<◌, ◌≤◌, ◌⊎◌, true, refl, sym, subst, ◌∙◌, ap, arith, inl, inr, Result}
+use Rattle.std.proofs.Common.{◌≡◌, ℕ, ◌<◌, ◌≤◌, ◌⊎◌, true, refl, sym, subst, ◌∙◌, ap, arith, inl, inr, Result, List}
 use Rattle.rb_raftlog.specs.declared.raft_log.LogFault.{LogFault}
 use Rattle.rb_raftlog.specs.Log.{LogValue, last, entry_at, term_at, is_term}
 use Rattle.rb_message.specs.declared.role.Role.{Role}
@@ -16,9 +16,10 @@ pub record Core : Type 0 where
   pub log : LogValue
   pub commit : ℕ
   pub applied : ℕ
+  pub content : List ℕ
 
 abbrev pub core : PlainNode → Core
-core n = record { id = n.id; term = n.term; vote = n.vote; role = n.role; log = n.log; commit = n.commit; applied = n.applied }
+core n = record { id = n.id; term = n.term; vote = n.vote; role = n.role; log = n.log; commit = n.commit; applied = n.applied; content = n.content }
 
 -- to whom a vote may be given in which term, and in which term an election may be won
 pub record Ways : Type 1 where
@@ -133,7 +134,7 @@ led_then {w} a b c p q end =
       ]
     ]
 
-goes_then : {w : Ways} (a b c : Core) → Goes w a b → Goes w b c → Goes w a c
+pub goes_then : {w : Ways} (a b c : Core) → Goes w a b → Goes w b c → Goes w a c
 goes_then a b c p q = record {
   id = q.id ∙ p.id;
   term = omega (arith, p.term, q.term);

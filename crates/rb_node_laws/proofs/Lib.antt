@@ -18,3 +18,9 @@ pub mod ViewLaws
 pub mod ViewStepLaws
 pub mod MemberLaws
 pub mod MemberStepLaws
+pub mod Saying
+pub mod SayingSteps
+pub mod PromiseLaws
+pub mod TruthLaws
+pub mod ChoiceLaws
+pub mod ReadyLaws

@@ -77,10 +77,10 @@ of_term : (k : MessageKind) (granted same : Bool) → k ≡ kind.VoteResponse gr
 of_term k granted same e h = let P : MessageKind → Type 0 = λ x. (not (has_term x) || same) ≡ true in subst P e h
 
 -- and so is a question for a vote
-asked_term : (k : MessageKind) (last_term last_index : ℕ) (transfer same : Bool) → k ≡ kind.Vote last_term last_index transfer → (not (has_term k) || same) ≡ true → same ≡ true
+pub asked_term : (k : MessageKind) (last_term last_index : ℕ) (transfer same : Bool) → k ≡ kind.Vote last_term last_index transfer → (not (has_term k) || same) ≡ true → same ≡ true
 asked_term k last_term last_index transfer same e h = let P : MessageKind → Type 0 = λ x. (not (has_term x) || same) ≡ true in subst P e h
 
-raised_term : (k : MessageKind) (last_term last_index : ℕ) (transfer : Bool) (t : Turn) (m : Message) → k ≡ kind.Vote last_term last_index transfer → (raised_by k t m).node.term ≡ m.term
+pub raised_term : (k : MessageKind) (last_term last_index : ℕ) (transfer : Bool) (t : Turn) (m : Message) → k ≡ kind.Vote last_term last_index transfer → (raised_by k t m).node.term ≡ m.term
 raised_term k last_term last_index transfer t m e = ap (λ (x : MessageKind). (raised_by x t m).node.term) e
 
 raised_log : (k : MessageKind) (t : Turn) (m : Message) → (raised_by k t m).node.log ≡ t.node.log

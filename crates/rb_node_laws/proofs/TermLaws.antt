@@ -49,18 +49,20 @@ lowered_same _ t m = refl
 
 -- ---- campaigns
 
-asked_one_same : (n : PlainNode) (to term : ℕ) (question answer : MessageKind) → core (asked_one n to term question answer) ≡ core n
+pub asked_one_same : (n : PlainNode) (to term : ℕ) (question answer : MessageKind) → core (asked_one n to term question answer) ≡ core n
 asked_one_same n to term question answer = if_both (λ (x : PlainNode). core x ≡ core n) (to == n.id) _ _ (λ _. refl) (λ _. refl)
 
 asked_same : (n : PlainNode) (ids : List ℕ) (term : ℕ) (question answer : MessageKind) → core (asked n ids term question answer) ≡ core n
 asked_same n [] term question answer = refl
 asked_same n (id ∷ ids) term question answer = asked_same (asked_one n id term question answer) ids term question answer ∙ asked_one_same n id term question answer
 
+pub becomes_candidate : {w : Ways} (n : PlainNode) → Keeps w (core n) (core (candidate n))
+becomes_candidate n = turned (core n) (n.term + 1) n.id role.Candidate (omega arith) (λ e _. absurd (omega (arith, e))) (λ _ e. absurd (omega (arith, e))) (λ r _. cc) (inr (inr (inl refl))) (λ r. cc)
+
 pub stands : {w : Ways} (t : Turn) (transfer : Bool) → Keeps w (core t.node) (core (stood t transfer).node)
 stands t transfer =
     let n = candidate t.node in
-    and_then
-    (turned (core t.node) (t.node.term + 1) t.node.id role.Candidate (omega arith) (λ e _. absurd (omega (arith, e))) (λ _ e. absurd (omega (arith, e))) (λ r _. cc) (inr (inr (inl refl))) (λ r. cc))
+    and_then (becomes_candidate t.node)
     (same (asked_same n (voters n.tracker.config) n.term (kind.Vote (last_term n.log) (last n.log) transfer) (kind.VoteResponse true)))
 
 -- a question before the vote changes no term, no vote and no log
@@ -69,10 +71,11 @@ sounded_out_core t =
     let n = precandidate t.node in
     asked_same n (voters n.tracker.config) (n.term + 1) (kind.PreVote (last_term n.log) (last n.log)) (kind.PreVoteResponse true)
 
+pub becomes_precandidate : {w : Ways} (n : PlainNode) → Keeps w (core n) (core (precandidate n))
+becomes_precandidate n = turned (core n) n.term n.vote role.Precandidate (omega arith) (λ _ _. refl) (λ r _. cc) (λ r _. cc) (inr (inl (refl, refl))) (λ r. cc)
+
 pub sounds_out : {w : Ways} (t : Turn) → Keeps w (core t.node) (core (sounded_out t).node)
-sounds_out t =
-    and_then (turned (core t.node) t.node.term t.node.vote role.Precandidate (omega arith) (λ _ _. refl) (λ r _. cc) (λ r _. cc) (inr (inl (refl, refl))) (λ r. cc))
-    (same (sounded_out_core t))
+sounds_out t = and_then (becomes_precandidate t.node) (same (sounded_out_core t))
 
 campaigns_unless : {w : Ways} (o : Option WhyNoCampaign) (t : Turn) (transfer : Bool) → Keeps w (core t.node) (core (campaigned_unless o t transfer).node)
 campaigns_unless (Some reason) t transfer = self (core t.node)

@@ -11,7 +11,7 @@ use Rattle.rb_raftlog.proofs.VoteLaws.{compacted-term, compacted-entry}
 use Rattle.rb_message.specs.declared.role.Role.{Role}
 use Rattle.rb_message.specs.declared.role.Role.TheVariants as role
 use Rattle.rb_node_laws.specs.Sound.{IsOrdered, IsGrown}
-use Rattle.rb_node_laws.proofs.Goes.{Ways, Core, Keeps, Voted, Led, grown_self}
+use Rattle.rb_node_laws.proofs.Goes.{Ways, Core, Keeps, Voted, Led, grown_self, and_then}
 
 -- ---- another term, vote or role
 
@@ -111,7 +111,7 @@ all_durable c = logged c (made_durable c.log) c.commit c.applied (λ o. record {
 
 -- ---- an entry of its own
 
-own_size : (v : LogValue) (e : Entry) → last (own v e) ≡ last v + 1
+pub own_size : (v : LogValue) (e : Entry) → last (own v e) ≡ last v + 1
 own_size v e = let size : length (v.entries ++ e ∷ []) ≡ length v.entries + 1 = length-append v.entries (e ∷ []) in omega (arith, size)
 
 front : {X : Type 0} → (xs ys : List X) (k : ℕ) → k < length xs → slice_get (xs ++ ys) k ≡ slice_get xs k
@@ -198,10 +198,33 @@ with_append c prev term es follows = logged c (appended c.log prev term es c.com
   };
 }))
 
+-- ---- a content
+
+pub filled : {w : Ways} (c : Core) (content : List ℕ) → Keeps w c (record c { content = content })
+filled c content = record {
+  goes = λ o. record {
+    id = refl;
+    term = omega arith;
+    vote = λ _ _. refl;
+    commit = omega arith;
+    applied = omega arith;
+    base = omega arith;
+    durable = λ i _ d. d;
+    kept = λ i _ _. refl;
+    candidate = λ r _. r;
+    leader = λ r _. inl r;
+    own = λ _ _ _. grown_self c.log;
+    commits = λ _ _ _. inl refl;
+    voted = inr (inl (refl, refl));
+    led = λ r. inl (r, refl);
+    ordered = o;
+  };
+}
+
 -- ---- a snapshot past commit
 
-pub with_snapshot : {w : Ways} (c : Core) (s : Snapshot) → c.commit < s.index → (c.role ≡ role.Leader → ⊥) → Keeps w c (record c { log = restored s; commit = s.index; applied = s.index })
-with_snapshot c s past follows = logged c (restored s) s.index s.index (λ o. record {
+snapshot_log : {w : Ways} (c : Core) (s : Snapshot) → c.commit < s.index → (c.role ≡ role.Leader → ⊥) → Keeps w c (record c { log = restored s; commit = s.index; applied = s.index })
+snapshot_log c s past follows = logged c (restored s) s.index s.index (λ o. record {
   rises = omega (arith, past);
   applies = omega (arith, past, o.is_committed);
   base = omega (arith, past, o.is_committed, o.past_base);
@@ -211,6 +234,9 @@ with_snapshot c s past follows = logged c (restored s) s.index s.index (λ o. re
   commits = λ r. absurd (follows r);
   ordered = record { past_base = omega arith; is_durable = omega arith; within = omega arith; is_committed = omega arith; is_held = omega arith };
 })
+
+pub with_snapshot : {w : Ways} (c : Core) (s : Snapshot) → c.commit < s.index → (c.role ≡ role.Leader → ⊥) → Keeps w c (record c { log = restored s; commit = s.index; applied = s.index; content = s.content })
+with_snapshot c s past follows = and_then (snapshot_log c s past follows) (filled (record c { log = restored s; commit = s.index; applied = s.index }) s.content)
 
 -- ---- compacting
 

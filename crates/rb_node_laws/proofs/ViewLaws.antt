@@ -90,7 +90,7 @@ sends_by_views sending.Empty n at to view is low = subst (λ (o : Option PlainPr
 sends_by_views sending.Entries n at to view is low = subst (λ (o : Option PlainProgress). Views n (entries_to o n at to)) (sym is) (entries_views n at to view is)
 
 -- a snapshot goes where the log begins past what is next
-snapshot_low : (log : LogValue) (view : PlainProgress) (how : Mode) → sending_of log view how ≡ sending.Snapshot → nat_lt (view.next - 1) log.base ≡ true
+pub snapshot_low : (log : LogValue) (view : PlainProgress) (how : Mode) → sending_of log view how ≡ sending.Snapshot → nat_lt (view.next - 1) log.base ≡ true
 snapshot_low log view how =
     let P : Sending → Type 0 = λ s. s ≡ sending.Snapshot → nat_lt (view.next - 1) log.base ≡ true in
     if_both P (takes_nothing view) _ _ (λ _ e. cc)
@@ -140,7 +140,7 @@ new_view_sound n id active s =
     (λ _. new_own n.options.inflight n.log.durable (last n.log + 1) (omega (arith, within)))
     (λ _. new_probe n.options.inflight (last n.log + 1) active (omega arith))
 
-with_view_views : (n : PlainNode) (id : ℕ) (active : Bool) → n.role ≡ role.Leader → Views n (with_view_of n id active)
+pub with_view_views : (n : PlainNode) (id : ℕ) (active : Bool) → n.role ≡ role.Leader → Views n (with_view_of n id active)
 with_view_views n id active leads =
     if_both (λ (x : PlainNode). Views n x) (has_view n.tracker.views id) _ _ (λ _. unchanged refl refl)
     (λ _. record {
@@ -157,7 +157,7 @@ with_views_views n (id ∷ ids) active leads =
     views_then (with_view_views n id active leads)
     (with_views_views (with_view_of n id active) ids active (ap (λ (c : Core). c.role) (with_view_same n id active) ∙ leads))
 
-leading_views : (n : PlainNode) → n.role ≡ role.Candidate → Views n (leading n)
+pub leading_views : (n : PlainNode) → n.role ≡ role.Candidate → Views n (leading n)
 leading_views n stands = record {
   keeps = becomes_leader n stands tt;
   views = λ s v. (with_views_views (in_lead n) (members n.tracker.config) (not n.options.check_quorum) refl).views s (record { only_leading = λ _. refl; each = tt });
@@ -190,7 +190,7 @@ heard_with_views : (o : Option PlainProgress) (n : PlainNode) (at : ℕ) → vie
 heard_with_views None n at is = unchanged refl refl
 heard_with_views (Some view) n at is = written n at view (marked view true) is (λ _ g. sound_marked view true g)
 
-heard_views : (n : PlainNode) (at : ℕ) → Views n (heard_of n at)
+pub heard_views : (n : PlainNode) (at : ℕ) → Views n (heard_of n at)
 unfolding marked_at
 heard_views n at = heard_with_views (view_at n.tracker.views at) n at refl
 
@@ -276,7 +276,7 @@ proposed_views t body =
     if_both (λ (u : Turn). Views t.node u.node) (takes_none t.node) _ _
     (λ _. unchanged refl refl) (λ _. views_then (put_in_views body t) (told_all_views (put_in body t).node))
 
-older_views : (t : Turn) → Views t.node (older_ended t).node
+pub older_views : (t : Turn) → Views t.node (older_ended t).node
 older_views t = if_both (λ (u : Turn). Views t.node u.node) (t.node.transferee == 0) _ _ (λ _. unchanged refl refl) (λ _. unchanged refl refl)
 
 urged_views : (n : PlainNode) (target : ℕ) → Views n (urged n target)

@@ -1,5 +1,5 @@
 -- A leader's views stay sound: campaigns, messages, changes, ticks and every call
-use Rattle.std.proofs.Common.{◌≡◌, ℕ, ◌+◌, ◌≤◌, Bool, true, false, not, ◌&&◌, ◌||◌, map, min, List, [], ◌∷◌, length, Option, Some, None, Result, Ok, Err, refl, sym, ap, subst, ◌∙◌, arith, nat_eq, nat_le, nat_lt, ◌==◌, if◌then◌else◌}
+use Rattle.std.proofs.Common.{◌≡◌, ℕ, ◌+◌, ◌≤◌, Bool, true, false, not, ◌&&◌, ◌||◌, map, min, List, [], ◌∷◌, ◌++◌, length, Option, Some, None, Result, Ok, Err, refl, sym, ap, subst, ◌∙◌, arith, nat_eq, nat_le, nat_lt, ◌==◌, if◌then◌else◌}
 use Rattle.std.proofs.lemmas.Bool.{ltb-false}
 use Rattle.std.specs.Map.{remove_entry}
 use Rattle.rb_raftlog.specs.declared.entry.Body.{Body}
@@ -50,7 +50,7 @@ use Rattle.rb_node.specs.Ticking.{counted as counted_tick, beat_to, beat_each, h
 use Rattle.rb_node_laws.specs.Calling.{Call, Step, Campaign, Propose, Transfer, Tick, Advance, ForgetLeader, ReportUnreachable, SetTimeout, Compact, compacted_unless, after, run}
 use Rattle.rb_node_laws.specs.Sound.{IsSound, IsSoundView, AreSoundViews, HasSoundViews}
 use Rattle.rb_node_laws.proofs.Goes.{core, Goes, anyone, same}
-use Rattle.rb_node_laws.proofs.Turns.{applied_to}
+use Rattle.rb_node_laws.proofs.Turns.{filled, applied_to}
 use Rattle.rb_node_laws.proofs.ProgressLaws.{sound_probed, sound_removed, sound_unmarked}
 use Rattle.rb_node_laws.proofs.TermLaws.{follows, stands, sounds_out}
 use Rattle.rb_node_laws.proofs.VoteLaws.{answers_vote}
@@ -62,10 +62,10 @@ use Rattle.rb_node_laws.proofs.ViewLaws.{Views, views_then, kept_views, unchange
 
 -- ---- terms and campaigns
 
-followed_views : (t : Turn) (term lead : ℕ) → t.node.term ≤ term → Views t.node (followed t term lead).node
+pub followed_views : (t : Turn) (term lead : ℕ) → t.node.term ≤ term → Views t.node (followed t term lead).node
 followed_views t term lead up = no_more_views (follows t term lead up) refl
 
-raised_views : (k : MessageKind) (t : Turn) (m : Message) → t.node.term ≤ m.term → Views t.node (raised_by k t m).node
+pub raised_views : (k : MessageKind) (t : Turn) (m : Message) → t.node.term ≤ m.term → Views t.node (raised_by k t m).node
 raised_views (kind.PreVote last_term last_index) t m up = unchanged refl refl
 raised_views (kind.PreVoteResponse granted) t m up = if_both (λ (u : Turn). Views t.node u.node) granted _ _ (λ _. unchanged refl refl) (λ _. followed_views t m.term 0 up)
 raised_views (kind.Append append) t m up = followed_views t m.term m.from up
@@ -106,7 +106,7 @@ sounded_views t follower =
 leader_is : (r : Role) → r ≡ role.Leader → is_leader r ≡ true
 leader_is r e = ap is_leader e
 
-no_leader_campaigns : (n : PlainNode) → why_no_campaign n ≡ None → n.role ≡ role.Leader → ⊥
+pub no_leader_campaigns : (n : PlainNode) → why_no_campaign n ≡ None → n.role ≡ role.Leader → ⊥
 no_leader_campaigns n =
     let P : Option WhyNoCampaign → Type 0 = λ o. o ≡ None → n.role ≡ role.Leader → ⊥ in
     if_both P (is_leader n.role) _ _ (λ _ e leads. cc) (λ follower e leads. (let is = leader_is n.role leads in cc))
@@ -150,7 +150,7 @@ pre_decided_views vote.Won t = stood_up_views t
 pre_decided_views vote.Pending t = unchanged refl refl
 pre_decided_views vote.Lost t = followed_views t t.node.term 0 (omega arith)
 
-counted_views : (t : Turn) (m : Message) (granted : Bool) → Views t.node (counted t m granted).node
+pub counted_views : (t : Turn) (m : Message) (granted : Bool) → Views t.node (counted t m granted).node
 counted_views t m granted = unchanged refl refl
 
 -- ---- a follower
@@ -199,7 +199,7 @@ transfer_passed_views t what m = if_both (λ (u : Turn). Views t.node u.node) (t
 
 -- ---- a message
 
-is_no_leader : (r : Role) → r ≡ role.Follower → r ≡ role.Leader → ⊥
+pub is_no_leader : (r : Role) → r ≡ role.Follower → r ≡ role.Leader → ⊥
 is_no_leader r e f = let no : role.Follower ≡ role.Leader = sym e ∙ f in cc
 
 follower_views : (k : MessageKind) (t : Turn) (m : Message) → t.node.role ≡ role.Follower → Views t.node (as_follower k t m).node
@@ -264,7 +264,7 @@ stepped_views t m =
 
 -- ---- changes
 
-without_views : (n : PlainNode) (id : ℕ) → Views n (without_stranger n id)
+pub without_views : (n : PlainNode) (id : ℕ) → Views n (without_stranger n id)
 without_views n id =
     if_both (λ (x : PlainNode). Views n x) (is_member n.tracker.config id) _ _ (λ _. unchanged refl refl)
     (λ _. record {
@@ -275,11 +275,11 @@ without_views n id =
       };
     })
 
-strangers_views : (n : PlainNode) (ids : List ℕ) → Views n (without_strangers n ids)
+pub strangers_views : (n : PlainNode) (ids : List ℕ) → Views n (without_strangers n ids)
 strangers_views n [] = unchanged refl refl
 strangers_views n (id ∷ ids) = views_then (without_views n id) (strangers_views (without_stranger n id) ids)
 
-strangers_role : (n : PlainNode) (ids : List ℕ) → (without_strangers n ids).role ≡ n.role
+pub strangers_role : (n : PlainNode) (ids : List ℕ) → (without_strangers n ids).role ≡ n.role
 strangers_role n [] = refl
 strangers_role n (id ∷ ids) = strangers_role (without_stranger n id) ids ∙ if_both (λ (x : PlainNode). x.role ≡ n.role) (is_member n.tracker.config id) _ _ (λ _. refl) (λ _. refl)
 
@@ -299,7 +299,7 @@ revised_views t leads =
     let n = without_strangers t.node ids in
     views_then (strangers_views t.node ids) (joined_views (with_node t n) (missing n.tracker.views (members n.tracker.config)) (strangers_role t.node ids ∙ leads))
 
-leads_then : (r : Role) → is_leader r ≡ true → r ≡ role.Leader
+pub leads_then : (r : Role) → is_leader r ≡ true → r ≡ role.Leader
 leads_then role.Follower e = cc
 leads_then role.Precandidate e = cc
 leads_then role.Candidate e = cc
@@ -323,10 +323,10 @@ unfolding change_applied
 change_views t transition words = switched_views (changed t.node.tracker.config transition words) t
 
 body_views : (body : Body) (t : Turn) → Views t.node (body_applied body t).node
-body_views (Payload bytes) t = unchanged refl refl
+body_views (Payload bytes) t = kept_views (filled (core t.node) (t.node.content ++ bytes)) refl refl
 body_views (Change transition words) t = change_views t transition words
 
-one_views : (t : Turn) (i : ℕ) (e : Entry) → t.node.applied ≤ i → i ≤ t.node.commit → i ≤ t.node.log.durable → Views t.node (applied_one t i e).node
+pub one_views : (t : Turn) (i : ℕ) (e : Entry) → t.node.applied ≤ i → i ≤ t.node.commit → i ≤ t.node.log.durable → Views t.node (applied_one t i e).node
 one_views t i e up known durable =
     let u : Turn = with_node t (record t.node { applied = i }) in
     views_then {b = u.node} (kept_views (applied_to (core t.node) i up known durable) refl refl) (body_views e.body u)
@@ -363,7 +363,7 @@ beats_views t =
     (λ _. (let n : PlainNode = record t.node { heartbeat_elapsed = 0 } in views_then {b = n} (unchanged refl refl) (beat_views n (ids_of t.node.tracker.views))))
     (λ _. unchanged refl refl)
 
-unmarked_views : (n : PlainNode) → Views n (record n { tracker = unmarked n.tracker n.id })
+pub unmarked_views : (n : PlainNode) → Views n (record n { tracker = unmarked n.tracker n.id })
 unfolding unmarked
 unmarked_views n = record {
   keeps = same refl;
@@ -373,7 +373,7 @@ unmarked_views n = record {
   };
 }
 
-looked_views : (n : PlainNode) → Views n (looked_anew n)
+pub looked_views : (n : PlainNode) → Views n (looked_anew n)
 looked_views n = if_both (λ (x : PlainNode). Views n x) n.options.check_quorum _ _ (λ _. unmarked_views n) (λ _. unchanged refl refl)
 
 quorum_views : (t : Turn) → Views t.node (quorum_looked_at t).node
@@ -431,7 +431,7 @@ advanced_views t =
 
 -- ---- every call
 
-forgotten_views : (r : Role) (n : PlainNode) → Views n (forgotten_by r n)
+pub forgotten_views : (r : Role) (n : PlainNode) → Views n (forgotten_by r n)
 forgotten_views role.Follower n = unchanged refl refl
 forgotten_views role.Precandidate n = unchanged refl refl
 forgotten_views role.Candidate n = unchanged refl refl
@@ -448,10 +448,10 @@ reported_at_views : (o : Option ℕ) (n : PlainNode) → Views n (reported_at o 
 reported_at_views None n = unchanged refl refl
 reported_at_views (Some at) n = reported_with_views (view_at n.tracker.views at) n at refl
 
-reported_views : (n : PlainNode) (id : ℕ) → Views n (reported n id)
+pub reported_views : (n : PlainNode) (id : ℕ) → Views n (reported n id)
 reported_views n id = if_both (λ (x : PlainNode). Views n x) (is_leader n.role) _ _ (λ _. reported_at_views (place n.tracker.views id) n) (λ _. unchanged refl refl)
 
-compacted_views : (o : Option CompactFault) (n : PlainNode) (i : ℕ) → compact_fault n.log i (min n.applied n.log.durable) ≡ o → Views n (compacted_unless o n i)
+pub compacted_views : (o : Option CompactFault) (n : PlainNode) (i : ℕ) → compact_fault n.log i (min n.applied n.log.durable) ≡ o → Views n (compacted_unless o n i)
 compacted_views (Some fault) n i is = unchanged refl refl
 compacted_views None n i is = kept_views (compacts None n i is) refl refl
 

@@ -8,7 +8,7 @@ use Rattle.rb_tracker.specs.declared.votes.VoteResult.TheVariants as vote
 use Rattle.rb_message.specs.declared.message.Message.{Message}
 use Rattle.rb_message.specs.declared.role.Role.TheVariants as role
 use Rattle.rb_step.specs.Node.{PlainNode, Turn}
-use Rattle.rb_step.specs.Votes.{can_vote_for, grants, vote_answered, pre_vote_answered, count_of, counted, decided, pre_decided, vote_taken, pre_vote_taken}
+use Rattle.rb_step.specs.Votes.{can_vote_for, grants, voted_for, vote_answered, pre_vote_answered, count_of, counted, decided, pre_decided, vote_taken, pre_vote_taken}
 use Rattle.rb_node_laws.proofs.Goes.{Ways, core, Keeps, self}
 use Rattle.rb_node_laws.proofs.Turns.{turned}
 use Rattle.rb_node_laws.proofs.TermLaws.{follows, stands_up}
@@ -25,14 +25,17 @@ same_vote v w free x can some =
       | inr never ↦ absurd (false≢true never)
     ]
 
+pub gives_vote : {w : Ways} (n : PlainNode) (m : Message) (last_term last_index : ℕ) → (is_up_to_date n.log last_index last_term ≡ true → w.given m.from n.term) → grants n m last_term last_index false ≡ true → Keeps w (core n) (core (voted_for n m.from))
+gives_vote {w} n m last_term last_index grant gives =
+    let parts = and_parts (can_vote_for n m false) (is_up_to_date n.log last_index last_term) gives in
+    turned (core n) n.term m.from n.role (omega arith)
+    (λ _ some. same_vote n.vote m.from (n.lead == 0) (nat_lt n.term m.term) parts.0 some)
+    (λ r _. r) (λ r _. inl r) (inr (inr (inr (grant parts.1)))) (λ r. inl (r, refl))
+
 pub answers_vote : {w : Ways} (n : PlainNode) (m : Message) (last_term last_index : ℕ) → (is_up_to_date n.log last_index last_term ≡ true → w.given m.from n.term) → Keeps w (core n) (core (vote_answered n m last_term last_index))
 answers_vote {w} n m last_term last_index grant =
     if_both (λ (x : PlainNode). Keeps w (core n) (core x)) (grants n m last_term last_index false) _ _
-    (λ gives. (let parts = and_parts (can_vote_for n m false) (is_up_to_date n.log last_index last_term) gives in
-    turned (core n) n.term m.from n.role (omega arith)
-    (λ _ some. same_vote n.vote m.from (n.lead == 0) (nat_lt n.term m.term) parts.0 some)
-    (λ r _. r) (λ r _. inl r) (inr (inr (inr (grant parts.1)))) (λ r. inl (r, refl))))
-    (λ _. self (core n))
+    (λ gives. gives_vote n m last_term last_index grant gives) (λ _. self (core n))
 
 pub pre_vote_same : (n : PlainNode) (m : Message) (last_term last_index : ℕ) → core (pre_vote_answered n m last_term last_index) ≡ core n
 pre_vote_same n m last_term last_index =

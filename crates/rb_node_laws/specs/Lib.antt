@@ -1,3 +1,5 @@
 pub mod Sound
 pub mod Calling
 pub mod Elections
+pub mod Words
+pub mod Choices

@@ -1,23 +1,36 @@
 //! What a node keeps, whatever is done with it.
-ghost use Rattle.std.specs.Prelude.{◌≡◌, ◌≤◌, ◌<◌, ◌⊎◌, ℕ, true, false, List, Result, Ok, Err};
+ghost use Rattle.std.specs.Prelude.{◌≡◌, ◌≤◌, ◌<◌, ◌⊎◌, ◌+◌, ◌++◌, ℕ, Bool, true, false, List, length, Contains, Result, Ok, Err};
 ghost use Rattle.rb_raftlog.specs.declared.raft_log.CompactFault.TheVariants.{AlreadyCompacted, PastApplied};
 ghost use Rattle.rb_raftlog.specs.declared.snapshot.Snapshot.{Snapshot};
 ghost use Rattle.rb_raftlog.specs.Log.{entry_at, term_at, is_term};
 ghost use Rattle.rb_message.specs.declared.role.Role.TheVariants.{Leader, Candidate};
 ghost use Rattle.rb_message.specs.declared.message.Message.{Message};
-ghost use Rattle.rb_message.specs.declared.kind.MessageKind.TheVariants.{PreVote};
+ghost use Rattle.rb_message.specs.declared.kind.MessageKind.TheVariants.{Vote, PreVote};
 ghost use Rattle.rb_step.specs.declared.options.Options.{Options};
 ghost use Rattle.rb_step.specs.Node.{PlainNode, Turn, started};
-ghost use Rattle.rb_step.specs.Campaigns.{campaigned};
+ghost use Rattle.rb_step.specs.Campaigns.{campaigned, stood_up};
+ghost use Rattle.rb_step.specs.declared.limits.TheConstants.{ELECTION_TICKS};
+ghost use Rattle.rb_raftlog.specs.declared.entry.Body.{Body};
+ghost use Rattle.rb_raftlog.specs.declared.entry.Body.TheVariants.{Change};
+ghost use Rattle.rb_raftlog.specs.declared.entry.Entry.{Entry};
 ghost use Rattle.rb_raftlog.specs.declared.entry.Transition.{Transition};
 ghost use Rattle.rb_raftlog.specs.declared.entry.Word.{Word};
 ghost use Rattle.rb_tracker.specs.Commits.{is_held};
-ghost use Rattle.rb_step.specs.Changing.{change_applied};
+ghost use Rattle.rb_tracker.specs.Active.{quorum_active};
+ghost use Rattle.rb_tracker.specs.Changes.{changed};
+ghost use Rattle.rb_tracker.specs.Configs.{is_voter};
+ghost use Rattle.rb_tracker.specs.declared.config.Config.{Config};
+ghost use Rattle.rb_step.specs.Changing.{applied_all, change_applied};
+ghost use Rattle.rb_step.specs.Proposing.{proposed};
 ghost use Rattle.rb_step.specs.Step.{stepped};
 ghost use Rattle.rb_node.specs.Calls.{IsCompactedTo};
-ghost use Rattle.rb_node_laws.specs.Calling.{Call, compacted_to, after, run};
-ghost use Rattle.rb_node_laws.specs.Elections.{VotesOnly, LeadsOnly, Granted, Elected};
+ghost use Rattle.rb_node.specs.Readying.{applying, handed, has_ready};
+ghost use Rattle.rb_node.specs.Ticking.{counted};
+ghost use Rattle.rb_node_laws.specs.Calling.{Call, Propose, Tick, compacted_to, after, run};
+ghost use Rattle.rb_node_laws.specs.Choices.{MayCampaign, PutsChange, StepsDown, payloads, HasNothing};
+ghost use Rattle.rb_node_laws.specs.Elections.{VotesOnly, LeadsOnly, Granted, Elected, own_turn};
 ghost use Rattle.rb_node_laws.specs.Sound.{IsSound, IsGrown, HasSameVote, HasSoundViews, HasViewsOfMembers};
+ghost use Rattle.rb_node_laws.specs.Words.{IsYes, IsPromised, HasPromises, AreTrueBetween};
 
 /// A node that starts is sound, and after each call and any list of calls it still is: base, applied, durable, commit and last stay
 /// in order.
@@ -112,4 +125,67 @@ pub fn leaders_view_the_members()
     ensures started { (id : ℕ) (start : Snapshot) (options : Options) → HasViewsOfMembers (started id start options) }
     ensures called { (c : Call) (t : Turn) → HasViewsOfMembers t.node → HasViewsOfMembers (after c t).node }
     ensures run { (cs : List Call) (t : Turn) → HasViewsOfMembers t.node → HasViewsOfMembers (run cs t).node }
+{}
+
+/// A vote that a node's answer gives is a promise: in the answer's term it votes for nobody else, and it gives no other that vote, whatever
+/// else it is asked or does. So of two votes of one term that are handed over, at once or at different times, both are for one candidate.
+pub fn promises_are_kept()
+    ensures started { (id : ℕ) (start : Snapshot) (options : Options) → HasPromises (started id start options) }
+    ensures kept { (cs : List Call) (t : Turn) → IsSound t.node → HasPromises t.node → HasPromises (run cs t).node }
+    ensures stays { (cs : List Call) (t : Turn) (term to : ℕ) → IsSound t.node → 0 < to → IsPromised t.node term to → IsPromised (run cs t).node term to }
+    ensures once { (cs : List Call) (t : Turn) (first second : Message) → IsSound t.node → HasPromises t.node → Contains (handed t.node) first → IsYes first → Contains (handed (run cs t).node) second → IsYes second → second.term ≡ first.term → second.to ≡ first.to }
+{}
+
+/// What a node says is true when it says it: each message that a call leaves to be sent, and each answer that it leaves waiting, was there
+/// before it, or says of its log, its vote, its commit and its state what they were at a moment of the call.
+pub fn messages_are_true()
+    ensures sent { (cs : List Call) (t : Turn) → IsSound t.node → AreTrueBetween t.node (run cs t).node t.node.sent (run cs t).node.sent }
+    ensures waiting { (cs : List Call) (t : Turn) → IsSound t.node → AreTrueBetween t.node (run cs t).node t.node.waiting (run cs t).node.waiting }
+{}
+
+/// Nobody campaigns but a voter that doesn't lead, has saved what it restored, and has applied each change that it knows to be committed.
+pub fn campaigns_are_of_voters()
+    ensures asked { (t : Turn) (transfer : Bool) → ((campaigned t transfer).node ≡ t.node) ⊎ MayCampaign t.node }
+    ensures won { (t : Turn) → ((stood_up t).node ≡ t.node) ⊎ MayCampaign t.node }
+{}
+
+/// A leader appends a proposed change only where it has applied each change that may be in its log.
+pub fn changes_go_one_at_a_time()
+    ensures { (t : Turn) (transition : Transition) (words : List Word) → PutsChange t.node (proposed t (Change transition words)).node (Change transition words) }
+{}
+
+/// Entries take effect in order, each once: the content grows by their payloads and by nothing else. Where a node advances, they are the
+/// entries past applied and up to the commit, and then all that was committed is applied.
+pub fn committed_entries_take_effect()
+    ensures entries { (t : Turn) (i : ℕ) (es : List Entry) → (applied_all t i es).node.content ≡ t.node.content ++ payloads es }
+    ensures content { (t : Turn) → (own_turn t).node.content ≡ t.node.content ++ payloads (applying t.node) }
+    ensures applied { (t : Turn) → IsSound t.node → (own_turn t).node.applied ≡ t.node.commit }
+{}
+
+/// Something is ready exactly where something is to be saved, applied or sent, or an answer waits.
+pub fn ready_is_exact()
+    ensures none { (n : PlainNode) → IsSound n → has_ready n ≡ false → HasNothing n }
+    ensures some { (n : PlainNode) → IsSound n → HasNothing n → has_ready n ≡ false }
+{}
+
+/// With checks of the quorum, a leader that has heard of no quorum since it last looked steps down when it looks.
+pub fn lost_quorums_end_a_lead()
+    ensures { (t : Turn) → t.node.role ≡ Leader → t.node.options.check_quorum ≡ true → quorum_active t.node.tracker ≡ false → ELECTION_TICKS ≤ counted t.node.elapsed → StepsDown t.node (after Tick t).node }
+{}
+
+/// With checks of the quorum, a node that has heard of its leader within the timeout is changed by no candidate of a later term but one
+/// that the leader hands the lead to.
+pub fn candidates_disturb_nobody()
+    ensures vote { (t : Turn) (m : Message) (last_term last_index : ℕ) → m.kind ≡ Vote last_term last_index false → t.node.options.check_quorum ≡ true → 0 < t.node.lead → t.node.elapsed < ELECTION_TICKS → t.node.term < m.term → (stepped t m).node ≡ t.node }
+    ensures pre_vote { (t : Turn) (m : Message) (last_term last_index : ℕ) → m.kind ≡ PreVote last_term last_index → t.node.options.check_quorum ≡ true → 0 < t.node.lead → t.node.elapsed < ELECTION_TICKS → t.node.term < m.term → (stepped t m).node ≡ t.node }
+{}
+
+/// Where leaders step down on removal, one that a change leaves without a vote leads no more.
+pub fn removed_leaders_step_down()
+    ensures { (t : Turn) (transition : Transition) (words : List Word) (c : Config) → changed t.node.tracker.config transition words ≡ Ok c → t.node.role ≡ Leader → t.node.options.step_down_on_removal ≡ true → is_voter c t.node.id ≡ false → StepsDown t.node (change_applied t transition words).node }
+{}
+
+/// A leader that hands the lead over takes no proposal.
+pub fn transfers_stop_proposals()
+    ensures { (t : Turn) (body : Body) → t.node.role ≡ Leader → 0 < t.node.transferee → (after (Propose body) t).node ≡ t.node }
 {}

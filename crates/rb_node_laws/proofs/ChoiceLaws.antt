@@ -1,0 +1,240 @@
+-- Who campaigns, what a leader takes, and what the options ask of a node
+use Rattle.std.proofs.Common.{◌≡◌, ℕ, ◌+◌, ◌≤◌, ◌<◌, ◌⊎◌, Bool, true, false, not, ◌&&◌, ◌||◌, List, [], ◌∷◌, ◌++◌, length, min, Option, Some, None, Result, Ok, Err, refl, sym, ap, subst, ◌∙◌, arith, inl, inr, eqb-true, eq-eqb, nat_le, nat_lt, ◌==◌, if◌then◌else◌}
+use Rattle.std.proofs.lemmas.Bool.{ltb-false, ltb-true, le-leb, lt-ltb, false≢true}
+use Rattle.rb_raftlog.specs.declared.entry.Body.{Body}
+use Rattle.rb_raftlog.specs.declared.entry.Body.TheVariants.{Payload, Change}
+use Rattle.rb_raftlog.specs.declared.entry.Transition.{Transition}
+use Rattle.rb_raftlog.specs.declared.entry.Word.{Word}
+use Rattle.rb_raftlog.specs.Log.{LogValue, last, own, has_change}
+use Rattle.rb_raftlog.specs.declared.limits.TheConstants.{MAX_TERM}
+use Rattle.std.proofs.lemmas.Bool.Decides.{nat_tests}
+use Rattle.rb_tracker.proofs.SetLaws.{if_both}
+use Rattle.rb_tracker.specs.Active.{quorum_active}
+use Rattle.rb_tracker.specs.Changes.{changed}
+use Rattle.rb_tracker.specs.Configs.{is_voter, is_joint}
+use Rattle.rb_tracker.specs.Trackers.{has_view, configured}
+use Rattle.rb_tracker.specs.declared.config.Config.{Config}
+use Rattle.rb_tracker.specs.declared.changes.ChangeFault.{ChangeFault}
+use Rattle.rb_message.specs.Messages.{has_term}
+use Rattle.rb_message.specs.declared.event.Event.TheVariants.{ReplacedChange, Switched}
+use Rattle.rb_message.specs.declared.event.WhyNoCampaign.{WhyNoCampaign}
+use Rattle.rb_message.specs.declared.event.WhyReplaced.{WhyReplaced}
+use Rattle.rb_message.specs.declared.kind.MessageKind.{MessageKind}
+use Rattle.rb_message.specs.declared.kind.MessageKind.TheVariants as kind
+use Rattle.rb_message.specs.declared.message.Message.{Message}
+use Rattle.rb_message.specs.declared.role.Role.{Role}
+use Rattle.rb_message.specs.declared.role.Role.TheVariants as role
+use Rattle.rb_step.specs.declared.limits.TheConstants.{ELECTION_TICKS}
+use Rattle.rb_step.specs.Node.{PlainNode, Turn, told, with_node, ignored, message, is_leader}
+use Rattle.rb_step.specs.Terms.{followed, raised, lowered, hears_leader, is_disturbed_by}
+use Rattle.rb_step.specs.Campaigns.{why_no_campaign, campaigned_unless, campaigned, stood_unless, stood_up, sounded_out, stood}
+use Rattle.rb_step.specs.Changing.{steps_down, led_on, revised, switched, change_applied}
+use Rattle.rb_step.specs.Leading.{is_log_full, appended, appended_change, all_told}
+use Rattle.rb_step.specs.Proposing.{why_replaced, change_put, put_in, takes_none, proposed}
+use Rattle.rb_step.specs.Step.{as_leader, at_term, by_role_of, stepped}
+use Rattle.rb_node.specs.Ticking.{counted, has_lost_quorum, quorum_looked_at, leader_counted, counted_up, leader_ticked, ticked_by, ticked, heartbeats_due}
+use Rattle.rb_node_laws.specs.Choices.{MayCampaign, PutsChange, StepsDown}
+use Rattle.rb_node_laws.proofs.Goes.{Core, core}
+use Rattle.rb_node_laws.proofs.LeaderLaws.{all_told_same}
+use Rattle.rb_node_laws.proofs.StepLaws.{asked_term}
+use Rattle.rb_node_laws.proofs.ViewStepLaws.{no_leader_campaigns}
+
+-- ---- who campaigns
+
+not_not : (b : Bool) → not b ≡ false → b ≡ true
+not_not true e = refl
+not_not false e = absurd (false≢true (sym e))
+
+no_change_campaigns : (n : PlainNode) → why_no_campaign n ≡ None → MayCampaign n
+no_change_campaigns n =
+    let P : Option WhyNoCampaign → Type 0 = λ o. o ≡ None → MayCampaign n in
+    if_both P (is_leader n.role) _ _ (λ _ e. cc)
+    (λ follower. if_both P (not (is_voter n.tracker.config n.id)) _ _ (λ _ e. cc)
+    (λ voter. if_both P n.restored _ _ (λ _ e. cc)
+    (λ saved. if_both P (has_change n.log n.applied n.commit) _ _ (λ _ e. cc)
+    (λ none e. record {
+      follows = λ leads. false≢true (sym follower ∙ ap is_leader leads);
+      votes = not_not (is_voter n.tracker.config n.id) voter;
+      saved = saved;
+      no_change = none;
+    }))))
+
+campaigns_unless_may : (o : Option WhyNoCampaign) (t : Turn) (transfer : Bool) → why_no_campaign t.node ≡ o → ((campaigned_unless o t transfer).node ≡ t.node) ⊎ MayCampaign t.node
+campaigns_unless_may (Some reason) t transfer is = inl refl
+campaigns_unless_may None t transfer is = inr (no_change_campaigns t.node is)
+
+pub campaigns_may : (t : Turn) (transfer : Bool) → ((campaigned t transfer).node ≡ t.node) ⊎ MayCampaign t.node
+unfolding campaigned
+campaigns_may t transfer = campaigns_unless_may (why_no_campaign t.node) t transfer refl
+
+stands_unless_may : (o : Option WhyNoCampaign) (t : Turn) → why_no_campaign t.node ≡ o → ((stood_unless o t).node ≡ t.node) ⊎ MayCampaign t.node
+stands_unless_may (Some reason) t is = inl refl
+stands_unless_may None t is = inr (no_change_campaigns t.node is)
+
+pub stands_may : (t : Turn) → ((stood_up t).node ≡ t.node) ⊎ MayCampaign t.node
+unfolding stood_up
+stands_may t = stands_unless_may (why_no_campaign t.node) t refl
+
+-- ---- one change at a time
+
+applied_all_changes : (n : PlainNode) (words : ℕ) → why_replaced n words ≡ None → n.pending_change ≤ n.applied
+applied_all_changes n words =
+    let P : Option WhyReplaced → Type 0 = λ o. o ≡ None → n.pending_change ≤ n.applied in
+    if_both P (nat_lt n.applied n.pending_change) _ _ (λ _ e. cc) (λ no e. ltb-false n.applied n.pending_change no)
+
+appended_puts : (t : Turn) (body : Body) → ((appended t body).node.log ≡ t.node.log) ⊎ ((appended t body).node.log ≡ own t.node.log (record { term = t.node.term; body = body }))
+appended_puts t body =
+    if_both (λ (u : Turn). (u.node.log ≡ t.node.log) ⊎ (u.node.log ≡ own t.node.log (record { term = t.node.term; body = body }))) (is_log_full t.node) _ _
+    (λ _. inl refl) (λ _. inr refl)
+
+replaced_puts : (t : Turn) (u : Turn) (body : Body) → u.node ≡ t.node → PutsChange t.node (appended u (Payload [])).node body
+replaced_puts t u body e =
+    elim (appended_puts u (Payload [])) as (λ _. PutsChange t.node (appended u (Payload [])).node body) [
+      | inl same ↦ inl (same ∙ ap (λ (n : PlainNode). n.log) e)
+      | inr more ↦ inr (inl (more ∙ ap (λ (n : PlainNode). own n.log (record { term = n.term; body = Payload [] })) e))
+    ]
+
+change_put_puts : (o : Option WhyReplaced) (t : Turn) (words : ℕ) (body : Body) → why_replaced t.node words ≡ o → PutsChange t.node (change_put o t body).node body
+change_put_puts None t words body is =
+    if_both (λ (u : Turn). PutsChange t.node u.node body) (is_log_full t.node) _ _
+    (λ _. inl refl) (λ _. inr (inr (applied_all_changes t.node words is, refl)))
+change_put_puts (Some reason) t words body is = replaced_puts t (told t (ReplacedChange t.node.id (last t.node.log + 1) reason)) body refl
+
+put_in_puts : (t : Turn) (transition : Transition) (words : List Word) → PutsChange t.node (put_in (Change transition words) t).node (Change transition words)
+put_in_puts t transition words =
+    if_both (λ (u : Turn). PutsChange t.node u.node (Change transition words)) (is_log_full t.node) _ _
+    (λ _. inl refl) (λ _. change_put_puts (why_replaced t.node (length words)) t (length words) (Change transition words) refl)
+
+puts_by_log : (old a b : PlainNode) (body : Body) → b.log ≡ a.log → PutsChange old a body → PutsChange old b body
+puts_by_log old a b body e is =
+    elim is as (λ _. PutsChange old b body) [
+      | inl same ↦ inl (e ∙ same)
+      | inr more ↦ elim more as (λ _. PutsChange old b body) [
+        | inl empty ↦ inr (inl (e ∙ empty))
+        | inr change ↦ inr (inr (change.0, e ∙ change.1))
+      ]
+    ]
+
+pub proposed_puts : (t : Turn) (transition : Transition) (words : List Word) → PutsChange t.node (proposed t (Change transition words)).node (Change transition words)
+unfolding proposed
+proposed_puts t transition words =
+    let body = Change transition words in
+    if_both (λ (u : Turn). PutsChange t.node u.node body) (takes_none t.node) _ _
+    (λ _. inl refl)
+    (λ _. (let u = put_in body t in
+    puts_by_log t.node u.node (all_told u).node body (ap (λ (c : Core). c.log) (all_told_same u)) (put_in_puts t transition words)))
+
+-- ---- one that hands the lead over takes nothing
+
+takes_none_is : (a b : Bool) → b ≡ false → (a || not b) ≡ true
+takes_none_is true false e = refl
+takes_none_is false false e = refl
+takes_none_is true true e = refl
+takes_none_is false true e = absurd (false≢true (sym e))
+
+some_is : (n : ℕ) → 0 < n → (n == 0) ≡ false
+some_is n some = grind (arith, nat_tests)
+
+handing_takes_none : (t : Turn) (body : Body) → 0 < t.node.transferee → (proposed t body).node ≡ t.node
+unfolding proposed
+handing_takes_none t body some =
+    if_both (λ (u : Turn). u.node ≡ t.node) (takes_none t.node) _ _ (λ _. refl)
+    (λ no. absurd (false≢true (sym no ∙ takes_none_is (not (has_view t.node.tracker.views t.node.id)) (t.node.transferee == 0) (some_is t.node.transferee some))))
+
+role_takes_none : (r : Role) (t : Turn) (m : Message) (body : Body) → r ≡ role.Leader → m.kind ≡ kind.Proposal body → 0 < t.node.transferee → (by_role_of r t m).node ≡ t.node
+role_takes_none role.Leader t m body is asks some = subst (λ (k : MessageKind). (as_leader k t m).node ≡ t.node) (sym asks) (handing_takes_none t body some)
+role_takes_none role.Follower t m body is asks some = cc
+role_takes_none role.Precandidate t m body is asks some = cc
+role_takes_none role.Candidate t m body is asks some = cc
+
+pub transfers_stop_proposals : (t : Turn) (body : Body) → t.node.role ≡ role.Leader → 0 < t.node.transferee → (stepped t (message t.node.id t.node.id 0 (kind.Proposal body))).node ≡ t.node
+unfolding stepped
+transfers_stop_proposals t body leads some = role_takes_none t.node.role t (message t.node.id t.node.id 0 (kind.Proposal body)) body leads refl some
+
+-- ---- checks of the quorum
+
+both_true : (a b : Bool) → a ≡ true → b ≡ false → (a && not b) ≡ true
+both_true true false e f = refl
+both_true true true e f = absurd (false≢true (sym f))
+both_true false b e f = absurd (false≢true e)
+
+looks_down : (t : Turn) → t.node.options.check_quorum ≡ true → quorum_active t.node.tracker ≡ false → StepsDown t.node (quorum_looked_at t).node
+unfolding quorum_looked_at
+looks_down t checks lost =
+    if_both (λ (u : Turn). StepsDown t.node u.node) (has_lost_quorum t.node) _ _ (λ _. (refl, refl, refl))
+    (λ no. absurd (false≢true (sym no ∙ both_true t.node.options.check_quorum (quorum_active t.node.tracker) checks lost)))
+
+leader_looks_down : (t : Turn) → t.node.options.check_quorum ≡ true → quorum_active t.node.tracker ≡ false → ELECTION_TICKS ≤ counted t.node.elapsed → StepsDown t.node (leader_ticked t).node
+unfolding leader_ticked leader_counted
+leader_looks_down t checks lost due =
+    let u : Turn = with_node t (counted_up t.node) in
+    if_both (λ (x : Turn). StepsDown t.node x.node) (nat_le ELECTION_TICKS u.node.elapsed) _ _
+    (λ _. looks_down (with_node u (record u.node { elapsed = 0 })) checks lost)
+    (λ no. absurd (false≢true (sym no ∙ le-leb ELECTION_TICKS u.node.elapsed due)))
+
+role_looks_down : (r : Role) (t : Turn) → r ≡ role.Leader → t.node.options.check_quorum ≡ true → quorum_active t.node.tracker ≡ false → ELECTION_TICKS ≤ counted t.node.elapsed → StepsDown t.node (ticked_by r t).node
+role_looks_down role.Leader t is checks lost due = leader_looks_down t checks lost due
+role_looks_down role.Follower t is checks lost due = cc
+role_looks_down role.Precandidate t is checks lost due = cc
+role_looks_down role.Candidate t is checks lost due = cc
+
+pub lost_quorum_steps_down : (t : Turn) → t.node.role ≡ role.Leader → t.node.options.check_quorum ≡ true → quorum_active t.node.tracker ≡ false → ELECTION_TICKS ≤ counted t.node.elapsed → StepsDown t.node (ticked t).node
+lost_quorum_steps_down t leads checks lost due = role_looks_down t.node.role t leads checks lost due
+
+all_three : (a b c : Bool) → a ≡ true → b ≡ false → c ≡ true → (a && not b && c) ≡ true
+all_three true false true e f g = refl
+all_three true false false e f g = absurd (false≢true g)
+all_three true true c e f g = absurd (false≢true (sym f))
+all_three false b c e f g = absurd (false≢true e)
+
+hears : (n : PlainNode) → n.options.check_quorum ≡ true → 0 < n.lead → n.elapsed < ELECTION_TICKS → hears_leader n ≡ true
+hears n checks knows lately = all_three n.options.check_quorum (n.lead == 0) (nat_lt n.elapsed ELECTION_TICKS) checks (some_is n.lead knows) (lt-ltb n.elapsed ELECTION_TICKS lately)
+
+of_this_term : (of same : Bool) → of ≡ true → (not of || same) ≡ true → same ≡ true
+of_this_term true same e h = h
+of_this_term false same e h = absurd (false≢true e)
+
+-- a disturbing message of a later term is passed over
+disturbed_stays : (t : Turn) (m : Message) → has_term m.kind ≡ true → t.node.term < m.term → is_disturbed_by m.kind t.node ≡ true → (stepped t m).node ≡ t.node
+unfolding stepped
+disturbed_stays t m of_term above disturbs =
+    let P : Turn → Type 0 = λ u. u.node ≡ t.node in
+    if_both P (not (has_term m.kind) || m.term == t.node.term) (at_term t m)
+    (if nat_lt m.term t.node.term then lowered t m else (if is_disturbed_by m.kind t.node then ignored t m else at_term (raised t m) m))
+    (λ now. (let same : m.term ≡ t.node.term = eqb-true m.term t.node.term (of_this_term (has_term m.kind) (m.term == t.node.term) of_term now) in absurd (omega (arith, same, above))))
+    (λ _. if_both P (nat_lt m.term t.node.term) (lowered t m) (if is_disturbed_by m.kind t.node then ignored t m else at_term (raised t m) m)
+    (λ low. (let under : m.term < t.node.term = ltb-true m.term t.node.term low in absurd (omega (arith, under, above))))
+    (λ _. if_both P (is_disturbed_by m.kind t.node) (ignored t m) (at_term (raised t m) m) (λ _. refl) (λ no. absurd (false≢true (sym no ∙ disturbs)))))
+
+and_also : (a : Bool) → a ≡ true → (a && not false) ≡ true
+and_also true e = refl
+and_also false e = absurd (false≢true e)
+
+pub votes_disturb_nobody : (t : Turn) (m : Message) (last_term last_index : ℕ) → m.kind ≡ kind.Vote last_term last_index false → t.node.options.check_quorum ≡ true → 0 < t.node.lead → t.node.elapsed < ELECTION_TICKS → t.node.term < m.term → (stepped t m).node ≡ t.node
+votes_disturb_nobody t m last_term last_index asks checks knows lately above =
+    disturbed_stays t m (ap has_term asks) above
+    (ap (λ (k : MessageKind). is_disturbed_by k t.node) asks ∙ and_also (hears_leader t.node) (hears t.node checks knows lately))
+
+pub pre_votes_disturb_nobody : (t : Turn) (m : Message) (last_term last_index : ℕ) → m.kind ≡ kind.PreVote last_term last_index → t.node.options.check_quorum ≡ true → 0 < t.node.lead → t.node.elapsed < ELECTION_TICKS → t.node.term < m.term → (stepped t m).node ≡ t.node
+pre_votes_disturb_nobody t m last_term last_index asks checks knows lately above =
+    disturbed_stays t m (ap has_term asks) above
+    (ap (λ (k : MessageKind). is_disturbed_by k t.node) asks ∙ hears t.node checks knows lately)
+
+-- ---- a leader that votes no more
+
+led_on_down : (t : Turn) → t.node.role ≡ role.Leader → t.node.options.step_down_on_removal ≡ true → is_voter t.node.tracker.config t.node.id ≡ false → StepsDown t.node (led_on t).node
+led_on_down t leads asked stranger =
+    let P : Turn → Type 0 = λ u. StepsDown t.node u.node in
+    if_both P (is_leader t.node.role) _ _
+    (λ _. if_both P (steps_down t.node) _ _ (λ _. (refl, refl, refl))
+    (λ no. absurd (false≢true (sym no ∙ both_true t.node.options.step_down_on_removal (is_voter t.node.tracker.config t.node.id) asked stranger))))
+    (λ no. absurd (false≢true (sym no ∙ ap is_leader leads)))
+
+switched_down : (r : Result Config ChangeFault) (c : Config) (t : Turn) → r ≡ Ok c → t.node.role ≡ role.Leader → t.node.options.step_down_on_removal ≡ true → is_voter c t.node.id ≡ false → StepsDown t.node (switched r t).node
+switched_down r c t is leads asked stranger =
+    let u : Turn = told (with_node t (record t.node { tracker = configured t.node.tracker c })) (Switched t.node.id c) in
+    subst (λ (x : Result Config ChangeFault). StepsDown t.node (switched x t).node) (sym is) (led_on_down u leads asked stranger)
+
+pub removed_leaders_step_down : (t : Turn) (transition : Transition) (words : List Word) (c : Config) → changed t.node.tracker.config transition words ≡ Ok c → t.node.role ≡ role.Leader → t.node.options.step_down_on_removal ≡ true → is_voter c t.node.id ≡ false → StepsDown t.node (change_applied t transition words).node
+unfolding change_applied
+removed_leaders_step_down t transition words c is leads asked stranger = switched_down (changed t.node.tracker.config transition words) c t is leads asked stranger
