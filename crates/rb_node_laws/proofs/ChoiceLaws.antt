@@ -1,17 +1,16 @@
 -- Who campaigns, what a leader takes, and what the options ask of a node
-use Rattle.std.proofs.Common.{◌≡◌, ℕ, ◌+◌, ◌≤◌, ◌<◌, ◌⊎◌, Bool, true, false, not, ◌&&◌, ◌||◌, List, [], ◌∷◌, ◌++◌, length, min, Option, Some, None, Result, Ok, Err, refl, sym, ap, subst, ◌∙◌, arith, inl, inr, eqb-true, eq-eqb, nat_le, nat_lt, ◌==◌, if◌then◌else◌}
+use Rattle.std.proofs.Common.{◌≡◌, ℕ, ◌+◌, ◌≤◌, ◌<◌, ◌⊎◌, Bool, true, false, not, ◌&&◌, ◌||◌, List, [], length, Option, Some, None, Result, Ok, refl, sym, ap, subst, ◌∙◌, arith, inl, inr, eqb-true, nat_le, nat_lt, ◌==◌, if◌then◌else◌}
 use Rattle.std.proofs.lemmas.Bool.{ltb-false, ltb-true, le-leb, lt-ltb, false≢true}
 use Rattle.rb_raftlog.specs.declared.entry.Body.{Body}
 use Rattle.rb_raftlog.specs.declared.entry.Body.TheVariants.{Payload, Change}
 use Rattle.rb_raftlog.specs.declared.entry.Transition.{Transition}
 use Rattle.rb_raftlog.specs.declared.entry.Word.{Word}
-use Rattle.rb_raftlog.specs.Log.{LogValue, last, own, has_change}
-use Rattle.rb_raftlog.specs.declared.limits.TheConstants.{MAX_TERM}
+use Rattle.rb_raftlog.specs.Log.{last, own, has_change}
 use Rattle.std.proofs.lemmas.Bool.Decides.{nat_tests}
 use Rattle.rb_tracker.proofs.SetLaws.{if_both}
 use Rattle.rb_tracker.specs.Active.{quorum_active}
 use Rattle.rb_tracker.specs.Changes.{changed}
-use Rattle.rb_tracker.specs.Configs.{is_voter, is_joint}
+use Rattle.rb_tracker.specs.Configs.{is_voter}
 use Rattle.rb_tracker.specs.Trackers.{has_view, configured}
 use Rattle.rb_tracker.specs.declared.config.Config.{Config}
 use Rattle.rb_tracker.specs.declared.changes.ChangeFault.{ChangeFault}
@@ -26,18 +25,16 @@ use Rattle.rb_message.specs.declared.role.Role.{Role}
 use Rattle.rb_message.specs.declared.role.Role.TheVariants as role
 use Rattle.rb_step.specs.declared.limits.TheConstants.{ELECTION_TICKS}
 use Rattle.rb_step.specs.Node.{PlainNode, Turn, told, with_node, ignored, message, is_leader}
-use Rattle.rb_step.specs.Terms.{followed, raised, lowered, hears_leader, is_disturbed_by}
-use Rattle.rb_step.specs.Campaigns.{why_no_campaign, campaigned_unless, campaigned, stood_unless, stood_up, sounded_out, stood}
-use Rattle.rb_step.specs.Changing.{steps_down, led_on, revised, switched, change_applied}
-use Rattle.rb_step.specs.Leading.{is_log_full, appended, appended_change, all_told}
+use Rattle.rb_step.specs.Terms.{raised, lowered, hears_leader, is_disturbed_by}
+use Rattle.rb_step.specs.Campaigns.{why_no_campaign, campaigned_unless, campaigned, stood_unless, stood_up}
+use Rattle.rb_step.specs.Changing.{steps_down, led_on, switched, change_applied}
+use Rattle.rb_step.specs.Leading.{is_log_full, appended, all_told}
 use Rattle.rb_step.specs.Proposing.{why_replaced, change_put, put_in, takes_none, proposed}
 use Rattle.rb_step.specs.Step.{as_leader, at_term, by_role_of, stepped}
-use Rattle.rb_node.specs.Ticking.{counted, has_lost_quorum, quorum_looked_at, leader_counted, counted_up, leader_ticked, ticked_by, ticked, heartbeats_due}
+use Rattle.rb_node.specs.Ticking.{counted, has_lost_quorum, quorum_looked_at, leader_counted, counted_up, leader_ticked, ticked_by, ticked}
 use Rattle.rb_node_laws.specs.Choices.{MayCampaign, PutsChange, StepsDown}
-use Rattle.rb_node_laws.proofs.Goes.{Core, core}
+use Rattle.rb_node_laws.proofs.Goes.{Core}
 use Rattle.rb_node_laws.proofs.LeaderLaws.{all_told_same}
-use Rattle.rb_node_laws.proofs.StepLaws.{asked_term}
-use Rattle.rb_node_laws.proofs.ViewStepLaws.{no_leader_campaigns}
 
 -- ---- who campaigns
 

@@ -24,3 +24,4 @@ pub mod PromiseLaws
 pub mod TruthLaws
 pub mod ChoiceLaws
 pub mod ReadyLaws
+pub mod MatchLaws

@@ -28,7 +28,7 @@ there : (b : Bool) (x : PlainProgress) (r s : Option PlainProgress) → match_in
 there true x r s e = refl
 there false x r s e = e
 
-same_match : (views : List (ℕ × PlainProgress)) (at : ℕ) (view new : PlainProgress) (id : ℕ) → view_at views at ≡ Some view → new.matched ≡ view.matched → match_of (set_value_at views at new) id ≡ match_of views id
+pub same_match : (views : List (ℕ × PlainProgress)) (at : ℕ) (view new : PlainProgress) (id : ℕ) → view_at views at ≡ Some view → new.matched ≡ view.matched → match_of (set_value_at views at new) id ≡ match_of views id
 same_match [] at view new id is e = refl
 same_match (x ∷ xs) zero view new id is e =
     let first : x.1 ≡ view = cc in
@@ -51,7 +51,7 @@ view_holds t at view new is e i held =
 
 -- ---- sending
 
-sent_match : (s : ProgressState) (view : PlainProgress) (last : ℕ) → (sent_in s view last).matched ≡ view.matched
+pub sent_match : (s : ProgressState) (view : PlainProgress) (last : ℕ) → (sent_in s view last).matched ≡ view.matched
 sent_match state.Probe view last = refl
 sent_match state.Replicate view last = if_both (λ (v : PlainProgress). v.matched ≡ view.matched) (nat_le view.next last && not (is_full view.window)) _ _ (λ _. refl) (λ _. refl)
 sent_match state.Snapshot view last = refl

@@ -1,13 +1,13 @@
 -- What is ready: when nothing is, and what takes effect once it is saved
-use Rattle.std.proofs.Common.{◌≡◌, ℕ, ◌+◌, ◌-◌, ◌≤◌, ◌<◌, min, max, Bool, true, false, not, ◌&&◌, ◌||◌, List, [], ◌∷◌, ◌++◌, length, take, drop, Option, Some, None, refl, sym, ap, subst, ◌∙◌, arith, eqb-true, nat_lt, ◌==◌, if◌then◌else◌, length-drop, drop_of_length-le, inl, inr}
+use Rattle.std.proofs.Common.{◌≡◌, ℕ, ◌+◌, ◌-◌, ◌≤◌, ◌<◌, min, max, Bool, true, false, not, ◌||◌, List, [], ◌∷◌, ◌++◌, length, drop, Some, None, refl, sym, ap, ◌∙◌, arith, eqb-true, nat_lt, ◌==◌, if◌then◌else◌, length-drop, drop_of_length-le, inl, inr}
 use Rattle.std.proofs.lemmas.Bool.{ltb-false, ltb-true, or_parts, cond-true, cond-false, cases_Bool, false≢true}
 use Rattle.rb_raftlog.specs.declared.entry.Entry.{Entry}
-use Rattle.rb_raftlog.specs.Log.{last, between, not_durable}
+use Rattle.rb_raftlog.specs.Log.{last}
 use Rattle.rb_message.specs.declared.hard_state.HardState.{HardState}
 use Rattle.rb_message.specs.declared.message.Message.{Message}
 use Rattle.rb_step.specs.Node.{PlainNode, Turn, with_node}
-use Rattle.rb_step.specs.Changing.{applied_all, joint_left}
-use Rattle.rb_node.specs.Readying.{hard_state, is_saved, has_ready, applying, saved, ready}
+use Rattle.rb_step.specs.Changing.{applied_all}
+use Rattle.rb_node.specs.Readying.{hard_state, is_saved, has_ready, applying, saved}
 use Rattle.rb_node.proofs.Between.{between_sizes}
 use Rattle.rb_node_laws.specs.Sound.{IsSound}
 use Rattle.rb_node_laws.specs.Elections.{own_turn}

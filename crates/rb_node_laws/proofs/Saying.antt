@@ -2,8 +2,7 @@
 --
 -- A relation between a node before and after that allows nothing said, a true message sent, a true answer that waits and what is saved,
 -- one after another, holds of every call. The laws of messages are such relations.
-use Rattle.std.proofs.Common.{◌≡◌, ℕ, ◌+◌, ◌-◌, ◌≤◌, Bool, true, false, not, ◌&&◌, List, [], ◌∷◌, ◌++◌, length, min, Option, Some, None, Result, Ok, refl, sym, ap, subst, ◌∙◌, arith, eq-eqb, eqb-true, nat_lt, nat_le, ◌==◌}
-use Rattle.std.specs.List.{slice_get}
+use Rattle.std.proofs.Common.{◌≡◌, ℕ, ◌+◌, ◌-◌, ◌≤◌, Bool, true, false, not, ◌&&◌, List, [], ◌∷◌, ◌++◌, length, min, Option, Some, None, Result, Ok, refl, sym, ap, subst, ◌∙◌, arith, eq-eqb, eqb-true, nat_lt, ◌==◌}
 use Rattle.std.proofs.lemmas.Bool.{false≢true, ltb-true, ltb-false, and_parts}
 use Rattle.rb_raftlog.specs.declared.entry.Body.{Body}
 use Rattle.rb_raftlog.specs.declared.entry.Body.TheVariants.{Payload, Change}
@@ -15,7 +14,7 @@ use Rattle.std.specs.Result.{result_unwrap_or}
 use Rattle.rb_raftlog.proofs.TermLaws.{entry_past, slice_get_drop}
 use Rattle.rb_tracker.proofs.SetLaws.{if_both}
 use Rattle.rb_tracker.specs.Commits.{commit_of, match_of}
-use Rattle.rb_tracker.specs.Configs.{members, state_of}
+use Rattle.rb_tracker.specs.Configs.{members}
 use Rattle.rb_tracker.specs.Progresses.{PlainProgress, sent, snapshotting, acked, paused, is_news, freed_through, believes, refused, resumed}
 use Rattle.rb_tracker.specs.Trackers.{place, view_at, has_view, ids_of}
 use Rattle.rb_message.specs.declared.event.Event.TheVariants.{Became, ReplacedChange}
@@ -28,20 +27,20 @@ use Rattle.rb_step.specs.declared.sends.Mode.{Mode}
 use Rattle.rb_step.specs.declared.sends.Mode.TheVariants as mode
 use Rattle.rb_step.specs.declared.sends.Sending.{Sending}
 use Rattle.rb_step.specs.declared.sends.Sending.TheVariants as sending
-use Rattle.rb_step.specs.Node.{PlainNode, Turn, told, with_node, message, posted, answered_with}
+use Rattle.rb_step.specs.Node.{PlainNode, Turn, told, with_node, message}
 use Rattle.rb_step.specs.Sends.{is_news as tells_news, is_ping, takes_nothing, is_window_full, sending_of, term_or_0, append_of, snapshot_of, viewed, snapshot_to, empty_to, entries_to, sends_by, sends_with, sends_at, sends, tells, told_all}
 use Rattle.rb_step.specs.Leading.{with_own, is_log_full, appended, appended_change, with_view_of, with_views, in_lead, leading, led, can_commit, checked_commit}
 use Rattle.rb_step.specs.Acknowledging.{heard_of, handed_to, commit_or_sent, mode_after, accepted_news, accepted_old, accepted_by, accepted_with, accepted_at, accepted, refused_with, refused_at, append_refused, lags, beat_answered_with, beat_answered_at, beat_answered}
 use Rattle.rb_step.specs.Proposing.{why_replaced, change_put, put_in, takes_none, proposed}
 use Rattle.rb_step.specs.Transferring.{cannot_take_lead, older_ended, urged, transfer_started, transferred, transfer_ended}
 use Rattle.rb_node.specs.Readying.{saved}
-use Rattle.rb_node_laws.specs.Sound.{IsSound, IsSoundView, AreViewsOf, HasSoundViews}
+use Rattle.rb_node_laws.specs.Sound.{IsSound, AreViewsOf}
 use Rattle.rb_node_laws.specs.Words.{IsOfLog, IsOfState, Sends, Answers}
 use Rattle.rb_node_laws.proofs.Goes.{core}
 use Rattle.rb_node_laws.proofs.Turns.{with_entry, own_size}
 use Rattle.rb_node_laws.proofs.LeaderLaws.{commit_moves}
 use Rattle.rb_node_laws.proofs.ProgressLaws.{sound_snapshotting, sound_sent, sound_acked, sound_freed, sound_refused, sound_resumed}
-use Rattle.rb_node_laws.proofs.ViewLaws.{Views, kept_views, unchanged, written, snapshot_low, heard_views, leading_views, with_view_views, older_views, transfer_ended_views}
+use Rattle.rb_node_laws.proofs.ViewLaws.{Views, kept_views, unchanged, written, snapshot_low, heard_views, leading_views, older_views, transfer_ended_views}
 
 -- ---- what such a relation allows
 

@@ -11,10 +11,9 @@ use Rattle.rb_raftlog.specs.declared.raft_log.CompactFault.{CompactFault}
 use Rattle.rb_raftlog.specs.declared.snapshot.Snapshot.{Snapshot}
 use Rattle.rb_raftlog.specs.Log.{last, last_term, term_at, is_term, answer, compact_fault}
 use Rattle.rb_tracker.proofs.SetLaws.{if_both}
-use Rattle.rb_tracker.specs.Active.{unmarked_but, unmarked}
 use Rattle.rb_tracker.specs.Changes.{changed}
 use Rattle.rb_tracker.specs.Configs.{voters, members, is_member}
-use Rattle.rb_tracker.specs.Progresses.{PlainProgress, probed}
+use Rattle.rb_tracker.specs.Progresses.{PlainProgress}
 use Rattle.rb_tracker.specs.Trackers.{place, view_at, ids_of, configured}
 use Rattle.rb_tracker.specs.declared.config.Config.{Config}
 use Rattle.rb_tracker.specs.declared.changes.ChangeFault.{ChangeFault}
@@ -31,26 +30,24 @@ use Rattle.rb_message.specs.declared.role.Role.{Role}
 use Rattle.rb_message.specs.declared.role.Role.TheVariants as role
 use Rattle.rb_step.specs.declared.limits.TheConstants.{ELECTION_TICKS}
 use Rattle.rb_step.specs.Terms.{followed, raised, raised_by, lowered, lowered_by, shown_term, answers_earlier, is_disturbed_by}
-use Rattle.rb_step.specs.Sends.{is_replicating}
 use Rattle.rb_step.specs.Leading.{with_views, appended_change}
 use Rattle.rb_step.specs.Changing.{without_stranger, without_strangers, missing, stranger_given_up, joined_by, revised, steps_down, led_on, switched, change_applied, body_applied, applied_one, applied_all, leaves_joint, joint_left}
 use Rattle.rb_step.specs.Transferring.{transfer_ended}
 use Rattle.rb_step.specs.Step.{as_follower, given_in, as_precandidate, as_candidate, as_leader, by_role_of, at_term_by, at_term, stepped}
 use Rattle.rb_node.specs.declared.ticking.TheConstants.{HEARTBEAT_TICKS}
-use Rattle.rb_node.specs.Calls.{forgotten_by, unreachable, reported_with, reported_at, reported}
+use Rattle.rb_node.specs.Calls.{forgotten_by, reported_with, reported_at, reported}
 use Rattle.rb_node.specs.Readying.{applying, saved, own_stepped, advanced}
 use Rattle.rb_node.specs.Ticking.{counted as counted_tick, beat_to, beat_each, heartbeats_due, has_lost_quorum, looked_anew, quorum_looked_at, leader_counted, counted_up, leader_ticked, is_due, other_ticked, ticked_by}
 use Rattle.rb_node_laws.specs.Calling.{Call, Step, Campaign, Propose, Transfer, Tick, Advance, ForgetLeader, ReportUnreachable, SetTimeout, Compact, compacted_unless, after, run}
-use Rattle.std.proofs.Common.{◌≡◌, ℕ, ◌+◌, ◌≤◌, Bool, true, false, not, ◌&&◌, ◌||◌, map, min, max, List, [], ◌∷◌, ◌++◌, length, Option, Some, None, Result, Ok, Err, refl, sym, ap, subst, ◌∙◌, arith, nat_eq, nat_le, nat_lt, ◌==◌, if◌then◌else◌, eqb-true}
+use Rattle.std.proofs.Common.{◌≡◌, ℕ, ◌+◌, ◌≤◌, Bool, true, false, not, ◌&&◌, ◌||◌, min, List, [], ◌∷◌, ◌++◌, length, Option, Some, None, Result, Ok, Err, refl, sym, ap, subst, ◌∙◌, arith, nat_le, nat_lt, ◌==◌, if◌then◌else◌, eqb-true}
 use Rattle.std.proofs.lemmas.Bool.{ltb-false, leb-false, false≢true}
-use Rattle.rb_raftlog.specs.Log.{LogValue}
 use Rattle.rb_raftlog.proofs.TermLaws.{is_term_is, held_in}
 use Rattle.rb_tracker.specs.Commits.{match_of}
 use Rattle.rb_step.specs.Node.{PlainNode, Turn, told, with_node, ignored, message, is_leader}
-use Rattle.rb_step.specs.Campaigns.{asked_one, asked, asked_for_votes, asked_for_pre_votes, candidate, precandidate, stood, sounded_out, why_no_campaign, campaigned_unless, campaigned, stood_unless, stood_up}
+use Rattle.rb_step.specs.Campaigns.{asked_one, asked, candidate, precandidate, stood, sounded_out, why_no_campaign, campaigned_unless, campaigned, stood_unless, stood_up}
 use Rattle.rb_step.specs.Votes.{grants, voted_for, vote_answered, pre_vote_answered, count_of, counted, decided, pre_decided}
 use Rattle.rb_step.specs.Following.{heard, beaten, commits_to, after_log, with_appended, append_taken, restored_to, with_match, snapshot_taken, proposal_passed, transfer_passed}
-use Rattle.rb_node_laws.specs.Sound.{IsSound, HasSoundViews}
+use Rattle.rb_node_laws.specs.Sound.{IsSound}
 use Rattle.rb_node_laws.specs.Words.{Sends, Answers}
 use Rattle.rb_node_laws.proofs.Goes.{Core, core, Goes, anyone}
 use Rattle.rb_node_laws.proofs.Turns.{filled, with_append, with_snapshot, committed, applied_to}
@@ -60,9 +57,9 @@ use Rattle.rb_node_laws.proofs.StepLaws.{asked_term, raised_term}
 use Rattle.rb_node_laws.proofs.FollowerLaws.{beats, Reaches, answer_reaches, after_log_keeps}
 use Rattle.rb_node_laws.proofs.ChangeLaws.{applied_one_is}
 use Rattle.rb_node_laws.proofs.AdvanceLaws.{ready_within, saves}
-use Rattle.rb_node_laws.proofs.ViewLaws.{Views, kept_views, no_more_views, unchanged, with_views_views}
+use Rattle.rb_node_laws.proofs.ViewLaws.{Views, kept_views, no_more_views, with_views_views}
 use Rattle.rb_node_laws.proofs.ViewStepLaws.{followed_views, raised_views, no_leader_campaigns, strangers_views, strangers_role, one_views, looked_views, leads_then, forgotten_views, reported_views, compacted_views, is_no_leader}
-use Rattle.rb_node_laws.proofs.Saying.{Allows, words, with_sent, with_waiting, next, quiet, idle, nothing, different, sends_says, tells_says, told_all_says, appended_change_says, with_views_words, led_says, checked_says, accepted_says, refused_says, beat_answered_says, proposed_says, transferred_says, transfer_ended_words, transfer_ended_says}
+use Rattle.rb_node_laws.proofs.Saying.{Allows, words, next, quiet, idle, nothing, different, told_all_says, appended_change_says, with_views_words, led_says, checked_says, accepted_says, refused_says, beat_answered_says, proposed_says, transferred_says, transfer_ended_says}
 
 -- ---- terms and campaigns
 

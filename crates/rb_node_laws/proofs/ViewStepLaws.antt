@@ -82,7 +82,7 @@ lowered_views (kind.Append append) t m = shown_views t m
 lowered_views (kind.Heartbeat commit) t m = shown_views t m
 lowered_views _ t m = unchanged refl refl
 
-asked_views : (n : PlainNode) (ids : List ℕ) (term : ℕ) (question answer : MessageKind) → (asked n ids term question answer).tracker.views ≡ n.tracker.views
+pub asked_views : (n : PlainNode) (ids : List ℕ) (term : ℕ) (question answer : MessageKind) → (asked n ids term question answer).tracker.views ≡ n.tracker.views
 asked_views n [] term question answer = refl
 asked_views n (id ∷ ids) term question answer =
     asked_views (asked_one n id term question answer) ids term question answer
@@ -169,7 +169,7 @@ append_role : (t : Turn) (from : ℕ) (append : PlainAppend) → (append_taken t
 unfolding append_taken
 append_role t from append = after_role (answer t.node.log append.prev append.prev_term append.entries t.node.commit) (with_node t (with_appended t.node from append)) from append
 
-append_kept : (t : Turn) (from : ℕ) (append : PlainAppend) → (append_taken t from append).node.tracker.views ≡ t.node.tracker.views
+pub append_kept : (t : Turn) (from : ℕ) (append : PlainAppend) → (append_taken t from append).node.tracker.views ≡ t.node.tracker.views
 unfolding append_taken
 append_kept t from append = after_views (answer t.node.log append.prev append.prev_term append.entries t.node.commit) (with_node t (with_appended t.node from append)) from append
 
@@ -182,7 +182,7 @@ snapshot_role t from s =
     let P : Turn → Type 0 = λ u. u.node.role ≡ t.node.role in
     if_both P (nat_le s.index t.node.commit) _ _ (λ _. refl) (λ _. if_both P (is_term (term_at t.node.log s.index) s.term) _ _ (λ _. refl) (λ _. refl))
 
-snapshot_kept : (t : Turn) (from : ℕ) (s : Snapshot) → (snapshot_taken t from s).node.tracker.views ≡ t.node.tracker.views
+pub snapshot_kept : (t : Turn) (from : ℕ) (s : Snapshot) → (snapshot_taken t from s).node.tracker.views ≡ t.node.tracker.views
 unfolding snapshot_taken
 snapshot_kept t from s =
     let P : Turn → Type 0 = λ u. u.node.tracker.views ≡ t.node.tracker.views in

@@ -4,7 +4,7 @@ use Rattle.std.specs.Prelude.{ℕ, ◌≡◌, ◌+◌, ◌≤◌, ◌⊎◌, tru
 use Rattle.rb_raftlog.specs.declared.entry.Body.{Body}
 use Rattle.rb_raftlog.specs.declared.entry.Body.TheVariants.{Payload, Change}
 use Rattle.rb_raftlog.specs.declared.entry.Entry.{Entry}
-use Rattle.rb_raftlog.specs.Log.{last, own, has_change}
+use Rattle.rb_raftlog.specs.Log.{own, has_change}
 use Rattle.rb_tracker.specs.Configs.{is_voter}
 use Rattle.rb_message.specs.declared.role.Role.TheVariants.{Follower, Leader}
 use Rattle.rb_step.specs.Node.{PlainNode}

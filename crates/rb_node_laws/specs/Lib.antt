@@ -3,3 +3,4 @@ pub mod Calling
 pub mod Elections
 pub mod Words
 pub mod Choices
+pub mod Matches

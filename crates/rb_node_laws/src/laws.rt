@@ -29,6 +29,7 @@ ghost use Rattle.rb_node.specs.Ticking.{counted};
 ghost use Rattle.rb_node_laws.specs.Calling.{Call, Propose, Tick, compacted_to, after, run};
 ghost use Rattle.rb_node_laws.specs.Choices.{MayCampaign, PutsChange, StepsDown, payloads, HasNothing};
 ghost use Rattle.rb_node_laws.specs.Elections.{VotesOnly, LeadsOnly, Granted, Elected, own_turn};
+ghost use Rattle.rb_node_laws.specs.Matches.{RestsOn};
 ghost use Rattle.rb_node_laws.specs.Sound.{IsSound, IsGrown, HasSameVote, HasSoundViews, HasViewsOfMembers};
 ghost use Rattle.rb_node_laws.specs.Words.{IsYes, IsPromised, HasPromises, AreTrueBetween};
 
@@ -141,6 +142,13 @@ pub fn promises_are_kept()
 pub fn messages_are_true()
     ensures sent { (cs : List Call) (t : Turn) → IsSound t.node → AreTrueBetween t.node (run cs t).node t.node.sent (run cs t).node.sent }
     ensures waiting { (cs : List Call) (t : Turn) → IsSound t.node → AreTrueBetween t.node (run cs t).node t.node.waiting (run cs t).node.waiting }
+{}
+
+/// What a leader counts as held by a member rests on that member's answers: a message raises a match only where it is the sender's and its
+/// answer says so, in the leader's term and to no more than the leader's own log; a new leader's own match is what is durable, and it
+/// knows nothing of the others.
+pub fn matches_rest_on_answers()
+    ensures { (t : Turn) (m : Message) (id : ℕ) → RestsOn t.node m (stepped t m).node id }
 {}
 
 /// Nobody campaigns but a voter that doesn't lead, has saved what it restored, and has applied each change that it knows to be committed.

@@ -13,8 +13,8 @@ pub use laws::{
     committed_entries_take_effect, leaders_append_only, leaders_are_elected,
     leaders_commit_own_terms, leaders_commit_what_a_quorum_holds,
     leaders_view_the_members, leaders_were_candidates, lost_quorums_end_a_lead,
-    messages_are_true, nodes_stay_sound, pre_votes_bind_nobody,
-    promises_are_kept, ready_is_exact, removed_leaders_step_down,
-    terms_never_fall, transfers_stop_proposals, views_stay_sound,
-    votes_are_given_once, votes_go_to_new_logs,
+    matches_rest_on_answers, messages_are_true, nodes_stay_sound,
+    pre_votes_bind_nobody, promises_are_kept, ready_is_exact,
+    removed_leaders_step_down, terms_never_fall, transfers_stop_proposals,
+    views_stay_sound, votes_are_given_once, votes_go_to_new_logs,
 };

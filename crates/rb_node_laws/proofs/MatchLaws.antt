@@ -1,0 +1,554 @@
+-- A leader's match of a member rests on that member's answers
+use Rattle.std.proofs.Common.{◌≡◌, ℕ, zero, suc, ◌+◌, ◌<◌, ◌≤◌, ◌⊎◌, inl, inr, Bool, true, false, cond, not, ◌&&◌, ◌||◌, min, List, [], ◌∷◌, ◌++◌, length, take, drop, get_or, Option, Some, None, refl, sym, ap, subst, ◌∙◌, arith, eqb-true, nat_eq, nat_lt, nat_le, ◌==◌, if◌then◌else◌}
+use Rattle.std.specs.Map.{keys_of, lookup}
+use Rattle.std.specs.Prelude.{position}
+use Rattle.std.proofs.lemmas.Bool.Decides.{nat_tests}
+use Rattle.std.proofs.lemmas.List.Quantifiers.{position-Some}
+use Rattle.indexmap.specs.Layout.{set_value_at}
+use Rattle.rb_raftlog.specs.declared.entry.Body.{Body}
+use Rattle.rb_raftlog.specs.declared.entry.Body.TheVariants.{Payload, Change}
+use Rattle.rb_raftlog.specs.Log.{last, last_term}
+use Rattle.rb_tracker.proofs.SetLaws.{if_both}
+use Rattle.rb_tracker.specs.Active.{with_mark, marked_at}
+use Rattle.rb_tracker.specs.Commits.{match_in, match_of, commit_of}
+use Rattle.rb_tracker.specs.Configs.{voters, members}
+use Rattle.rb_tracker.specs.Progresses.{PlainProgress, snapshotting, sent, marked, acked_in, acked, paused, is_news, freed_in, freed_through, refused_in, refused, believes, resumed}
+use Rattle.rb_tracker.specs.Sets.{rank}
+use Rattle.rb_tracker.specs.Trackers.{place, view_at, has_view, with_new, ids_of}
+use Rattle.rb_tracker.specs.declared.progress.ProgressState.{ProgressState}
+use Rattle.rb_tracker.specs.declared.progress.ProgressState.TheVariants as state
+use Rattle.rb_tracker.specs.declared.votes.VoteResult.{VoteResult}
+use Rattle.rb_tracker.specs.declared.votes.VoteResult.TheVariants as vote
+use Rattle.rb_message.specs.Messages.{has_term}
+use Rattle.rb_message.specs.declared.event.Event.TheVariants.{Became, ReplacedChange}
+use Rattle.rb_message.specs.declared.event.WhyNoCampaign.{WhyNoCampaign}
+use Rattle.rb_message.specs.declared.event.WhyReplaced.{WhyReplaced}
+use Rattle.rb_message.specs.declared.kind.MessageKind.{MessageKind}
+use Rattle.rb_message.specs.declared.kind.MessageKind.TheVariants as kind
+use Rattle.rb_message.specs.declared.message.Message.{Message}
+use Rattle.rb_message.specs.declared.role.Role.{Role}
+use Rattle.rb_message.specs.declared.role.Role.TheVariants as role
+use Rattle.rb_step.specs.declared.sends.Mode.{Mode}
+use Rattle.rb_step.specs.declared.sends.Mode.TheVariants as mode
+use Rattle.rb_step.specs.declared.sends.Sending.{Sending}
+use Rattle.rb_step.specs.declared.sends.Sending.TheVariants as sending
+use Rattle.rb_step.specs.Node.{PlainNode, Turn, told, with_node, ignored}
+use Rattle.rb_step.specs.Terms.{followed, raised, raised_by, lowered, lowered_by, answers_earlier, is_disturbed_by}
+use Rattle.rb_step.specs.Campaigns.{candidate, precandidate, stood, sounded_out, why_no_campaign, campaigned_unless, campaigned, stood_unless, stood_up}
+use Rattle.rb_step.specs.Sends.{viewed, snapshot_to, empty_to, entries_to, sends_by, sending_of, sends_with, sends_at, sends, tells, told_all}
+use Rattle.rb_step.specs.Leading.{is_log_full, appended, appended_change, new_view, with_view_of, with_views, in_lead, leading, led, can_commit}
+use Rattle.rb_step.specs.Votes.{grants, vote_answered, pre_vote_answered, count_of, counted, decided, pre_decided}
+use Rattle.rb_step.specs.Following.{heard, append_taken, snapshot_taken}
+use Rattle.rb_step.specs.Acknowledging.{heard_of, handed_to, commit_or_sent, mode_after, accepted_news, accepted_old, accepted_by, accepted_with, accepted_at, accepted, refused_with, refused_at, append_refused, lags, beat_answered_with, beat_answered_at, beat_answered}
+use Rattle.rb_step.specs.Proposing.{why_replaced, change_put, put_in, takes_none, proposed}
+use Rattle.rb_step.specs.Transferring.{cannot_take_lead, older_ended, urged, transferred}
+use Rattle.rb_step.specs.Step.{as_follower, given_in, as_precandidate, as_candidate, as_leader, by_role_of, at_term_by, at_term, stepped}
+use Rattle.rb_node_laws.specs.Matches.{RestsOn}
+use Rattle.rb_node_laws.proofs.Goes.{Core, core}
+use Rattle.rb_node_laws.proofs.LeaderLaws.{with_view_same, with_views_same}
+use Rattle.rb_node_laws.proofs.SendLaws.{told_all_same}
+use Rattle.rb_node_laws.proofs.QuorumLaws.{same_match, sent_match}
+use Rattle.rb_node_laws.proofs.MemberLaws.{ids_set}
+use Rattle.rb_node_laws.proofs.ViewStepLaws.{asked_views, append_kept, snapshot_kept}
+
+abbrev of : PlainNode → ℕ → ℕ
+of n id = match_of n.tracker.views id
+
+same_views : (a b : PlainNode) (id : ℕ) → b.tracker.views ≡ a.tracker.views → of b id ≡ of a id
+same_views a b id e = ap (λ (v : List (ℕ × PlainProgress)). match_of v id) e
+
+-- ---- sending leaves each match
+
+snapshot_match : (o : Option PlainProgress) (n : PlainNode) (at to id : ℕ) → view_at n.tracker.views at ≡ o → of (snapshot_to o n at to) id ≡ of n id
+snapshot_match None n at to id is = refl
+snapshot_match (Some view) n at to id is = same_match n.tracker.views at view (snapshotting view n.applied) id is refl
+
+empty_match : (o : Option PlainProgress) (n : PlainNode) (to id : ℕ) → of (empty_to o n to) id ≡ of n id
+empty_match None n to id = refl
+empty_match (Some view) n to id = refl
+
+entries_match : (o : Option PlainProgress) (n : PlainNode) (at to id : ℕ) → view_at n.tracker.views at ≡ o → of (entries_to o n at to) id ≡ of n id
+entries_match None n at to id is = refl
+entries_match (Some view) n at to id is = same_match n.tracker.views at view (sent view (last n.log)) id is (sent_match view.state view (last n.log))
+
+sends_by_match : (s : Sending) (n : PlainNode) (at to id : ℕ) → of (sends_by s n at to) id ≡ of n id
+sends_by_match sending.Nothing n at to id = refl
+sends_by_match sending.Snapshot n at to id = snapshot_match (view_at n.tracker.views at) n at to id refl
+sends_by_match sending.Empty n at to id = empty_match (view_at n.tracker.views at) n to id
+sends_by_match sending.Entries n at to id = entries_match (view_at n.tracker.views at) n at to id refl
+
+sends_with_match : (o : Option PlainProgress) (n : PlainNode) (at to : ℕ) (how : Mode) (id : ℕ) → of (sends_with o n at to how) id ≡ of n id
+sends_with_match None n at to how id = refl
+sends_with_match (Some view) n at to how id = sends_by_match (sending_of n.log view how) n at to id
+
+sends_at_match : (o : Option ℕ) (n : PlainNode) (to : ℕ) (how : Mode) (id : ℕ) → of (sends_at o n to how) id ≡ of n id
+sends_at_match None n to how id = refl
+sends_at_match (Some at) n to how id = sends_with_match (view_at n.tracker.views at) n at to how id
+
+sends_match : (n : PlainNode) (to : ℕ) (how : Mode) (id : ℕ) → of (sends n to how) id ≡ of n id
+unfolding sends
+sends_match n to how id =
+    if_both (λ (x : PlainNode). of x id ≡ of n id) (to == n.id) n (sends_at (place n.tracker.views to) n to how)
+    (λ _. refl) (λ _. sends_at_match (place n.tracker.views to) n to how id)
+
+tells_match : (n : PlainNode) (ids : List ℕ) (id : ℕ) → of (tells n ids) id ≡ of n id
+tells_match n [] id = refl
+tells_match n (x ∷ xs) id = tells_match (sends n x mode.Tell) xs id ∙ sends_match n x mode.Tell id
+
+told_all_match : (n : PlainNode) (id : ℕ) → of (told_all n) id ≡ of n id
+unfolding told_all
+told_all_match n id = tells_match n (ids_of n.tracker.views) id
+
+-- ---- a view that is written, or a new one, changes the match of its member alone
+
+nat_eq_is : (x y : ℕ) → nat_eq x y ≡ true → x ≡ y
+nat_eq_is x y h = grind (arith, nat_tests)
+
+abbrev Alone : ℕ → ℕ → ℕ → ℕ → ℕ → Type 0
+Alone new old id changed matched = (new ≡ old) ⊎ ((id ≡ changed) × (new ≡ matched))
+
+here_alone : (b : Bool) (id changed : ℕ) (x new : PlainProgress) (rest : Option PlainProgress) → (b ≡ true → id ≡ changed) → Alone (match_in (cond b (Some new) rest)) (match_in (cond b (Some x) rest)) id changed new.matched
+here_alone true id changed x new rest h = inr (h refl, refl)
+here_alone false id changed x new rest h = inl refl
+
+first_alone : (b : Bool) (id changed : ℕ) (new : PlainProgress) (rest : Option PlainProgress) → (b ≡ true → id ≡ changed) → Alone (match_in (cond b (Some new) rest)) (match_in rest) id changed new.matched
+first_alone true id changed new rest h = inr (h refl, refl)
+first_alone false id changed new rest h = inl refl
+
+there_alone : (b : Bool) (id changed matched : ℕ) (x : PlainProgress) (r s : Option PlainProgress) → Alone (match_in r) (match_in s) id changed matched → Alone (match_in (cond b (Some x) r)) (match_in (cond b (Some x) s)) id changed matched
+there_alone true id changed matched x r s h = inl refl
+there_alone false id changed matched x r s h = h
+
+set_alone : (views : List (ℕ × PlainProgress)) (at from id : ℕ) (new : PlainProgress) → at < length (keys_of views) → from ≡ get_or (keys_of views) at 0 → Alone (match_of (set_value_at views at new) id) (match_of views id) id from new.matched
+set_alone [] at from id new low e = absurd (omega (arith, low))
+set_alone (x ∷ xs) zero from id new low e = here_alone (nat_eq id x.0) id from x.1 new (lookup (nat_eq id) xs) (λ is. nat_eq_is id x.0 is ∙ sym e)
+set_alone (x ∷ xs) (suc at) from id new low e =
+    there_alone (nat_eq id x.0) id from new.matched x.1 (lookup (nat_eq id) (set_value_at xs at new)) (lookup (nat_eq id) xs) (set_alone xs at from id new (omega (arith, low)) e)
+
+put_alone : (views : List (ℕ × PlainProgress)) (i changed id : ℕ) (new : PlainProgress) → Alone (match_of (take i views ++ (changed, new) ∷ drop i views) id) (match_of views id) id changed new.matched
+put_alone views zero changed id new = first_alone (nat_eq id changed) id changed new (lookup (nat_eq id) views) (λ is. nat_eq_is id changed is)
+put_alone [] (suc i) changed id new = first_alone (nat_eq id changed) id changed new None (λ is. nat_eq_is id changed is)
+put_alone (x ∷ xs) (suc i) changed id new =
+    there_alone (nat_eq id x.0) id changed new.matched x.1 (lookup (nat_eq id) (take i xs ++ (changed, new) ∷ drop i xs)) (lookup (nat_eq id) xs) (put_alone xs i changed id new)
+
+-- the view at a member's place is written
+place_set : (views : List (ℕ × PlainProgress)) (at from id : ℕ) (new : PlainProgress) → place views from ≡ Some at → Alone (match_of (set_value_at views at new) id) (match_of views id) id from new.matched
+place_set views at from id new is =
+    let found = position-Some (λ (k : ℕ). from == k) (keys_of views) at 0 is in
+    set_alone views at from id new found.0 (eqb-true from (get_or (keys_of views) at 0) found.1)
+
+-- ---- new views
+
+-- a match is no more than before, or of the node itself and durable
+abbrev OwnAtMost : PlainNode → PlainNode → ℕ → Type 0
+OwnAtMost a b id = (of b id ≤ of a id) ⊎ ((id ≡ a.id) × (of b id ≤ a.log.durable))
+
+new_at_most : (n : PlainNode) (changed id : ℕ) (active : Bool) (was now : ℕ) → id ≡ changed → now ≡ (new_view n changed active).matched → (now ≤ was) ⊎ ((id ≡ n.id) × (now ≤ n.log.durable))
+new_at_most n changed id active was now is =
+    if_both (λ (v : PlainProgress). now ≡ v.matched → (now ≤ was) ⊎ ((id ≡ n.id) × (now ≤ n.log.durable))) (changed == n.id) _ _
+    (λ own e. inr (is ∙ eqb-true changed n.id own, omega (arith, e))) (λ _ e. inl (omega (arith, e)))
+
+with_view_at_most : (n : PlainNode) (changed : ℕ) (active : Bool) (id : ℕ) → OwnAtMost n (with_view_of n changed active) id
+with_view_at_most n changed active id =
+    if_both (λ (x : PlainNode). OwnAtMost n x id) (has_view n.tracker.views changed) _ _ (λ _. inl (omega arith))
+    (λ _. elim (put_alone n.tracker.views (rank (keys_of n.tracker.views) changed) changed id (new_view n changed active)) as (λ _. OwnAtMost n (record n { tracker = with_new n.tracker changed (new_view n changed active) }) id) [
+      | inl stays ↦ inl (omega (arith, stays))
+      | inr here ↦ new_at_most n changed id active (of n id) (match_of (with_new n.tracker changed (new_view n changed active)).views id) here.0 here.1
+    ])
+
+at_most_then : (a b c : PlainNode) (id : ℕ) → core b ≡ core a → OwnAtMost a b id → OwnAtMost b c id → OwnAtMost a c id
+at_most_then a b c id e p q =
+    let same_id : b.id ≡ a.id = ap (λ (x : Core). x.id) e in
+    let same_durable : b.log.durable ≡ a.log.durable = ap (λ (x : Core). x.log.durable) e in
+    elim q as (λ _. OwnAtMost a c id) [
+      | inr own ↦ (let low = own.1 in inr (own.0 ∙ same_id, omega (arith, low, same_durable)))
+      | inl less ↦ elim p as (λ _. OwnAtMost a c id) [
+        | inl before ↦ inl (omega (arith, less, before))
+        | inr own ↦ (let low = own.1 in inr (own.0, omega (arith, less, low)))
+      ]
+    ]
+
+with_views_at_most : (n : PlainNode) (ids : List ℕ) (active : Bool) (id : ℕ) → OwnAtMost n (with_views n ids active) id
+with_views_at_most n [] active id = inl (omega arith)
+with_views_at_most n (x ∷ xs) active id =
+    at_most_then n (with_view_of n x active) (with_views (with_view_of n x active) xs active) id (with_view_same n x active)
+    (with_view_at_most n x active id) (with_views_at_most (with_view_of n x active) xs active id)
+
+-- ---- a message: no more, its own, or an answer
+
+-- what an answer says to a leader
+record Answered (t : Turn) (m : Message) (k : MessageKind) (matched : ℕ) : Type 0 where
+  leads : t.node.role ≡ role.Leader
+  index : ℕ
+  says : k ≡ kind.AppendResponse index
+  at_most : matched ≤ index
+  held : matched ≤ last t.node.log
+
+abbrev Rests : Turn → Message → MessageKind → PlainNode → ℕ → Type 0
+Rests t m k new id =
+    (of new id ≤ of t.node id) ⊎ (((id ≡ new.id) × (of new id ≤ new.log.durable)) ⊎ ((id ≡ m.from) × Answered t m k (of new id)))
+
+stays : (t : Turn) (m : Message) (k : MessageKind) (new : PlainNode) (id : ℕ) → of new id ≡ of t.node id → Rests t m k new id
+stays t m k new id e = inl (omega (arith, e))
+
+gone : (t : Turn) (m : Message) (k : MessageKind) (new : PlainNode) (id : ℕ) → new.tracker.views ≡ [] → Rests t m k new id
+gone t m k new id e = let none : of new id ≡ 0 = ap (λ (v : List (ℕ × PlainProgress)). match_of v id) e in inl (omega (arith, none))
+
+-- ---- the lead
+
+appended_durable : (t : Turn) (body : Body) → (appended t body).node.log.durable ≡ t.node.log.durable
+appended_durable t body = if_both (λ (u : Turn). u.node.log.durable ≡ t.node.log.durable) (is_log_full t.node) _ _ (λ _. refl) (λ _. refl)
+
+appended_id : (t : Turn) (body : Body) → (appended t body).node.id ≡ t.node.id
+appended_id t body = if_both (λ (u : Turn). u.node.id ≡ t.node.id) (is_log_full t.node) _ _ (λ _. refl) (λ _. refl)
+
+appended_match : (t : Turn) (body : Body) (id : ℕ) → of (appended t body).node id ≡ of t.node id
+appended_match t body id = if_both (λ (u : Turn). of u.node id ≡ of t.node id) (is_log_full t.node) _ _ (λ _. refl) (λ _. refl)
+
+change_match : (t : Turn) (body : Body) (id : ℕ) → of (appended_change t body).node id ≡ of t.node id
+change_match t body id = if_both (λ (u : Turn). of u.node id ≡ of t.node id) (is_log_full t.node) _ _ (λ _. refl) (λ _. refl)
+
+led_rests : (t : Turn) (m : Message) (k : MessageKind) (id : ℕ) → Rests t m k (led t).node id
+unfolding led
+led_rests t m k id =
+    let n = t.node in
+    let u : Turn = told (with_node t (leading n)) (Became n.id role.Leader n.term) in
+    let v = appended u (Payload []) in
+    let new = told_all v.node in
+    let first : OwnAtMost (in_lead n) u.node id = with_views_at_most (in_lead n) (members n.tracker.config) (not n.options.check_quorum) id in
+    let kept_match : of new id ≡ of u.node id = told_all_match v.node id ∙ appended_match u (Payload []) id in
+    let e : core new ≡ core v.node = told_all_same v.node in
+    let c : core u.node ≡ core (in_lead n) = with_views_same (in_lead n) (members n.tracker.config) (not n.options.check_quorum) in
+    let same_durable : new.log.durable ≡ n.log.durable = ap (λ (x : Core). x.log.durable) e ∙ appended_durable u (Payload []) ∙ ap (λ (x : Core). x.log.durable) c in
+    let same_id : new.id ≡ n.id = ap (λ (x : Core). x.id) e ∙ appended_id u (Payload []) ∙ ap (λ (x : Core). x.id) c in
+    elim first as (λ _. Rests t m k new id) [
+      | inl less ↦ inl (omega (arith, less, kept_match))
+      | inr own ↦ (let low = own.1 in inr (inl (own.0 ∙ sym same_id, omega (arith, low, kept_match, same_durable))))
+    ]
+
+-- ---- campaigns and votes
+
+campaigned_rests_unless : (o : Option WhyNoCampaign) (t : Turn) (transfer : Bool) (m : Message) (k : MessageKind) (id : ℕ) → Rests t m k (campaigned_unless o t transfer).node id
+campaigned_rests_unless (Some reason) t transfer m k id = stays t m k t.node id refl
+campaigned_rests_unless None t transfer m k id =
+    let c = candidate t.node in
+    let p = precandidate t.node in
+    if_both (λ (u : Turn). Rests t m k u.node id) (t.node.options.pre_vote && not transfer) _ _
+    (λ _. stays t m k (sounded_out t).node id (same_views t.node (sounded_out t).node id (asked_views p (voters p.tracker.config) (p.term + 1) (kind.PreVote (last_term p.log) (last p.log)) (kind.PreVoteResponse true))))
+    (λ _. gone t m k (stood t transfer).node id (asked_views c (voters c.tracker.config) c.term (kind.Vote (last_term c.log) (last c.log) transfer) (kind.VoteResponse true)))
+
+campaigned_rests : (t : Turn) (transfer : Bool) (m : Message) (k : MessageKind) (id : ℕ) → Rests t m k (campaigned t transfer).node id
+unfolding campaigned
+campaigned_rests t transfer m k id = campaigned_rests_unless (why_no_campaign t.node) t transfer m k id
+
+stood_rests_unless : (o : Option WhyNoCampaign) (t : Turn) (m : Message) (k : MessageKind) (id : ℕ) → Rests t m k (stood_unless o t).node id
+stood_rests_unless (Some reason) t m k id = stays t m k t.node id refl
+stood_rests_unless None t m k id =
+    let c = candidate t.node in
+    gone t m k (stood t false).node id (asked_views c (voters c.tracker.config) c.term (kind.Vote (last_term c.log) (last c.log) false) (kind.VoteResponse true))
+
+stood_up_rests : (t : Turn) (m : Message) (k : MessageKind) (id : ℕ) → Rests t m k (stood_up t).node id
+unfolding stood_up
+stood_up_rests t m k id = stood_rests_unless (why_no_campaign t.node) t m k id
+
+-- counting changes no match, no role and no log
+by_counted : (t : Turn) (m : Message) (k : MessageKind) (granted : Bool) (new : PlainNode) (id : ℕ) → Rests (counted t m granted) m k new id → Rests t m k new id
+by_counted t m k granted new id is =
+    elim is as (λ _. Rests t m k new id) [
+      | inl less ↦ inl less
+      | inr more ↦ elim more as (λ _. Rests t m k new id) [
+        | inl own ↦ inr (inl own)
+        | inr said ↦ (let x = said.1 in inr (inr (said.0, record { leads = x.leads; index = x.index; says = x.says; at_most = x.at_most; held = x.held })))
+      ]
+    ]
+
+decided_rests : (v : VoteResult) (t : Turn) (m : Message) (k : MessageKind) (granted : Bool) (id : ℕ) → Rests t m k (decided v (counted t m granted)).node id
+decided_rests vote.Won t m k granted id = by_counted t m k granted (led (counted t m granted)).node id (led_rests (counted t m granted) m k id)
+decided_rests vote.Pending t m k granted id = stays t m k (counted t m granted).node id refl
+decided_rests vote.Lost t m k granted id = gone t m k (followed (counted t m granted) t.node.term 0).node id refl
+
+pre_decided_rests : (v : VoteResult) (t : Turn) (m : Message) (k : MessageKind) (granted : Bool) (id : ℕ) → Rests t m k (pre_decided v (counted t m granted)).node id
+pre_decided_rests vote.Won t m k granted id = by_counted t m k granted (stood_up (counted t m granted)).node id (stood_up_rests (counted t m granted) m k id)
+pre_decided_rests vote.Pending t m k granted id = stays t m k (counted t m granted).node id refl
+pre_decided_rests vote.Lost t m k granted id = gone t m k (followed (counted t m granted) t.node.term 0).node id refl
+
+-- ---- a leader
+
+handed_match : (n : PlainNode) (to i id : ℕ) → of (handed_to n to i) id ≡ of n id
+handed_match n to i id = if_both (λ (x : PlainNode). of x id ≡ of n id) (to == n.transferee && i == last n.log) _ _ (λ _. refl) (λ _. refl)
+
+commit_match : (n : PlainNode) (to : ℕ) (how : Mode) (id : ℕ) → of (commit_or_sent n to how) id ≡ of n id
+unfolding commit_or_sent
+commit_match n to how id =
+    if_both (λ (x : PlainNode). of x id ≡ of n id) (can_commit n (commit_of n.tracker)) _ _
+    (λ _. told_all_match (record n { commit = commit_of n.tracker }) id) (λ _. sends_match n to how id)
+
+heard_match_with : (o : Option PlainProgress) (n : PlainNode) (at id : ℕ) → view_at n.tracker.views at ≡ o → match_of (with_mark o n.tracker at true).views id ≡ of n id
+heard_match_with None n at id is = refl
+heard_match_with (Some view) n at id is = same_match n.tracker.views at view (marked view true) id is refl
+
+heard_match : (n : PlainNode) (at id : ℕ) → of (heard_of n at) id ≡ of n id
+unfolding marked_at
+heard_match n at id = heard_match_with (view_at n.tracker.views at) n at id refl
+
+heard_keys_with : (o : Option PlainProgress) (n : PlainNode) (at : ℕ) → keys_of (with_mark o n.tracker at true).views ≡ keys_of n.tracker.views
+heard_keys_with None n at = refl
+heard_keys_with (Some view) n at = ids_set n.tracker.views at (marked view true)
+
+heard_keys : (n : PlainNode) (at : ℕ) → keys_of (heard_of n at).tracker.views ≡ keys_of n.tracker.views
+unfolding marked_at
+heard_keys n at = heard_keys_with (view_at n.tracker.views at) n at
+
+acked_matched : (s : ProgressState) (view : PlainProgress) (i : ℕ) → (acked_in s view i).matched ≡ i
+acked_matched state.Probe view i = refl
+acked_matched state.Replicate view i = refl
+acked_matched state.Snapshot view i = if_both (λ (v : PlainProgress). v.matched ≡ i) (nat_le view.pending i) _ _ (λ _. refl) (λ _. refl)
+
+freed_matched : (s : ProgressState) (view : PlainProgress) (i : ℕ) → (freed_in s view i).matched ≡ view.matched
+freed_matched state.Probe view i = refl
+freed_matched state.Replicate view i = refl
+freed_matched state.Snapshot view i = refl
+
+refused_matched : (s : ProgressState) (view : PlainProgress) (i hint : ℕ) → (refused_in s view i hint).matched ≡ view.matched
+refused_matched state.Probe view i hint = refl
+refused_matched state.Replicate view i hint = refl
+refused_matched state.Snapshot view i hint = refl
+
+-- the sender's match becomes the index at most; nobody else's changes
+abbrev AloneOf : PlainNode → PlainNode → ℕ → ℕ → ℕ → Type 0
+AloneOf a b id from i = Alone (of b id) (of a id) id from i
+
+news_alone : (o : Option PlainProgress) (n : PlainNode) (at from i id : ℕ) → place n.tracker.views from ≡ Some at → AloneOf n (accepted_news o n at from i) id from i
+news_alone None n at from i id here = inl refl
+news_alone (Some view) n at from i id here =
+    let x = viewed n at (acked view i) in
+    let how = mode_after (paused view) in
+    let e : of (handed_to (commit_or_sent x from how) from i) id ≡ of x id = handed_match (commit_or_sent x from how) from i id ∙ commit_match x from how id in
+    elim (place_set n.tracker.views at from id (acked view i) here) as (λ _. AloneOf n (handed_to (commit_or_sent x from how) from i) id from i) [
+      | inl same ↦ inl (e ∙ same)
+      | inr new ↦ inr (new.0, e ∙ new.1 ∙ acked_matched view.state view i)
+    ]
+
+old_alone : (o : Option PlainProgress) (n : PlainNode) (at from i id : ℕ) → view_at n.tracker.views at ≡ o → AloneOf n (accepted_old o n at i) id from i
+old_alone None n at from i id is = inl refl
+old_alone (Some view) n at from i id is = inl (same_match n.tracker.views at view (freed_through view i) id is (freed_matched view.state view i))
+
+accepted_by_alone : (b : Bool) (n : PlainNode) (at from i id : ℕ) → place n.tracker.views from ≡ Some at → AloneOf n (accepted_by b n at from i) id from i
+accepted_by_alone true n at from i id here = news_alone (view_at n.tracker.views at) n at from i id here
+accepted_by_alone false n at from i id here = old_alone (view_at n.tracker.views at) n at from i id refl
+
+accepted_with_alone : (o : Option PlainProgress) (n : PlainNode) (at from i id : ℕ) → place n.tracker.views from ≡ Some at → AloneOf n (accepted_with o n at from i) id from i
+accepted_with_alone None n at from i id here = inl refl
+accepted_with_alone (Some view) n at from i id here = accepted_by_alone (is_news view i) n at from i id here
+
+accepted_at_alone : (o : Option ℕ) (t : Turn) (m : Message) (i id : ℕ) → place t.node.tracker.views m.from ≡ o → AloneOf t.node (accepted_at o t m i).node id m.from (min i (last t.node.log))
+accepted_at_alone None t m i id is = inl refl
+accepted_at_alone (Some at) t m i id is =
+    let n = heard_of t.node at in
+    let j = min i (last t.node.log) in
+    let here : place n.tracker.views m.from ≡ Some at = ap (λ (ks : List ℕ). position (λ (k : ℕ). m.from == k) ks) (heard_keys t.node at) ∙ is in
+    elim (accepted_with_alone (view_at n.tracker.views at) n at m.from j id here) as (λ _. AloneOf t.node (accepted_at (Some at) t m i).node id m.from j) [
+      | inl same ↦ inl (same ∙ heard_match t.node at id)
+      | inr new ↦ inr new
+    ]
+
+accepted_rests : (t : Turn) (m : Message) (i id : ℕ) → t.node.role ≡ role.Leader → Rests t m (kind.AppendResponse i) (accepted t m i).node id
+unfolding accepted
+accepted_rests t m i id leads =
+    elim (accepted_at_alone (place t.node.tracker.views m.from) t m i id refl) as (λ _. Rests t m (kind.AppendResponse i) (accepted_at (place t.node.tracker.views m.from) t m i).node id) [
+      | inl same ↦ inl (omega (arith, same))
+      | inr here ↦ (let e = here.1 in inr (inr (here.0, record { leads = leads; index = i; says = refl; at_most = omega (arith, e); held = omega (arith, e) })))
+    ]
+
+refused_with_match : (o : Option PlainProgress) (t : Turn) (at : ℕ) (m : Message) (i hint id : ℕ) → view_at t.node.tracker.views at ≡ o → of (refused_with o t at m i hint).node id ≡ of t.node id
+refused_with_match None t at m i hint id is = refl
+refused_with_match (Some view) t at m i hint id is =
+    let x = viewed t.node at (refused view i hint) in
+    if_both (λ (u : Turn). of u.node id ≡ of t.node id) (believes view i) _ _
+    (λ _. sends_match x m.from mode.Tell id ∙ same_match t.node.tracker.views at view (refused view i hint) id is (refused_matched view.state view i hint))
+    (λ _. refl)
+
+refused_at_match : (o : Option ℕ) (t : Turn) (m : Message) (i hint id : ℕ) → of (refused_at o t m i hint).node id ≡ of t.node id
+refused_at_match None t m i hint id = refl
+refused_at_match (Some at) t m i hint id =
+    let u : Turn = with_node t (heard_of t.node at) in
+    refused_with_match (view_at u.node.tracker.views at) u at m i hint id refl ∙ heard_match t.node at id
+
+refused_match : (t : Turn) (m : Message) (i hint id : ℕ) → of (append_refused t m i hint).node id ≡ of t.node id
+unfolding append_refused
+refused_match t m i hint id = refused_at_match (place t.node.tracker.views m.from) t m i hint id
+
+beat_with_match : (o : Option PlainProgress) (n : PlainNode) (at from id : ℕ) → view_at n.tracker.views at ≡ o → of (beat_answered_with o n at from) id ≡ of n id
+beat_with_match None n at from id is = refl
+beat_with_match (Some view) n at from id is =
+    let x = viewed n at (resumed view) in
+    let first : of x id ≡ of n id = same_match n.tracker.views at view (resumed view) id is refl in
+    if_both (λ (y : PlainNode). of y id ≡ of n id) (lags n view) _ _ (λ _. sends_match x from mode.Ping id ∙ first) (λ _. first)
+
+beat_at_match : (o : Option ℕ) (t : Turn) (m : Message) (id : ℕ) → of (beat_answered_at o t m).node id ≡ of t.node id
+beat_at_match None t m id = refl
+beat_at_match (Some at) t m id = let n = heard_of t.node at in beat_with_match (view_at n.tracker.views at) n at m.from id refl ∙ heard_match t.node at id
+
+beat_match : (t : Turn) (m : Message) (id : ℕ) → of (beat_answered t m).node id ≡ of t.node id
+unfolding beat_answered
+beat_match t m id = beat_at_match (place t.node.tracker.views m.from) t m id
+
+change_put_match : (o : Option WhyReplaced) (t : Turn) (body : Body) (id : ℕ) → of (change_put o t body).node id ≡ of t.node id
+change_put_match None t body id = change_match t body id
+change_put_match (Some reason) t body id = appended_match (told t (ReplacedChange t.node.id (last t.node.log + 1) reason)) (Payload []) id
+
+put_in_match : (body : Body) (t : Turn) (id : ℕ) → of (put_in body t).node id ≡ of t.node id
+put_in_match (Payload bytes) t id = appended_match t (Payload bytes) id
+put_in_match (Change transition asked) t id =
+    if_both (λ (u : Turn). of u.node id ≡ of t.node id) (is_log_full t.node) _ _
+    (λ _. refl) (λ _. change_put_match (why_replaced t.node (length asked)) t (Change transition asked) id)
+
+proposed_match : (t : Turn) (body : Body) (id : ℕ) → of (proposed t body).node id ≡ of t.node id
+unfolding proposed
+proposed_match t body id =
+    if_both (λ (u : Turn). of u.node id ≡ of t.node id) (takes_none t.node) _ _
+    (λ _. refl) (λ _. told_all_match (put_in body t).node id ∙ put_in_match body t id)
+
+older_match : (t : Turn) (id : ℕ) → of (older_ended t).node id ≡ of t.node id
+older_match t id = if_both (λ (u : Turn). of u.node id ≡ of t.node id) (t.node.transferee == 0) _ _ (λ _. refl) (λ _. refl)
+
+urged_match : (n : PlainNode) (target id : ℕ) → of (urged n target) id ≡ of n id
+urged_match n target id = if_both (λ (x : PlainNode). of x id ≡ of n id) (match_of n.tracker.views target == last n.log) _ _ (λ _. refl) (λ _. sends_match n target mode.Tell id)
+
+transferred_match : (t : Turn) (m : Message) (target id : ℕ) → of (transferred t m target).node id ≡ of t.node id
+unfolding transferred
+transferred_match t m target id =
+    let u = older_ended t in
+    if_both (λ (x : Turn). of x.node id ≡ of t.node id) (cannot_take_lead t.node target) _ _
+    (λ _. refl) (λ _. urged_match (record u.node { elapsed = 0; transferee = target }) target id ∙ older_match t id)
+
+-- ---- each role
+
+follower_rests : (k : MessageKind) (t : Turn) (m : Message) (id : ℕ) → Rests t m k (as_follower k t m).node id
+follower_rests (kind.Append append) t m id = stays t m (kind.Append append) (append_taken t m.from append).node id (same_views t.node (append_taken t m.from append).node id (append_kept t m.from append))
+follower_rests (kind.Heartbeat commit) t m id = inl (omega arith)
+follower_rests (kind.Snapshot snapshot) t m id =
+    let u : Turn = with_node t (heard t.node m.from) in
+    stays t m (kind.Snapshot snapshot) (snapshot_taken u m.from snapshot).node id (same_views u.node (snapshot_taken u m.from snapshot).node id (snapshot_kept u m.from snapshot))
+follower_rests (kind.Proposal body) t m id = if_both (λ (u : Turn). Rests t m (kind.Proposal body) u.node id) (t.node.lead == 0) _ _ (λ _. inl (omega arith)) (λ _. inl (omega arith))
+follower_rests (kind.TransferLeader target) t m id = if_both (λ (u : Turn). Rests t m (kind.TransferLeader target) u.node id) (t.node.lead == 0) _ _ (λ _. inl (omega arith)) (λ _. inl (omega arith))
+follower_rests kind.TimeoutNow t m id = campaigned_rests t true m kind.TimeoutNow id
+follower_rests _ t m id = inl (omega arith)
+
+-- who gives in has no views any more
+given_in_match : (k : MessageKind) (u : Turn) (m : Message) (id : ℕ) → u.node.tracker.views ≡ [] → u.node.role ≡ role.Follower → Rests u m k (as_follower k u m).node id → (of (as_follower k u m).node id ≤ 0) ⊎ ((id ≡ (as_follower k u m).node.id) × (of (as_follower k u m).node id ≤ (as_follower k u m).node.log.durable))
+given_in_match k u m id none follows is =
+    let nothing : of u.node id ≡ 0 = ap (λ (v : List (ℕ × PlainProgress)). match_of v id) none in
+    elim is as (λ _. (of (as_follower k u m).node id ≤ 0) ⊎ ((id ≡ (as_follower k u m).node.id) × (of (as_follower k u m).node id ≤ (as_follower k u m).node.log.durable))) [
+      | inl less ↦ inl (omega (arith, less, nothing))
+      | inr more ↦ elim more as (λ _. (of (as_follower k u m).node id ≤ 0) ⊎ ((id ≡ (as_follower k u m).node.id) × (of (as_follower k u m).node id ≤ (as_follower k u m).node.log.durable))) [
+        | inl own ↦ inr own
+        | inr said ↦ (let leads = said.1.leads in let clash : role.Follower ≡ role.Leader = sym follows ∙ leads in cc)
+      ]
+    ]
+
+given_in_rests : (t : Turn) (m : Message) (k : MessageKind) (id : ℕ) → Rests t m k (given_in t m).node id
+given_in_rests t m k id =
+    let u = followed t t.node.term m.from in
+    elim (given_in_match m.kind u m id refl refl (follower_rests m.kind u m id)) as (λ _. Rests t m k (given_in t m).node id) [
+      | inl none ↦ inl (omega (arith, none))
+      | inr own ↦ inr (inl own)
+    ]
+
+precandidate_rests : (k : MessageKind) (t : Turn) (m : Message) (id : ℕ) → Rests t m k (as_precandidate k t m).node id
+precandidate_rests (kind.PreVoteResponse granted) t m id = pre_decided_rests (count_of t.node m.from granted) t m (kind.PreVoteResponse granted) granted id
+precandidate_rests (kind.Append append) t m id = given_in_rests t m (kind.Append append) id
+precandidate_rests (kind.Heartbeat commit) t m id = given_in_rests t m (kind.Heartbeat commit) id
+precandidate_rests (kind.Snapshot snapshot) t m id = given_in_rests t m (kind.Snapshot snapshot) id
+precandidate_rests _ t m id = inl (omega arith)
+
+candidate_rests : (k : MessageKind) (t : Turn) (m : Message) (id : ℕ) → Rests t m k (as_candidate k t m).node id
+candidate_rests (kind.VoteResponse granted) t m id = decided_rests (count_of t.node m.from granted) t m (kind.VoteResponse granted) granted id
+candidate_rests (kind.Append append) t m id = given_in_rests t m (kind.Append append) id
+candidate_rests (kind.Heartbeat commit) t m id = given_in_rests t m (kind.Heartbeat commit) id
+candidate_rests (kind.Snapshot snapshot) t m id = given_in_rests t m (kind.Snapshot snapshot) id
+candidate_rests _ t m id = inl (omega arith)
+
+leader_rests : (k : MessageKind) (t : Turn) (m : Message) (id : ℕ) → t.node.role ≡ role.Leader → Rests t m k (as_leader k t m).node id
+leader_rests (kind.Proposal body) t m id is = stays t m (kind.Proposal body) (proposed t body).node id (proposed_match t body id)
+leader_rests (kind.AppendResponse matched) t m id is = accepted_rests t m matched id is
+leader_rests (kind.AppendRefusal i hint) t m id is = stays t m (kind.AppendRefusal i hint) (append_refused t m i hint).node id (refused_match t m i hint id)
+leader_rests kind.HeartbeatResponse t m id is = stays t m kind.HeartbeatResponse (beat_answered t m).node id (beat_match t m id)
+leader_rests (kind.TransferLeader target) t m id is = stays t m (kind.TransferLeader target) (transferred t m target).node id (transferred_match t m target id)
+leader_rests _ t m id is = inl (omega arith)
+
+role_rests : (r : Role) (t : Turn) (m : Message) (id : ℕ) → t.node.role ≡ r → Rests t m m.kind (by_role_of r t m).node id
+role_rests role.Follower t m id is = follower_rests m.kind t m id
+role_rests role.Precandidate t m id is = precandidate_rests m.kind t m id
+role_rests role.Candidate t m id is = candidate_rests m.kind t m id
+role_rests role.Leader t m id is = leader_rests m.kind t m id is
+
+vote_match : (n : PlainNode) (m : Message) (last_term last_index id : ℕ) → of (vote_answered n m last_term last_index) id ≡ of n id
+vote_match n m last_term last_index id = if_both (λ (x : PlainNode). of x id ≡ of n id) (grants n m last_term last_index false) _ _ (λ _. refl) (λ _. refl)
+
+pre_vote_match : (n : PlainNode) (m : Message) (last_term last_index id : ℕ) → of (pre_vote_answered n m last_term last_index) id ≡ of n id
+pre_vote_match n m last_term last_index id = if_both (λ (x : PlainNode). of x id ≡ of n id) (grants n m last_term last_index true) _ _ (λ _. refl) (λ _. refl)
+
+term_rests : (k : MessageKind) (t : Turn) (m : Message) (id : ℕ) → Rests t m m.kind (at_term_by k t m).node id
+term_rests (kind.Vote last_term last_index transfer) t m id = stays t m m.kind (vote_answered t.node m last_term last_index) id (vote_match t.node m last_term last_index id)
+term_rests (kind.PreVote last_term last_index) t m id = stays t m m.kind (pre_vote_answered t.node m last_term last_index) id (pre_vote_match t.node m last_term last_index id)
+term_rests _ t m id = role_rests t.node.role t m id refl
+
+-- ---- the term
+
+lowered_match : (k : MessageKind) (t : Turn) (m : Message) (id : ℕ) → of (lowered_by k t m).node id ≡ of t.node id
+lowered_match (kind.Append append) t m id = if_both (λ (u : Turn). of u.node id ≡ of t.node id) (answers_earlier t.node) _ _ (λ _. refl) (λ _. refl)
+lowered_match (kind.Heartbeat commit) t m id = if_both (λ (u : Turn). of u.node id ≡ of t.node id) (answers_earlier t.node) _ _ (λ _. refl) (λ _. refl)
+lowered_match _ t m id = refl
+
+raised_less : (k : MessageKind) (t : Turn) (m : Message) (id : ℕ) → of (raised_by k t m).node id ≤ of t.node id
+raised_less (kind.PreVote last_term last_index) t m id = omega arith
+raised_less (kind.PreVoteResponse granted) t m id = if_both (λ (u : Turn). of u.node id ≤ of t.node id) granted _ _ (λ _. omega arith) (λ _. omega arith)
+raised_less _ t m id = omega arith
+
+answer_follows : (k : MessageKind) (i : ℕ) (t : Turn) (m : Message) → k ≡ kind.AppendResponse i → (raised_by k t m).node.role ≡ role.Follower
+answer_follows k i t m e = ap (λ (x : MessageKind). (raised_by x t m).node.role) e
+
+answer_term : (k : MessageKind) (i : ℕ) (same : Bool) → k ≡ kind.AppendResponse i → (not (has_term k) || same) ≡ true → same ≡ true
+answer_term k i same e h = let P : MessageKind → Type 0 = λ x. (not (has_term x) || same) ≡ true in subst P e h
+
+in_term : (t : Turn) (m : Message) (new : PlainNode) (id : ℕ) → (not (has_term m.kind) || m.term == t.node.term) ≡ true → Rests t m m.kind new id → RestsOn t.node m new id
+in_term t m new id now is =
+    elim is as (λ _. RestsOn t.node m new id) [
+      | inl less ↦ inl less
+      | inr more ↦ elim more as (λ _. RestsOn t.node m new id) [
+        | inl own ↦ inr (inl own)
+        | inr said ↦ (let x = said.1 in inr (inr (said.0, record {
+            leads = x.leads;
+            of_term = eqb-true m.term t.node.term (answer_term m.kind x.index (m.term == t.node.term) x.says now);
+            index = x.index;
+            says = x.says;
+            at_most = x.at_most;
+            held = x.held;
+          })))
+      ]
+    ]
+
+in_later_term : (t : Turn) (m : Message) (new : PlainNode) (id : ℕ) → Rests (raised t m) m m.kind new id → RestsOn t.node m new id
+in_later_term t m new id is =
+    let low : of (raised t m).node id ≤ of t.node id = raised_less m.kind t m id in
+    elim is as (λ _. RestsOn t.node m new id) [
+      | inl less ↦ inl (omega (arith, less, low))
+      | inr more ↦ elim more as (λ _. RestsOn t.node m new id) [
+        | inl own ↦ inr (inl own)
+        | inr said ↦ (let leads = said.1.leads in let clash : role.Follower ≡ role.Leader = sym (answer_follows m.kind said.1.index t m said.1.says) ∙ leads in cc)
+      ]
+    ]
+
+pub stepped_rests : (t : Turn) (m : Message) (id : ℕ) → RestsOn t.node m (stepped t m).node id
+unfolding stepped
+stepped_rests t m id =
+    let P : Turn → Type 0 = λ u. RestsOn t.node m u.node id in
+    if_both P (not (has_term m.kind) || m.term == t.node.term) (at_term t m)
+    (if nat_lt m.term t.node.term then lowered t m else (if is_disturbed_by m.kind t.node then ignored t m else at_term (raised t m) m))
+    (λ now. in_term t m (at_term t m).node id now (term_rests m.kind t m id))
+    (λ _. if_both P (nat_lt m.term t.node.term) (lowered t m) (if is_disturbed_by m.kind t.node then ignored t m else at_term (raised t m) m)
+    (λ _. (let e = lowered_match m.kind t m id in inl (omega (arith, e))))
+    (λ _. if_both P (is_disturbed_by m.kind t.node) (ignored t m) (at_term (raised t m) m)
+    (λ _. inl (omega arith))
+    (λ _. in_later_term t m (at_term (raised t m) m).node id (term_rests m.kind (raised t m) m id))))
