@@ -1,5 +1,5 @@
 -- What is known of all bytes from those that are held.
-use Rattle.std.proofs.Common.{◌≡◌, ℕ, List, [], ◌∷◌, ◌++◌, Bool, true, false, Option, Some, None, IfSome, if◌then◌else◌, sym, subst, ◌∙◌, append-nil}
+use Rattle.std.proofs.Common.{◌≡◌, ℕ, List, [], ◌∷◌, ◌++◌, Bool, true, false, Option, Some, None, IfSome, if◌then◌else◌, ap, sym, subst, ◌∙◌, append_assoc, append-nil}
 use Rattle.std.specs.Io.KnownBytes.{Keeps, prepend_known}
 use Rattle.rb_rpc.specs.declared.message_reader.Next.{Next}
 use Rattle.rb_rpc.specs.Messages.{HasNoMessage, NeverHasMessage}
@@ -15,11 +15,11 @@ more_known before known true held kept = ([], sym kept ∙ sym (append-nil held)
 more_known before None false held kept = absurd kept
 more_known before (Some more) false held kept = (more, sym kept)
 
-pub never_known : (before known : Option (List ℕ)) (has_ended : Bool) (held : List ℕ) → Keeps before (known_of has_ended held known) → NeverHasMessage held → IfSome before HasNoMessage
+pub never_known : (before known : Option (List ℕ)) (has_ended : Bool) (held : List ℕ) → Keeps before (known_of has_ended held known) → NeverHasMessage held → IfSome before NeverHasMessage
 never_known None known has_ended held kept never = tt
 never_known (Some before) known has_ended held kept never =
     let (more, is) = more_known before known has_ended held kept in
-    subst HasNoMessage (sym is) (never more)
+    λ further. subst HasNoMessage (sym (ap (λ (l : List ℕ). l ++ further) is ∙ append_assoc held more further)) (never (more ++ further))
 
 end_given : (before after : Option (List ℕ)) (held body : List ℕ) → Keeps before (Some held) → HasNoMessage held → GivesNext (end_of held) before after body
 end_given None after [] body kept none = tt

@@ -4,7 +4,7 @@ use Rattle.std.specs.Io.KnownBytes.{prepend_known, IsAtEnd}
 use Rattle.rb_rpc.specs.declared.message_reader.MessageReader.{MessageReader}
 use Rattle.rb_rpc.specs.declared.message_reader.Next.{Next}
 use Rattle.rb_rpc.specs.declared.message_reader.Next.TheVariants as next
-use Rattle.rb_rpc.specs.Messages.{IsMessage, HasNoMessage}
+use Rattle.rb_rpc.specs.Messages.{IsMessage, HasNoMessage, NeverHasMessage}
 
 -- the held bytes and then those of the source, where they are known; after the end those that are held
 abbrev pub left_of : MessageReader → Option (List ℕ) → Option (List ℕ)
@@ -30,4 +30,4 @@ abbrev pub GivesNext : Next → Option (List ℕ) → Option (List ℕ) → List
 GivesNext next.Message before after body = LosesMessage before after body
 GivesNext next.End before after body = IsAtEnd before
 GivesNext next.CutOff before after body = IfSome before (λ all. HasNoMessage all × (all ≢ []))
-GivesNext next.Bad before after body = IfSome before HasNoMessage
+GivesNext next.Bad before after body = IfSome before NeverHasMessage
