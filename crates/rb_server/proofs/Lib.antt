@@ -1,0 +1,4 @@
+pub mod PlainLaws
+pub mod ReplyLaws
+pub mod TalkLaws
+pub mod OneLaws

@@ -1,0 +1,42 @@
+-- What a client offers at `initialize`, and what the server can do. (LSP 3.17, "Initialize Request" and "PositionEncodingKind".)
+use Rattle.std.specs.Prelude.{ℕ, Bool, false, ◌||◌, List, Option, Some, None, codes, if◌then◌else◌, is_some, option_and_then}
+use Rattle.std.specs.Str.{bytes_eq}
+use Rattle.serde_json.specs.Data.{Data, string, object, no_members, member}
+use Rattle.serde_json.specs.Find.{get, at, as_str, as_object}
+use Rattle.rb_document.specs.declared.position.Encoding.{Encoding}
+use Rattle.rb_document.specs.declared.position.Encoding.TheVariants.{Utf8, Utf16}
+
+-- the encodings that a client offers
+abbrev pub offered : Data → Option Data
+offered d = option_and_then (get (codes "positionEncodings")) (option_and_then (get (codes "general")) (get (codes "capabilities") d))
+
+abbrev pub is_bytes : Option (List ℕ) → Bool
+is_bytes None = false
+is_bytes (Some name) = bytes_eq name (codes "utf-8")
+
+-- the name at place n is that of bytes
+abbrev pub names_bytes : ℕ → Data → Bool
+names_bytes n d = is_bytes (option_and_then as_str (at n d))
+
+-- bytes are among the first three: the protocol knows three encodings
+abbrev pub are_bytes_in : Option Data → Bool
+are_bytes_in None = false
+are_bytes_in (Some names) = (names_bytes 0 names || names_bytes 1 names) || names_bytes 2 names
+
+abbrev pub offers_bytes : Data → Bool
+offers_bytes d = are_bytes_in (offered d)
+
+-- In what columns count: in bytes where the client offers that. There is nothing to choose where what is given is no object.
+abbrev pub chosen_encoding : Option Data → Option Encoding
+chosen_encoding None = None
+chosen_encoding (Some d) = if is_some (as_object d) then (if offers_bytes d then Some Utf8 else Some Utf16) else None
+
+abbrev pub encoding_name : Encoding → List ℕ
+encoding_name Utf8 = codes "utf-8"
+encoding_name Utf16 = codes "utf-16"
+
+-- what the server can do
+unfoldable pub initialized : Encoding → Data
+initialized encoding =
+    object (member (codes "capabilities") (object (member (codes "positionEncoding") (string (encoding_name encoding)) no_members))
+    (member (codes "serverInfo") (object (member (codes "name") (string (codes "raftbench")) no_members)) no_members))

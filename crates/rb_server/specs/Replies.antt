@@ -1,0 +1,95 @@
+-- What a server answers, and where it stands after that. (LSP 3.17, "Server lifecycle"; JSON-RPC 2.0, section 5.1. The sentences are
+-- this project's.)
+use Rattle.std.specs.Prelude.{ℕ, List, [], Option, Some, None, codes}
+use Rattle.serde_json.specs.Data.{Data, null}
+use Rattle.serde_json.specs.Written.{compact_text}
+use Rattle.rb_document.specs.declared.position.Encoding.{Encoding}
+use Rattle.rb_rpc.specs.Messages.{frame}
+use Rattle.rb_rpc.specs.Said.{Said, request, notification, response, invalid}
+use Rattle.rb_rpc.specs.Answers.{success, failure}
+use Rattle.rb_rpc.specs.declared.answer.ErrorCode.TheVariants.{ParseError, InvalidRequest, MethodNotFound, InvalidParams, ServerNotInitialized}
+use Rattle.rb_server.specs.Methods.{method_of}
+use Rattle.rb_server.specs.Beginnings.{chosen_encoding, initialized}
+use Rattle.rb_server.specs.declared.method.Method.{Method}
+use Rattle.rb_server.specs.declared.method.Method.TheVariants.{Initialize, Shutdown, Exit, Unknown}
+use Rattle.rb_server.specs.declared.phase.Phase.{Phase}
+use Rattle.rb_server.specs.declared.phase.Phase.TheVariants.{Fresh, Running, Stopped}
+use Rattle.rb_server.specs.declared.phase.Status.{Status}
+use Rattle.rb_server.specs.declared.phase.Status.TheVariants.{Done, Exited}
+use Rattle.rb_server.specs.declared.phase.Turned.{Turned}
+use Rattle.rb_server.specs.declared.phase.Turned.TheVariants.{On, Over}
+
+-- ---- the answer to a request
+
+abbrev pub initialize_answer : Option Encoding → Data → Data
+initialize_answer (Some encoding) id = success id (initialized encoding)
+initialize_answer None id = failure id InvalidParams (codes "params is no object")
+
+-- before `initialize`
+abbrev pub fresh_answer : Method → Option Data → Data → Data
+fresh_answer Initialize params id = initialize_answer (chosen_encoding params) id
+fresh_answer method params id = failure id ServerNotInitialized (codes "initialize comes first")
+
+-- between `initialize` and `shutdown`
+abbrev pub running_answer : Method → Data → Data
+running_answer Shutdown id = success id null
+running_answer Initialize id = failure id InvalidRequest (codes "initialize came before")
+running_answer method id = failure id MethodNotFound (codes "there is no such method")
+
+abbrev pub answer_to : Phase → Method → Option Data → Data → Data
+answer_to Fresh method params id = fresh_answer method params id
+answer_to (Running encoding) method params id = running_answer method id
+answer_to Stopped method params id = failure id InvalidRequest (codes "shutdown came before")
+
+-- ---- the answer to a message
+
+-- to JSON that is no message, whose id isn't known
+unfoldable pub no_message : Data
+no_message = failure null InvalidRequest (codes "this is no message")
+
+-- to what is no JSON
+unfoldable pub no_json : Data
+no_json = failure null ParseError (codes "this is no JSON")
+
+-- to a request one answer, to a notification none
+abbrev pub reply : Phase → Said → Option Data
+reply phase (request id method params) = Some (answer_to phase (method_of method) params id)
+reply phase (notification method params) = None
+reply phase response = None
+reply phase invalid = Some no_message
+
+-- what goes out
+unfoldable pub sent : Option Data → List ℕ
+sent None = []
+sent (Some d) = frame (compact_text d)
+
+-- ---- where the server stands after a message
+
+-- after `initialize`
+abbrev pub started : Option Encoding → Phase
+started (Some encoding) = Running encoding
+started None = Fresh
+
+-- after a request
+abbrev pub after : Phase → Method → Option Data → Phase
+after Fresh Initialize params = started (chosen_encoding params)
+after Fresh method params = Fresh
+after (Running encoding) Shutdown params = Stopped
+after (Running encoding) method params = Running encoding
+after Stopped method params = Stopped
+
+-- how it ends at `exit`
+abbrev pub status_of : Phase → Status
+status_of Stopped = Done
+status_of phase = Exited
+
+-- after a notification
+abbrev pub unless_exit : Phase → Method → Turned
+unless_exit phase Exit = Over (status_of phase)
+unless_exit phase method = On phase
+
+abbrev pub turned_by : Phase → Said → Turned
+turned_by phase (request id method params) = On (after phase (method_of method) params)
+turned_by phase (notification method params) = unless_exit phase (method_of method)
+turned_by phase response = On phase
+turned_by phase invalid = On phase

@@ -1,0 +1,168 @@
+//! What is answered to a message, and where the server stands after it.
+
+ghost use Rattle.std.specs.Prelude.{◌≡◌, false, IfOk, option_map};
+ghost use Rattle.serde_json.specs.View.{view};
+ghost use Rattle.serde_json.specs.Written.{has_float};
+ghost use Rattle.rb_rpc.specs.Said.{said_of};
+ghost use Rattle.rb_server.specs.Replies.{after, answer_to, fresh_answer, initialize_answer, no_json, no_message, reply, running_answer, turned_by};
+
+use crate::beginning::{chosen_encoding, initialized};
+use crate::method::{Method, method_of};
+use crate::phase::{Phase, Turned, status_of};
+use rb_document::Encoding;
+use rb_rpc::{ErrorCode, Incoming, failure, success};
+use serde_json::Value;
+use std::alloc::{AllocError, Global};
+
+// The answer to `initialize`.
+fn initialize_answer(
+    alloc: Global,
+    encoding: Option<Encoding>,
+    id: &Value,
+) -> Result<Value, AllocError>
+    ensures { IfOk result (λ value. view value ≡ initialize_answer encoding (view id.now)) }
+{
+    match encoding {
+        Some(encoding) => success(alloc, id, initialized(alloc, encoding)?),
+        None => failure(alloc, id, ErrorCode::InvalidParams, "params is no object"),
+    }
+}
+
+// The answer to a request before `initialize`.
+fn fresh_answer(
+    alloc: Global,
+    method: Method,
+    params: Option<&Value>,
+    id: &Value,
+) -> Result<Value, AllocError>
+    ensures { IfOk result (λ value. view value ≡ fresh_answer method (option_map (λ v. view v.now) params.entry) (view id.now)) }
+{
+    match method {
+        Method::Initialize => initialize_answer(alloc, chosen_encoding(params), id),
+        _ => failure(
+            alloc,
+            id,
+            ErrorCode::ServerNotInitialized,
+            "initialize comes first",
+        ),
+    }
+}
+
+// The answer to a request between `initialize` and `shutdown`.
+fn running_answer(alloc: Global, method: Method, id: &Value) -> Result<Value, AllocError>
+    ensures { IfOk result (λ value. view value ≡ running_answer method (view id.now)) }
+{
+    match method {
+        Method::Shutdown => success(alloc, id, Value::Null),
+        Method::Initialize => failure(
+            alloc,
+            id,
+            ErrorCode::InvalidRequest,
+            "initialize came before",
+        ),
+        _ => failure(
+            alloc,
+            id,
+            ErrorCode::MethodNotFound,
+            "there is no such method",
+        ),
+    }
+}
+
+// The answer to a request.
+fn answer_to(
+    alloc: Global,
+    phase: Phase,
+    method: Method,
+    params: Option<&Value>,
+    id: &Value,
+) -> Result<Value, AllocError>
+    ensures { IfOk result (λ value. view value ≡ answer_to phase method (option_map (λ v. view v.now) params.entry) (view id.now)) }
+{
+    match phase {
+        Phase::Fresh => fresh_answer(alloc, method, params, id),
+        Phase::Running(_) => running_answer(alloc, method, id),
+        Phase::Stopped => failure(alloc, id, ErrorCode::InvalidRequest, "shutdown came before"),
+    }
+}
+
+/// What is answered to what was heard: to a request one answer, to a notification none.
+pub(crate) fn reply(
+    alloc: Global,
+    phase: Phase,
+    heard: &Incoming<'_>,
+) -> Result<Option<Value>, AllocError>
+    ensures { IfOk result (λ answer. option_map view answer ≡ reply phase (said_of heard.now)) }
+{
+    match *heard {
+        Incoming::Request(id, method, params) => Ok(Some(answer_to(
+            alloc,
+            phase,
+            method_of(method),
+            params,
+            id,
+        )?)),
+        Incoming::Invalid => Ok(Some(no_message(alloc)?)),
+        _ => Ok(None),
+    }
+}
+
+// Where a server stands after a request.
+fn after(phase: Phase, method: Method, params: Option<&Value>) -> Phase
+    ensures { result ≡ after phase method (option_map (λ v. view v.now) params.entry) }
+{
+    match (phase, method) {
+        (Phase::Fresh, Method::Initialize) => match chosen_encoding(params) {
+            Some(encoding) => Phase::Running(encoding),
+            None => Phase::Fresh,
+        },
+        (Phase::Running(_), Method::Shutdown) => Phase::Stopped,
+        _ => phase,
+    }
+}
+
+/// Where a server stands after what was heard, or how it ends.
+pub(crate) fn turned_by(phase: Phase, heard: &Incoming<'_>) -> Turned
+    ensures { result ≡ turned_by phase (said_of heard.now) }
+{
+    match *heard {
+        Incoming::Request(_, method, params) => {
+            Turned::On(after(phase, method_of(method), params))
+        }
+        Incoming::Notification(method, _) => {
+            if method_of(method) == Method::Exit {
+                Turned::Over(status_of(phase))
+            } else {
+                Turned::On(phase)
+            }
+        }
+        _ => Turned::On(phase),
+    }
+}
+
+// What is answered to JSON that is no message. Its id isn't known.
+#[tactic(auto, unfolding(crate::specs::Replies::no_message))]
+fn no_message(alloc: Global) -> Result<Value, AllocError>
+    ensures { IfOk result (λ answer. view answer ≡ no_message) }
+{
+    failure(
+        alloc,
+        &Value::Null,
+        ErrorCode::InvalidRequest,
+        "this is no message",
+    )
+}
+
+/// What is answered to what is no JSON.
+#[tactic(auto, unfolding(crate::specs::Replies::no_json))]
+pub(crate) fn no_json(alloc: Global) -> Result<Value, AllocError>
+    ensures value { IfOk result (λ answer. view answer ≡ no_json) }
+    ensures plain { IfOk result (λ answer. has_float (view answer) ≡ false) }
+{
+    failure(
+        alloc,
+        &Value::Null,
+        ErrorCode::ParseError,
+        "this is no JSON",
+    )
+}

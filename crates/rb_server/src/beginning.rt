@@ -1,0 +1,72 @@
+//! What a client offers when it begins, and what a server takes of it.
+
+ghost use Rattle.std.specs.Prelude.{◌≡◌, false, IfOk, option_map};
+ghost use Rattle.serde_json.specs.View.{view};
+ghost use Rattle.rb_server.specs.Beginnings.{chosen_encoding, encoding_name, initialized, names_bytes, offered, offers_bytes};
+
+use rb_document::Encoding;
+use serde_json::{Value, json};
+use std::alloc::{AllocError, Global};
+
+/// In what columns will count: in bytes where the client offers that, and else in units of UTF-16, which each client counts in.
+/// None where what is given to `initialize` is no object.
+pub(crate) fn chosen_encoding(params: Option<&Value>) -> Option<Encoding>
+    ensures { result ≡ chosen_encoding (option_map (λ v. view v.now) params.entry) }
+{
+    let params = params?;
+    if !params.is_object() {
+        return None;
+    }
+    if offers_bytes(params) {
+        Some(Encoding::Utf8)
+    } else {
+        Some(Encoding::Utf16)
+    }
+}
+
+// Whether bytes are among the first three encodings that are offered. The protocol knows three.
+fn offers_bytes(params: &Value) -> bool
+    ensures { result ≡ offers_bytes (view params.now) }
+{
+    match offered(params) {
+        Some(names) => names_bytes(names, 0) || names_bytes(names, 1) || names_bytes(names, 2),
+        None => false,
+    }
+}
+
+// The encodings that a client offers, by name.
+fn offered(params: &Value) -> Option<&Value>
+    ensures { option_map (λ v. view v.now) result ≡ offered (view params.now) }
+{
+    let capabilities = params.get("capabilities")?;
+    let general = capabilities.get("general")?;
+    general.get("positionEncodings")
+}
+
+// Whether the name at a place is that of bytes.
+fn names_bytes(names: &Value, n: usize) -> bool
+    ensures { result ≡ names_bytes n (view names.now) }
+{
+    match names.get(n).and_then(Value::as_str) {
+        Some(name) => name == "utf-8",
+        None => false,
+    }
+}
+
+fn encoding_name(encoding: Encoding) -> &'static str
+    ensures { result.now ≡ encoding_name encoding }
+{
+    match encoding {
+        Encoding::Utf8 => "utf-8",
+        Encoding::Utf16 => "utf-16",
+    }
+}
+
+/// What is answered to `initialize`: what the server can do.
+#[tactic(auto, unfolding(crate::specs::Beginnings::initialized))]
+pub(crate) fn initialized(alloc: Global, encoding: Encoding) -> Result<Value, AllocError>
+    ensures { IfOk result (λ value. view value ≡ initialized encoding) }
+{
+    let name = encoding_name(encoding);
+    json!(in alloc; {"capabilities": {"positionEncoding": name}, "serverInfo": {"name": "raftbench"}})
+}

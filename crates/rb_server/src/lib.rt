@@ -1,0 +1,22 @@
+//! A language server's life: an editor's messages come in, each is answered before the next is read, up to the end.
+//!
+//! [`serve`] is a server over any [`Source`] of [`rb_line`] and any [`Sink`] of [`rb_script`]. It begins with `initialize`, does
+//! requests until `shutdown`, and ends with `exit`; a [`Status`] says how it ended. What each message is answered, and where the server
+//! stands after it, depends on the message and on where it stood before.
+//!
+//! [`Source`]: rb_line::Source
+//! [`Sink`]: rb_script::Sink
+#![tactic(auto)]
+
+mod answers;
+mod beginning;
+mod fault;
+mod laws;
+mod method;
+mod phase;
+mod serving;
+
+pub use fault::ServeFault;
+pub use laws::{conversations_are_one, notifications_have_no_answer, requests_have_one_answer};
+pub use phase::Status;
+pub use serving::serve;

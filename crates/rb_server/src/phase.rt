@@ -1,0 +1,51 @@
+//! Where a server stands, and how it ends.
+
+ghost use Rattle.std.specs.Prelude.{◌≡◌};
+ghost use Rattle.rb_server.specs.Replies.{status_of};
+
+use rb_document::Encoding;
+
+/// Where a server stands.
+#[derive(Clone, Copy, Debug, PartialEq, Eq)]
+pub(crate) enum Phase {
+    /// `initialize` is yet to come.
+    Fresh,
+    /// Requests are done. Columns count in these units.
+    Running(Encoding),
+    /// `shutdown` has come, and `exit` is yet to.
+    Stopped,
+}
+
+/// How a server ends.
+#[derive(Clone, Copy, Debug, PartialEq, Eq)]
+pub enum Status {
+    /// `exit` came after `shutdown`.
+    Done,
+    /// `exit` came, and `shutdown` had not.
+    Exited,
+    /// The input ended, and `exit` had not come.
+    Closed,
+    /// The input ended within a message.
+    CutOff,
+    /// The input went on with what no message begins with.
+    NoMessage,
+}
+
+/// What one more message comes to.
+#[derive(Clone, Copy, Debug, PartialEq, Eq)]
+pub(crate) enum Turned {
+    /// The server goes on.
+    On(Phase),
+    /// It ends.
+    Over(Status),
+}
+
+/// How a server ends at `exit`.
+pub(crate) fn status_of(phase: Phase) -> Status
+    ensures { result ≡ status_of phase }
+{
+    match phase {
+        Phase::Stopped => Status::Done,
+        _ => Status::Exited,
+    }
+}
