@@ -6,17 +6,17 @@ use Rattle.rb_script.specs.declared.fault.ScriptFault.TheVariants as faults
 abbrev pub sentence : ScriptFault → List ℕ
 sentence faults.TooLong = codes "the script, or its canonical text, has more than 4,194,304 bytes; cut it into several scripts"
 sentence (faults.LineTooLong line) =
-    codes "this line has more than 65,536 bytes; mostly an end of line is missing, or the file is no script"
+    codes "this line has more than 65,536 bytes; usually an end of line is missing, or the file is not a script"
 sentence (faults.BadLine line) =
-    codes "this is no name with arguments; mostly a parenthesis is not closed, a backslash is missing, or an empty line cut the output above"
+    codes "this is not a name with arguments; usually a parenthesis is not closed, a backslash is missing, or an empty line cut the output above"
 sentence (faults.NoSeparator line) =
-    codes "no line ---- follows this directive; mostly it was left out, or an empty line cut the output above"
+    codes "no line ---- follows this directive; usually it was left out, or an empty line cut the output above"
 sentence (faults.NotClosed line) =
-    codes "the output below this ---- has no end; mostly an empty line is missing before the next directive, or the two closing ----"
+    codes "the output below this ---- has no end; usually an empty line is missing before the next directive, or the two closing ---- are missing"
 sentence faults.TooManyDirectives = codes "the script has more than 20,000 directives; cut it into several scripts"
 sentence faults.NotOneBlock = codes "one directive with its output is wanted, and nothing after it"
 sentence (faults.TooManyArguments line) =
-    codes "this directive has more than 64 arguments, or values of one; mostly a backslash takes in a line too many"
+    codes "this directive has more than 64 arguments, or more than 64 values of one; usually a backslash takes in a line too many"
 sentence faults.OutOfMemory = codes "out of memory"
 
 -- the line that it is at, which counts from 1

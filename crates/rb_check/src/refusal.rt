@@ -15,19 +15,19 @@ fn sentence(fault: ScriptFault) -> &'static [u8]
         ScriptFault::TooLong =>
             b"the script, or its canonical text, has more than 4,194,304 bytes; cut it into several scripts",
         ScriptFault::LineTooLong(_) =>
-            b"this line has more than 65,536 bytes; mostly an end of line is missing, or the file is no script",
+            b"this line has more than 65,536 bytes; usually an end of line is missing, or the file is not a script",
         ScriptFault::BadLine(_) =>
-            b"this is no name with arguments; mostly a parenthesis is not closed, a backslash is missing, or an empty line cut the output above",
+            b"this is not a name with arguments; usually a parenthesis is not closed, a backslash is missing, or an empty line cut the output above",
         ScriptFault::NoSeparator(_) =>
-            b"no line ---- follows this directive; mostly it was left out, or an empty line cut the output above",
+            b"no line ---- follows this directive; usually it was left out, or an empty line cut the output above",
         ScriptFault::NotClosed(_) =>
-            b"the output below this ---- has no end; mostly an empty line is missing before the next directive, or the two closing ----",
+            b"the output below this ---- has no end; usually an empty line is missing before the next directive, or the two closing ---- are missing",
         ScriptFault::TooManyDirectives =>
             b"the script has more than 20,000 directives; cut it into several scripts",
         ScriptFault::NotOneBlock =>
             b"one directive with its output is wanted, and nothing after it",
         ScriptFault::TooManyArguments(_) =>
-            b"this directive has more than 64 arguments, or values of one; mostly a backslash takes in a line too many",
+            b"this directive has more than 64 arguments, or more than 64 values of one; usually a backslash takes in a line too many",
         ScriptFault::OutOfMemory => b"out of memory",
     }
 }
