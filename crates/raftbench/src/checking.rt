@@ -1,18 +1,20 @@
 //! Checking one script. Nothing is held longer than its script.
 
 ghost use Rattle.std.specs.Prelude.{IfOk};
+ghost use Rattle.rb_script.specs.Reads.{Reads};
 ghost use Rattle.raftbench.specs.Accepted.{IsAccepted};
 
 use crate::check::Asked;
 use crate::report::Report;
 use rb_bench::{ReadFault, read_up_to};
-use rb_check::{Failure, Place, put_directive, put_mismatch};
+use rb_check::Failure;
+use rb_checked::{ShowFault, View, put_checked};
 use rb_cluster::{Cluster, Meter};
 use rb_files::{Beside, Trouble, opened, replace};
 use rb_line::Incoming;
 use rb_raftlog::SplitLog;
 use rb_replay::{MAX_SPACING, Session, StartFault};
-use rb_script::{Edit, EditFault, MAX_SCRIPT, Sink, Through, WriteFault, head_lines};
+use rb_script::{Edit, EditFault, MAX_SCRIPT, Through, WriteFault};
 use std::alloc::Global;
 use std::fs::Metadata;
 use std::io;
@@ -65,11 +67,8 @@ fn run<R: Files + AllocGlobal, W: Write + Drop, E: Write + Drop>(
         Err(StartFault::Script(fault)) => return report.refused(path, fault),
         Err(_) => return report.fail(path.as_bytes(), Trouble::alone(Failure::OutOfMemory)),
     };
-    if asked.is_verbose || !session.mismatches().is_empty() {
-        let Ok(lines) = head_lines(rt.alloc(), &text.bytes) else {
-            return report.fail(path.as_bytes(), Trouble::alone(Failure::OutOfMemory));
-        };
-        show(&session, &lines, asked, path, report);
+    if let Err(trouble) = show(rt.alloc(), &session, &text.bytes, asked, path, report) {
+        return report.fail(path.as_bytes(), trouble);
     }
     if asked.accepts && !session.mismatches().is_empty() {
         accept(rt, path, session, text.seen, report);
@@ -78,61 +77,31 @@ fn run<R: Files + AllocGlobal, W: Write + Drop, E: Write + Drop>(
     }
 }
 
-// Shows the directives, whose heads stand on these lines.
+// Shows what there is to show of the script of the bytes.
 fn show<W: Write + Drop, E: Write + Drop>(
+    alloc: Global,
     session: &CheckSession,
-    lines: &[usize],
+    bytes: &[u8],
     asked: Asked<'_>,
     path: &str,
     report: &mut Report<W, E>,
-) {
-    if let Some(sink) = report.sink() {
-        let written = put_directives(sink, session, lines, asked, path.as_bytes());
-        report.wrote(written);
-    }
-}
-
-fn put_directives<S: Sink>(
-    sink: &mut S,
-    session: &CheckSession,
-    lines: &[usize],
-    asked: Asked<'_>,
-    path: &[u8],
-) -> Result<(), WriteFault> {
-    for (i, line) in lines.iter().enumerate() {
-        let place = Place { path, line: *line };
-        put_checked(sink, session, i.saturating_add(1), place, asked)?;
-    }
-    Ok(())
-}
-
-// The directive with this number: where it differs how, and where all are shown its output.
-fn put_checked<S: Sink>(
-    sink: &mut S,
-    session: &CheckSession,
-    number: usize,
-    place: Place<'_>,
-    asked: Asked<'_>,
-) -> Result<(), WriteFault> {
-    let (Some(block), Some(output)) = (session.block(number), session.output(number)) else {
+) -> Result<(), Trouble>
+    requires { Reads bytes.now session.now.script }
+{
+    let view = View {
+        path: path.as_bytes(),
+        colors: asked.colors,
+        shows_all: asked.is_verbose,
+    };
+    let Some(sink) = report.sink() else {
         return Ok(());
     };
-    let expected = block.expected();
-    let directive = block.directive();
-    if !expected.same(output) {
-        put_mismatch(
-            sink,
-            place,
-            directive.name(),
-            expected,
-            output,
-            asked.colors,
-        )
-    } else if asked.is_verbose {
-        put_directive(sink, place, directive.name(), output)
-    } else {
-        Ok(())
+    match put_checked(alloc, sink, session, bytes, view) {
+        Ok(()) => report.wrote(Ok(())),
+        Err(ShowFault::Writing) => report.wrote(Err(WriteFault)),
+        Err(ShowFault::OutOfMemory) => return Err(Trouble::alone(Failure::OutOfMemory)),
     }
+    Ok(())
 }
 
 // Writes the outputs into the script's file.
