@@ -5,6 +5,7 @@ use crate::progress::Progress;
 use crate::refusal::Refusal;
 use crate::report::Report;
 use rb_check::{Colors, Failure};
+use rb_checked::Shown;
 use rb_files::{Found, Trouble, find};
 use std::io;
 use std::io::Write;
@@ -17,7 +18,7 @@ pub(crate) struct Asked<'a> {
     pub(crate) paths: &'a [String],
     pub(crate) filter: Option<&'a str>,
     pub(crate) accepts: bool,
-    pub(crate) is_verbose: bool,
+    pub(crate) shown: Shown,
     pub(crate) colors: Colors,
     pub(crate) wants_progress: bool,
 }
@@ -41,6 +42,9 @@ pub(crate) fn check<R: Files + Print + Clock + AllocGlobal, E: Write + Drop>(
     if found.scripts.is_empty() {
         report.fail(b"raftbench", Trouble::alone(Failure::NoScripts));
     } else {
+        if found.scripts.len() > 1 && asked.shown != Shown::Brief {
+            report.list_differing();
+        }
         report.end(milliseconds(&progress, rt));
     }
     Ok(report.status_code())

@@ -5,10 +5,10 @@ ghost use Rattle.rb_script.specs.Reads.{Reads};
 ghost use Rattle.raftbench.specs.Accepted.{IsAccepted};
 
 use crate::check::Asked;
-use crate::report::Report;
+use crate::report::{Ran, Report};
 use rb_bench::{ReadFault, read_up_to};
 use rb_check::Failure;
-use rb_checked::{ShowFault, View, put_checked};
+use rb_checked::{ShowFault, Told, View, is_quiet, put_checked};
 use rb_cluster::{Cluster, Meter};
 use rb_files::{Beside, Trouble, opened, replace};
 use rb_line::Incoming;
@@ -67,17 +67,24 @@ fn run<R: Files + AllocGlobal, W: Write + Drop, E: Write + Drop>(
         Err(StartFault::Script(fault)) => return report.refused(path, fault),
         Err(_) => return report.fail(path.as_bytes(), Trouble::alone(Failure::OutOfMemory)),
     };
-    if let Err(trouble) = show(rt.alloc(), &session, &text.bytes, asked, path, report) {
-        return report.fail(path.as_bytes(), trouble);
-    }
-    if asked.accepts && !session.mismatches().is_empty() {
-        accept(rt, path, session, text.seen, report);
+    let told = match show(rt.alloc(), &session, &text.bytes, asked, path, report) {
+        Ok(told) => told,
+        Err(trouble) => return report.fail(path.as_bytes(), trouble),
+    };
+    let ran = Ran {
+        path,
+        directives: session.len(),
+        mismatches: session.mismatches().len(),
+        told,
+    };
+    if asked.accepts && ran.mismatches > 0 {
+        accept(rt, ran, session, text.seen, report);
     } else {
-        report.ran(session.len(), session.mismatches().len());
+        report.ran(rt.alloc(), ran);
     }
 }
 
-// Shows what there is to show of the script of the bytes.
+// Shows what there is to show of the script of the bytes. Where nothing can be shown any more, nothing is looked for.
 fn show<W: Write + Drop, E: Write + Drop>(
     alloc: Global,
     session: &CheckSession,
@@ -85,40 +92,50 @@ fn show<W: Write + Drop, E: Write + Drop>(
     asked: Asked<'_>,
     path: &str,
     report: &mut Report<W, E>,
-) -> Result<(), Trouble>
+) -> Result<Told, Trouble>
     requires { Reads bytes.now session.now.script }
 {
     let view = View {
         path: path.as_bytes(),
         colors: asked.colors,
-        shows_all: asked.is_verbose,
+        shown: asked.shown,
     };
+    let nothing = Told {
+        first: None,
+        errors: 0,
+    };
+    if is_quiet(session, asked.shown) {
+        return Ok(nothing);
+    }
     let Some(sink) = report.sink() else {
-        return Ok(());
+        return Ok(nothing);
     };
     match put_checked(alloc, sink, session, bytes, view) {
-        Ok(()) => report.wrote(Ok(())),
-        Err(ShowFault::Writing) => report.wrote(Err(WriteFault)),
-        Err(ShowFault::OutOfMemory) => return Err(Trouble::alone(Failure::OutOfMemory)),
+        Ok(told) => {
+            report.wrote(Ok(()));
+            Ok(told)
+        }
+        Err(ShowFault::Writing) => {
+            report.wrote(Err(WriteFault));
+            Ok(nothing)
+        }
+        Err(ShowFault::OutOfMemory) => Err(Trouble::alone(Failure::OutOfMemory)),
     }
-    Ok(())
 }
 
 // Writes the outputs into the script's file.
 fn accept<R: Files + AllocGlobal, W: Write + Drop, E: Write + Drop>(
     rt: &R,
-    path: &str,
+    ran: Ran<'_>,
     mut session: CheckSession,
     seen: Metadata,
     report: &mut Report<W, E>,
 ) {
-    let directives = session.len();
-    let mismatches = session.mismatches().len();
-    match write_accepted(rt, path, &mut session, seen, report) {
-        Ok(()) => report.accepted(path, directives, mismatches),
+    match write_accepted(rt, ran.path, &mut session, seen, report) {
+        Ok(()) => report.accepted(ran),
         Err(trouble) => {
-            report.ran(directives, mismatches);
-            report.fail(path.as_bytes(), trouble);
+            report.ran(rt.alloc(), ran);
+            report.fail(ran.path.as_bytes(), trouble);
         }
     }
 }

@@ -6,6 +6,7 @@ use crate::refusal::Refusal;
 use crate::spacing::spacing;
 use rb_args::{CheckChoice, Choice, Subcommand, chosen};
 use rb_bench::{Mode, Status, read_up_to, run_over, serve, status_code};
+use rb_checked::Shown;
 use rb_line::Incoming;
 use rb_replay::is_spacing;
 use rb_script::{MAX_SCRIPT, Through};
@@ -82,11 +83,24 @@ fn check_all<R: Files + Print + Env + Clock + AllocGlobal, E: Write + Drop>(
         paths: &choice.paths,
         filter: choice.filter.as_deref(),
         accepts: choice.accepts,
-        is_verbose: choice.is_verbose,
+        shown: shown(choice),
         colors: colors(rt, wish, terminals.output),
         wants_progress: terminals.errors,
     };
     check(rt, asked, errors)
+}
+
+// How much of each script is shown; the least of what is asked for.
+fn shown(choice: &CheckChoice) -> Shown {
+    if choice.is_brief {
+        Shown::Brief
+    } else if choice.is_first {
+        Shown::First
+    } else if choice.is_verbose {
+        Shown::All
+    } else {
+        Shown::Differing
+    }
 }
 
 // Does what is asked for with one file.

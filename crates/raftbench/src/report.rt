@@ -5,16 +5,36 @@
 
 use crate::refusal::Refusal;
 use rb_check::{
-    Failure, Outcome, Totals, put_accepted, put_failure, put_refusal, put_totals, status_code,
+    Failure, Outcome, Totals, put_accepted, put_brief, put_failure, put_refusal, put_totals,
+    status_code,
 };
+use rb_checked::Told;
 use rb_files::Trouble;
 use rb_number::put_number;
 use rb_script::{ScriptFault, Sink, Through, WriteFault};
-use std::alloc::Global;
+use std::alloc::{AllocError, Global};
 use std::io::{BufWriter, Write};
 
 // Takes the cursor back to the line's first column, and clears the line (ECMA-48).
 const CLEARED: &[u8] = b"\r\x1b[K";
+
+/// A script that ran.
+#[derive(Clone, Copy, Debug)]
+pub(crate) struct Ran<'a> {
+    pub(crate) path: &'a str,
+    pub(crate) directives: usize,
+    pub(crate) mismatches: usize,
+    pub(crate) told: Told,
+}
+
+// A script that differs, for the list at the end.
+#[derive(Drop)]
+struct Differing {
+    path: String,
+    directives: usize,
+    mismatches: usize,
+    line: usize,
+}
 
 /// What was shown, and what it came to.
 #[derive(Drop)]
@@ -22,6 +42,7 @@ pub(crate) struct Report<W: Write + Drop, E: Write + Drop> {
     output: Through<BufWriter<W>>,
     errors: Through<BufWriter<E>>,
     totals: Totals,
+    differing: Vec<Differing>,
     // Standard output has failed.
     is_lost: bool,
     // How far the work is stands on the terminal.
@@ -34,6 +55,7 @@ impl<W: Write + Drop, E: Write + Drop> Report<W, E> {
             output: Through(BufWriter::new(alloc, output)?),
             errors: Through(BufWriter::new(alloc, errors)?),
             totals: Totals::new(),
+            differing: Vec::new(alloc),
             is_lost: false,
             shows_progress: false,
         })
@@ -62,24 +84,68 @@ impl<W: Write + Drop, E: Write + Drop> Report<W, E> {
         }
     }
 
-    /// A script that ran.
-    pub(crate) fn ran(&mut self, directives: usize, mismatches: usize) {
+    /// A script that ran, and in which nothing was written.
+    pub(crate) fn ran(&mut self, alloc: Global, ran: Ran<'_>) {
         self.totals.add(Outcome::Ran {
-            directives,
-            mismatches,
+            directives: ran.directives,
+            mismatches: ran.mismatches,
+            accepted: 0,
+            errors: ran.told.errors,
         });
+        if self.keep(alloc, ran).is_err() {
+            self.fail(ran.path.as_bytes(), Trouble::alone(Failure::OutOfMemory));
+        }
+    }
+
+    // Keeps it for the list of those that differ.
+    fn keep(&mut self, alloc: Global, ran: Ran<'_>) -> Result<(), AllocError> {
+        let Some(line) = ran.told.first else {
+            return Ok(());
+        };
+        self.differing.push(Differing {
+            path: String::from_str(alloc, ran.path)?,
+            directives: ran.directives,
+            mismatches: ran.mismatches,
+            line,
+        })?;
+        Ok(())
     }
 
     /// A script that ran, and whose outputs were written into it.
-    pub(crate) fn accepted(&mut self, path: &str, directives: usize, outputs: usize) {
-        self.totals.add(Outcome::Accepted {
-            directives,
-            outputs,
+    pub(crate) fn accepted(&mut self, ran: Ran<'_>) {
+        self.totals.add(Outcome::Ran {
+            directives: ran.directives,
+            mismatches: 0,
+            accepted: ran.mismatches,
+            errors: ran.told.errors,
         });
         if let Some(sink) = self.sink() {
-            let written = put_accepted(sink, path.as_bytes(), outputs);
+            let written = put_accepted(sink, ran.path.as_bytes(), ran.mismatches);
             self.wrote(written);
         }
+    }
+
+    /// The scripts that differ, a line each, and an empty line; nothing, where none does.
+    pub(crate) fn list_differing(&mut self) {
+        if self.is_lost || self.differing.is_empty() {
+            return;
+        }
+        self.clear();
+        let written = self.put_differing();
+        self.wrote(written);
+    }
+
+    fn put_differing(&mut self) -> Result<(), WriteFault> {
+        for script in &self.differing {
+            put_brief(
+                &mut self.output,
+                script.path.as_bytes(),
+                script.mismatches,
+                script.directives,
+                script.line,
+            )?;
+        }
+        self.output.put(b"\n")
     }
 
     /// Bytes that are no script.

@@ -31,6 +31,8 @@ pub record IsCheckOf (rows : Option (List Row)) (check : CheckChoice) : Type 0 w
   pub filter : option_map string_bytes check.filter ≡ option_and_then (first_of (codes "filter")) rows
   pub color : option_map string_bytes check.color ≡ option_and_then (first_of (codes "color")) rows
   pub accepts : check.accepts ≡ is_set (option_and_then (first_of (codes "accept")) rows)
+  pub first : check.is_first ≡ is_set (option_and_then (first_of (codes "first")) rows)
+  pub brief : check.is_brief ≡ is_set (option_and_then (first_of (codes "brief")) rows)
   pub verbose : check.is_verbose ≡ is_set (option_and_then (first_of (codes "verbose")) rows)
 
 -- the subcommand that was met, and the values of its FILE and its --every; and what is said to `check`

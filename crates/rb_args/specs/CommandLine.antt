@@ -27,9 +27,13 @@ every_rule = option_rule (codes "every")
 abbrev pub subcommand_line : Text → App
 subcommand_line subcommand = with_rule (with_rule (new_app subcommand) file_rule) every_rule
 
--- .. [--filter WORD] [--verbose] [--every K] [--color WHEN]
+-- .. [--verbose] [--first] [--brief]
+abbrev pub with_amounts : App → App
+with_amounts line = with_rule (with_rule (with_rule line (flag_rule (codes "verbose"))) (flag_rule (codes "first"))) (flag_rule (codes "brief"))
+
+-- .. [--filter WORD] [--verbose] [--first] [--brief] [--every K] [--color WHEN]
 abbrev pub with_words : App → App
-with_words line = with_rule (with_rule (with_rule (with_rule line (option_rule (codes "filter"))) (flag_rule (codes "verbose"))) every_rule) (option_rule (codes "color"))
+with_words line = with_rule (with_rule (with_amounts (with_rule line (option_rule (codes "filter")))) every_rule) (option_rule (codes "color"))
 
 -- check PATH.. [--accept] ..
 abbrev pub check_line : App

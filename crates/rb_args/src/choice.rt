@@ -41,6 +41,10 @@ pub struct CheckChoice {
     pub accepts: bool,
     /// Whether `--verbose` is given.
     pub is_verbose: bool,
+    /// Whether `--first` is given.
+    pub is_first: bool,
+    /// Whether `--brief` is given.
+    pub is_brief: bool,
 }
 
 /// Why the words choose nothing.

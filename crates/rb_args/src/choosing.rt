@@ -68,6 +68,8 @@ fn no_choice(alloc: Global) -> Choice
         color: None,
         accepts: false,
         is_verbose: false,
+        is_first: false,
+        is_brief: false,
     };
     Choice {
         subcommand: None,
@@ -104,6 +106,8 @@ fn check_choice(alloc: Global, inner: &ArgMatches<'_>) -> Result<CheckChoice, Al
         color,
         accepts: is_given(inner, "accept"),
         is_verbose: is_given(inner, "verbose"),
+        is_first: is_given(inner, "first"),
+        is_brief: is_given(inner, "brief"),
     })
 }
 

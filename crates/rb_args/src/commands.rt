@@ -3,7 +3,7 @@
 ghost use Rattle.std.specs.Prelude.{◌≡◌, IfOk, codes, false};
 ghost use Rattle.clap.specs.Words.{app_of, new_app, rule_of, with_rule, with_subcommand};
 ghost use Rattle.clap.specs.declared.builder.command.Command.TheViews.{out-Command};
-ghost use Rattle.rb_args.specs.CommandLine.{command_line, subcommand_line, check_line, with_files, with_version, with_words, every_rule, flag_rule, option_rule, path_rule};
+ghost use Rattle.rb_args.specs.CommandLine.{command_line, subcommand_line, check_line, with_amounts, with_files, with_version, with_words, every_rule, flag_rule, option_rule, path_rule};
 
 use clap::{Arg, ArgAction, Command};
 use std::alloc::{AllocError, Global};
@@ -100,6 +100,31 @@ fn check_command<'a>(alloc: Global) -> Result<Command<'a>, AllocError>
     with_words(command, alloc)
 }
 
+// The options of `check` that change how much is shown.
+fn with_amounts<'a>(command: Command<'a>, alloc: Global) -> Result<Command<'a>, AllocError>
+    ensures app { IfOk result (λ made. app_of made ≡ with_amounts (app_of command.entry)) }
+    ensures local { (out-Command command.entry).has_globals ≡ false → IfOk result (λ made. (out-Command made).has_globals ≡ false) }
+{
+    let command = with_flag(
+        command,
+        alloc,
+        "verbose",
+        "Shows each directive with its output",
+    )?;
+    let command = with_flag(
+        command,
+        alloc,
+        "first",
+        "Shows the first mismatch of each script alone",
+    )?;
+    with_flag(
+        command,
+        alloc,
+        "brief",
+        "Shows one line for each script that differs",
+    )
+}
+
 fn command_of_paths<'a>(alloc: Global) -> Result<Command<'a>, AllocError>
     ensures app { IfOk result (λ command. app_of command ≡ with_rule (new_app (codes "check")) path_rule) }
     ensures local { IfOk result (λ command. (out-Command command).has_globals ≡ false) }
@@ -121,12 +146,7 @@ fn with_words<'a>(command: Command<'a>, alloc: Global) -> Result<Command<'a>, Al
         "WORD",
         "Keeps the paths that have WORD in them",
     )?;
-    let command = with_flag(
-        command,
-        alloc,
-        "verbose",
-        "Shows each directive with its output",
-    )?;
+    let command = with_amounts(command, alloc)?;
     let command = with_option(command, alloc, "every", "K", EVERY_HELP)?;
     with_option(
         command,

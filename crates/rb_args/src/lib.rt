@@ -1,5 +1,5 @@
 //! The words of the command line: `raftbench run|rewrite|session FILE [--every K]`, and
-//! `raftbench check PATH.. [--accept] [--filter WORD] [--verbose] [--every K] [--color WHEN]`.
+//! `raftbench check PATH.. [--accept] [--filter WORD] [--verbose] [--first] [--brief] [--every K] [--color WHEN]`.
 //!
 //! [`chosen`] reads the words with `clap` and tells what they choose. What a file, a number of directives or a
 //! choice of colours must be is for the caller to look at: here they are texts, as they were given.

@@ -13,19 +13,19 @@ use Rattle.rb_check.specs.Pieces.{count_text, noun}
 use Rattle.rb_check.specs.Statuses.{code_of}
 
 abbrev pub nothing : Totals
-nothing = record { scripts = 0; directives = 0; mismatches = 0; accepted = 0; refused = 0; failed = 0; starved = 0 }
+nothing = record { scripts = 0; directives = 0; mismatches = 0; accepted = 0; errors = 0; refused = 0; failed = 0; starved = 0 }
 
 -- a script that ran
-abbrev pub one_run : ℕ → ℕ → ℕ → Totals
-one_run directives mismatches accepted =
-    record { scripts = 1; directives = directives; mismatches = mismatches; accepted = accepted; refused = 0; failed = 0; starved = 0 }
+abbrev pub one_run : ℕ → ℕ → ℕ → ℕ → Totals
+one_run directives mismatches accepted errors =
+    record { scripts = 1; directives = directives; mismatches = mismatches; accepted = accepted; errors = errors; refused = 0; failed = 0; starved = 0 }
 
 abbrev pub one_refusal : Totals
-one_refusal = record { scripts = 1; directives = 0; mismatches = 0; accepted = 0; refused = 1; failed = 0; starved = 0 }
+one_refusal = record { scripts = 1; directives = 0; mismatches = 0; accepted = 0; errors = 0; refused = 1; failed = 0; starved = 0 }
 
 -- a failure, for want of memory or not
 abbrev pub one_failure : ℕ → Totals
-one_failure starved = record { scripts = 0; directives = 0; mismatches = 0; accepted = 0; refused = 0; failed = 1; starved = starved }
+one_failure starved = record { scripts = 0; directives = 0; mismatches = 0; accepted = 0; errors = 0; refused = 0; failed = 1; starved = starved }
 
 abbrev pub of_refused : ScriptFault → Totals
 of_refused faults.OutOfMemory = one_failure 1
@@ -37,8 +37,7 @@ of_failed other = one_failure 0
 
 -- what came of one path
 abbrev pub of_outcome : Outcome → Totals
-of_outcome (outcomes.Ran directives mismatches) = one_run directives mismatches 0
-of_outcome (outcomes.Accepted directives outputs) = one_run directives 0 outputs
+of_outcome (outcomes.Ran directives mismatches accepted errors) = one_run directives mismatches accepted errors
 of_outcome (outcomes.Refused fault) = of_refused fault
 of_outcome (outcomes.Failed failure) = of_failed failure
 
@@ -52,6 +51,7 @@ together a b = record {
   directives = plus a.directives b.directives;
   mismatches = plus a.mismatches b.mismatches;
   accepted = plus a.accepted b.accepted;
+  errors = plus a.errors b.errors;
   refused = plus a.refused b.refused;
   failed = plus a.failed b.failed;
   starved = plus a.starved b.starved;
@@ -75,8 +75,7 @@ sum_of count os = min (sum_by (λ o. count (of_outcome o)) os) (2 ^ 64 - 1)
 
 -- the status that is met by what came of one path
 abbrev pub status_met : Outcome → Status
-status_met (outcomes.Ran directives mismatches) = if mismatches == 0 then statuses.Matched else statuses.Mismatched
-status_met (outcomes.Accepted directives outputs) = statuses.Matched
+status_met (outcomes.Ran directives mismatches accepted errors) = if mismatches == 0 then statuses.Matched else statuses.Mismatched
 status_met (outcomes.Refused faults.OutOfMemory) = statuses.OutOfMemory
 status_met (outcomes.Refused fault) = statuses.Refused
 status_met (outcomes.Failed failures.OutOfMemory) = statuses.OutOfMemory
@@ -96,7 +95,7 @@ seconds_text ms = decimal (ms / 1000) ++ (codes "." ++ (decimal (ms / 100 % 10) 
 -- what stands behind the mismatches
 abbrev pub rest_text : Totals → ℕ → List ℕ
 rest_text t ms =
-    decimal t.refused ++ (codes " refused" ++ (count_text t.accepted (codes " accepted") ++ (count_text t.failed (codes " failed") ++ (codes ", " ++ seconds_text ms))))
+    decimal t.refused ++ (codes " refused" ++ (count_text t.errors (noun t.errors (codes " error") (codes " errors")) ++ (count_text t.accepted (codes " accepted") ++ (count_text t.failed (codes " failed") ++ (codes ", " ++ seconds_text ms)))))
 
 abbrev pub totals_text : Totals → ℕ → List ℕ
 totals_text t ms =

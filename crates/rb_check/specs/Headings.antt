@@ -6,14 +6,22 @@ use Rattle.rb_check.specs.declared.colors.Colors.TheVariants.{Off}
 use Rattle.rb_check.specs.declared.side.Side.TheVariants.{Both}
 use Rattle.rb_check.specs.Diffs.{on_side, diff, diff_text}
 
--- the file, the line of the head, which counts from 1, and the name of the directive
-abbrev pub heading_text : List ℕ → ℕ → List ℕ → List ℕ
-heading_text path line name = path ++ (codes ":" ++ (decimal line ++ (codes ": " ++ (name ++ codes "\n"))))
+-- the file and a line of it, which counts from 1
+abbrev pub place_text : List ℕ → ℕ → List ℕ
+place_text path line = path ++ (codes ":" ++ (decimal line ++ codes ": "))
 
--- a directive whose output is not the expected one
+-- where the head of a directive begins, and the head
+abbrev pub heading_text : List ℕ → ℕ → List ℕ → List ℕ
+heading_text path line head = place_text path line ++ head
+
+-- a directive whose output is not the expected one; an empty line parts it from what follows
 abbrev pub mismatch_text : Colors → List ℕ → ℕ → List ℕ → List Line → List Line → List ℕ
-mismatch_text colors path line name expected output = heading_text path line name ++ diff_text colors (diff expected output)
+mismatch_text colors path line head expected output = heading_text path line head ++ (codes "\n" ++ (diff_text colors (diff expected output) ++ codes "\n"))
 
 -- a directive with its output
 abbrev pub directive_text : List ℕ → ℕ → List ℕ → List Line → List ℕ
-directive_text path line name output = heading_text path line name ++ diff_text Off (on_side Both output)
+directive_text path line head output = heading_text path line head ++ (codes "\n" ++ diff_text Off (on_side Both output))
+
+-- a directive, and what is to be said of it
+abbrev pub note_text : List ℕ → ℕ → List ℕ → List ℕ → List ℕ
+note_text path line head note = heading_text path line head ++ (codes ": " ++ (note ++ codes "\n"))

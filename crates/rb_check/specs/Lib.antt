@@ -1,7 +1,9 @@
 pub mod Pieces
 pub mod Shown
 pub mod Diffs
+pub mod Heads
 pub mod Headings
+pub mod Briefs
 pub mod Refusals
 pub mod Failures
 pub mod Statuses

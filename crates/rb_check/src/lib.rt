@@ -7,9 +7,11 @@
 #![tactic(auto)]
 
 mod accepted;
+mod brief;
 mod colors;
 mod diff;
 mod failure;
+mod head;
 mod laws;
 mod line;
 mod mismatch;
@@ -22,6 +24,7 @@ mod status;
 mod totals;
 
 pub use accepted::put_accepted;
+pub use brief::put_brief;
 pub use colors::Colors;
 pub use failure::{Failure, put_failure};
 pub use laws::{
@@ -29,7 +32,7 @@ pub use laws::{
     same_lines_are_plain, sentences_are_distinct, shown_diffs_tell_both_sides,
     statuses_are_greatest,
 };
-pub use mismatch::{put_directive, put_mismatch};
+pub use mismatch::{put_directive, put_mismatch, put_note};
 pub use outcome::Outcome;
 pub use place::Place;
 pub use refusal::put_refusal;

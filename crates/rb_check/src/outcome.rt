@@ -6,15 +6,16 @@ use rb_script::ScriptFault;
 /// What came of one path.
 #[derive(Clone, Copy, Debug, PartialEq, Eq)]
 pub enum Outcome {
-    /// The script ran, and so many of its outputs are not the expected ones.
+    /// The script ran.
     Ran {
+        /// How many directives it has.
         directives: usize,
+        /// How many outputs are not the expected ones, and were not accepted.
         mismatches: usize,
-    },
-    /// The script ran, and so many outputs that were not the expected ones now stand in it.
-    Accepted {
-        directives: usize,
-        outputs: usize,
+        /// How many outputs that were not the expected ones now stand in it.
+        accepted: usize,
+        /// How many directives answer an error that nobody said is expected.
+        errors: usize,
     },
     /// Its bytes are no script, or there was no memory to read them.
     Refused(ScriptFault),

@@ -1,11 +1,14 @@
 //! Where a directive stands.
 
 ghost use Rattle.std.specs.Prelude.{IsOk};
+ghost use Rattle.rb_script.specs.Tokens.{plain};
 ghost use Rattle.rb_script.specs.Writes.{Writes};
-ghost use Rattle.rb_check.specs.Headings.{heading_text};
+ghost use Rattle.rb_check.specs.Heads.{head_text};
+ghost use Rattle.rb_check.specs.Headings.{place_text, heading_text};
 
+use crate::head::put_head;
 use crate::piece::{Piece, put_pieces};
-use rb_script::{Sink, WriteFault};
+use rb_script::{DirectiveRef, Sink, WriteFault};
 
 /// A line of a file.
 #[derive(Clone, Copy, Debug)]
@@ -16,13 +19,9 @@ pub struct Place<'a> {
     pub line: usize,
 }
 
-/// Writes where a directive stands, and its name.
-pub(crate) fn put_heading<'a, S: Sink>(
-    sink: &mut S,
-    place: Place<'a>,
-    name: &'a [u8],
-) -> Result<(), WriteFault>
-    ensures wrote { Writes result (S.held sink.old) (S.held sink.new) (heading_text place.entry.path.now place.entry.line name.now) }
+// Writes the file and the line.
+fn put_place<'a, S: Sink>(sink: &mut S, place: Place<'a>) -> Result<(), WriteFault>
+    ensures wrote { Writes result (S.held sink.old) (S.held sink.new) (place_text place.entry.path.now place.entry.line) }
     ensures all { S.takes_all sink.old → IsOk result × S.takes_all sink.new }
 {
     put_pieces(
@@ -32,8 +31,19 @@ pub(crate) fn put_heading<'a, S: Sink>(
             Piece::Bytes(b":"),
             Piece::Number(place.line as u64),
             Piece::Bytes(b": "),
-            Piece::Bytes(name),
-            Piece::Bytes(b"\n"),
         ],
     )
+}
+
+/// Writes where a directive stands, and its head.
+pub(crate) fn put_heading<'a, S: Sink>(
+    sink: &mut S,
+    place: Place<'a>,
+    directive: &DirectiveRef<'a>,
+) -> Result<(), WriteFault>
+    ensures wrote { Writes result (S.held sink.old) (S.held sink.new) (heading_text place.entry.path.now place.entry.line (head_text (plain directive.now))) }
+    ensures all { S.takes_all sink.old → IsOk result × S.takes_all sink.new }
+{
+    put_place(sink, place)?;
+    put_head(sink, directive)
 }

@@ -21,6 +21,8 @@ pub struct Totals {
     pub mismatches: u64,
     /// The outputs that were accepted.
     pub accepted: u64,
+    /// The directives that answer an error that nobody said is expected.
+    pub errors: u64,
     /// The scripts that were refused.
     pub refused: u64,
     /// The files and folders that failed, with those that found no memory.
@@ -39,20 +41,22 @@ impl Totals {
             directives: 0,
             mismatches: 0,
             accepted: 0,
+            errors: 0,
             refused: 0,
             failed: 0,
             starved: 0,
         }
     }
 
-    fn one_run(directives: usize, mismatches: usize, accepted: usize) -> Totals
-        ensures { result ≡ one_run directives mismatches accepted }
+    fn one_run(directives: usize, mismatches: usize, accepted: usize, errors: usize) -> Totals
+        ensures { result ≡ one_run directives mismatches accepted errors }
     {
         Totals {
             scripts: 1,
             directives: directives as u64,
             mismatches: mismatches as u64,
             accepted: accepted as u64,
+            errors: errors as u64,
             ..Totals::new()
         }
     }
@@ -96,11 +100,9 @@ impl Totals {
             Outcome::Ran {
                 directives,
                 mismatches,
-            } => Totals::one_run(directives, mismatches, 0),
-            Outcome::Accepted {
-                directives,
-                outputs,
-            } => Totals::one_run(directives, 0, outputs),
+                accepted,
+                errors,
+            } => Totals::one_run(directives, mismatches, accepted, errors),
             Outcome::Refused(fault) => Totals::of_refused(fault),
             Outcome::Failed(failure) => Totals::of_failed(failure),
         }
@@ -116,6 +118,7 @@ impl Totals {
             directives: self.directives.saturating_add(one.directives),
             mismatches: self.mismatches.saturating_add(one.mismatches),
             accepted: self.accepted.saturating_add(one.accepted),
+            errors: self.errors.saturating_add(one.errors),
             refused: self.refused.saturating_add(one.refused),
             failed: self.failed.saturating_add(one.failed),
             starved: self.starved.saturating_add(one.starved),
@@ -148,8 +151,8 @@ impl Default for Totals {
     }
 }
 
-/// Writes the last line: how many scripts, directives, mismatches and refused scripts there were, what was accepted and what failed
-/// where there is any, and the time in seconds. On a failure what went out is a beginning of the text.
+/// Writes the last line: how many scripts, directives, mismatches and refused scripts there were, the errors, what was accepted and what
+/// failed where there is any, and the time in seconds. On a failure what went out is a beginning of the text.
 pub fn put_totals<S: Sink>(
     sink: &mut S,
     totals: &Totals,
@@ -169,6 +172,7 @@ pub fn put_totals<S: Sink>(
             Piece::Bytes(noun(totals.mismatches, b" mismatch, ", b" mismatches, ")),
             Piece::Number(totals.refused),
             Piece::Bytes(b" refused"),
+            Piece::Count(totals.errors, noun(totals.errors, b" error", b" errors")),
             Piece::Count(totals.accepted, b" accepted"),
             Piece::Count(totals.failed, b" failed"),
             Piece::Bytes(b", "),

@@ -1,38 +1,86 @@
 -- What `check` shows of a script that ran: its directives in order, each with the line of its head. (This project's.)
-use Rattle.std.specs.Prelude.{ℕ, ◌-◌, Bool, if◌then◌else◌, List, [], ◌∷◌, ◌++◌, slice_index, slice_index_or}
+use Rattle.std.specs.Prelude.{◌≡◌, ℕ, ◌-◌, Bool, true, false, ◌&&◌, if◌then◌else◌, List, [], ◌∷◌, ◌++◌, Option, Some, None, length, slice_index, slice_index_or}
 use Rattle.rb_script.specs.Lines.{Line}
 use Rattle.rb_script.specs.Script.{PlainBlock, PlainScript}
 use Rattle.rb_script.specs.Reading.{directive_of}
 use Rattle.rb_script.specs.Edits.{block_at_place}
 use Rattle.rb_replay.specs.Run.{outputs}
-use Rattle.rb_replay.specs.Report.{same_lines}
+use Rattle.rb_replay.specs.Report.{same_lines, mismatches}
 use Rattle.rb_check.specs.declared.colors.Colors.{Colors}
-use Rattle.rb_check.specs.Headings.{mismatch_text, directive_text}
+use Rattle.rb_check.specs.Heads.{head_text}
+use Rattle.rb_check.specs.Headings.{mismatch_text, directive_text, note_text}
+use Rattle.rb_check.specs.Briefs.{brief_text}
+use Rattle.rb_checked.specs.declared.view.Shown.{Shown}
+use Rattle.rb_checked.specs.declared.view.Shown.TheVariants as shown
+use Rattle.rb_checked.specs.Errors.{is_unexpected}
 
--- the name of a block's directive
-abbrev pub name_of : PlainBlock → List ℕ
-name_of b = (directive_of b).name
+-- the head of a block's directive, on one line
+abbrev pub head_of : PlainBlock → List ℕ
+head_of b = head_text (directive_of b)
+
+abbrev pub first_line : List Line → Line
+first_line [] = []
+first_line (line ∷ ls) = line
 
 -- a block that expects other lines than the output
 abbrev pub mismatch_shown : Colors → List ℕ → ℕ → PlainBlock → List Line → List ℕ
-mismatch_shown colors path line b output = mismatch_text colors path line (name_of b) b.expected output
+mismatch_shown colors path line b output = mismatch_text colors path line (head_of b) b.expected output
 
--- one directive, whose head begins on the line: how it differs; or, where all are shown, its output
-abbrev pub directive_shown : Bool → Colors → List ℕ → ℕ → PlainBlock → List Line → List ℕ
-directive_shown all colors path line b output =
-    if same_lines b.expected output then (if all then directive_text path line (name_of b) output else []) else mismatch_shown colors path line b output
+-- a block that expects its output: an error that isn't said to be expected is named, and where all are shown the output is shown
+abbrev pub match_shown : Bool → List Line → List ℕ → ℕ → PlainBlock → List Line → List ℕ
+match_shown all ls path line b output =
+    if all then directive_text path line (head_of b) output
+    else (if is_unexpected ls line output then note_text path line (head_of b) (first_line output) else [])
+
+-- one directive, whose head begins on the line, of the lines of a script
+abbrev pub directive_shown : Bool → Colors → List Line → List ℕ → ℕ → PlainBlock → List Line → List ℕ
+directive_shown all colors ls path line b output =
+    if same_lines b.expected output then match_shown all ls path line b output else mismatch_shown colors path line b output
 
 -- directives in order, with the lines of their heads and their outputs
-abbrev pub all_shown : Bool → Colors → List ℕ → List ℕ → List PlainBlock → List (List Line) → List ℕ
-all_shown all colors path [] bs os = []
-all_shown all colors path (line ∷ heads) [] os = []
-all_shown all colors path (line ∷ heads) (b ∷ bs) [] = []
-all_shown all colors path (line ∷ heads) (b ∷ bs) (output ∷ os) = directive_shown all colors path line b output ++ all_shown all colors path heads bs os
+abbrev pub all_shown : Bool → Colors → List Line → List ℕ → List ℕ → List PlainBlock → List (List Line) → List ℕ
+all_shown all colors ls path [] bs os = []
+all_shown all colors ls path (line ∷ heads) [] os = []
+all_shown all colors ls path (line ∷ heads) (b ∷ bs) [] = []
+all_shown all colors ls path (line ∷ heads) (b ∷ bs) (output ∷ os) = directive_shown all colors ls path line b output ++ all_shown all colors ls path heads bs os
 
--- a script whose heads begin on these lines
-abbrev pub checked_text : Bool → Colors → List ℕ → List ℕ → PlainScript → List ℕ
-checked_text all colors path heads s = all_shown all colors path heads s.blocks (outputs s)
+-- the line of the head at a place, which counts from 1
+abbrev pub head_line : List ℕ → ℕ → ℕ
+head_line heads k = slice_index heads (k - 1)
 
--- the mismatch at a place, which counts from 1
+-- the mismatch at a place
 abbrev pub mismatch_at : Colors → List ℕ → List ℕ → PlainScript → ℕ → List ℕ
-mismatch_at colors path heads s k = mismatch_shown colors path (slice_index heads (k - 1)) (block_at_place s.blocks k) (slice_index_or (outputs s) (k - 1) [])
+mismatch_at colors path heads s k = mismatch_shown colors path (head_line heads k) (block_at_place s.blocks k) (slice_index_or (outputs s) (k - 1) [])
+
+-- how many there are, and where the first is
+abbrev pub brief_at : List ℕ → List ℕ → PlainScript → ℕ → List ℕ
+brief_at path heads s k = brief_text path (length (mismatches s)) (length s.blocks) (head_line heads k)
+
+-- of the first place alone; nothing where there is none
+abbrev pub of_first : (ℕ → List ℕ) → List ℕ → List ℕ
+of_first text [] = []
+of_first text (k ∷ ks) = text k
+
+-- a script of these lines, whose heads begin on those
+abbrev pub checked_text : Shown → Colors → List Line → List ℕ → List ℕ → PlainScript → List ℕ
+checked_text shown.Differing colors ls path heads s = all_shown false colors ls path heads s.blocks (outputs s)
+checked_text shown.All colors ls path heads s = all_shown true colors ls path heads s.blocks (outputs s)
+checked_text shown.First colors ls path heads s = of_first (mismatch_at colors path heads s) (mismatches s)
+checked_text shown.Brief colors ls path heads s = of_first (brief_at path heads s) (mismatches s)
+
+-- the line of the first mismatch
+abbrev pub first_head : List ℕ → List ℕ → Option ℕ
+first_head heads [] = None
+first_head heads (k ∷ ks) = Some (head_line heads k)
+
+-- the place is the first of these
+abbrev pub IsFirst : ℕ → List ℕ → Type 0
+IsFirst place [] = ⊥
+IsFirst place (k ∷ ks) = k ≡ place
+
+-- no directive is shown for its error: none of those that match has one that isn't said to be expected
+abbrev pub NoneIsNamed : List Line → List ℕ → List PlainBlock → List (List Line) → Type 0
+NoneIsNamed ls [] bs os = Unit {0}
+NoneIsNamed ls (line ∷ heads) [] os = Unit {0}
+NoneIsNamed ls (line ∷ heads) (b ∷ bs) [] = Unit {0}
+NoneIsNamed ls (line ∷ heads) (b ∷ bs) (output ∷ os) = ((same_lines b.expected output && is_unexpected ls line output) ≡ false) × NoneIsNamed ls heads bs os

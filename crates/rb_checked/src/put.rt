@@ -1,40 +1,34 @@
 //! Writing what is shown of a script.
 
-ghost use Rattle.std.specs.Prelude.{◌≡◌, ◌≢◌, ◌<◌, ◌≤◌, ℕ, List, Some, Err, IsOk, length, slice_get};
+ghost use Rattle.std.specs.Prelude.{◌≡◌, ◌≢◌, ◌+◌, ◌<◌, ◌≤◌, ℕ, List, [], Err, IfOk, IfSome, IfNone, IsOk, IsTrue, length};
 ghost use Rattle.rb_script.specs.declared.limits.TheConstants.{MAX_DIRECTIVES};
 ghost use Rattle.rb_script.specs.Lines.{lines};
+ghost use Rattle.rb_script.specs.Script.{PlainScript};
 ghost use Rattle.rb_script.specs.Reads.{Reads};
 ghost use Rattle.rb_script.specs.HeadLines.{AreHeadLines};
 ghost use Rattle.rb_script.specs.Writes.{Writes};
 ghost use Rattle.rb_replay.specs.Run.{outputs};
-ghost use Rattle.rb_replay.specs.Report.{same_lines};
-ghost use Rattle.rb_checked.specs.Checked.{directive_shown, checked_text};
-ghost use Rattle.rb_checked.specs.Shows.{Shows};
+ghost use Rattle.rb_replay.specs.Report.{same_lines, mismatches};
+ghost use Rattle.rb_checked.specs.Checked.{match_shown, directive_shown, all_shown, of_first, mismatch_at, brief_at, checked_text, IsFirst};
+ghost use Rattle.rb_checked.specs.Shows.{Shows, told_of, IsQuiet};
 
+use crate::answers::{block_at, head_at, output_at};
+use crate::errors::{count_errors, has_errors, is_unexpected};
 use crate::fault::ShowFault;
-use crate::view::View;
-use rb_check::{Place, put_directive, put_mismatch};
+use crate::text::lines_of;
+use crate::told::Told;
+use crate::view::{Shown, View};
+use rb_check::{Place, put_brief, put_directive, put_mismatch, put_note};
 use rb_machine::Machine;
 use rb_replay::Session;
 use rb_script::{Block, Lines, Sink, WriteFault, head_lines};
-use std::alloc::Global;
+use std::alloc::{AllocError, Global};
 
-// The block of the directive at an index, which counts from 0.
-fn block_at<M: Machine>(session: &Session<M>, index: usize) -> &Block
-    requires few { length session.now.script.blocks ≤ MAX_DIRECTIVES }
-    requires within { index < length session.now.script.blocks }
-    ensures { slice_get session.now.script.blocks index ≡ Some result.now }
-{
-    session.block(index + 1).unwrap()
-}
-
-// The output of the directive at an index, which counts from 0.
-fn output_at<M: Machine>(session: &Session<M>, index: usize) -> &Lines
-    requires few { length session.now.script.blocks ≤ MAX_DIRECTIVES }
-    requires within { index < length session.now.script.blocks }
-    ensures { slice_get (outputs session.now.script) index ≡ Some result.now }
-{
-    session.output(index + 1).unwrap()
+// A script's lines, and those on which its heads begin.
+#[derive(Drop)]
+struct Layout {
+    text: Lines,
+    heads: Vec<usize>,
 }
 
 fn is_same(lines: &Lines, other: &Lines) -> bool
@@ -43,71 +37,240 @@ fn is_same(lines: &Lines, other: &Lines) -> bool
     lines.same(other)
 }
 
-// Writes one directive: where it differs how, and where all are shown its output.
+// Writes a directive that expects its output: an error is named.
+fn put_match<S: Sink>(
+    sink: &mut S,
+    block: &Block,
+    output: &Lines,
+    text: &Lines,
+    place: Place<'_>,
+    all: bool,
+) -> Result<(), WriteFault>
+    ensures wrote { Writes result (S.held sink.old) (S.held sink.new) (match_shown all text.now place.entry.path.now place.entry.line block.now output.now) }
+    ensures all { S.takes_all sink.old → IsOk result × S.takes_all sink.new }
+{
+    if all {
+        return put_directive(sink, place, &block.directive(), output);
+    }
+    if !is_unexpected(text, place.line, output) {
+        return Ok(());
+    }
+    put_note(sink, place, &block.directive(), output.line(0))
+}
+
+// Writes one directive.
 fn put_shown<S: Sink>(
     sink: &mut S,
     block: &Block,
     output: &Lines,
+    text: &Lines,
     line: usize,
     view: View<'_>,
+    all: bool,
 ) -> Result<(), WriteFault>
-    ensures wrote { Writes result (S.held sink.old) (S.held sink.new) (directive_shown view.entry.shows_all view.entry.colors view.entry.path.now line block.now output.now) }
+    ensures wrote { Writes result (S.held sink.old) (S.held sink.new) (directive_shown all view.entry.colors text.now view.entry.path.now line block.now output.now) }
     ensures all { S.takes_all sink.old → IsOk result × S.takes_all sink.new }
 {
-    let expected = block.expected();
-    let directive = block.directive();
-    let name = directive.name();
     let path = view.path;
     let place = Place { path, line };
-    if !is_same(expected, output) {
-        put_mismatch(sink, place, name, expected, output, view.colors)
-    } else if view.shows_all {
-        put_directive(sink, place, name, output)
-    } else {
-        Ok(())
+    let expected = block.expected();
+    if is_same(expected, output) {
+        return put_match(sink, block, output, text, place, all);
+    }
+    put_mismatch(
+        sink,
+        place,
+        &block.directive(),
+        expected,
+        output,
+        view.colors,
+    )
+}
+
+// Writes what is shown of each directive, where a script's heads begin on these lines.
+fn put_directives<M: Machine, S: Sink>(
+    sink: &mut S,
+    session: &Session<M>,
+    heads: &[usize],
+    text: &Lines,
+    view: View<'_>,
+    all: bool,
+) -> Result<(), WriteFault>
+    requires { length heads.now ≡ length session.now.script.blocks }
+    ensures wrote { Writes result (S.held sink.old) (S.held sink.new) (all_shown all view.entry.colors text.now view.entry.path.now heads.now session.now.script.blocks (outputs session.now.script)) }
+    ensures all { S.takes_all sink.old → IsOk result × S.takes_all sink.new }
+{
+    for i in 0..session.len() {
+        let block = block_at(session, i);
+        put_shown(
+            sink,
+            block,
+            output_at(session, i),
+            text,
+            head_at(heads, i),
+            view,
+            all,
+        )?;
+    }
+    Ok(())
+}
+
+// Writes the mismatch at an index.
+fn put_mismatch_at<M: Machine, S: Sink>(
+    sink: &mut S,
+    session: &Session<M>,
+    heads: &[usize],
+    view: View<'_>,
+    index: usize,
+) -> Result<(), WriteFault>
+    requires count { length heads.now ≡ length session.now.script.blocks }
+    requires few { length session.now.script.blocks ≤ MAX_DIRECTIVES }
+    requires within { index < length session.now.script.blocks }
+    ensures wrote { Writes result (S.held sink.old) (S.held sink.new) (mismatch_at view.entry.colors view.entry.path.now heads.now session.now.script (index + 1)) }
+    ensures all { S.takes_all sink.old → IsOk result × S.takes_all sink.new }
+{
+    let block = block_at(session, index);
+    let path = view.path;
+    let line = head_at(heads, index);
+    put_mismatch(
+        sink,
+        Place { path, line },
+        &block.directive(),
+        block.expected(),
+        output_at(session, index),
+        view.colors,
+    )
+}
+
+// The index of the first mismatch.
+fn first_index<M: Machine>(session: &Session<M>) -> Option<usize>
+    ensures none { IfNone result (mismatches session.now.script ≡ []) }
+    ensures some { IfSome result (λ i. IsFirst (i + 1) (mismatches session.now.script)) }
+    ensures within { IfSome result (λ i. i < length session.now.script.blocks) }
+    ensures few { length session.now.script.blocks ≤ MAX_DIRECTIVES }
+{
+    let _count = session.len();
+    match session.mismatches().first() {
+        Some(place) => Some(*place - 1),
+        None => None,
     }
 }
 
-// Writes what is shown of a script whose heads begin on these lines.
-fn put_directives<M: Machine, S: Sink>(
+// Writes the first mismatch.
+fn put_first<M: Machine, S: Sink>(
     sink: &mut S,
     session: &Session<M>,
     heads: &[usize],
     view: View<'_>,
 ) -> Result<(), WriteFault>
     requires { length heads.now ≡ length session.now.script.blocks }
-    ensures wrote { Writes result (S.held sink.old) (S.held sink.new) (checked_text view.entry.shows_all view.entry.colors view.entry.path.now heads.now session.now.script) }
+    ensures wrote { Writes result (S.held sink.old) (S.held sink.new) (of_first (mismatch_at view.entry.colors view.entry.path.now heads.now session.now.script) (mismatches session.now.script)) }
     ensures all { S.takes_all sink.old → IsOk result × S.takes_all sink.new }
 {
-    for i in 0..session.len() {
-        let block = block_at(session, i);
-        put_shown(sink, block, output_at(session, i), heads[i], view)?;
+    match first_index(session) {
+        Some(index) => put_mismatch_at(sink, session, heads, view, index),
+        None => Ok(()),
     }
-    Ok(())
 }
 
-/// Writes what is shown of the script of the bytes: each directive that differs, in order and with the line of its head, and where all
-/// are wanted the others with their outputs. It takes memory only where something is shown. On a failure of the writer what went out is
-/// a beginning of the text.
+// Writes one line about a script with mismatches.
+fn put_in_brief<M: Machine, S: Sink>(
+    sink: &mut S,
+    session: &Session<M>,
+    heads: &[usize],
+    path: &[u8],
+) -> Result<(), WriteFault>
+    requires { length heads.now ≡ length session.now.script.blocks }
+    ensures wrote { Writes result (S.held sink.old) (S.held sink.new) (of_first (brief_at path.now heads.now session.now.script) (mismatches session.now.script)) }
+    ensures all { S.takes_all sink.old → IsOk result × S.takes_all sink.new }
+{
+    match first_index(session) {
+        Some(index) => put_brief(
+            sink,
+            path,
+            session.mismatches().len(),
+            session.len(),
+            head_at(heads, index),
+        ),
+        None => Ok(()),
+    }
+}
+
+// Writes what is wanted of a script.
+fn put_wanted<M: Machine, S: Sink>(
+    sink: &mut S,
+    session: &Session<M>,
+    layout: &Layout,
+    view: View<'_>,
+) -> Result<(), WriteFault>
+    requires { length layout.now.heads.items ≡ length session.now.script.blocks }
+    ensures wrote { Writes result (S.held sink.old) (S.held sink.new) (checked_text view.entry.shown view.entry.colors layout.now.text view.entry.path.now layout.now.heads.items session.now.script) }
+    ensures all { S.takes_all sink.old → IsOk result × S.takes_all sink.new }
+{
+    let heads = layout.heads.as_slice();
+    match view.shown {
+        Shown::Differing => put_directives(sink, session, heads, &layout.text, view, false),
+        Shown::All => put_directives(sink, session, heads, &layout.text, view, true),
+        Shown::First => put_first(sink, session, heads, view),
+        Shown::Brief => put_in_brief(sink, session, heads, view.path),
+    }
+}
+
+// What was found of a script.
+fn told<M: Machine>(session: &Session<M>, layout: &Layout) -> Told
+    requires { length layout.now.heads.items ≡ length session.now.script.blocks }
+    ensures { result ≡ told_of layout.now.text layout.now.heads.items session.now.script }
+{
+    let heads = layout.heads.as_slice();
+    let first = match first_index(session) {
+        Some(index) => Some(head_at(heads, index)),
+        None => None,
+    };
+    let errors = count_errors(session, heads, &layout.text);
+    Told { first, errors }
+}
+
+// The lines of the bytes, which are a script, and those of its heads.
+fn layout_of(alloc: Global, bytes: &[u8]) -> Result<Layout, AllocError>
+    ensures text { IfOk result (λ l. l.text ≡ lines bytes.now) }
+    ensures heads { (s : PlainScript) → Reads bytes.now s → IfOk result (λ l. AreHeadLines 1 (lines bytes.now) s.blocks l.heads.items) }
+{
+    match head_lines(alloc, bytes) {
+        Ok(heads) => Ok(Layout {
+            text: lines_of(alloc, bytes)?,
+            heads,
+        }),
+        // Where they are a script it can be nothing else.
+        Err(_) => Err(AllocError),
+    }
+}
+
+/// Whether there is nothing to show, and nothing to find.
+pub fn is_quiet<M: Machine>(session: &Session<M>, shown: Shown) -> bool
+    ensures { IsTrue result → IsQuiet shown session.now.script }
+{
+    shown != Shown::All && session.mismatches().is_empty() && !has_errors(session)
+}
+
+/// Writes what is shown of the script of the bytes, and answers what was found. Where [`is_quiet`] says so that is nothing, and the call
+/// can be spared. On a failure of the writer what went out is a beginning of the text.
 pub fn put_checked<M: Machine, S: Sink>(
     alloc: Global,
     sink: &mut S,
     session: &Session<M>,
     bytes: &[u8],
     view: View<'_>,
-) -> Result<(), ShowFault>
+) -> Result<Told, ShowFault>
     requires { Reads bytes.now session.now.script }
-    ensures wrote { (heads : List ℕ) → AreHeadLines 1 (lines bytes.now) session.now.script.blocks heads → Shows result (S.held sink.old) (S.held sink.new) (checked_text view.entry.shows_all view.entry.colors view.entry.path.now heads session.now.script) }
+    ensures wrote { (heads : List ℕ) → AreHeadLines 1 (lines bytes.now) session.now.script.blocks heads → Shows result (S.held sink.old) (S.held sink.new) (checked_text view.entry.shown view.entry.colors (lines bytes.now) view.entry.path.now heads session.now.script) }
+    ensures told { (heads : List ℕ) → AreHeadLines 1 (lines bytes.now) session.now.script.blocks heads → IfOk result (λ told. told ≡ told_of (lines bytes.now) heads session.now.script) }
     ensures all { S.takes_all sink.old → (result ≢ Err ShowFault.Writing) × S.takes_all sink.new }
 {
-    if !view.shows_all && session.mismatches().is_empty() {
-        return Ok(());
-    }
-    let Ok(heads) = head_lines(alloc, bytes) else {
+    let Ok(layout) = layout_of(alloc, bytes) else {
         return Err(ShowFault::OutOfMemory);
     };
-    match put_directives(sink, session, &heads, view) {
-        Ok(()) => Ok(()),
+    match put_wanted(sink, session, &layout, view) {
+        Ok(()) => Ok(told(session, &layout)),
         Err(_) => Err(ShowFault::Writing),
     }
 }

@@ -2,6 +2,19 @@
 
 use rb_check::Colors;
 
+/// How much of a script is shown.
+#[derive(Clone, Copy, Debug, PartialEq, Eq)]
+pub enum Shown {
+    /// Each directive that differs, and each whose output is an error that isn't said to be expected.
+    Differing,
+    /// These, and the others with their outputs.
+    All,
+    /// The first directive that differs.
+    First,
+    /// One line, which says how many differ.
+    Brief,
+}
+
 /// What is wanted of a script's report.
 #[derive(Clone, Copy, Debug)]
 pub struct View<'a> {
@@ -9,6 +22,6 @@ pub struct View<'a> {
     pub path: &'a [u8],
     /// Whether what differs has colours.
     pub colors: Colors,
-    /// Whether directives that do not differ are shown too, with their outputs.
-    pub shows_all: bool,
+    /// How much is shown.
+    pub shown: Shown,
 }

@@ -1,0 +1,34 @@
+//! A script that differs, in one line.
+
+ghost use Rattle.std.specs.Prelude.{IsOk};
+ghost use Rattle.rb_script.specs.Writes.{Writes};
+ghost use Rattle.rb_check.specs.Briefs.{brief_text};
+
+use crate::piece::{Piece, put_pieces};
+use rb_script::{Sink, WriteFault};
+
+/// Writes how much of a script differs: `PATH: 5 of 17 differ, first at line 20`. On a failure what went out is a beginning of the text.
+pub fn put_brief<S: Sink>(
+    sink: &mut S,
+    path: &[u8],
+    mismatches: usize,
+    directives: usize,
+    line: usize,
+) -> Result<(), WriteFault>
+    ensures wrote { Writes result (S.held sink.old) (S.held sink.new) (brief_text path.now mismatches directives line) }
+    ensures all { S.takes_all sink.old → IsOk result × S.takes_all sink.new }
+{
+    put_pieces(
+        sink,
+        &[
+            Piece::Bytes(path),
+            Piece::Bytes(b": "),
+            Piece::Number(mismatches as u64),
+            Piece::Bytes(b" of "),
+            Piece::Number(directives as u64),
+            Piece::Bytes(b" differ, first at line "),
+            Piece::Number(line as u64),
+            Piece::Bytes(b"\n"),
+        ],
+    )
+}

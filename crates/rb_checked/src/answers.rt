@@ -1,0 +1,35 @@
+//! A session's blocks and outputs by their index.
+
+ghost use Rattle.std.specs.Prelude.{◌≡◌, ◌<◌, ◌≤◌, Some, length, slice_get};
+ghost use Rattle.rb_script.specs.declared.limits.TheConstants.{MAX_DIRECTIVES};
+ghost use Rattle.rb_replay.specs.Run.{outputs};
+
+use rb_cluster::Machine;
+use rb_replay::Session;
+use rb_script::{Block, Lines};
+
+/// The block of the directive at an index, which counts from 0.
+pub(crate) fn block_at<M: Machine>(session: &Session<M>, index: usize) -> &Block
+    requires few { length session.now.script.blocks ≤ MAX_DIRECTIVES }
+    requires within { index < length session.now.script.blocks }
+    ensures { slice_get session.now.script.blocks index ≡ Some result.now }
+{
+    session.block(index + 1).unwrap()
+}
+
+/// The output of the directive at an index, which counts from 0.
+pub(crate) fn output_at<M: Machine>(session: &Session<M>, index: usize) -> &Lines
+    requires few { length session.now.script.blocks ≤ MAX_DIRECTIVES }
+    requires within { index < length session.now.script.blocks }
+    ensures { slice_get (outputs session.now.script) index ≡ Some result.now }
+{
+    session.output(index + 1).unwrap()
+}
+
+/// The line of the head at an index, which counts from 0.
+pub(crate) fn head_at(heads: &[usize], index: usize) -> usize
+    requires { index < length heads.now }
+    ensures { slice_get heads.now index ≡ Some result }
+{
+    heads[index]
+}
