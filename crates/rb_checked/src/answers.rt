@@ -4,7 +4,7 @@ ghost use Rattle.std.specs.Prelude.{◌≡◌, ◌<◌, ◌≤◌, Some, length,
 ghost use Rattle.rb_script.specs.declared.limits.TheConstants.{MAX_DIRECTIVES};
 ghost use Rattle.rb_replay.specs.Run.{outputs};
 
-use rb_cluster::Machine;
+use rb_machine::Machine;
 use rb_replay::Session;
 use rb_script::{Block, Lines};
 

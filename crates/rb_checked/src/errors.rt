@@ -10,7 +10,7 @@ ghost use Rattle.rb_replay.specs.Run.{outputs};
 ghost use Rattle.rb_checked.specs.Errors.{begins_error, is_error, is_mark, marked, says_error, is_unexpected, error_count};
 
 use crate::answers::{head_at, output_at};
-use rb_cluster::Machine;
+use rb_machine::Machine;
 use rb_replay::Session;
 use rb_script::{Lines, without_front};
 
