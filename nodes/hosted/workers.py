@@ -35,12 +35,12 @@ def work(make, task, items, until, stop, results):
 
 
 @contextlib.contextmanager
-def interruptible():
-    """A value that all workers see: an interrupt sets it, and a second one is a KeyboardInterrupt."""
+def interruptible(is_patient):
+    """A value that all workers see: who is patient sets it by an interrupt; a second one, or the first of who isn't, is a KeyboardInterrupt."""
     stop = FORKED.RawValue("b", 0)
 
     def interrupt(*_):
-        if stop.value:
+        if stop.value or not is_patient:
             raise KeyboardInterrupt
         stop.value = 1
 
@@ -51,24 +51,28 @@ def interruptible():
         signal.signal(signal.SIGINT, before)
 
 
-def side_by_side(jobs, make, task, items, until, met, look):
+def side_by_side(jobs, make, task, items, until, met, look, is_patient=True):
     """The results of the items that were begun before a time, or an interrupt, in their order. `met` takes what workers met, `look` each result as it comes.
+    Who isn't patient doesn't wait, after an interrupt, for what is under way.
 
     Broken where the nodes don't start, or nothing judges the reference.
     """
     numbered = list(enumerate(items))
     jobs = max(1, min(jobs, len(numbered)))
     results, found, names = FORKED.Queue(), {}, []
-    with interruptible() as stop:
+    with interruptible(is_patient) as stop:
         workers = [FORKED.Process(target=work, args=(make, task, numbered[at::jobs], until, stop, results)) for at in range(jobs)]
         for worker in workers:
             worker.start()
         try:
             while len(names) < jobs:
                 take(results, workers, found, names, met, look)
+        except KeyboardInterrupt:
+            if is_patient:
+                raise
         finally:
             end(workers, len(names) == jobs)
-    return [found[at] for at in sorted(found)], names[0]
+    return [found[at] for at in sorted(found)], next(iter(names), "")
 
 
 def end(workers, are_done):
