@@ -86,21 +86,27 @@ def make_ready(crate: Crate) -> None:
 
 
 def check(crate: Crate, texts: dict[str, str], functions: list[str], kept: pathlib.Path) -> str:
-    """What the toolchain's check says of these functions in a copy of the crate with these texts. It keeps its work in the folder `kept`."""
+    """What the toolchain's check says of these functions in a copy of the crate with these texts. It keeps its work in the folder `kept`.
+
+    Where a text is of a crate below, all crates below are read as source, and of their functions nothing is proved.
+    """
     kit = toolchain()
-    with tempfile.TemporaryDirectory(prefix="bodies-") as room:
-        for part in PARTS:
-            if (crate.folder / part).is_dir():
-                shutil.copytree(crate.folder / part, pathlib.Path(room, part))
+    sources = crate.below() if any(file.startswith("../") for file in texts) else []
+    with tempfile.TemporaryDirectory(prefix="bodies-") as folder:
+        room = pathlib.Path(folder, crate.name)
+        for it in [crate, *sources]:
+            for part in PARTS:
+                if (it.folder / part).is_dir():
+                    shutil.copytree(it.folder / part, room.parent / it.name / part)
         for file, text in texts.items():
-            pathlib.Path(room, file).write_text(text)
+            (room / file).write_text(text)
         words = [str(kit / "bin" / "rattle"), "check", "--crate-name", crate.name, "src/lib.rt", "--jobs", "1"]
-        for library in ("std", *crate.libraries):
+        for library in sorted({"std", *crate.libraries, *(name for it in sources for name in it.libraries)}):
             words += ["--extern", f"{library}={kit}/rlibs/{library}.rlib"]
-        for it in crate.named:
-            words += ["--extern", f"{it.name}={it.built}"]
-        for folder in [kit / "rlibs", *(it.built.parent for it in crate.below())]:
-            words += ["-L", f"dependency={folder}"]
+        for it in sources or crate.named:
+            words += ["--lib", f"{it.name}=../{it.name}/src/lib.rt"] if sources else ["--extern", f"{it.name}={it.built}"]
+        for path in [kit / "rlibs", *(it.built.parent for it in crate.below() if not sources)]:
+            words += ["-L", f"dependency={path}"]
         words += ["--antt-project", f"{kit}/rattle/logic/antt-project.json", "--logic-built", f"{kit}/logic_built", "--incremental", str(kept)]
         for function in functions:
             words += ["--only", function]

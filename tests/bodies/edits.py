@@ -1,15 +1,16 @@
 """Wrong bodies as they are kept: an edit a file, which says what to change in a crate and which function must refuse it.
 
 A file NAME.edit has a line `function: PATH`, the function's path below its crate as a check prints it, a line `file: FILE`
-below src/ or specs/, and pairs of lines `old: TEXT` and `new: TEXT`. Each old text stands once in its file.
+below src/ or specs/, and pairs of lines `old: TEXT` and `new: TEXT`. Each old text stands once in its file. A law's crate has
+its definitions from crates below: `file: ../CRATE/specs/FILE` is one of those.
 """
 import dataclasses
 import pathlib
 import re
 
 PARTS = ("src", "specs", "proofs")
-# A proof file that is changed says nothing of a contract.
-EDITED = ("src/", "specs/")
+# A proof file that is changed says nothing of a contract, nor does a body of a crate below.
+EDITED = re.compile(r"(src|specs|\.\./\w+/specs)/(?!.*\.\.)")
 
 
 class BadEdit(Exception):
@@ -52,7 +53,7 @@ def read_edit(path: pathlib.Path, crate: str) -> Edit:
         elif key == "old":
             old = text
         elif key == "new":
-            if not old or not file.startswith(EDITED) or ".." in file:
+            if not old or not EDITED.match(file):
                 raise BadEdit("a new text without an old one, or outside src/ and specs/")
             changes.append(Change(file, old, text))
             old = ""
