@@ -1,0 +1,105 @@
+//! What a server answers, by examples: codes are those of JSON-RPC 2.0 and of the language server protocol.
+
+use rb_rpc::framed;
+use rb_script::Through;
+use rb_server::{ServeFault, Status, serve};
+use std::alloc::{AllocError, Global};
+use std::process::Abort;
+use std::test::Fail;
+
+// The messages with these bodies, one after another.
+fn messages(alloc: Global, bodies: &[&str]) -> Result<String, AllocError> {
+    let mut text = String::new(alloc);
+    for body in bodies {
+        let message = framed(alloc, body)?;
+        text.push_str(message.as_str())?;
+    }
+    Ok(text)
+}
+
+// What a server writes, and how it ends.
+fn served(alloc: Global, input: &[u8]) -> Result<(Vec<u8>, Status), ServeFault> {
+    let mut source = input;
+    let mut sink = Through(Vec::new(alloc));
+    let status = serve(alloc, &mut source, &mut sink)?;
+    Ok((sink.0, status))
+}
+
+// These bodies have these answers.
+fn answers<R: Abort>(
+    rt: &R,
+    alloc: Global,
+    bodies: &[&str],
+    wanted: &[&str],
+    end: Status,
+) -> Result<(), Fail> {
+    let input = messages(alloc, bodies)?;
+    let wanted = messages(alloc, wanted)?;
+    let (written, status) = served(alloc, input.as_bytes())?;
+    assert_eq!(rt; written.as_slice(), wanted.as_bytes());
+    assert_eq!(rt; status, end);
+    Ok(())
+}
+
+#[test]
+fn a_life(rt: HostRuntime) -> Result<(), Fail> {
+    answers(
+        &rt,
+        rt.alloc(),
+        &[
+            r#"{"jsonrpc":"2.0","id":1,"method":"shutdown"}"#,
+            r#"{"jsonrpc":"2.0","id":2,"method":"initialize","params":{"capabilities":{"general":{"positionEncodings":["utf-16","utf-8"]}}}}"#,
+            r#"{"jsonrpc":"2.0","method":"initialized","params":{}}"#,
+            r#"{"jsonrpc":"2.0","id":"a","method":"shutdown"}"#,
+            r#"{"jsonrpc":"2.0","method":"exit"}"#,
+        ],
+        &[
+            r#"{"error":{"code":-32002,"message":"initialize comes first"},"id":1,"jsonrpc":"2.0"}"#,
+            r#"{"id":2,"jsonrpc":"2.0","result":{"capabilities":{"positionEncoding":"utf-8"},"serverInfo":{"name":"raftbench"}}}"#,
+            r#"{"id":"a","jsonrpc":"2.0","result":null}"#,
+        ],
+        Status::Done,
+    )
+}
+
+#[test]
+fn refusals(rt: HostRuntime) -> Result<(), Fail> {
+    answers(
+        &rt,
+        rt.alloc(),
+        &[
+            r#"{"jsonrpc":"2.0","id":1,"method":"initialize","params":5}"#,
+            r#"[]"#,
+            r#"{"jsonrpc":"2.0","id":2,"method""#,
+            r#"{"jsonrpc":"2.0","id":3,"method":"initialize","params":{}}"#,
+            r#"{"jsonrpc":"2.0","id":4,"method":"initialize","params":{}}"#,
+            r#"{"jsonrpc":"2.0","id":5,"method":"no/such"}"#,
+            r#"{"jsonrpc":"2.0","id":6,"method":"shutdown"}"#,
+            r#"{"jsonrpc":"2.0","id":7,"method":"shutdown"}"#,
+        ],
+        &[
+            r#"{"error":{"code":-32602,"message":"params is no object"},"id":1,"jsonrpc":"2.0"}"#,
+            r#"{"error":{"code":-32600,"message":"this is no message"},"id":null,"jsonrpc":"2.0"}"#,
+            r#"{"error":{"code":-32700,"message":"this is no JSON"},"id":null,"jsonrpc":"2.0"}"#,
+            r#"{"id":3,"jsonrpc":"2.0","result":{"capabilities":{"positionEncoding":"utf-16"},"serverInfo":{"name":"raftbench"}}}"#,
+            r#"{"error":{"code":-32600,"message":"initialize came before"},"id":4,"jsonrpc":"2.0"}"#,
+            r#"{"error":{"code":-32601,"message":"there is no such method"},"id":5,"jsonrpc":"2.0"}"#,
+            r#"{"id":6,"jsonrpc":"2.0","result":null}"#,
+            r#"{"error":{"code":-32600,"message":"shutdown came before"},"id":7,"jsonrpc":"2.0"}"#,
+        ],
+        Status::Closed,
+    )
+}
+
+#[test]
+fn ends(rt: HostRuntime) -> Result<(), Fail> {
+    let alloc = rt.alloc();
+    let exit = messages(alloc, &[r#"{"jsonrpc":"2.0","method":"exit"}"#])?;
+    let (_, exited) = served(alloc, exit.as_bytes())?;
+    assert_eq!(rt; exited, Status::Exited);
+    let (_, cut) = served(alloc, b"Content-Length: 5\r\n\r\n{}".as_slice())?;
+    assert_eq!(rt; cut, Status::CutOff);
+    let (_, stray) = served(alloc, b"what is this\r\n\r\n".as_slice())?;
+    assert_eq!(rt; stray, Status::NoMessage);
+    Ok(())
+}
