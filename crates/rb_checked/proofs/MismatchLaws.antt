@@ -87,7 +87,8 @@ quiet-count ls (line ∷ heads) [] none = refl
 quiet-count ls (line ∷ heads) (o ∷ os) none =
     let no = neither (is_error o) (list_any is_error os) none in
     let unnamed : is_unexpected ls line o ≡ false = ap (λ (t : Bool). t && not (says_error ls line)) no.0 in
-    rw unnamed (quiet-count ls heads os no.1)
+    let rest : error_count ls heads os ≡ 0 = quiet-count ls heads os no.1 in
+    rw unnamed (omega (arith, rest))
 
 pub shown-nothing : (wanted : Shown) (colors : Colors) (ls : List Line) (path heads : List ℕ) (s : PlainScript) → IsQuiet wanted s → checked_text wanted colors ls path heads s ≡ []
 shown-nothing shown.Differing colors ls path heads s q = quiet-shown colors ls path heads s.blocks (outputs s) 1 q.same q.no_error

@@ -12,15 +12,11 @@ use Rattle.rb_check.specs.Headings.{mismatch_text, directive_text, note_text}
 use Rattle.rb_check.specs.Briefs.{brief_text}
 use Rattle.rb_checked.specs.declared.view.Shown.{Shown}
 use Rattle.rb_checked.specs.declared.view.Shown.TheVariants as shown
-use Rattle.rb_checked.specs.Errors.{is_unexpected}
+use Rattle.rb_checked.specs.Errors.{first_line, is_unexpected}
 
 -- the head of a block's directive, on one line
 abbrev pub head_of : PlainBlock → List ℕ
 head_of b = head_text (directive_of b)
-
-abbrev pub first_line : List Line → Line
-first_line [] = []
-first_line (line ∷ ls) = line
 
 -- a block that expects other lines than the output
 abbrev pub mismatch_shown : Colors → List ℕ → ℕ → PlainBlock → List Line → List ℕ

@@ -7,10 +7,13 @@ use Rattle.rb_script.specs.Marks.{without_front, is_lead}
 abbrev pub begins_error : Line → Bool
 begins_error line = bytes_eq (take 7 line) (codes "error: ")
 
+abbrev pub first_line : List Line → Line
+first_line [] = []
+first_line (line ∷ ls) = line
+
 -- an output that is an error
 abbrev pub is_error : List Line → Bool
-is_error [] = false
-is_error (line ∷ ls) = begins_error line
+is_error output = begins_error (first_line output)
 
 -- the comment that says that an error is expected, blanks before it allowed
 abbrev pub is_mark : Line → Bool

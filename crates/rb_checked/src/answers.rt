@@ -18,6 +18,7 @@ pub(crate) fn block_at<M: Machine>(session: &Session<M>, index: usize) -> &Block
 }
 
 /// The output of the directive at an index, which counts from 0.
+#[tactic(auto, using(crate::proofs::ShownLaws::outputs_len))]
 pub(crate) fn output_at<M: Machine>(session: &Session<M>, index: usize) -> &Lines
     requires few { length session.now.script.blocks ≤ MAX_DIRECTIVES }
     requires within { index < length session.now.script.blocks }
@@ -26,10 +27,10 @@ pub(crate) fn output_at<M: Machine>(session: &Session<M>, index: usize) -> &Line
     session.output(index + 1).unwrap()
 }
 
-/// The line of the head at an index, which counts from 0.
-pub(crate) fn head_at(heads: &[usize], index: usize) -> usize
-    requires { index < length heads.now }
-    ensures { slice_get heads.now index ≡ Some result }
+/// The number at an index, which counts from 0.
+pub(crate) fn number_at(numbers: &[usize], index: usize) -> usize
+    requires { index < length numbers.now }
+    ensures { slice_get numbers.now index ≡ Some result }
 {
-    heads[index]
+    numbers[index]
 }

@@ -7,9 +7,9 @@ ghost use Rattle.std.specs.Prelude.{◌≡◌, ◌≤◌, if◌then◌else◌, l
 ghost use Rattle.std.specs.List.{list_any};
 ghost use Rattle.rb_script.specs.Marks.{is_lead};
 ghost use Rattle.rb_replay.specs.Run.{outputs};
-ghost use Rattle.rb_checked.specs.Errors.{begins_error, is_error, is_mark, marked, says_error, is_unexpected, error_count};
+ghost use Rattle.rb_checked.specs.Errors.{begins_error, first_line, is_error, is_mark, marked, says_error, is_unexpected, error_count};
 
-use crate::answers::{head_at, output_at};
+use crate::answers::{number_at, output_at};
 use rb_machine::Machine;
 use rb_replay::Session;
 use rb_script::{Lines, without_front};
@@ -24,20 +24,31 @@ fn begins_error(line: &[u8]) -> bool
     &line[..line.len().min(7)] == ERROR
 }
 
+/// The first line of an output, which always has one; without lines an empty one.
+pub(crate) fn first_line(output: &Lines) -> &[u8]
+    ensures { result.now ≡ first_line output.now }
+{
+    if output.is_empty() {
+        return b"";
+    }
+    output.line(0)
+}
+
 /// Whether the output is an error.
 pub(crate) fn is_error(output: &Lines) -> bool
     ensures { result ≡ is_error output.now }
 {
-    !output.is_empty() && begins_error(output.line(0))
+    begins_error(first_line(output))
 }
 
 // Whether the line is empty or a comment.
+#[tactic(auto, unfolding(rb_script::specs::Marks::is_lead))]
 fn is_lead(line: &[u8]) -> bool
     ensures { result ≡ is_lead line.now }
 {
-    match without_front(line).first() {
-        Some(first) => *first == b'#',
-        None => true,
+    match without_front(line) {
+        [] => true,
+        [first, ..] => *first == b'#',
     }
 }
 
@@ -99,7 +110,7 @@ pub(crate) fn count_errors<M: Machine>(session: &Session<M>, heads: &[usize], te
     let mut count = 0;
     for i in 0..session.len() {
         let output = output_at(session, i);
-        count += one_if(is_unexpected(text, head_at(heads, i), output));
+        count += one_if(is_unexpected(text, number_at(heads, i), output));
     }
     count
 }

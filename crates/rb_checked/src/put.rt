@@ -12,8 +12,8 @@ ghost use Rattle.rb_replay.specs.Report.{same_lines, mismatches};
 ghost use Rattle.rb_checked.specs.Checked.{match_shown, directive_shown, all_shown, of_first, mismatch_at, brief_at, checked_text, IsFirst};
 ghost use Rattle.rb_checked.specs.Shows.{Shows, told_of, IsQuiet};
 
-use crate::answers::{block_at, head_at, output_at};
-use crate::errors::{count_errors, has_errors, is_unexpected};
+use crate::answers::{block_at, number_at, output_at};
+use crate::errors::{count_errors, first_line, has_errors, is_unexpected};
 use crate::fault::ShowFault;
 use crate::text::lines_of;
 use crate::told::Told;
@@ -55,7 +55,7 @@ fn put_match<S: Sink>(
     if !is_unexpected(text, place.line, output) {
         return Ok(());
     }
-    put_note(sink, place, &block.directive(), output.line(0))
+    put_note(sink, place, &block.directive(), first_line(output))
 }
 
 // Writes one directive.
@@ -107,7 +107,7 @@ fn put_directives<M: Machine, S: Sink>(
             block,
             output_at(session, i),
             text,
-            head_at(heads, i),
+            number_at(heads, i),
             view,
             all,
         )?;
@@ -131,7 +131,7 @@ fn put_mismatch_at<M: Machine, S: Sink>(
 {
     let block = block_at(session, index);
     let path = view.path;
-    let line = head_at(heads, index);
+    let line = number_at(heads, index);
     put_mismatch(
         sink,
         Place { path, line },
@@ -150,10 +150,12 @@ fn first_index<M: Machine>(session: &Session<M>) -> Option<usize>
     ensures few { length session.now.script.blocks ≤ MAX_DIRECTIVES }
 {
     let _count = session.len();
-    match session.mismatches().first() {
-        Some(place) => Some(*place - 1),
-        None => None,
+    let places = session.mismatches();
+    if places.is_empty() {
+        return None;
     }
+    let place = number_at(places, 0);
+    Some(place - 1)
 }
 
 // Writes the first mismatch.
@@ -190,7 +192,7 @@ fn put_in_brief<M: Machine, S: Sink>(
             path,
             session.mismatches().len(),
             session.len(),
-            head_at(heads, index),
+            number_at(heads, index),
         ),
         None => Ok(()),
     }
@@ -223,7 +225,7 @@ fn told<M: Machine>(session: &Session<M>, layout: &Layout) -> Told
 {
     let heads = layout.heads.as_slice();
     let first = match first_index(session) {
-        Some(index) => Some(head_at(heads, index)),
+        Some(index) => Some(number_at(heads, index)),
         None => None,
     };
     let errors = count_errors(session, heads, &layout.text);

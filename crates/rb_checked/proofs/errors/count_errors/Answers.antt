@@ -11,12 +11,12 @@ loop-i-preserved g c =
     let os = outputs c.args.session.now.script in
     let ls = c.args.text.now in
     let o = c.output_at-output.result.now in
-    let line = c.head_at.result in
-    let next = count-step ls c.args.heads.now os c.loop-i.i line o c.head_at.ensures c.output_at-output.ensures in
-    let one : c.one_if.result ≡ (if is_unexpected ls line o then 1 else 0) = c.one_if.ensures.value ∙ ap (λ (t : Bool). if t then 1 else 0) c.is_unexpected.ensures in
+    let line = c.number_at.result in
+    let next = count-step ls c.args.heads.now os c.loop-i.i line o c.number_at.ensures c.output_at-output.ensures in
+    let one : c.one_if-count.result ≡ (if is_unexpected ls line o then 1 else 0) = c.one_if-count.ensures.value ∙ ap (λ (t : Bool). if t then 1 else 0) c.is_unexpected.ensures in
     record {
       sum = omega (arith, c.loop-i.invariant.sum, next, one);
-      few = omega (arith, c.loop-i.invariant.few, c.one_if.ensures.most);
+      few = omega (arith, c.loop-i.invariant.few, c.one_if-count.ensures.most);
     }
 
 pub returns : goal.returns
