@@ -17,13 +17,18 @@ pub(crate) fn block_at<M: Machine>(session: &Session<M>, index: usize) -> &Block
     session.block(index + 1).unwrap()
 }
 
+// There is an output for each directive.
+fn outputs_are_whole<M: Machine>(_session: &Session<M>)
+    ensures { length (outputs _session.now.script) ≡ length _session.now.script.blocks }
+{}
+
 /// The output of the directive at an index, which counts from 0.
-#[tactic(auto, using(crate::proofs::ShownLaws::outputs_len))]
 pub(crate) fn output_at<M: Machine>(session: &Session<M>, index: usize) -> &Lines
     requires few { length session.now.script.blocks ≤ MAX_DIRECTIVES }
     requires within { index < length session.now.script.blocks }
     ensures { slice_get (outputs session.now.script) index ≡ Some result.now }
 {
+    outputs_are_whole(session);
     session.output(index + 1).unwrap()
 }
 
