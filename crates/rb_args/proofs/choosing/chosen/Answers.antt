@@ -1,8 +1,8 @@
 use Rattle.std.proofs.Common.{◌≡◌, ◌∙◌, ap, sym, subst, true, refl, map}
-use Rattle.clap.specs.Words.{App, fault_of, is_simple, is_simple_and_free, kind_of, subcommand_of, takes}
+use Rattle.clap.specs.Words.{App, IsAmong, Kinds, fault_of, is_simple, is_simple_and_free, kind_of, subcommand_of, takes}
 use Rattle.clap.specs.declared.error.Error.{Error}
 use Rattle.clap.specs.declared.error.kind.ErrorKind.TheVariants as kind
-use Rattle.rb_args.specs.Chosen.{IsChoiceOf, IsRefusal}
+use Rattle.rb_args.specs.Chosen.{IsChoiceOf, IsRefusal, RefusedFor}
 use Rattle.rb_args.specs.CommandLine.{command_line}
 use Rattle.rb_args.specs.declared.choice.ChoiceFault.{ChoiceFault}
 use Rattle.rb_args.specs.declared.choice.ChoiceFault.TheVariants.{Refused, OutOfMemory}
@@ -17,6 +17,17 @@ line_is_simple = refl
 
 line_is_free : is_simple_and_free command_line ≡ true
 line_is_free = refl
+
+refused_for : (error : Error) (fault : ChoiceFault) (kinds : Kinds) → IsRefusal error fault → IsAmong (kind_of error) kinds → RefusedFor kinds fault
+refused_for error (Refused told) kinds h among = let e : told ≡ error = h.0 in rw e (among, h.1)
+refused_for error OutOfMemory kinds h among = tt
+
+pub returns-in-Err-clause-refused : goal.returns-in-Err-clause-refused
+returns-in-Err-clause-refused g c =
+    let texts = map g.S.AsStr.text c.args.words.now in
+    refused_for _ _ _ c.refusal.ensures
+    (subst (λ (a : App). IsAmong (kind_of c.in-Err.error) (fault_of a texts)) c.in-Ok.ensures
+    (c.in-Err.ensures.kinds (ap is_simple_and_free c.in-Ok.ensures ∙ line_is_free)))
 
 pub returns-in-Err-clause-taken :
     goal.returns-in-Err-clause-taken
