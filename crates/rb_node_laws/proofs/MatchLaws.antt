@@ -518,14 +518,17 @@ in_term t m new id now is =
       | inl less ↦ inl less
       | inr more ↦ elim more as (λ _. RestsOn t.node m new id) [
         | inl own ↦ inr (inl own)
-        | inr said ↦ (let x = said.1 in inr (inr (said.0, record {
+        | inr said ↦ (let x = said.1 in inr (inr (
+          said.0,
+          record {
             leads = x.leads;
             of_term = eqb-true m.term t.node.term (answer_term m.kind x.index (m.term == t.node.term) x.says now);
             index = x.index;
             says = x.says;
             at_most = x.at_most;
             held = x.held;
-          })))
+          },
+        )))
       ]
     ]
 

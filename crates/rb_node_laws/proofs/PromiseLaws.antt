@@ -39,9 +39,9 @@ stays_by a b term to g e some p =
     record {
       reached = omega (arith, up, low);
       given = λ at.
-        (let was : a.term ≡ term = omega (arith, at, up, low) in
-        let for_it : a.vote ≡ to = p.given was in
-        g.vote (at ∙ sym was) (subst (λ (v : ℕ). 0 < v) (sym for_it) some) ∙ for_it);
+          (let was : a.term ≡ term = omega (arith, at, up, low) in
+          let for_it : a.vote ≡ to = p.given was in
+          g.vote (at ∙ sym was) (subst (λ (v : ℕ). 0 < v) (sym for_it) some) ∙ for_it);
       alone = subst (All (Only term to)) (sym e) p.alone;
     }
 
