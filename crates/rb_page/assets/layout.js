@@ -33,10 +33,15 @@ function fitted(text, room) {
   return beginning(text, cut) + "…";
 }
 
-// The events of a step as marks want them: of what a node has ready, which entries it saves and how far it commits.
-function gathered(step, commits) {
+// The events of a step as marks want them: of what a node has ready, which entries it saves, whether others gave way to them, and how far
+// it commits.
+function gathered(step, commits, gone) {
   const events = [];
   for (const event of step.events) {
+    if (event.name === "save" && gone.get(event.id) === event.cells[0]) {
+      gone.delete(event.id);
+      events.push({ name: "replaced", id: event.id, cells: [event.id, event.cells[0]] });
+    }
     const last = events[events.length - 1];
     if (event.name === "save" && last && last.name === "saved" && last.id === event.id) {
       last.cells[2] = event.cells[0];
@@ -74,10 +79,24 @@ class Layout {
     const row = { step, top: this.height, marks: [], notes: [], slots: 0 };
     this.tops.push(this.height);
     this.rows.push(row);
-    this.place(row, gathered(step, this.commits));
-    this.placeChanges(row);
+    const gone = this.goneIn(step);
+    this.place(row, gathered(step, this.commits, gone));
+    this.placeChanges(row, gone);
     row.height = ROW_TOP + SLOT * Math.max(row.slots, row.notes.length) + ROW_BOTTOM;
     this.height += row.height;
+  }
+
+  // By node, from which index on its entries gave way to others.
+  goneIn(step) {
+    const gone = new Map();
+    for (const id of step.changed) {
+      const { log } = this.model.nodes[id - 1];
+      const { stays } = log.at(step.place);
+      if (log.changedAt(step.place) && stays < this.lasts[id] && stays >= this.bases[id]) {
+        gone.set(id, stays + 1);
+      }
+    }
+    return gone;
   }
 
   nextSlot(row) {
@@ -154,7 +173,7 @@ class Layout {
   }
 
   // What no event shows: a commit that no ready has shown yet, and a log that was compacted.
-  placeChanges(row) {
+  placeChanges(row, gone) {
     for (const id of row.step.changed) {
       const node = this.model.nodes[id - 1];
       const { commit } = node.numbers.at(row.step.place);
@@ -166,7 +185,7 @@ class Layout {
         this.placeMark(row, { name: "compacted", id, cells: [id, base] });
       }
       if (!isNew && node.log.changedAt(row.step.place)) {
-        this.placeEntries(row, node, stays, last);
+        this.placeEntries(row, node, gone, stays, last);
       }
       this.commits[id] = commit;
       this.bases[id] = base;
@@ -174,11 +193,11 @@ class Layout {
     }
   }
 
-  // Entries that are gone again, and those that came and aren't durable yet: no ready has shown them.
-  placeEntries(row, node, stays, last) {
+  // Entries that gave way to others, and those that came: where none of them is durable yet, no ready has shown them.
+  placeEntries(row, node, gone, stays, last) {
     const { durable } = node.numbers.at(row.step.place);
-    if (stays < this.lasts[node.id] && stays >= this.bases[node.id]) {
-      this.placeMark(row, { name: "replaced", id: node.id, cells: [node.id, stays + 1] });
+    if (gone.has(node.id)) {
+      this.placeMark(row, { name: "replaced", id: node.id, cells: [node.id, gone.get(node.id)] });
     }
     if (last > durable && last > stays) {
       const { body } = node.entryAt(last, row.step.place);

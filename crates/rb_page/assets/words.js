@@ -74,7 +74,7 @@ const MARKS = {
   committed: ([, index]) => [`✓ commit ${index}`, "moved"],
   saved: ([, first, last]) => [`saves ${first === last ? first : `${first}–${last}`}`, "quiet"],
   appended: ([, index, body]) => [`+ ${index} ${shown(body)}`, "quiet"],
-  replaced: ([, index]) => [`↺ ${index}+ replaced`, "change"],
+  replaced: ([, index]) => [`↺ ${index}+ anew`, "change"],
   compacted: ([, index]) => [`▣ compacted to ${index}`, "installed"],
 };
 
