@@ -1,7 +1,7 @@
 //! What a check shows, and no script leads to: lines of outputs that are empty or end in blanks, and a time that is known.
 
 use rb_check::{Colors, Failure, Outcome, Place, Totals, put_directive, put_mismatch, put_totals};
-use rb_script::{Lines, ScriptFault, Through};
+use rb_script::{Block, Lines, ScriptFault, Through};
 use std::alloc::Global;
 use std::process::Abort;
 
@@ -18,6 +18,10 @@ fn lines(rt: &impl Abort, alloc: Global, all: &[&[u8]]) -> Lines {
     lines
 }
 
+fn block(rt: &impl Abort, alloc: Global, text: &[u8]) -> Block {
+    Block::read(alloc, text).expect(rt, "a block")
+}
+
 // What is shown of a mismatch.
 fn mismatch(
     rt: &impl Abort,
@@ -28,8 +32,17 @@ fn mismatch(
 ) -> Vec<u8> {
     let expected = lines(rt, alloc, expected);
     let output = lines(rt, alloc, output);
+    let block = block(rt, alloc, b"campaign \\\n 1\n----\n");
     let mut out = Through(Vec::new(alloc));
-    put_mismatch(&mut out, PLACE, b"campaign", &expected, &output, colors).expect(rt, "memory");
+    put_mismatch(
+        &mut out,
+        PLACE,
+        &block.directive(),
+        &expected,
+        &output,
+        colors,
+    )
+    .expect(rt, "memory");
     out.0
 }
 
@@ -42,25 +55,27 @@ fn shows_what_differs_between_what_is_the_same(rt: HostRuntime) {
         &[b"one", b"two", b"three \t", b"four$", b"", b"six"],
         Colors::Off,
     );
-    let want = b"a/b.txt:12: campaign\n  one\n  two\n- two\n+ three \t$\n+ four$$\n  $\n  six\n";
+    let want =
+        b"a/b.txt:12: campaign 1\n  one\n  two\n- two\n+ three \t$\n+ four$$\n  $\n  six\n\n";
     assert_eq!(rt; shown.as_slice(), want.as_slice());
 }
 
 #[test]
 fn shows_colors(rt: HostRuntime) {
     let shown = mismatch(&rt, rt.alloc(), &[b"a", b"ok"], &[b"b ", b"ok"], Colors::On);
-    let want = b"a/b.txt:12: campaign\n\x1b[31m- a\x1b[0m\n\x1b[32m+ b $\x1b[0m\n  ok\n";
+    let want = b"a/b.txt:12: campaign 1\n\x1b[31m- a\x1b[0m\n\x1b[32m+ b $\x1b[0m\n  ok\n\n";
     assert_eq!(rt; shown.as_slice(), want.as_slice());
 }
 
 #[test]
 fn shows_a_directive(rt: HostRuntime) {
     let output = lines(&rt, rt.alloc(), &[b"ok", b""]);
+    let block = block(&rt, rt.alloc(), b"log-level info\n----\n");
     let mut out = Through(Vec::new(rt.alloc()));
-    put_directive(&mut out, PLACE, b"log-level", &output).expect(&rt, "memory");
+    put_directive(&mut out, PLACE, &block.directive(), &output).expect(&rt, "memory");
     assert_eq!(rt;
         out.0.as_slice(),
-        b"a/b.txt:12: log-level\n  ok\n  $\n".as_slice()
+        b"a/b.txt:12: log-level info\n  ok\n  $\n".as_slice()
     );
 }
 
@@ -78,10 +93,14 @@ fn counts_what_came_of_paths(rt: HostRuntime) {
         Outcome::Ran {
             directives: 17,
             mismatches: 1,
+            accepted: 0,
+            errors: 3,
         },
-        Outcome::Accepted {
+        Outcome::Ran {
             directives: 2,
-            outputs: 2,
+            mismatches: 0,
+            accepted: 2,
+            errors: 0,
         },
         Outcome::Refused(ScriptFault::BadLine(3)),
         Outcome::Failed(Failure::NotFound),
@@ -90,6 +109,6 @@ fn counts_what_came_of_paths(rt: HostRuntime) {
     put_totals(&mut out, &all, 61_045).expect(&rt, "memory");
     put_totals(&mut out, &Totals::new(), 7).expect(&rt, "memory");
     let want =
-        b"3 scripts, 19 directives, 1 mismatch, 1 refused, 2 accepted, 1 failed, 61.045 s\n0 scripts, 0 directives, 0 mismatches, 0 refused, 0.007 s\n";
+        b"3 scripts, 19 directives, 1 mismatch, 1 refused, 3 errors, 2 accepted, 1 failed, 61.045 s\n0 scripts, 0 directives, 0 mismatches, 0 refused, 0.007 s\n";
     assert_eq!(rt; out.0.as_slice(), want.as_slice());
 }
