@@ -16,22 +16,12 @@ listed-step vs i b v lt before value =
     ∙ sym (append_assoc b (v ++ []) rest)
 
 -- one value, or none or several
-pub values-one : (vs : List (List ℕ)) → length vs ≡ 1 → get_or vs 0 [] ≡ values_text vs
-values-one [] one = absurd (omega (arith, one))
-values-one (v ∷ []) one = refl
-values-one (v ∷ w ∷ vs) one = absurd (omega (arith, one))
-
 pub values-other : (vs : List (List ℕ)) → (length vs ≡ 1 → ⊥) → values_text vs ≡ codes "(" ++ (listed 0 vs ++ codes ")")
 values-other [] other = refl
 values-other (v ∷ []) other = absurd (other refl)
 values-other (v ∷ w ∷ vs) other = refl
 
 -- an argument with or without an equals sign
-pub argument-bare : (a : PlainArgument) (key : List ℕ) → key ≡ a.key → a.has_equals ≡ false → codes " " ++ (key ++ []) ≡ argument_text a
-argument-bare a key is bare =
-    ap (λ (k : List ℕ). codes " " ++ (k ++ [])) is
-    ∙ ap (λ (t : Bool). codes " " ++ (a.key ++ (if t then codes "=" ++ values_text a.values else []))) (sym bare)
-
 pub argument-with : (a : PlainArgument) (key : List ℕ) → key ≡ a.key → a.has_equals ≡ true → argument_text a ≡ (codes " " ++ (key ++ codes "=")) ++ values_text a.values
 argument-with a key is has =
     ap (λ (t : Bool). codes " " ++ (a.key ++ (if t then codes "=" ++ values_text a.values else []))) has

@@ -76,10 +76,6 @@ pub of_first-is : (f : ℕ → List ℕ) (k : ℕ) (ks : List ℕ) → IsFirst k
 of_first-is f k [] first = absurd first
 of_first-is f k (x ∷ ks) first = ap f (sym first)
 
-pub first_head-is : (heads : List ℕ) (k : ℕ) (ks : List ℕ) → IsFirst k ks → Some (head_line heads k) ≡ first_head heads ks
-first_head-is heads k [] first = absurd first
-first_head-is heads k (x ∷ ks) first = ap (λ (p : ℕ). Some (head_line heads p)) (sym first)
-
 -- the line of the head at an index
 pub head_line-is : (heads : List ℕ) (i line : ℕ) → slice_get heads i ≡ Some line → line ≡ head_line heads (i + 1)
 head_line-is heads i line got =
