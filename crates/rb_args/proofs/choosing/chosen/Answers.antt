@@ -1,5 +1,5 @@
-use Rattle.std.proofs.Common.{◌≡◌, ◌∙◌, ap, sym, subst, true, refl, map}
-use Rattle.clap.specs.Words.{App, IsAmong, Kinds, fault_of, is_simple, is_simple_and_free, kind_of, subcommand_of, takes}
+use Rattle.std.proofs.Common.{◌≡◌, ◌∙◌, ap, sym, subst, true, refl, map, inl, inr}
+use Rattle.clap.specs.Words.{App, HasKind, Kinds, fault_of, is_simple, is_simple_and_free, kind_of, subcommand_of, takes}
 use Rattle.clap.specs.declared.error.Error.{Error}
 use Rattle.clap.specs.declared.error.kind.ErrorKind.TheVariants as kind
 use Rattle.rb_args.specs.Chosen.{IsChoiceOf, IsRefusal, RefusedFor}
@@ -18,15 +18,16 @@ line_is_simple = refl
 line_is_free : is_simple_and_free command_line ≡ true
 line_is_free = refl
 
-refused_for : (error : Error) (fault : ChoiceFault) (kinds : Kinds) → IsRefusal error fault → IsAmong (kind_of error) kinds → RefusedFor kinds fault
-refused_for error (Refused told) kinds h among = let e : told ≡ error = h.0 in rw e (among, h.1)
-refused_for error OutOfMemory kinds h among = tt
+refused_for : (error : Error) (fault : ChoiceFault) (kinds : Kinds) → IsRefusal error fault → HasKind kinds error → RefusedFor kinds fault
+refused_for error (Refused told) kinds h (inl memory) = absurd (h.1 memory)
+refused_for error (Refused told) kinds h (inr among) = let e : told ≡ error = h.0 in rw e (among, h.1)
+refused_for error OutOfMemory kinds h has = tt
 
 pub returns-in-Err-clause-refused : goal.returns-in-Err-clause-refused
 returns-in-Err-clause-refused g c =
     let texts = map g.S.AsStr.text c.args.words.now in
     refused_for _ _ _ c.refusal.ensures
-    (subst (λ (a : App). IsAmong (kind_of c.in-Err.error) (fault_of a texts)) c.in-Ok.ensures
+    (subst (λ (a : App). HasKind (fault_of a texts) c.in-Err.error) c.in-Ok.ensures
     (c.in-Err.ensures.kinds (ap is_simple_and_free c.in-Ok.ensures ∙ line_is_free)))
 
 pub returns-in-Err-clause-taken :
