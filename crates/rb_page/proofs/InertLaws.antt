@@ -106,6 +106,7 @@ row_inert r =
     (joined (flat_map cell_text r.cells) (codes "]") (cells_inert r.cells) refl)
 
 next_inert : (rs : List Row) → list_all is_inert (flat_map next_text rs) ≡ true
+unfolding next_text
 next_inert [] = refl
 next_inert (r ∷ rs) = joined (next_text r) (flat_map next_text rs) (joined (codes ",\n") (row_text r) refl (row_inert r)) (next_inert rs)
 

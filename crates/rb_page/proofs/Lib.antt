@@ -1,2 +1,4 @@
 pub mod SentLaws
 pub mod InertLaws
+pub mod JsonLaws
+pub mod SizeLaws

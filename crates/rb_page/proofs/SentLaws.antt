@@ -50,3 +50,13 @@ piece_last {old = old} {mid = mid} {text = text} (Err d) new a s h = piece_front
 -- all went out
 pub sent_all : {old new : Option (List ℕ)} {text rest : List ℕ} → rest ≡ [] → Sent old new text rest → Appends old new text
 sent_all {old} {new} {text} {rest} e s = subst (λ (l : List ℕ). Appends old new l) (sym (s.parts ∙ ap (λ (l : List ℕ). s.front ++ l) e ∙ append-nil s.front)) s.appended
+
+-- ---- texts of two parts
+
+-- the first part failed, and so does the whole
+pub first_failed : {X : Type 0} {old : Option (List ℕ)} (r : Result X WriteFault) (new : Option (List ℕ)) (text a b : List ℕ) → text ≡ a ++ b → IsErr r → AppendsFront old new a → Writes r old new text
+first_failed {old = old} r new text a b e is f = piece_exit r new a b is (sent_none old text (a ++ b) e) f
+
+-- the first part went out, and so the whole is what became of the second
+pub second_written : {X : Type 0} (old mid : Option (List ℕ)) (r : Result X WriteFault) (new : Option (List ℕ)) (text a b : List ℕ) → text ≡ a ++ b → Appends old mid a → Writes r mid new b → Writes r old new text
+second_written old mid r new text a b e first w = piece_last r new b (sent_piece mid a b (sent_none old text (a ++ b) e) first) w

@@ -1,3 +1,10 @@
 pub mod Escapes
+pub mod Commas
 pub mod Pieces
+pub mod Spans
 pub mod Rows
+pub mod Json
+pub mod Sizes
+pub mod MessageRows
+pub mod EventRows
+pub mod ItemRows

@@ -2,6 +2,9 @@
 -- docs/PAGE.md.)
 use Rattle.std.specs.Prelude.{ℕ, List, ◌++◌, codes, decimal}
 use Rattle.std.specs.List.{flat_map}
+use Rattle.rb_texts.specs.Configs.{config_text}
+use Rattle.rb_texts.specs.Entries.{body_text}
+use Rattle.rb_texts.specs.Errors.{word_text}
 use Rattle.rb_page.specs.declared.cell.Cell.{Cell}
 use Rattle.rb_page.specs.declared.cell.Cell.TheVariants as cells
 use Rattle.rb_page.specs.declared.row.Place.{Place}
@@ -15,6 +18,10 @@ pub data PlainCell : Type 0 where
 abbrev pub plain_cell : Cell → PlainCell
 plain_cell (cells.Number n) = number n
 plain_cell (cells.Text bytes) = text bytes.now
+plain_cell (cells.Body body) = text (body_text body.now)
+plain_cell (cells.Config config) = text (config_text config.now)
+plain_cell (cells.Quoting front word) = text (front.now ++ word_text word.now)
+plain_cell (cells.Counting front n) = text (front.now ++ decimal n)
 
 pub record Row : Type 0 where
   pub name : List ℕ
@@ -41,7 +48,7 @@ before First = codes "["
 before Next = codes ",\n"
 
 -- a row that follows another
-abbrev pub next_text : Row → List ℕ
+unfoldable pub next_text : Row → List ℕ
 next_text r = before Next ++ row_text r
 
 -- a list of rows, of which there is one at least

@@ -14,7 +14,7 @@ fn is_plain(b: u8) -> bool
     b' ' <= b && b <= b'~' && b != b'"' && b != b'\\' && b != b'<' && b != b'>' && b != b'&'
 }
 
-fn hex_digit(n: u8) -> u8
+pub(crate) fn hex_digit(n: u8) -> u8
     requires { n < 16 }
     ensures { result ≡ hex_digit n }
 {

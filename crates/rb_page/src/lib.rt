@@ -7,10 +7,19 @@
 
 mod cell;
 mod escape;
+mod event;
+mod item;
 mod laws;
+mod message;
+mod names;
 mod piece;
 mod row;
+mod span;
 
 pub use cell::Cell;
-pub use laws::{rows_are_inert, texts_grow_little};
+pub use item::put_item;
+pub use laws::{
+    rows_are_inert, rows_are_json, rows_grow_with_what_they_say, texts_grow_little,
+    what_happens_has_a_row,
+};
 pub use row::{Place, put_end, put_row};

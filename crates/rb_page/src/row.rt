@@ -3,9 +3,9 @@
 ghost use Rattle.std.specs.Prelude.{◌≡◌, ◌++◌, IsOk, codes, map};
 ghost use Rattle.std.specs.List.{flat_map};
 ghost use Rattle.rb_script.specs.Writes.{Writes};
-ghost use Rattle.rb_page.specs.Rows.{cell_text, front_text, plain_cell, row_text, row, before};
+ghost use Rattle.rb_page.specs.Rows.{cell_text, front_text, next_text, plain_cell, row_text, row, before};
 
-use crate::cell::Cell;
+use crate::cell::{Cell, put_cell};
 use crate::piece::{Piece, put_pieces};
 use rb_script::{Sink, WriteFault};
 
@@ -38,9 +38,7 @@ pub fn put_row<S: Sink>(
     ensures wrote { Writes result (S.held sink.old) (S.held sink.new) (before place ++ row_text (row name.now (map plain_cell cells.now))) }
     ensures all { S.takes_all sink.old → IsOk result × S.takes_all sink.new }
 {
-    put_front(sink, place, name)?;
-    put_cells(sink, cells)?;
-    sink.put(b"]")
+    put_parted(sink, place, name, cells, &[])
 }
 
 fn put_front<S: Sink>(sink: &mut S, place: Place, name: &[u8]) -> Result<(), WriteFault>
@@ -68,21 +66,48 @@ fn put_cells<S: Sink>(sink: &mut S, cells: &[Cell<'_>]) -> Result<(), WriteFault
     Ok(())
 }
 
-fn put_cell<S: Sink>(sink: &mut S, cell: Cell<'_>) -> Result<(), WriteFault>
-    ensures wrote { Writes result (S.held sink.old) (S.held sink.new) (cell_text (plain_cell cell.entry)) }
+// Writes a row of this name, with the cells of both lists.
+fn put_parted<S: Sink>(
+    sink: &mut S,
+    place: Place,
+    name: &[u8],
+    cells: &[Cell<'_>],
+    more: &[Cell<'_>],
+) -> Result<(), WriteFault>
+    ensures wrote { Writes result (S.held sink.old) (S.held sink.new) (before place ++ row_text (row name.now (map plain_cell cells.now ++ map plain_cell more.now))) }
     ensures all { S.takes_all sink.old → IsOk result × S.takes_all sink.new }
 {
-    match cell {
-        Cell::Number(n) => put_pieces(sink, &[Piece::Bytes(b","), Piece::Number(n)]),
-        Cell::Text(bytes) => put_pieces(
-            sink,
-            &[
-                Piece::Bytes(b",\""),
-                Piece::Escaped(bytes),
-                Piece::Bytes(b"\""),
-            ],
-        ),
-    }
+    put_front(sink, place, name)?;
+    put_cells(sink, cells)?;
+    put_cells(sink, more)?;
+    sink.put(b"]")
+}
+
+/// Writes a row that follows another, with the cells of both lists.
+#[tactic(auto, unfolding(crate::specs::Rows::next_text))]
+pub(crate) fn put_further<S: Sink>(
+    sink: &mut S,
+    name: &[u8],
+    cells: &[Cell<'_>],
+    more: &[Cell<'_>],
+) -> Result<(), WriteFault>
+    ensures wrote { Writes result (S.held sink.old) (S.held sink.new) (next_text (row name.now (map plain_cell cells.now ++ map plain_cell more.now))) }
+    ensures all { S.takes_all sink.old → IsOk result × S.takes_all sink.new }
+{
+    put_parted(sink, Place::Next, name, cells, more)
+}
+
+/// Writes a row that follows another.
+#[tactic(auto, unfolding(crate::specs::Rows::next_text))]
+pub(crate) fn put_next<S: Sink>(
+    sink: &mut S,
+    name: &[u8],
+    cells: &[Cell<'_>],
+) -> Result<(), WriteFault>
+    ensures wrote { Writes result (S.held sink.old) (S.held sink.new) (next_text (row name.now (map plain_cell cells.now))) }
+    ensures all { S.takes_all sink.old → IsOk result × S.takes_all sink.new }
+{
+    put_row(sink, Place::Next, name, cells)
 }
 
 /// Writes what stands behind the last row.

@@ -1,0 +1,182 @@
+//! What the text of a cell is put together of.
+//!
+//! A text that is made of several values, as a configuration is, needs no memory of its own: its parts go out one after another, each as
+//! it stands between quotes.
+
+ghost use Rattle.std.specs.Prelude.{◌≡◌, ◌++◌, IsOk, codes, decimal};
+ghost use Rattle.std.specs.List.{flat_map};
+ghost use Rattle.rb_script.specs.Writes.{Writes};
+ghost use Rattle.rb_texts.specs.Configs.{ids_text, part_text};
+ghost use Rattle.rb_texts.specs.Entries.{letter, change_word};
+ghost use Rattle.rb_texts.specs.Quoted as quotes;
+ghost use Rattle.rb_page.specs.Commas.{comma_before};
+ghost use Rattle.rb_page.specs.Escapes.{escaped};
+ghost use Rattle.rb_page.specs.Spans.{span_text, spans_text};
+
+use crate::escape::{hex_digit, put_escaped};
+use itoa::Buffer;
+use rb_raftlog::{Word, WordKind};
+use rb_script::{Sink, WriteFault};
+
+/// A part of a text.
+#[derive(Clone, Copy)]
+pub(crate) enum Span<'a> {
+    /// The bytes as they are.
+    Bytes(&'a [u8]),
+    /// A number in decimal digits.
+    Number(u64),
+    /// Bytes as a line shows them inside double quotes.
+    Inside(&'a [u8]),
+    /// Ids with a comma between each two.
+    Ids(&'a [u64]),
+    /// A part of a configuration, which is there only where it has ids.
+    Part(&'a [u8], &'a [u64]),
+    /// The words of a change, each after a blank.
+    Words(&'a [Word]),
+}
+
+/// Writes the parts, each as it stands between quotes.
+pub(crate) fn put_spans<S: Sink>(sink: &mut S, spans: &[Span<'_>]) -> Result<(), WriteFault>
+    ensures wrote { Writes result (S.held sink.old) (S.held sink.new) (flat_map escaped (spans_text spans.now)) }
+    ensures all { S.takes_all sink.old → IsOk result × S.takes_all sink.new }
+{
+    for span in spans {
+        put_span(sink, *span)?;
+    }
+    Ok(())
+}
+
+fn put_span<S: Sink>(sink: &mut S, span: Span<'_>) -> Result<(), WriteFault>
+    ensures wrote { Writes result (S.held sink.old) (S.held sink.new) (flat_map escaped (span_text span.entry)) }
+    ensures all { S.takes_all sink.old → IsOk result × S.takes_all sink.new }
+{
+    match span {
+        Span::Bytes(bytes) => put_escaped(sink, bytes),
+        Span::Number(n) => put_digits(sink, n),
+        Span::Inside(bytes) => put_inside(sink, bytes),
+        Span::Ids(ids) => put_ids(sink, ids),
+        Span::Part(name, ids) => put_part(sink, name, ids),
+        Span::Words(words) => put_words(sink, words),
+    }
+}
+
+fn put_digits<S: Sink>(sink: &mut S, n: u64) -> Result<(), WriteFault>
+    ensures wrote { Writes result (S.held sink.old) (S.held sink.new) (flat_map escaped (decimal n)) }
+    ensures all { S.takes_all sink.old → IsOk result × S.takes_all sink.new }
+{
+    let mut digits = Buffer::new();
+    put_escaped(sink, digits.format(n).as_bytes())
+}
+
+// ---- bytes inside double quotes
+
+// Whether a line shows the byte as it is.
+fn is_plain(b: u8) -> bool
+    ensures { result ≡ quotes.is_plain b }
+{
+    b' ' <= b && b <= b'~' && b != b'"' && b != b'\\'
+}
+
+// The byte by its number, as a line shows it.
+fn numbered(b: u8) -> [u8; 4]
+    ensures { result ≡ quotes.numbered b }
+{
+    [b'\\', b'x', hex_digit(b / 16), hex_digit(b % 16)]
+}
+
+fn put_byte_inside<S: Sink>(sink: &mut S, b: u8) -> Result<(), WriteFault>
+    ensures wrote { Writes result (S.held sink.old) (S.held sink.new) (flat_map escaped (quotes.escaped b)) }
+    ensures all { S.takes_all sink.old → IsOk result × S.takes_all sink.new }
+{
+    if is_plain(b) {
+        put_escaped(sink, &[b])
+    } else {
+        put_escaped(sink, &numbered(b))
+    }
+}
+
+fn put_inside<S: Sink>(sink: &mut S, bytes: &[u8]) -> Result<(), WriteFault>
+    ensures wrote { Writes result (S.held sink.old) (S.held sink.new) (flat_map escaped (flat_map quotes.escaped bytes.now)) }
+    ensures all { S.takes_all sink.old → IsOk result × S.takes_all sink.new }
+{
+    for b in bytes {
+        put_byte_inside(sink, *b)?;
+    }
+    Ok(())
+}
+
+// ---- ids
+
+// Writes an id, after a comma.
+fn put_next_id<S: Sink>(sink: &mut S, id: u64) -> Result<(), WriteFault>
+    ensures wrote { Writes result (S.held sink.old) (S.held sink.new) (flat_map escaped (comma_before id)) }
+    ensures all { S.takes_all sink.old → IsOk result × S.takes_all sink.new }
+{
+    put_escaped(sink, b",")?;
+    put_digits(sink, id)
+}
+
+fn put_next_ids<S: Sink>(sink: &mut S, ids: &[u64]) -> Result<(), WriteFault>
+    ensures wrote { Writes result (S.held sink.old) (S.held sink.new) (flat_map escaped (flat_map comma_before ids.now)) }
+    ensures all { S.takes_all sink.old → IsOk result × S.takes_all sink.new }
+{
+    for id in ids {
+        put_next_id(sink, *id)?;
+    }
+    Ok(())
+}
+
+fn put_ids<S: Sink>(sink: &mut S, ids: &[u64]) -> Result<(), WriteFault>
+    ensures wrote { Writes result (S.held sink.old) (S.held sink.new) (flat_map escaped (ids_text ids.now)) }
+    ensures all { S.takes_all sink.old → IsOk result × S.takes_all sink.new }
+{
+    let Some((first, rest)) = ids.split_first() else {
+        return Ok(());
+    };
+    put_digits(sink, *first)?;
+    put_next_ids(sink, rest)
+}
+
+fn put_part<S: Sink>(sink: &mut S, name: &[u8], ids: &[u64]) -> Result<(), WriteFault>
+    ensures wrote { Writes result (S.held sink.old) (S.held sink.new) (flat_map escaped (part_text name.now ids.now)) }
+    ensures all { S.takes_all sink.old → IsOk result × S.takes_all sink.new }
+{
+    if ids.is_empty() {
+        return Ok(());
+    }
+    put_escaped(sink, name)?;
+    put_ids(sink, ids)?;
+    put_escaped(sink, b")")
+}
+
+// ---- words of a change
+
+// The letter of a word, after a blank.
+fn letter(kind: WordKind) -> &'static [u8]
+    ensures { result.now ≡ codes " " ++ letter kind }
+{
+    match kind {
+        WordKind::Voter => b" v",
+        WordKind::Learner => b" l",
+        WordKind::Remove => b" r",
+        WordKind::Update => b" u",
+    }
+}
+
+fn put_word<S: Sink>(sink: &mut S, word: &Word) -> Result<(), WriteFault>
+    ensures wrote { Writes result (S.held sink.old) (S.held sink.new) (flat_map escaped (change_word word.now)) }
+    ensures all { S.takes_all sink.old → IsOk result × S.takes_all sink.new }
+{
+    put_escaped(sink, letter(word.kind))?;
+    put_digits(sink, word.id)
+}
+
+fn put_words<S: Sink>(sink: &mut S, words: &[Word]) -> Result<(), WriteFault>
+    ensures wrote { Writes result (S.held sink.old) (S.held sink.new) (flat_map escaped (flat_map change_word words.now)) }
+    ensures all { S.takes_all sink.old → IsOk result × S.takes_all sink.new }
+{
+    for word in words {
+        put_word(sink, word)?;
+    }
+    Ok(())
+}
