@@ -5,12 +5,14 @@ below src/ or specs/, and pairs of lines `old: TEXT` and `new: TEXT`. Each old t
 its definitions from crates below: `file: ../CRATE/specs/FILE` is one of those.
 """
 import dataclasses
+import functools
 import pathlib
 import re
 
 PARTS = ("src", "specs", "proofs")
 # A proof file that is changed says nothing of a contract, nor does a body of a crate below.
 EDITED = re.compile(r"(src|specs|\.\./\w+/specs)/(?!.*\.\.)")
+HEAD = re.compile(r"(?m)^( *)(?:pub(?:\([a-z ]+\))? )?(?:const )?fn (\w+)")
 
 
 class BadEdit(Exception):
@@ -87,9 +89,27 @@ def is_within_its_function(edit: Edit, folder: pathlib.Path) -> bool:
     for change in edit.changes:
         text = (folder / change.file).read_text()
         above = text[: text.find(change.old)]
-        heads = list(re.finditer(r"(?m)^( *)(?:pub(?:\([a-z ]+\))? )?(?:const )?fn (\w+)", above))
+        heads = list(HEAD.finditer(above))
         if not change.file.startswith("src/") or not heads or heads[-1][2] != name:
             return False
         if re.search(rf"(?m)^{heads[-1][1]}}}$", above[heads[-1].end() :]):
             return False
     return True
+
+
+@functools.lru_cache(maxsize=None)
+def calls_below(folder: pathlib.Path) -> dict[str, set[str]]:
+    """The names of functions of a crate that each of them calls, by themselves or by others. What only has the name of one counts too."""
+    called: dict[str, set[str]] = {}
+    for path in sorted((folder / "src").rglob("*.rt")):
+        text = path.read_text()
+        heads = list(HEAD.finditer(text))
+        for head, end in zip(heads, [*(it.start() for it in heads[1:]), len(text)]):
+            called.setdefault(head[2], set()).update(re.findall(r"(?<!Vec::)(?<!Some)\b(\w+)(?:::<[^>]*>)?\(", text[head.end() : end]))
+    below = {name: {it for it in names if it in called} for name, names in called.items()}
+    while True:
+        more = {name: set().union(*(below[it] for it in names)) - names for name, names in below.items()}
+        if not any(more.values()):
+            return below
+        for name, names in more.items():
+            below[name] |= names

@@ -1,9 +1,4 @@
-//! What no clause says: that calls succeed, that each failed call is told, and what stands then.
+//! What no clause says: that lines come out of whatever calls bring them, and that each failed call is told.
 
 mod fakes;
 mod line;
-mod reading;
-mod refusals;
-mod running;
-mod scripts;
-mod session;
