@@ -1,9 +1,12 @@
--- The first line of bytes that begin with a line.
-use Rattle.std.proofs.Common.{◌≡◌, ◌≢◌, ◌≤◌, ◌∙◌, ℕ, List, [], ◌∷◌, ◌++◌, length, map, refl, ap, arith}
+-- The first line of bytes that begin with a line, and the lines of bytes that begin with whole lines.
+use Rattle.std.proofs.Common.{◌≡◌, ◌≢◌, ◌≤◌, ◌∙◌, ◌==◌, ℕ, Bool, true, false, List, [], ◌∷◌, ◌++◌, inl, inr, length, map, refl, sym, ap, subst, append_assoc, append-nil, arith}
+use Rattle.std.specs.Prelude.{if◌then◌else◌}
 use Rattle.std.proofs.lemmas.Bool.{ne_eqb}
+use Rattle.std.proofs.lemmas.List.{append_cancel_right, map-append}
 use Rattle.std.proofs.lemmas.List.Elements.{All-head, All-tail}
 use Rattle.rb_script.specs.Lines.{Line, put_before, without_returns, in_first, cut, lines}
 use Rattle.rb_line.specs.Begun.{HasNoFeed}
+use Rattle.rb_line.specs.Taken.{AreWhole}
 
 feed_free_head : (b : ℕ) (begun : List ℕ) → HasNoFeed (b ∷ begun) → b ≢ 10
 feed_free_head b begun h = All-head (λ x. x ≢ 10) b begun h
@@ -38,6 +41,62 @@ lines_line begun rest h = ap (map without_returns) (cut_line begun rest h)
 pub lines_last : (begun : List ℕ) → HasNoFeed begun → begun ≢ [] → lines begun ≡ without_returns begun ∷ lines []
 unfolding lines cut
 lines_last begun h some = ap (map without_returns) (cut_last begun h some)
+
+-- ---- whole lines, and what follows them
+
+in_first_more : (b : ℕ) (ls more : List Line) → ls ≢ [] → in_first b (ls ++ more) ≡ in_first b ls ++ more
+in_first_more b [] more some = absurd (some refl)
+in_first_more b (line ∷ ls) more some = refl
+
+in_first_some : (b : ℕ) (ls : List Line) → in_first b ls ≢ []
+in_first_some b [] e = let l : length (in_first b []) ≡ 0 = ap length e in omega (arith, l)
+in_first_some b (line ∷ ls) e = let l : length (in_first b (line ∷ ls)) ≡ 0 = ap length e in omega (arith, l)
+
+cut_some : (front : List ℕ) → cut (front ++ 10 ∷ []) ≢ []
+unfolding cut
+cut_some [] e = let l : 1 ≡ 0 = ap length e in omega (arith, l)
+cut_some (b ∷ front) e =
+    elim (b == 10) as (λ t. (if t then [] ∷ cut (front ++ 10 ∷ []) else in_first b (cut (front ++ 10 ∷ []))) ≡ [] → ⊥) [
+      | true ↦ λ h. let l : length ([] ∷ cut (front ++ 10 ∷ [])) ≡ 0 = ap length h in omega (arith, l)
+      | false ↦ λ h. in_first_some b (cut (front ++ 10 ∷ [])) h
+    ] e
+
+cut_feed : (front more : List ℕ) → cut (front ++ 10 ∷ more) ≡ cut (front ++ 10 ∷ []) ++ cut more
+unfolding cut
+cut_feed [] more = refl
+cut_feed (b ∷ front) more =
+    let rest = cut_feed front more in
+    elim (b == 10) as (λ t. (if t then [] ∷ cut (front ++ 10 ∷ more) else in_first b (cut (front ++ 10 ∷ more)))
+    ≡ (if t then [] ∷ cut (front ++ 10 ∷ []) else in_first b (cut (front ++ 10 ∷ []))) ++ cut more) [
+      | true ↦ ap (λ (ls : List Line). [] ∷ ls) rest
+      | false ↦ ap (in_first b) rest ∙ in_first_more b (cut (front ++ 10 ∷ [])) (cut more) (cut_some front)
+    ]
+
+lines_feed : (front more : List ℕ) → lines (front ++ 10 ∷ more) ≡ lines (front ++ 10 ∷ []) ++ lines more
+unfolding lines
+lines_feed front more = ap (map without_returns) (cut_feed front more) ∙ map-append without_returns (cut (front ++ 10 ∷ [])) (cut more)
+
+pub lines_none : lines [] ≡ []
+unfolding lines cut
+lines_none = refl
+
+-- whole lines are the first of the lines of what begins with them
+pub lines_whole : (whole more : List ℕ) → AreWhole whole → lines (whole ++ more) ≡ lines whole ++ lines more
+lines_whole whole more (inl none) =
+    ap (λ (l : List ℕ). lines (l ++ more)) none ∙ ap (λ (ls : List Line). ls ++ lines more) (sym (ap lines none ∙ lines_none))
+lines_whole whole more (inr (front, ends)) =
+    ap (λ (l : List ℕ). lines (l ++ more)) ends ∙ ap lines (append_assoc front (10 ∷ []) more) ∙ lines_feed front more
+    ∙ ap (λ (l : List ℕ). lines l ++ lines more) (sym ends)
+
+-- so they are all of those but the lines of what follows
+pub lines_of_whole : (all whole more : List ℕ) (ls : List Line) → AreWhole whole → all ≡ whole ++ more → lines all ≡ ls ++ lines more → lines whole ≡ ls
+lines_of_whole all whole more ls w e f =
+    append_cancel_right (lines whole) ls (lines more) (sym (lines_whole whole more w) ∙ ap lines (sym e) ∙ f)
+
+pub whole_both : (front back : List ℕ) → AreWhole front → AreWhole back → AreWhole (front ++ back)
+whole_both front back (inl none) w = subst AreWhole (ap (λ (l : List ℕ). l ++ back) (sym none)) w
+whole_both front back (inr (part, e)) (inl none) = inr (part, ap (λ (l : List ℕ). front ++ l) none ∙ append-nil front ∙ e)
+whole_both front back (inr first) (inr (part, e)) = inr (front ++ part, ap (λ (l : List ℕ). front ++ l) e ∙ sym (append_assoc front part (10 ∷ [])))
 
 -- ---- a line that goes on
 

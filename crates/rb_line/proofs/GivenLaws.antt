@@ -2,7 +2,7 @@
 use Rattle.std.proofs.Common.{◌≡◌, ◌≢◌, ◌<◌, ◌≤◌, ◌∙◌, ℕ, List, [], ◌∷◌, ◌++◌, Option, Some, None, Bool, true, false, length, map, refl, sym, ap, subst, arith, take, append_assoc, append-nil}
 use Rattle.std.specs.Prelude.{IfSome, if◌then◌else◌}
 use Rattle.std.specs.Io.KnownBytes.{Consumes, IsAtEnd, Keeps, prepend_known}
-use Rattle.std.proofs.KnownBytes.{Consumes-kept, Consumes-trans}
+use Rattle.std.proofs.KnownBytes.{Consumes-kept, Consumes-trans, prepend_known-nil}
 use Rattle.rb_script.specs.Lines.{without_returns, lines}
 use Rattle.rb_script.specs.declared.limits.TheConstants.{MAX_LINE}
 use Rattle.rb_line.specs.Begun.{HasNoFeed, Holds, IsLong, TurnsLong}
@@ -62,6 +62,14 @@ pub lost_all : (a known after : Option (List ℕ)) (ended : Bool) (unread begun 
 lost_all a known after ended unread begun new going none c kept =
     let split : unread ≡ unread ++ new = sym (append-nil unread) ∙ ap (λ (l : List ℕ). unread ++ l) (sym none) in
     Consumes-kept a (left ended new known) after (begun ++ unread) (lost_part a known ended unread begun unread new going split c) kept
+
+-- where nothing is unread and the end wasn't met, what is left is the source's
+left_spent : (known : Option (List ℕ)) (ended : Bool) (unread : List ℕ) → ended ≡ false → unread ≡ [] → left ended unread known ≡ known
+left_spent known true unread going none = cc
+left_spent known false unread going none = ap (λ (l : List ℕ). prepend_known l known) none ∙ prepend_known-nil known
+
+pub lost_spent : (a known : Option (List ℕ)) (ended : Bool) (unread begun : List ℕ) → unread ≡ [] → ended ≡ false → Consumes a (left ended unread known) begun → Consumes a known begun
+lost_spent a known ended unread begun none going c = subst (λ (o : Option (List ℕ)). Consumes a o begun) (left_spent known ended unread going none) c
 
 -- a line and its end
 pub lost_line : (a known : Option (List ℕ)) (ended : Bool) (unread begun part new : List ℕ) → ended ≡ false → unread ≡ part ++ 10 ∷ new

@@ -1,4 +1,5 @@
 pub mod BegunLaws
 pub mod CutLaws
 pub mod GivenLaws
+pub mod TakenLaws
 pub mod AskedLaws

@@ -3,7 +3,7 @@ use Rattle.std.specs.Prelude.{◌≡◌, ◌<◌, ◌≤◌, ℕ, List, [], ◌�
 use Rattle.std.specs.Io.KnownBytes.{Consumes, IsAtEnd}
 use Rattle.rb_script.specs.Lines.{Line, lines}
 use Rattle.rb_script.specs.declared.limits.TheConstants.{MAX_LINE}
-use Rattle.rb_line.specs.Begun.{HasNoFeed, TurnsLong}
+use Rattle.rb_line.specs.Begun.{TurnsLong}
 use Rattle.rb_line.specs.declared.line_reader.Next.{Next}
 use Rattle.rb_line.specs.declared.line_reader.Next.TheVariants as next
 
@@ -27,7 +27,3 @@ abbrev pub GivesNext : Next → Option (List ℕ) → Option (List ℕ) → Line
 GivesNext next.Line before after line = LosesLine before after line × (length line ≤ MAX_LINE)
 GivesNext next.TooLong before after line = IfSome before (λ all. IsFirstLong (lines all)) × LosesLong before after
 GivesNext next.End before after line = IsAtEnd before × (after ≡ Some [])
-
--- no line ended in the bytes that were lost
-abbrev pub StopsInLine : Option (List ℕ) → Option (List ℕ) → Type 0
-StopsInLine before after = (begun : List ℕ) × HasNoFeed begun × Consumes before after begun

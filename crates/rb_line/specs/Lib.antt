@@ -3,4 +3,5 @@ pub mod Begun
 pub mod Feeding
 pub mod Left
 pub mod Given
+pub mod Taken
 pub mod Asked

@@ -2,7 +2,7 @@
 
 ghost use Rattle.std.specs.Prelude.{◌≡◌, ◌↔◌, ◌≤◌, ◌∷◌, [], length, IfNone, IfSome, IsOk, OnOk, OnErr, IsTrue};
 ghost use Rattle.std.specs.Io.KnownBytes.{Consumes, IsAtEnd, Keeps};
-ghost use Rattle.rb_line.specs.Asked.{Asks};
+ghost use Rattle.rb_line.specs.Asked.{Asks, Fails};
 
 use crate::{InputFault, Source};
 use std::marker::Model;
@@ -66,6 +66,7 @@ impl Chunk {
         ensures err { OnErr result ((self.new ≡ []) × Keeps (S.left source.old) (S.left source.new)) }
         ensures most { length self.new ≤ CHUNK }
         ensures counted { Asks (S.asked source.old) (S.asked source.new) 1 }
+        ensures unfailed { OnOk result (Fails (S.asked source.old) (S.asked source.new) 0) }
         ensures all { S.gives_all source.old → IsOk result × S.gives_all source.new }
     {
         self.from = 0;

@@ -1,11 +1,12 @@
 //! The lines of a source.
 
-ghost use Rattle.std.specs.Prelude.{◌≡◌, ◌+◌, ◌<◌, ◌≤◌, ◌++◌, ℕ, List, Option, [], Ok, false, length, IsOk, IfOk, IfErr, OnOk, OnErr};
+ghost use Rattle.std.specs.Prelude.{◌≡◌, ◌+◌, ◌<◌, ◌≤◌, ◌++◌, ℕ, List, Option, [], Ok, false, length, IsOk, IfOk, OnOk, OnErr};
 ghost use Rattle.std.specs.Io.KnownBytes.{Keeps};
 ghost use Rattle.rb_line.specs.Begun.{Holds};
 ghost use Rattle.rb_line.specs.Left.{calls_of, left_of, line_of};
-ghost use Rattle.rb_line.specs.Given.{GivesNext, StopsInLine};
+ghost use Rattle.rb_line.specs.Given.{GivesNext};
 ghost use Rattle.rb_line.specs.Asked.{GoesOn, HasCallsFor, Stops, size_of, wanted};
+ghost use Rattle.rb_line.specs.Taken.{StopsInLine, TakesNext};
 ghost use Rattle.rb_line.specs.Feeding.{Takes};
 
 use crate::chunk::Chunk;
@@ -63,8 +64,9 @@ impl LineReader {
     pub fn next<S: Source>(&mut self, source: &mut S) -> Result<Next, InputFault>
         ensures given { IfOk result (λ next. GivesNext next (left_of self.old (S.left source.old))
             (left_of self.new (S.left source.new)) (line_of self.new)) }
-        ensures failed { IfErr result (λ _. StopsInLine (left_of self.old (S.left source.old))
-            (left_of self.new (S.left source.new))) }
+        ensures failed { OnErr result (StopsInLine self.old (S.left source.old) (S.left source.new)) }
+        // A line is taken up to its end, and nothing of the next.
+        ensures takes { IfOk result (λ next. TakesNext next self.old self.new (S.left source.old) (S.left source.new)) }
         // How often the source is asked: each call is counted, and the bytes asked for it.
         ensures goes { OnOk result (GoesOn self.old self.new (S.left source.old) (S.left source.new) (S.asked source.old) (S.asked source.new)) }
         ensures stops { OnErr result (Stops self.old (S.left source.old) (S.asked source.old) (S.asked source.new)) }
@@ -101,6 +103,7 @@ impl LineReader {
         ensures counted { OnOk result (self.new.calls < self.old.calls) }
         ensures line { self.new.line ≡ self.old.line }
         ensures left { Keeps (left_of self.old (S.left source.old)) (left_of self.new (S.left source.new)) }
+        ensures spent { OnErr result ((self.new.unread ≡ []) × (self.new.has_ended ≡ false)) }
         ensures goes { OnOk result (GoesOn self.old self.new (S.left source.old) (S.left source.new) (S.asked source.old) (S.asked source.new)) }
         ensures smaller { OnOk result (size_of self.new < size_of self.old) }
         ensures stops { OnErr result (Stops self.old (S.left source.old) (S.asked source.old) (S.asked source.new)) }

@@ -2,11 +2,12 @@
 //!
 //! Nothing is known of when a `Read` fails, so what stands on one could claim a failure at will. A [`Source`] can be
 //! known to give all that it has, as a `Sink` of [`rb_script`] can be known to take all: over such a one there is no
-//! failure to be answered. It also counts how often it is asked, where that is known.
+//! failure to be answered. It also counts how often it is asked, and remembers how often it failed, where that is known: so that
+//! a failed call is answered, and not passed over, can be said.
 
-ghost use Rattle.std.specs.Prelude.{ℕ, ◌≤◌, List, Option, None, Some, IsOk, IfOk, length};
+ghost use Rattle.std.specs.Prelude.{ℕ, ◌≤◌, List, Option, None, Some, IsOk, IfOk, OnOk, OnErr, length};
 ghost use Rattle.std.specs.Io.KnownBytes.{ReadConsumes};
-ghost use Rattle.rb_line.specs.Asked.{Asks};
+ghost use Rattle.rb_line.specs.Asked.{Asks, Calls, Fails};
 
 use std::io::Read;
 
@@ -19,8 +20,8 @@ pub trait Source {
     // the bytes that are left, where they are known
     ghost left: { Self → Option (List ℕ) };
 
-    // how often it was asked, where that is counted
-    ghost asked: { Self → Option ℕ };
+    // how often it was asked, and how often it failed then, where that is counted
+    ghost asked: { Self → Option Calls };
 
     // no call fails
     ghost gives_all: { Self → Type 0 };
@@ -34,6 +35,8 @@ pub trait Source {
         ensures bound { IfOk result (λ n. n ≤ length room.new) }
         ensures bytes { ReadConsumes (left self.old) (left self.new) result room.new }
         ensures counted { Asks (asked self.old) (asked self.new) 1 }
+        ensures unfailed { OnOk result (Fails (asked self.old) (asked self.new) 0) }
+        ensures failed { OnErr result (Fails (asked self.old) (asked self.new) 1) }
         ensures all { gives_all self.old → IsOk result × gives_all self.new };
 }
 

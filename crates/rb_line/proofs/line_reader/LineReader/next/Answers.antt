@@ -1,10 +1,10 @@
-use Rattle.std.proofs.Common.{rules, arith, [], ◌++◌, refl, ap, sym, subst, length, length-append}
+use Rattle.std.proofs.Common.{rules, arith, [], ◌∷◌, ◌++◌, inr, refl, ap, sym, subst, length, length-append}
 use Rattle.std.proofs.KnownBytes.{Consumes-nil}
 use Rattle.std.proofs.lemmas.Result.{err_from_is_err_and}
 use Rattle.rb_line.specs.Begun.{Holds}
 use Rattle.rb_line.specs.declared.line_reader.LineReader.{LineReader}
 use Rattle.rb_line.proofs.AskedLaws.{goes_none, goes_then, goes_stops, goes_enough}
-use Rattle.rb_line.proofs.GivenLaws.{lost_all, lost_line, gives_line, gives_last, gives_end, gives_long}
+use Rattle.rb_line.proofs.GivenLaws.{lost_all, lost_spent, lost_line, gives_line, gives_last, gives_end, gives_long}
 use Rattle.rb_line.proofs.line_reader.LineReader.next.Goals as goal
 
 pub loop-self-init : goal.loop-self-init
@@ -13,6 +13,7 @@ loop-self-init g c = record {
   held = c.clear.ensures.begun;
   lost = Consumes-nil _;
   goes = goes_none _ _ _ _ refl refl (omega arith);
+  going = λ e. e;
   size = omega arith;
   all = λ gives has. gives;
 }
@@ -29,6 +30,7 @@ loop-self-preserved g c =
       held = subst (Holds (i.begun ++ c.loop-self.self.unread)) (sym c.in_ok-refill-in-More.ensures.line) holds;
       lost = lost_all _ _ _ c.loop-self.self.has_ended c.loop-self.self.unread i.begun c.take_line.new.unread (search rules) none i.lost c.in_ok-refill-in-More.ensures.left;
       goes = goes_then _ _ _ _ _ _ _ _ _ goes c.in_ok-refill-in-More.ensures.goes;
+      going = λ e. i.going (search rules);
       size = omega (arith, i.size, empty, c.in_ok-refill-in-More.ensures.smaller, length-append i.begun c.loop-self.self.unread);
       all = λ gives has. (c.in_ok-refill-in-More.ensures.all (i.all gives has) (goes_enough _ _ _ _ _ _ goes has)).1;
     }
@@ -38,11 +40,15 @@ returns-in_err-refill-in-More-clause-failed g c =
     let i = c.loop-self.invariant in
     let (none, holds) = c.in-More.ensures i.begun i.held in
     let p = err_from_is_err_and c.from_residual.result c.from_residual.ensures.1 in
-    rw p.1 (
-      i.begun ++ c.loop-self.self.unread,
-      holds.no_feed,
-      lost_all _ _ _ c.loop-self.self.has_ended c.loop-self.self.unread i.begun c.take_line.new.unread (search rules) none i.lost c.in_err-refill-in-More.ensures.left,
-    )
+    let spent = c.in_err-refill-in-More.ensures.spent in
+    rw p.1 (record {
+      going = i.going (search rules);
+      begun = i.begun ++ c.loop-self.self.unread;
+      no_feed = holds.no_feed;
+      short = holds.within;
+      lost = lost_spent _ _ _ _ (i.begun ++ c.loop-self.self.unread) spent.0 spent.1
+          (lost_all _ _ _ c.loop-self.self.has_ended c.loop-self.self.unread i.begun c.take_line.new.unread (search rules) none i.lost c.in_err-refill-in-More.ensures.left);
+    })
 
 pub returns-in_err-refill-in-More-clause-stops : goal.returns-in_err-refill-in-More-clause-stops
 returns-in_err-refill-in-More-clause-stops g c =
@@ -63,6 +69,16 @@ returns-in-Line-clause-given g c =
     let (part, split, holds) = c.in-Line.ensures i.begun i.held in
     gives_line _ _ (i.begun ++ part) c.take_line.new.line holds
     (lost_line _ _ c.loop-self.self.has_ended c.loop-self.self.unread i.begun part c.take_line.new.unread (search rules) split i.lost)
+
+pub returns-in-Line-clause-takes : goal.returns-in-Line-clause-takes
+returns-in-Line-clause-takes g c = λ later.
+    let i = c.loop-self.invariant in
+    let (part, split, holds) = c.in-Line.ensures i.begun i.held in record {
+      going = i.going (search rules);
+      bytes = (i.begun ++ part) ++ 10 ∷ [];
+      are_whole = inr (i.begun ++ part, refl);
+      taken = lost_line _ _ c.loop-self.self.has_ended c.loop-self.self.unread i.begun part c.take_line.new.unread (search rules) split i.lost;
+    }
 
 pub returns-in-TooLong-clause-given : goal.returns-in-TooLong-clause-given
 returns-in-TooLong-clause-given g c =
