@@ -23,7 +23,7 @@ pub lines_of_none : (bytes : List ℕ) → bytes ≡ [] → lines bytes ≡ []
 unfolding lines cut
 lines_of_none bytes e = ap lines e
 
-short_line : (line : Line) → length line ≤ MAX_LINE → is_long line ≡ false
+pub short_line : (line : Line) → length line ≤ MAX_LINE → is_long line ≡ false
 short_line line le = grind (arith, nat_tests)
 
 long_line : (line : Line) → MAX_LINE < length line → is_long line ≡ true
@@ -116,7 +116,7 @@ asked_long : (line : Line) (ls all : List Line) → all ≡ line ∷ ls → list
 asked_long line ls all e h =
     ap (λ (l : List Line). list_any is_long (asked l)) e ∙ asked_next line ls ∙ ap (λ t. is_long line || t) h ∙ or_true (is_long line)
 
-cut_after : (line : Line) (ls all : List Line) → all ≡ line ∷ ls → is_long line ≡ false → list_any is_long ls ≡ false → length ls < given_count (command_of line) → IsCut all
+pub cut_after : (line : Line) (ls all : List Line) → all ≡ line ∷ ls → is_long line ≡ false → list_any is_long ls ≡ false → length ls < given_count (command_of line) → IsCut all
 cut_after line ls all e short h lt = subst (λ (l : List Line). IsCut l) (sym e) (ap (λ t. t || list_any is_long ls) short ∙ h, omega arith)
 
 hears_lines : (heard : Heard) (line : Line) (ls more rest : List Line) → ls ≡ line ∷ more → is_long line ≡ false → Gathers (command_of line) heard more rest → Hears heard ls rest

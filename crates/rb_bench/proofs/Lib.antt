@@ -9,3 +9,4 @@ pub mod HearLaws
 pub mod ServeLaws
 pub mod TalkLaws
 pub mod OneLaws
+pub mod StopLaws

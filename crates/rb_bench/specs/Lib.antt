@@ -12,3 +12,4 @@ pub mod Replies
 pub mod Known
 pub mod Hearing
 pub mod Turns
+pub mod Stopping

@@ -5,6 +5,7 @@ ghost use Rattle.rb_line.specs.Left.{left_of};
 ghost use Rattle.rb_line.specs.Asked.{GoesOn, HasCallsFor, Stops};
 ghost use Rattle.rb_bench.specs.Talk.{given_count};
 ghost use Rattle.rb_bench.specs.Hearing.{GathersOf};
+ghost use Rattle.rb_bench.specs.Stopping.{AreTooFew, StopsBehind, TakesHeard};
 
 use crate::given::Given;
 use crate::hear::Heard;
@@ -30,6 +31,8 @@ pub(crate) fn gather<S: Source>(
     source: &mut S,
 ) -> Result<Heard, InputFault>
     ensures heard { IfOk result (λ heard. GathersOf (left_of input.old (S.left source.old)) (left_of input.new (S.left source.new)) command heard) }
+    ensures takes { IfOk result (λ heard. TakesHeard heard input.old input.new (S.left source.old) (S.left source.new)) }
+    ensures failed { OnErr result (StopsBehind (AreTooFew (given_count command)) input.old (S.left source.old) (S.left source.new)) }
     ensures goes { OnOk result (GoesOn input.old input.new (S.left source.old) (S.left source.new) (S.asked source.old) (S.asked source.new)) }
     ensures stops { OnErr result (Stops input.old (S.left source.old) (S.asked source.old) (S.asked source.new)) }
     ensures all { S.gives_all source.old → HasCallsFor input.old (S.left source.old) → IsOk result × S.gives_all source.new }

@@ -4,6 +4,7 @@ ghost use Rattle.std.specs.Prelude.{◌<◌, IsOk, IfOk, OnOk, OnErr};
 ghost use Rattle.rb_line.specs.Left.{left_of};
 ghost use Rattle.rb_line.specs.Asked.{GoesOn, HasCallsFor, Stops, size_of};
 ghost use Rattle.rb_bench.specs.Hearing.{HearsOf, IsCommand};
+ghost use Rattle.rb_bench.specs.Stopping.{IsUnfinished, StopsBehind, TakesHeard};
 
 use crate::gather::gather;
 use crate::given::Given;
@@ -31,6 +32,9 @@ pub(crate) fn hear<S: Source>(
     source: &mut S,
 ) -> Result<Heard, InputFault>
     ensures heard { IfOk result (λ heard. HearsOf (left_of input.old (S.left source.old)) (left_of input.new (S.left source.new)) heard) }
+    ensures takes { IfOk result (λ heard. TakesHeard heard input.old input.new (S.left source.old) (S.left source.new)) }
+    // Where reading stops, no further command had come whole.
+    ensures failed { OnErr result (StopsBehind IsUnfinished input.old (S.left source.old) (S.left source.new)) }
     ensures goes { OnOk result (GoesOn input.old input.new (S.left source.old) (S.left source.new) (S.asked source.old) (S.asked source.new)) }
     ensures stops { OnErr result (Stops input.old (S.left source.old) (S.asked source.old) (S.asked source.new)) }
     ensures all { S.gives_all source.old → HasCallsFor input.old (S.left source.old) → IsOk result × S.gives_all source.new }

@@ -1,8 +1,8 @@
 //! Reading the first bytes of a source.
 
-ghost use Rattle.std.specs.Prelude.{◌≡◌, ◌++◌, ◌+◌, ◌≤◌, ◌<◌, ℕ, List, length, take, IfOk, IfErr, IfSome, vec_len};
+ghost use Rattle.std.specs.Prelude.{◌≡◌, ◌++◌, ◌+◌, ◌≤◌, ◌<◌, ℕ, List, length, take, IfOk, IfErr, IfSome, OnOk, vec_len};
 ghost use Rattle.std.specs.Io.KnownBytes.{Consumes, IsAtEnd};
-ghost use Rattle.rb_line.specs.Asked.{Asks, AsksFor};
+ghost use Rattle.rb_line.specs.Asked.{Asks, AsksFor, Fails};
 ghost use Rattle.rb_bench.specs.Reading.{Loses, StopsWithin};
 
 use rb_line::Source;
@@ -38,6 +38,8 @@ pub fn read_up_to<S: Source>(
         × Consumes (S.left source.old) (S.left source.new) lost) }
     // It is asked no more often than the bytes ask for.
     ensures asked { AsksFor (S.left source.old) (S.asked source.old) (S.asked source.new) most }
+    // Where a call failed, that is answered.
+    ensures unfailed { OnOk result (Fails (S.asked source.old) (S.asked source.new) 0) }
     // Of a source that gives all only memory can be wanting.
     ensures all { S.gives_all source.old → IfErr result (λ fault. fault ≡ ReadFault.OutOfMemory) × S.gives_all source.new }
 {
@@ -65,6 +67,7 @@ fn read_some<S: Source>(
     ensures failed { IfErr result (λ fault. (lost : List ℕ) × Loses fault lost × (vec_len bytes.old + length lost ≤ most)
         × Consumes (S.left source.old) (S.left source.new) lost) }
     ensures asked { Asks (S.asked source.old) (S.asked source.new) 1 }
+    ensures unfailed { OnOk result (Fails (S.asked source.old) (S.asked source.new) 0) }
     ensures all { S.gives_all source.old → IfErr result (λ fault. fault ≡ ReadFault.OutOfMemory) × S.gives_all source.new }
 {
     let mut chunk = [0u8; CHUNK];

@@ -2,7 +2,7 @@
 
 ghost use Rattle.std.specs.Prelude.{◌≡◌, ◌≢◌, ◌↔◌, ◌⊎◌, ◌≤◌, true, false, ℕ, List, length, Err, IsErrOf, IsOk, IfSome, OnOk};
 ghost use Rattle.std.specs.Io.KnownBytes.{Consumes};
-ghost use Rattle.rb_line.specs.Asked.{AsksFor};
+ghost use Rattle.rb_line.specs.Asked.{AsksFor, Fails};
 ghost use Rattle.rb_script.specs.Reading.{early_fault};
 ghost use Rattle.rb_script.specs.Writes.{Writes};
 ghost use Rattle.rb_replay.specs.Start.{is_spacing};
@@ -53,6 +53,8 @@ pub fn run_over<S: Source, W: Outlet>(
     ensures consumed { (taken : List ℕ) × (length taken ≤ most_read) × Consumes (S.left source.old) (S.left source.new) taken }
     ensures asked { IsErrOf result BenchFault.Spacing ⊎ AsksFor (S.left source.old) (S.asked source.old) (S.asked source.new) most_read }
     // Where the source's bytes are known.
+    // A call of the source that failed is a failure of the whole.
+    ensures unfailed { OnOk result (Fails (S.asked source.old) (S.asked source.new) 0) }
     ensures answered { is_spacing every ≡ true → IfSome (S.left source.old) (λ all. RunsOver mode all (S.left source.new) result (W.held writer.old) (W.held writer.new)) }
     // What was written was handed on.
     ensures handed { OnOk result (IsHandedOn (W.handed writer.new) (W.held writer.new)) }

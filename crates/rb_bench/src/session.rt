@@ -1,16 +1,17 @@
 //! A session over a source and an outlet.
 
-ghost use Rattle.std.specs.Prelude.{◌≡◌, ◌≢◌, ◌↔◌, ◌⊎◌, ◌<◌, ℕ, List, length, Ok, Err, Some, None, true, false, IsOk, IfErr, IfSome, OnOk, OnErr};
+ghost use Rattle.std.specs.Prelude.{◌≡◌, ◌≢◌, ◌↔◌, ◌⊎◌, ◌<◌, ℕ, List, length, Ok, Err, Some, None, true, false, IsOk, IfErr, IfOk, IfSome, MatchResult, OnOk, OnErr};
 ghost use Rattle.rb_script.specs.Script.{PlainScript};
 ghost use Rattle.rb_script.specs.Reads.{Reads};
 ghost use Rattle.rb_script.specs.Reading.{read_of, early_fault};
 ghost use Rattle.rb_replay.specs.Start.{is_spacing};
 ghost use Rattle.rb_line.specs.Left.{left_of};
-ghost use Rattle.rb_line.specs.Asked.{AsksFor, GoesOn, HasCallsFor, Stops, size_of};
+ghost use Rattle.rb_line.specs.Asked.{AsksFor, Fails, GoesOn, HasCallsFor, Stops, size_of};
 ghost use Rattle.rb_bench.specs.Handed.{IsHandedOn};
 ghost use Rattle.rb_bench.specs.Turns.{TurnsOut};
 ghost use Rattle.rb_bench.specs.Faults.{TellsFault};
 ghost use Rattle.rb_bench.specs.Serves.{TalksOut, ServesOut};
+ghost use Rattle.rb_bench.specs.Stopping.{AnswersCame, IsUnfinished, ServesCame, StopsBehind, TakesTurn};
 
 use crate::fault::BenchFault;
 use crate::hear::hear;
@@ -43,6 +44,11 @@ pub fn serve<S: Source, W: Outlet>(
     // What is written is the conversation over the bytes that come in, and the status is that of its end. Where the
     // source or the writer fails, a beginning of it went out.
     ensures talk { ServesOut (S.left source.old) result script.now every (W.held writer.old) (W.held writer.new) }
+    // Where it is the source that fails, exactly the answers to the commands that came whole went out.
+    ensures whole { W.takes_all writer.old → result ≡ Err BenchFault.Io
+        → ServesCame script.now every (S.left source.old) (S.left source.new) (W.held writer.old) (W.held writer.new) }
+    // A call of the source that failed is a failure of the whole.
+    ensures unfailed { OnOk result (Fails (S.asked source.old) (S.asked source.new) 0) }
     // The spacing is looked at first.
     ensures spacing { (result ≡ Err BenchFault.Spacing) ↔ (is_spacing every ≡ false) }
     // Where the bytes are a script, memory is refused or a call fails.
@@ -77,6 +83,8 @@ fn converse<S: Source, W: Outlet>(
     writer: &mut W,
 ) -> Result<Status, BenchFault>
     ensures out { TalksOut (left_of input.old (S.left source.old)) result session.old (W.held writer.old) (W.held writer.new) }
+    ensures whole { W.takes_all writer.old → OnErr result (AnswersCame session.old (left_of input.old (S.left source.old)) (S.left source.new) (W.held writer.old) (W.held writer.new)) }
+    ensures unfailed { OnOk result (Fails (S.asked source.old) (S.asked source.new) 0) }
     ensures io { IfErr result (λ fault. fault ≡ BenchFault.Io) }
     ensures handed { OnOk result (IsHandedOn (W.handed writer.old) (W.held writer.old) → IsHandedOn (W.handed writer.new) (W.held writer.new)) }
     ensures stops { Stops input.old (S.left source.old) (S.asked source.old) (S.asked source.new) }
@@ -104,8 +112,12 @@ fn turn<S: Source, W: Outlet>(
     ensures handed { OnOk result (IsHandedOn (W.handed writer.old) (W.held writer.old) → IsHandedOn (W.handed writer.new) (W.held writer.new)) }
     ensures goes { OnOk result (GoesOn input.old input.new (S.left source.old) (S.left source.new) (S.asked source.old) (S.asked source.new)) }
     ensures stops { OnErr result (Stops input.old (S.left source.old) (S.asked source.old) (S.asked source.new)) }
-    // Each command takes some of the input.
+    // Each command takes some of the input, and its lines whole.
     ensures smaller { result ≡ Ok None → size_of input.new < size_of input.old }
+    ensures takes { IfOk result (λ status. TakesTurn status input.old input.new (S.left source.old) (S.left source.new)) }
+    // Over a writer that takes all only reading stops it, and then nothing is written.
+    ensures taking { W.takes_all writer.old → MatchResult result (λ _. W.takes_all writer.new)
+        (λ _. StopsBehind IsUnfinished input.old (S.left source.old) (S.left source.new) × (W.held writer.new ≡ W.held writer.old)) }
     ensures all { S.gives_all source.old → HasCallsFor input.old (S.left source.old) → W.takes_all writer.old
         → IsOk result × S.gives_all source.new × W.takes_all writer.new }
 {

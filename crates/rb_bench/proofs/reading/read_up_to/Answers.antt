@@ -2,7 +2,7 @@ use Rattle.std.proofs.Common.{ℕ, ◌+◌, List, ◌++◌, sym, subst, length, 
 use Rattle.std.proofs.lemmas.Result.{err_from_is_err_and}
 use Rattle.std.specs.Io.KnownBytes.{Consumes}
 use Rattle.std.proofs.KnownBytes.{Consumes-nil, Consumes-trans}
-use Rattle.rb_line.proofs.AskedLaws.{asked_more, asked_reading}
+use Rattle.rb_line.proofs.AskedLaws.{asked_more, asked_reading, fails_then}
 use Rattle.rb_bench.proofs.ReadLaws.{stops}
 use Rattle.rb_bench.proofs.reading.read_up_to.Goals as goal
 
@@ -43,5 +43,9 @@ loop-source-preserved g c =
       calls = i.calls + 1;
       asks = asked_more _ _ _ i.calls i.asks c.in_ok-read_some.ensures.asked;
       few = let n = c.in_ok-read_some.ensures.count in omega (arith, i.few, n, c.if-branch-eq0.false);
+      unfailed = fails_then _ _ _ 0 0 i.unfailed c.in_ok-read_some.ensures.unfailed;
       all = λ gives. (c.in_ok-read_some.ensures.all (i.all gives)).1;
     }
+
+pub returns-then-branch-eq0-clause-unfailed : goal.returns-then-branch-eq0-clause-unfailed
+returns-then-branch-eq0-clause-unfailed g c = fails_then _ _ _ 0 0 c.loop-source.invariant.unfailed c.in_ok-read_some.ensures.unfailed

@@ -1,7 +1,7 @@
 -- What is read was consumed, is no more than is wanted, and was asked for in no more calls than it has bytes.
 use Rattle.std.proofs.Common.{ℕ, ◌≤◌, ◌-◌, vec_len}
 use Rattle.std.specs.Io.KnownBytes.{Consumes}
-use Rattle.rb_line.specs.Asked.{Asks}
+use Rattle.rb_line.specs.Asked.{Asks, Fails}
 use Rattle.rb_bench.proofs.reading.read_up_to.Given as goal
 
 abbrev pub invariant-loop-source : goal.invariant-loop-source
@@ -11,6 +11,7 @@ invariant-loop-source g l = record {
   calls : ℕ;
   asks : Asks (g.S.Source.asked l.initial.source) (g.S.Source.asked l.source) calls;
   few : calls ≤ vec_len l.bytes;
+  unfailed : Fails (g.S.Source.asked l.initial.source) (g.S.Source.asked l.source) 0;
   all : g.S.Source.gives_all l.initial.source → g.S.Source.gives_all l.source;
 }
 
