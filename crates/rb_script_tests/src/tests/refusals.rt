@@ -1,7 +1,7 @@
 //! Each allocation refused in turn: these tests are run once for each, and say where one was refused.
 
 use super::{Asked, edit_of, outputs_of};
-use rb_script::{Edit, EditFault, Lines, Script, ScriptFault, Through};
+use rb_script::{DirectiveRef, Edit, EditFault, Lines, Script, ScriptFault, Through};
 use std::alloc::Global;
 use std::io;
 use std::io::Write;
@@ -38,21 +38,64 @@ impl Write for Matching {
     }
 }
 
+/// The script with the outputs for expectations.
+const WITH_OUTPUTS: &[u8] = b"# lead\na \\\n b=(1,2) c\nin\n----\nx\n\nc\n----\nx\n\n# tail\n";
+
+impl Matching {
+    fn of(text: &'static [u8]) -> Matching {
+        Matching {
+            rest: text,
+            differs: false,
+        }
+    }
+
+    fn is_met(&self) -> bool {
+        !self.differs && self.rest.is_empty()
+    }
+}
+
 /// Whether this is the script's canonical text.
 fn has_text(script: &Script, text: &'static [u8]) -> bool {
-    let mut writer = Matching {
-        rest: text,
-        differs: false,
-    };
-    let wrote = script.write_to(&mut Through(&mut writer));
-    wrote.is_ok() && !writer.differs && writer.rest.is_empty()
+    let mut writer = Matching::of(text);
+    script.write_to(&mut Through(&mut writer)).is_ok() && writer.is_met()
+}
+
+/// Whether this is its text with the outputs for expectations.
+fn has_text_with(script: &Script, outputs: &[Lines], text: &'static [u8]) -> bool {
+    if outputs.len() != script.len() {
+        return false;
+    }
+    let mut writer = Matching::of(text);
+    script
+        .write_with(outputs, &mut Through(&mut writer))
+        .is_ok()
+        && writer.is_met()
+}
+
+/// Whether this is the directive of the first block, by calls that take no memory.
+fn is_first(directive: &DirectiveRef<'_>) -> bool {
+    if directive.args() != 2 || directive.inputs() != 1 || directive.values(0) != 2 {
+        return false;
+    }
+    directive.name() == b"a".as_slice()
+        && directive.key(0) == b"b".as_slice()
+        && directive.has_equals(0)
+        && directive.value(0, 1) == b"2".as_slice()
+        && directive.input(0) == b"in".as_slice()
+}
+
+fn begins_with_first(script: &Script) -> bool {
+    match script.block(1) {
+        Some(block) => is_first(&block.directive()),
+        None => false,
+    }
 }
 
 /// Whether the script is read as it is, and memory is not refused.
 fn is_read<R: Abort>(rt: &R, alloc: Global) -> bool {
     match Script::read(alloc, SCRIPT) {
         Ok(script) => {
-            assert!(rt; has_text(&script, SCRIPT));
+            assert!(rt; has_text(&script, SCRIPT) && begins_with_first(&script));
             true
         }
         Err(fault) => {
@@ -75,7 +118,7 @@ fn reads_under_refusals(rt: HostRuntime) -> Result<(), Fail> {
 
 /// Whether the edit makes this text, where memory is not refused.
 fn makes(script: &Script, edit: &Edit, outputs: &[Lines], want: &'static [u8]) -> Option<bool> {
-    if outputs.len() != script.len() {
+    if outputs.len() != script.len() || !has_text_with(script, outputs, WITH_OUTPUTS) {
         return Some(false);
     }
     match script.edited(edit, outputs) {
