@@ -12,11 +12,13 @@ mod answers;
 mod beginning;
 mod fault;
 mod laws;
+mod limits;
 mod method;
 mod phase;
 mod serving;
 
 pub use fault::ServeFault;
 pub use laws::{conversations_are_one, notifications_have_no_answer, requests_have_one_answer};
+pub use limits::limits_are;
 pub use phase::Status;
 pub use serving::serve;

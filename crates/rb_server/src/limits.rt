@@ -1,0 +1,14 @@
+//! Limits of what a server takes in, which definitions of the crates below name.
+
+ghost use Rattle.std.specs.Prelude.{◌≡◌, ◌^◌};
+ghost use Rattle.rb_rpc.specs.declared.limits.TheConstants.{MAX_FIELDS, MAX_HEAD, MAX_BODY, MAX_CALLS};
+ghost use Rattle.rb_document.specs.declared.limits.TheConstants.{MAX_TEXT};
+
+/// The limits that definitions name are these numbers.
+pub fn limits_are()
+    ensures fields { MAX_FIELDS ≡ 16 }
+    ensures head { MAX_HEAD ≡ 4096 }
+    ensures body { MAX_BODY ≡ 33554432 }
+    ensures calls { MAX_CALLS ≡ 2 ^ 40 }
+    ensures text { MAX_TEXT ≡ 67108864 }
+{}
