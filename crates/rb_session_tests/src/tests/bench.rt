@@ -3,3 +3,4 @@
 mod fakes;
 mod known;
 mod line;
+mod scripts;

@@ -1,9 +1,9 @@
-//! A reader that fails, and long texts.
+//! A reader that fails, a writer that takes no memory, and long texts.
 
 use rb_line::Incoming;
 use std::alloc::{AllocError, Global};
 use std::io;
-use std::io::{Error, ErrorKind, Read};
+use std::io::{Error, ErrorKind, Read, Write};
 
 /// Gives at most `most` bytes a call, and fails by an interruption at the call `fails_at`, which counts from 0.
 #[derive(Drop)]
@@ -35,6 +35,44 @@ impl Read for FailingReader<'_> {
         }
         let most = self.most.min(buf.len());
         self.rest.read(&mut buf[..most])
+    }
+}
+
+const ROOM: usize = 1024;
+
+/// Keeps the first bytes that it takes, in room of its own.
+#[derive(Drop)]
+pub struct Room {
+    bytes: [u8; ROOM],
+    len: usize,
+}
+
+impl Room {
+    pub fn new() -> Room {
+        Room {
+            bytes: [0; ROOM],
+            len: 0,
+        }
+    }
+
+    pub fn taken(&self) -> &[u8] {
+        &self.bytes[..self.len.min(ROOM)]
+    }
+}
+
+impl Write for Room {
+    fn write(&mut self, buf: &[u8]) -> io::Result<usize> {
+        for byte in buf {
+            if self.len < ROOM {
+                self.bytes[self.len] = *byte;
+                self.len += 1;
+            }
+        }
+        Ok(buf.len())
+    }
+
+    fn flush(&mut self) -> io::Result<()> {
+        Ok(())
     }
 }
 
