@@ -2,7 +2,17 @@ pub mod PieceLaws
 pub mod HeadLaws
 pub mod ShownLaws
 pub mod CommonLaws
+pub mod SubsequenceLaws
+pub mod GapLaws
+pub mod StretchLaws
 pub mod DiffLaws
+pub mod LongestLaws
+pub mod BetweenLaws
+pub mod TableLaws
+pub mod FillLaws
+pub mod NextLaws
+pub mod FoldLaws
+pub mod PutLaws
 pub mod SentenceLaws
 pub mod CountLaws
 pub mod ToldLaws

@@ -7,7 +7,7 @@ use Rattle.rb_script.specs.Lines.{Line}
 use Rattle.rb_script.specs.Marks.{is_space}
 use Rattle.rb_check.specs.declared.colors.Colors.{Colors}
 use Rattle.rb_check.specs.declared.side.Side.{Side}
-use Rattle.rb_check.specs.Shown.{last_or, needs_mark, marked, dollar_sign, line_shown}
+use Rattle.rb_check.specs.Shown.{last_or, begins_fold, needs_mark, marked, dollar_sign, line_shown}
 use Rattle.rb_check.specs.Diffs.{between, on_side, diff_text}
 use Rattle.rb_check.proofs.PieceLaws.{drop-get}
 
@@ -18,15 +18,18 @@ last_or-push d [] b = refl
 last_or-push d (c ∷ line) b = last_or-push c line b
 
 -- a line by its last byte
-needs_mark-push : (line : Line) (b : ℕ) → needs_mark (line ++ b ∷ []) ≡ (is_space b || b == dollar_sign)
-needs_mark-push line b = ap (λ (c : ℕ). is_space c || c == dollar_sign) (last_or-push space line b)
+needs_mark-push : (line : Line) (b : ℕ) → needs_mark (line ++ b ∷ []) ≡ (is_space b || (b == dollar_sign || begins_fold (line ++ b ∷ [])))
+needs_mark-push line b = ap (λ (c : ℕ). is_space c || (c == dollar_sign || begins_fold (line ++ b ∷ []))) (last_or-push space line b)
 
 -- what the test of a last byte says
 pub needs_mark-blank : (line front : Line) (b : ℕ) (t : Bool) → line ≡ front ++ b ∷ [] → t ≡ is_space b → t ≡ true → t ≡ needs_mark line
-needs_mark-blank line front b t parts blank is = is ∙ sym (ap needs_mark parts ∙ needs_mark-push front b ∙ ap (λ (s : Bool). s || b == dollar_sign) (sym blank ∙ is))
+needs_mark-blank line front b t parts blank is =
+    is ∙ sym (ap needs_mark parts ∙ needs_mark-push front b ∙ ap (λ (s : Bool). s || (b == dollar_sign || begins_fold (front ++ b ∷ []))) (sym blank ∙ is))
 
-pub needs_mark-other : (line front : Line) (b : ℕ) (t : Bool) → line ≡ front ++ b ∷ [] → t ≡ is_space b → t ≡ false → (b == dollar_sign) ≡ needs_mark line
-needs_mark-other line front b t parts blank is = sym (ap needs_mark parts ∙ needs_mark-push front b ∙ ap (λ (s : Bool). s || b == dollar_sign) (sym blank ∙ is))
+pub needs_mark-other : (line front : Line) (b : ℕ) (t : Bool) → line ≡ front ++ b ∷ [] → t ≡ is_space b → t ≡ false → (b == dollar_sign || begins_fold line) ≡ needs_mark line
+needs_mark-other line front b t parts blank is =
+    sym (ap needs_mark parts ∙ needs_mark-push front b ∙ ap (λ (s : Bool). s || (b == dollar_sign || begins_fold (front ++ b ∷ []))) (sym blank ∙ is)
+    ∙ ap (λ (l : Line). b == dollar_sign || begins_fold l) (sym parts))
 
 apart : {A : Type 0} (t : Bool) → t ≡ true → t ≡ false → A
 apart true h k = absurd cc
@@ -50,7 +53,7 @@ not_either false b h = refl
 
 seen_by : (line : Line) (t : Bool) → needs_mark line ≡ t → is_space (last_or space (line ++ cond t (codes "$") [])) ≡ false
 seen_by line true h = ap is_space (last_or-push space line dollar_sign)
-seen_by line false h = ap (λ (l : Line). is_space (last_or space l)) (append-nil line) ∙ not_either (is_space (last_or space line)) (last_or space line == dollar_sign) h
+seen_by line false h = ap (λ (l : Line). is_space (last_or space l)) (append-nil line) ∙ not_either (is_space (last_or space line)) (last_or space line == dollar_sign || begins_fold line) h
 
 pub marked_seen : (line : Line) → is_space (last_or space (marked line)) ≡ false
 unfolding marked

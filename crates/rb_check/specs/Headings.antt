@@ -4,7 +4,8 @@ use Rattle.rb_script.specs.Lines.{Line}
 use Rattle.rb_check.specs.declared.colors.Colors.{Colors}
 use Rattle.rb_check.specs.declared.colors.Colors.TheVariants.{Off}
 use Rattle.rb_check.specs.declared.side.Side.TheVariants.{Both}
-use Rattle.rb_check.specs.Diffs.{on_side, diff, diff_text}
+use Rattle.rb_check.specs.Diffs.{on_side, diff_text, parts}
+use Rattle.rb_check.specs.Folds.{folded_text}
 
 -- the file and a line of it, which counts from 1
 abbrev pub place_text : List ℕ → ℕ → List ℕ
@@ -16,7 +17,7 @@ heading_text path line head = place_text path line ++ head
 
 -- a directive whose output is not the expected one; an empty line parts it from what follows
 abbrev pub mismatch_text : Colors → List ℕ → ℕ → List ℕ → List Line → List Line → List ℕ
-mismatch_text colors path line head expected output = heading_text path line head ++ (codes "\n" ++ (diff_text colors (diff expected output) ++ codes "\n"))
+mismatch_text colors path line head expected output = heading_text path line head ++ (codes "\n" ++ (folded_text colors (parts expected output) ++ codes "\n"))
 
 -- a directive with its output
 abbrev pub directive_text : List ℕ → ℕ → List ℕ → List Line → List ℕ

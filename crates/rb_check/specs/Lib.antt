@@ -1,6 +1,9 @@
 pub mod Pieces
 pub mod Shown
+pub mod Subsequences
+pub mod Tables
 pub mod Diffs
+pub mod Folds
 pub mod Heads
 pub mod Headings
 pub mod Briefs

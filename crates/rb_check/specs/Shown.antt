@@ -1,5 +1,6 @@
 -- What is shown of a line: what stands before and after it, and a mark where its end would not be seen. (This project's.)
-use Rattle.std.specs.Prelude.{ℕ, Bool, ◌==◌, ◌||◌, if◌then◌else◌, List, [], ◌∷◌, ◌++◌, codes}
+use Rattle.std.specs.Prelude.{ℕ, Bool, ◌==◌, ◌||◌, if◌then◌else◌, List, [], ◌∷◌, ◌++◌, take, codes}
+use Rattle.std.specs.Str.{bytes_eq}
 use Rattle.rb_script.specs.Bytes.{space}
 use Rattle.rb_script.specs.Lines.{Line}
 use Rattle.rb_script.specs.Marks.{is_space}
@@ -19,9 +20,14 @@ abbrev pub last_or : ℕ → Line → ℕ
 last_or d [] = d
 last_or d (b ∷ line) = last_or b line
 
--- a blank at its end, or none of anything, would not be seen; the mark itself is marked again, so that no two lines look alike
+-- what stands in the place of folded lines begins so
+abbrev pub begins_fold : Line → Bool
+begins_fold line = bytes_eq (take 3 line) (codes ".. ")
+
+-- a blank at its end, or none of anything, would not be seen; the mark itself is marked again, and so is what could be a fold, so that
+-- no two lines look alike
 abbrev pub needs_mark : Line → Bool
-needs_mark line = is_space (last_or space line) || last_or space line == dollar_sign
+needs_mark line = is_space (last_or space line) || (last_or space line == dollar_sign || begins_fold line)
 
 abbrev pub end_mark : Line → List ℕ
 end_mark line = if needs_mark line then codes "$" else []

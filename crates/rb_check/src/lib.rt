@@ -1,9 +1,9 @@
 //! What `raftbench check` shows, and how it ends: where outputs are not the expected ones, why a script is refused or a file
 //! failed, what there was of each, and the status.
 //!
-//! It opens no file, runs no script and takes no memory: it writes into any sink what it is given. Of a line that is empty or
-//! ends in a space, a tab or `$`, a `$` is shown after its end: so blanks are seen, and no two lines look alike. All other bytes
-//! go out as they are.
+//! It opens no file and runs no script: it writes into any sink what it is given. Its only memory is a [`Table`], which is taken once.
+//! Of a line that is empty, ends in a space, a tab or `$`, or begins as a fold does, a `$` is shown after its end: so blanks are seen,
+//! and no two lines look alike. All other bytes go out as they are.
 #![tactic(auto)]
 
 mod accepted;
@@ -11,16 +11,20 @@ mod brief;
 mod colors;
 mod diff;
 mod failure;
+mod fold;
 mod head;
 mod laws;
 mod line;
+mod longest;
 mod mismatch;
 mod outcome;
 mod piece;
 mod place;
 mod refusal;
 mod side;
+mod sides;
 mod status;
+mod table;
 mod totals;
 
 pub use accepted::put_accepted;
@@ -28,9 +32,9 @@ pub use brief::put_brief;
 pub use colors::Colors;
 pub use failure::{Failure, put_failure};
 pub use laws::{
-    colors_go_around, counts_are_sums, diffs_are, diffs_tell_both_sides, lines_are_told_apart,
-    same_lines_are_plain, sentences_are_distinct, shown_diffs_tell_both_sides,
-    statuses_are_greatest,
+    colors_go_around, counts_are_sums, diffs_are, diffs_are_longest, diffs_tell_both_sides,
+    lines_are_told_apart, same_lines_are_plain, sentences_are_distinct,
+    shown_diffs_tell_both_sides, statuses_are_greatest,
 };
 pub use mismatch::{put_directive, put_mismatch, put_note};
 pub use outcome::Outcome;
@@ -38,4 +42,5 @@ pub use place::Place;
 pub use refusal::put_refusal;
 pub use side::Side;
 pub use status::{Status, status_code};
+pub use table::{MAX_CELLS, Table};
 pub use totals::{Totals, put_totals};

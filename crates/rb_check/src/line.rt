@@ -1,9 +1,9 @@
 //! A line as it is shown.
 
-ghost use Rattle.std.specs.Prelude.{◌≡◌, ◌≤◌, IsOk, length};
+ghost use Rattle.std.specs.Prelude.{◌≡◌, ◌==◌, ◌||◌, ◌≤◌, IsOk, length};
 ghost use Rattle.rb_script.specs.Lines.{line_text};
 ghost use Rattle.rb_script.specs.Writes.{Writes};
-ghost use Rattle.rb_check.specs.Shown.{needs_mark, end_mark, line_shown};
+ghost use Rattle.rb_check.specs.Shown.{dollar_sign, begins_fold, needs_mark, end_mark, line_shown};
 ghost use Rattle.rb_check.specs.Diffs.{on_side, between, diff_text};
 
 use crate::colors::Colors;
@@ -11,12 +11,25 @@ use crate::piece::{Piece, put_pieces};
 use crate::side::{Side, after, before};
 use rb_script::{Lines, Sink, WriteFault, is_space};
 
-// Whether the end of the line would not be seen.
+// Whether the line could be what stands in the place of folded lines.
+fn begins_fold(line: &[u8]) -> bool
+    ensures { result ≡ begins_fold line.now }
+{
+    line.len() >= 3 && &line[..3] == b".. ".as_slice()
+}
+
+fn is_mark(last: u8, line: &[u8]) -> bool
+    ensures { result ≡ (last == dollar_sign || begins_fold line.now) }
+{
+    last == b'$' || begins_fold(line)
+}
+
+// Whether the end of the line would not be seen, or the line is to be told apart.
 fn needs_mark(line: &[u8]) -> bool
     ensures { result ≡ needs_mark line.now }
 {
     match line.split_last() {
-        Some((last, _front)) => is_space(*last) || *last == b'$',
+        Some((last, _front)) => is_space(*last) || is_mark(*last, line),
         None => true,
     }
 }

@@ -12,6 +12,7 @@ use crate::line::put_lines;
 use crate::piece::{Piece, put_pieces};
 use crate::place::{Place, put_heading};
 use crate::side::Side;
+use crate::table::Table;
 use rb_script::{DirectiveRef, Lines, Sink, WriteFault};
 
 /// Writes a mismatch: `PATH:LINE: HEAD`, with the line on which the directive's head begins and the head on one line, and then what
@@ -24,13 +25,14 @@ pub fn put_mismatch<S: Sink>(
     expected: &Lines,
     output: &Lines,
     colors: Colors,
+    table: &mut Table,
 ) -> Result<(), WriteFault>
     ensures wrote { Writes result (S.held sink.old) (S.held sink.new) (mismatch_text colors place.entry.path.now place.entry.line (head_text (plain directive.now)) expected.now output.now) }
     ensures all { S.takes_all sink.old → IsOk result × S.takes_all sink.new }
 {
     put_heading(sink, place, directive)?;
     sink.put(b"\n")?;
-    put_diff(sink, expected, output, colors)?;
+    put_diff(sink, table, expected, output, colors)?;
     sink.put(b"\n")
 }
 

@@ -18,7 +18,7 @@ use crate::fault::ShowFault;
 use crate::text::lines_of;
 use crate::told::Told;
 use crate::view::{Shown, View};
-use rb_check::{Place, put_brief, put_directive, put_mismatch, put_note};
+use rb_check::{Place, Table, put_brief, put_directive, put_mismatch, put_note};
 use rb_machine::Machine;
 use rb_replay::Session;
 use rb_script::{Block, Lines, Sink, WriteFault, head_lines};
@@ -67,6 +67,7 @@ fn put_shown<S: Sink>(
     line: usize,
     view: View<'_>,
     all: bool,
+    table: &mut Table,
 ) -> Result<(), WriteFault>
     ensures wrote { Writes result (S.held sink.old) (S.held sink.new) (directive_shown all view.entry.colors text.now view.entry.path.now line block.now output.now) }
     ensures all { S.takes_all sink.old → IsOk result × S.takes_all sink.new }
@@ -84,6 +85,7 @@ fn put_shown<S: Sink>(
         expected,
         output,
         view.colors,
+        table,
     )
 }
 
@@ -95,6 +97,7 @@ fn put_directives<M: Machine, S: Sink>(
     text: &Lines,
     view: View<'_>,
     all: bool,
+    table: &mut Table,
 ) -> Result<(), WriteFault>
     requires { length heads.now ≡ length session.now.script.blocks }
     ensures wrote { Writes result (S.held sink.old) (S.held sink.new) (all_shown all view.entry.colors text.now view.entry.path.now heads.now session.now.script.blocks (outputs session.now.script)) }
@@ -110,6 +113,7 @@ fn put_directives<M: Machine, S: Sink>(
             number_at(heads, i),
             view,
             all,
+            table,
         )?;
     }
     Ok(())
@@ -122,6 +126,7 @@ fn put_mismatch_at<M: Machine, S: Sink>(
     heads: &[usize],
     view: View<'_>,
     index: usize,
+    table: &mut Table,
 ) -> Result<(), WriteFault>
     requires count { length heads.now ≡ length session.now.script.blocks }
     requires few { length session.now.script.blocks ≤ MAX_DIRECTIVES }
@@ -139,6 +144,7 @@ fn put_mismatch_at<M: Machine, S: Sink>(
         block.expected(),
         output_at(session, index),
         view.colors,
+        table,
     )
 }
 
@@ -164,13 +170,14 @@ fn put_first<M: Machine, S: Sink>(
     session: &Session<M>,
     heads: &[usize],
     view: View<'_>,
+    table: &mut Table,
 ) -> Result<(), WriteFault>
     requires { length heads.now ≡ length session.now.script.blocks }
     ensures wrote { Writes result (S.held sink.old) (S.held sink.new) (of_first (mismatch_at view.entry.colors view.entry.path.now heads.now session.now.script) (mismatches session.now.script)) }
     ensures all { S.takes_all sink.old → IsOk result × S.takes_all sink.new }
 {
     match first_index(session) {
-        Some(index) => put_mismatch_at(sink, session, heads, view, index),
+        Some(index) => put_mismatch_at(sink, session, heads, view, index, table),
         None => Ok(()),
     }
 }
@@ -204,6 +211,7 @@ fn put_wanted<M: Machine, S: Sink>(
     session: &Session<M>,
     layout: &Layout,
     view: View<'_>,
+    table: &mut Table,
 ) -> Result<(), WriteFault>
     requires { length layout.now.heads.items ≡ length session.now.script.blocks }
     ensures wrote { Writes result (S.held sink.old) (S.held sink.new) (checked_text view.entry.shown view.entry.colors layout.now.text view.entry.path.now layout.now.heads.items session.now.script) }
@@ -211,9 +219,9 @@ fn put_wanted<M: Machine, S: Sink>(
 {
     let heads = layout.heads.as_slice();
     match view.shown {
-        Shown::Differing => put_directives(sink, session, heads, &layout.text, view, false),
-        Shown::All => put_directives(sink, session, heads, &layout.text, view, true),
-        Shown::First => put_first(sink, session, heads, view),
+        Shown::Differing => put_directives(sink, session, heads, &layout.text, view, false, table),
+        Shown::All => put_directives(sink, session, heads, &layout.text, view, true, table),
+        Shown::First => put_first(sink, session, heads, view, table),
         Shown::Brief => put_in_brief(sink, session, heads, view.path),
     }
 }
@@ -271,7 +279,11 @@ pub fn put_checked<M: Machine, S: Sink>(
     let Ok(layout) = layout_of(alloc, bytes) else {
         return Err(ShowFault::OutOfMemory);
     };
-    match put_wanted(sink, session, &layout, view) {
+    // Before anything is written, so that want of memory leaves no half of a report.
+    let Ok(mut table) = Table::new(alloc) else {
+        return Err(ShowFault::OutOfMemory);
+    };
+    match put_wanted(sink, session, &layout, view, &mut table) {
         Ok(()) => Ok(told(session, &layout)),
         Err(_) => Err(ShowFault::Writing),
     }

@@ -1,6 +1,6 @@
 //! What a check shows, and no script leads to: lines of outputs that are empty or end in blanks, and a time that is known.
 
-use rb_check::{Colors, Failure, Outcome, Place, Totals, put_directive, put_mismatch, put_totals};
+use rb_check::{Colors, Failure, Outcome, Place, Table, Totals, put_directive, put_mismatch, put_totals};
 use rb_script::{Block, Lines, ScriptFault, Through};
 use std::alloc::Global;
 use std::process::Abort;
@@ -34,6 +34,7 @@ fn mismatch(
     let output = lines(rt, alloc, output);
     let block = block(rt, alloc, b"campaign \\\n 1\n----\n");
     let mut out = Through(Vec::new(alloc));
+    let mut table = Table::new(alloc).expect(rt, "memory");
     put_mismatch(
         &mut out,
         PLACE,
@@ -41,6 +42,7 @@ fn mismatch(
         &expected,
         &output,
         colors,
+        &mut table,
     )
     .expect(rt, "memory");
     out.0

@@ -1,4 +1,4 @@
-use Rattle.std.proofs.Common.{[], ◌+◌, ◌++◌, drop, length, ap, arith}
+use Rattle.std.proofs.Common.{[], ◌+◌, ◌++◌, drop, ap, arith}
 use Rattle.std.proofs.lemmas.List.{drop_all}
 use Rattle.rb_script.specs.Directive.{plain_argument}
 use Rattle.rb_script.specs.Tokens.{plain}

@@ -3,7 +3,8 @@ use Rattle.std.specs.Prelude.{codes}
 use Rattle.rb_script.specs.Tokens.{plain}
 use Rattle.rb_check.specs.Heads.{head_text}
 use Rattle.rb_check.specs.Headings.{heading_text}
-use Rattle.rb_check.specs.Diffs.{diff, diff_text}
+use Rattle.rb_check.specs.Diffs.{parts}
+use Rattle.rb_check.specs.Folds.{folded_text}
 use Rattle.rb_check.proofs.PieceLaws.{sent_none, sent_piece, piece_exit, piece_last}
 use Rattle.rb_check.proofs.mismatch.put_mismatch.Goals as goal
 
@@ -11,7 +12,7 @@ pub returns-in_err-put_heading-clause-wrote : goal.returns-in_err-put_heading-cl
 returns-in_err-put_heading-clause-wrote g c =
     let held = g.S.Sink.held in
     let heading = heading_text c.args.place.path.now c.args.place.line (head_text (plain c.args.directive.now)) in
-    let shown = diff_text c.args.colors (diff c.args.expected.now c.args.output.now) in
+    let shown = folded_text c.args.colors (parts c.args.expected.now c.args.output.now) in
     let s0 = sent_none (held c.args.sink.now) (heading ++ (codes "\n" ++ (shown ++ codes "\n"))) (heading ++ (codes "\n" ++ (shown ++ codes "\n"))) refl in
     piece_exit c.from_residual.result (held c.put_heading.new.sink) heading (codes "\n" ++ (shown ++ codes "\n")) c.from_residual.ensures.0 s0 c.in_err-put_heading.ensures.wrote
 
@@ -19,7 +20,7 @@ pub returns-in_err-put-clause-wrote : goal.returns-in_err-put-clause-wrote
 returns-in_err-put-clause-wrote g c =
     let held = g.S.Sink.held in
     let heading = heading_text c.args.place.path.now c.args.place.line (head_text (plain c.args.directive.now)) in
-    let shown = diff_text c.args.colors (diff c.args.expected.now c.args.output.now) in
+    let shown = folded_text c.args.colors (parts c.args.expected.now c.args.output.now) in
     let s0 = sent_none (held c.args.sink.now) (heading ++ (codes "\n" ++ (shown ++ codes "\n"))) (heading ++ (codes "\n" ++ (shown ++ codes "\n"))) refl in
     let s1 = sent_piece (held c.put_heading.new.sink) heading (codes "\n" ++ (shown ++ codes "\n")) s0 c.in_ok-put_heading.ensures.wrote in
     piece_exit c.from_residual-in_err-put.result (held c.put.new.self) (codes "\n") (shown ++ codes "\n") c.from_residual-in_err-put.ensures.0 s1 c.in_err-put.ensures.wrote
@@ -28,7 +29,7 @@ pub returns-in_err-put_diff-clause-wrote : goal.returns-in_err-put_diff-clause-w
 returns-in_err-put_diff-clause-wrote g c =
     let held = g.S.Sink.held in
     let heading = heading_text c.args.place.path.now c.args.place.line (head_text (plain c.args.directive.now)) in
-    let shown = diff_text c.args.colors (diff c.args.expected.now c.args.output.now) in
+    let shown = folded_text c.args.colors (parts c.args.expected.now c.args.output.now) in
     let s0 = sent_none (held c.args.sink.now) (heading ++ (codes "\n" ++ (shown ++ codes "\n"))) (heading ++ (codes "\n" ++ (shown ++ codes "\n"))) refl in
     let s1 = sent_piece (held c.put_heading.new.sink) heading (codes "\n" ++ (shown ++ codes "\n")) s0 c.in_ok-put_heading.ensures.wrote in
     let s2 = sent_piece (held c.put.new.self) (codes "\n") (shown ++ codes "\n") s1 c.in_ok-put.ensures.wrote in
@@ -38,7 +39,7 @@ pub returns-clause-wrote : goal.returns-clause-wrote
 returns-clause-wrote g c =
     let held = g.S.Sink.held in
     let heading = heading_text c.args.place.path.now c.args.place.line (head_text (plain c.args.directive.now)) in
-    let shown = diff_text c.args.colors (diff c.args.expected.now c.args.output.now) in
+    let shown = folded_text c.args.colors (parts c.args.expected.now c.args.output.now) in
     let s0 = sent_none (held c.args.sink.now) (heading ++ (codes "\n" ++ (shown ++ codes "\n"))) (heading ++ (codes "\n" ++ (shown ++ codes "\n"))) refl in
     let s1 = sent_piece (held c.put_heading.new.sink) heading (codes "\n" ++ (shown ++ codes "\n")) s0 c.in_ok-put_heading.ensures.wrote in
     let s2 = sent_piece (held c.put.new.self) (codes "\n") (shown ++ codes "\n") s1 c.in_ok-put.ensures.wrote in
