@@ -24,7 +24,7 @@ use Rattle.rb_node_laws.proofs.StepLaws.{steps}
 use Rattle.rb_node_laws.proofs.TickLaws.{ticks}
 use Rattle.rb_node_laws.proofs.AdvanceLaws.{advances}
 
-forgotten_same : (r : Role) (n : PlainNode) → core (forgotten_by r n) ≡ core n
+pub forgotten_same : (r : Role) (n : PlainNode) → core (forgotten_by r n) ≡ core n
 forgotten_same role.Follower n = refl
 forgotten_same role.Precandidate n = refl
 forgotten_same role.Candidate n = refl
@@ -38,7 +38,7 @@ reported_at_same : (o : Option ℕ) (n : PlainNode) → core (reported_at o n) �
 reported_at_same None n = refl
 reported_at_same (Some at) n = reported_with_same (view_at n.tracker.views at) n at
 
-reported_same : (n : PlainNode) (id : ℕ) → core (reported n id) ≡ core n
+pub reported_same : (n : PlainNode) (id : ℕ) → core (reported n id) ≡ core n
 reported_same n id = if_both (λ (x : PlainNode). core x ≡ core n) (is_leader n.role) _ _ (λ _. reported_at_same (place n.tracker.views id) n) (λ _. refl)
 
 -- ---- compacting

@@ -36,17 +36,19 @@ strangers_same n (id ∷ ids) = strangers_same (without_stranger n id) ids ∙ w
 pub given_up_same : (t : Turn) → core (stranger_given_up t).node ≡ core t.node
 given_up_same t = if_both (λ (u : Turn). core u.node ≡ core t.node) (is_member t.node.tracker.config t.node.transferee) _ _ (λ _. refl) (λ _. transfer_ended_same t)
 
--- what a change that takes effect leaves: applied and the content as they are
+-- what a change that takes effect leaves as it is: id, log, applied and content
 pub record Applies (w : Ways) (old new : Core) : Type 0 where
   pub keeps : Keeps w old new
+  pub id : new.id ≡ old.id
+  pub log : new.log ≡ old.log
   pub applied : new.applied ≡ old.applied
   pub content : new.content ≡ old.content
 
 applies_same : {w : Ways} {a b : Core} → b ≡ a → Applies w a b
-applies_same {w} {a} {b} e = record { keeps = same e; applied = ap (λ (c : Core). c.applied) e; content = ap (λ (c : Core). c.content) e }
+applies_same {w} {a} {b} e = record { keeps = same e; id = ap (λ (c : Core). c.id) e; log = ap (λ (c : Core). c.log) e; applied = ap (λ (c : Core). c.applied) e; content = ap (λ (c : Core). c.content) e }
 
 applies_then : {w : Ways} {a b c : Core} → Applies w a b → Applies w b c → Applies w a c
-applies_then {w} {a} {b} {c} p q = record { keeps = and_then p.keeps q.keeps; applied = q.applied ∙ p.applied; content = q.content ∙ p.content }
+applies_then {w} {a} {b} {c} p q = record { keeps = and_then p.keeps q.keeps; id = q.id ∙ p.id; log = q.log ∙ p.log; applied = q.applied ∙ p.applied; content = q.content ∙ p.content }
 
 -- checking the commit moves nothing else
 commit_leaves : {X : Type 0} (part : Core → X) (n : PlainNode) (ids : List ℕ) → ((i : ℕ) → part (record (core n) { commit = i }) ≡ part (core n)) → part (core (checked_commit n ids)) ≡ part (core n)
@@ -62,7 +64,13 @@ joins t added =
     let u : Turn = with_node t (with_views t.node added true) in
     let v = stranger_given_up u in
     applies_then (applies_same (given_up_same u ∙ with_views_same t.node added true))
-    (record { keeps = checks_commit v.node added; applied = commit_leaves (λ (c : Core). c.applied) v.node added (λ _. refl); content = commit_leaves (λ (c : Core). c.content) v.node added (λ _. refl) })
+    (record {
+      keeps = checks_commit v.node added;
+      id = commit_leaves (λ (c : Core). c.id) v.node added (λ _. refl);
+      log = commit_leaves (λ (c : Core). c.log) v.node added (λ _. refl);
+      applied = commit_leaves (λ (c : Core). c.applied) v.node added (λ _. refl);
+      content = commit_leaves (λ (c : Core). c.content) v.node added (λ _. refl);
+    })
 
 revises : {w : Ways} (t : Turn) → Applies w (core t.node) (core (revised t).node)
 unfolding revised
@@ -78,7 +86,7 @@ leads_on {w} t =
     let P : Turn → Type 0 = λ u. Applies w (core t.node) (core u.node) in
     if_both P (is_leader t.node.role) _ _
     (λ _. if_both P (steps_down t.node) _ _
-    (λ _. record { keeps = follows t t.node.term 0 (omega arith); applied = refl; content = refl })
+    (λ _. record { keeps = follows t t.node.term 0 (omega arith); id = refl; log = refl; applied = refl; content = refl })
     (λ _. revises t))
     (λ _. applies_same refl)
 
@@ -96,7 +104,7 @@ applies_body (Change transition words) t = (applies_change t transition words).k
 
 -- ---- entries
 
-applies_one : {w : Ways} (t : Turn) (i : ℕ) (e : Entry) → t.node.applied ≤ i → i ≤ t.node.commit → i ≤ t.node.log.durable → Keeps w (core t.node) (core (applied_one t i e).node)
+pub applies_one : {w : Ways} (t : Turn) (i : ℕ) (e : Entry) → t.node.applied ≤ i → i ≤ t.node.commit → i ≤ t.node.log.durable → Keeps w (core t.node) (core (applied_one t i e).node)
 applies_one t i e up known durable =
     and_then (applied_to (core t.node) i up known durable) (applies_body e.body (with_node t (record t.node { applied = i })))
 
@@ -106,6 +114,13 @@ body_applied_is (Change transition words) t = (applies_change {w = anyone} t tra
 
 pub applied_one_is : (t : Turn) (i : ℕ) (e : Entry) → (applied_one t i e).node.applied ≡ i
 applied_one_is t i e = body_applied_is e.body (with_node t (record t.node { applied = i }))
+
+body_leaves : (body : Body) (t : Turn) → ((body_applied body t).node.id ≡ t.node.id) × ((body_applied body t).node.log ≡ t.node.log)
+body_leaves (Payload bytes) t = (refl, refl)
+body_leaves (Change transition words) t = (let is = applies_change {w = anyone} t transition words in (is.id, is.log))
+
+pub one_leaves : (t : Turn) (i : ℕ) (e : Entry) → ((applied_one t i e).node.id ≡ t.node.id) × ((applied_one t i e).node.log ≡ t.node.log)
+one_leaves t i e = body_leaves e.body (with_node t (record t.node { applied = i }))
 
 -- ---- the content
 

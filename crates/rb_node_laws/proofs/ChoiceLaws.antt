@@ -1,6 +1,6 @@
 -- Who campaigns, what a leader takes, and what the options ask of a node
 use Rattle.std.proofs.Common.{◌≡◌, ℕ, ◌+◌, ◌≤◌, ◌<◌, ◌⊎◌, Bool, true, false, not, ◌&&◌, ◌||◌, List, [], length, Option, Some, None, Result, Ok, refl, sym, ap, subst, ◌∙◌, arith, inl, inr, eqb-true, nat_le, nat_lt, ◌==◌, if◌then◌else◌}
-use Rattle.std.proofs.lemmas.Bool.{ltb-false, ltb-true, le-leb, lt-ltb, false≢true}
+use Rattle.std.proofs.lemmas.Bool.{ltb-false, ltb-true, le-leb, lt-ltb, false≢true, eqb-false}
 use Rattle.rb_raftlog.specs.declared.entry.Body.{Body}
 use Rattle.rb_raftlog.specs.declared.entry.Body.TheVariants.{Payload, Change}
 use Rattle.rb_raftlog.specs.declared.entry.Transition.{Transition}
@@ -32,7 +32,8 @@ use Rattle.rb_step.specs.Leading.{is_log_full, appended, all_told}
 use Rattle.rb_step.specs.Proposing.{why_replaced, change_put, put_in, takes_none, proposed}
 use Rattle.rb_step.specs.Step.{as_leader, at_term, by_role_of, stepped}
 use Rattle.rb_node.specs.Ticking.{counted, has_lost_quorum, quorum_looked_at, leader_counted, counted_up, leader_ticked, ticked_by, ticked}
-use Rattle.rb_node_laws.specs.Choices.{MayCampaign, PutsChange, StepsDown}
+use Rattle.rb_step.specs.Transferring.{cannot_take_lead, transferred}
+use Rattle.rb_node_laws.specs.Choices.{MayCampaign, MayTakeLead, PutsChange, StepsDown}
 use Rattle.rb_node_laws.proofs.Goes.{Core}
 use Rattle.rb_node_laws.proofs.LeaderLaws.{all_told_same}
 
@@ -120,6 +121,21 @@ proposed_puts t transition words =
     (λ _. inl refl)
     (λ _. (let u = put_in body t in
     puts_by_log t.node u.node (all_told u).node body (ap (λ (c : Core). c.log) (all_told_same u)) (put_in_puts t transition words)))
+
+-- ---- to whom the lead goes
+
+three_false : (a b c : Bool) → (not a || b || c) ≡ false → (a ≡ true) × (b ≡ false)
+three_false true false c h = (refl, refl)
+three_false true true c h = absurd (false≢true (sym h))
+three_false false b c h = absurd (false≢true (sym h))
+
+pub leads_to_voters : (t : Turn) (m : Message) (target : ℕ) → ((transferred t m target).node ≡ t.node) ⊎ MayTakeLead t.node target
+unfolding transferred
+leads_to_voters t m target =
+    if_both (λ (u : Turn). (u.node ≡ t.node) ⊎ MayTakeLead t.node target) (cannot_take_lead t.node target) _ _
+    (λ _. inl refl)
+    (λ can. (let parts = three_false (is_voter t.node.tracker.config target) (target == t.node.id) (target == t.node.transferee) can in
+    inr (record { votes = parts.0; another = eqb-false target t.node.id parts.1 })))
 
 -- ---- one that hands the lead over takes nothing
 

@@ -57,11 +57,12 @@ pub record Keeps (w : Ways) (old new : Core) : Type 0 where
 -- ---- nothing, and one after another
 
 pub grown_self : (v : LogValue) → IsGrown v v
-grown_self v = record { longer = omega arith; entries = λ i _ _. refl; terms = λ i _ _. refl }
+grown_self v = record { longer = omega arith; written = omega arith; entries = λ i _ _. refl; terms = λ i _ _. refl }
 
 grown_then : (a b c : LogValue) → b.base ≤ c.base → IsGrown a b → IsGrown b c → IsGrown a c
 grown_then a b c up p q = record {
   longer = omega (arith, p.longer, q.longer);
+  written = omega (arith, p.written, q.written);
   entries = λ i held above. q.entries i (omega (arith, held, p.longer)) above ∙ p.entries i held (omega (arith, above, up));
   terms = λ i held above. q.terms i (omega (arith, held, p.longer)) above ∙ p.terms i held (omega (arith, above, up));
 }
@@ -90,11 +91,11 @@ self c = record {
 pub same : {w : Ways} {a b : Core} → b ≡ a → Keeps w a b
 same {w} {a} {b} e = subst (Keeps w a) (sym e) (self a)
 
-middle_term : {w : Ways} (a b c : Core) → Goes w a b → Goes w b c → c.term ≡ a.term → b.term ≡ a.term
+pub middle_term : {w : Ways} (a b c : Core) → Goes w a b → Goes w b c → c.term ≡ a.term → b.term ≡ a.term
 middle_term a b c p q e = omega (arith, p.term, q.term, e)
 
 -- who leads before and after in one term led between
-middle_leads : {w : Ways} (a b c : Core) → Goes w a b → Goes w b c → a.role ≡ role.Leader → c.role ≡ role.Leader → c.term ≡ a.term → b.role ≡ role.Leader
+pub middle_leads : {w : Ways} (a b c : Core) → Goes w a b → Goes w b c → a.role ≡ role.Leader → c.role ≡ role.Leader → c.term ≡ a.term → b.role ≡ role.Leader
 middle_leads a b c p q first end e =
     let m = middle_term a b c p q e in
     elim (q.leader end (e ∙ sym m)) as (λ _. b.role ≡ role.Leader) [

@@ -17,7 +17,9 @@ pub mod ProgressLaws
 pub mod ViewLaws
 pub mod ViewStepLaws
 pub mod MemberLaws
+pub mod MemberLeadLaws
 pub mod MemberStepLaws
+pub mod MatchSendLaws
 pub mod Saying
 pub mod SayingSteps
 pub mod PromiseLaws
@@ -25,3 +27,8 @@ pub mod TruthLaws
 pub mod ChoiceLaws
 pub mod ReadyLaws
 pub mod MatchLaws
+pub mod MatchCallLaws
+pub mod AdvanceSteps
+pub mod CountLaws
+pub mod CommitCallLaws
+pub mod AnswerLaws

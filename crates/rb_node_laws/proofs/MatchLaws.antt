@@ -1,22 +1,13 @@
--- A leader's match of a member rests on that member's answers
-use Rattle.std.proofs.Common.{◌≡◌, ℕ, zero, suc, ◌+◌, ◌<◌, ◌≤◌, ◌⊎◌, inl, inr, Bool, true, false, cond, not, ◌&&◌, ◌||◌, min, List, [], ◌∷◌, ◌++◌, length, take, drop, get_or, Option, Some, None, refl, sym, ap, subst, ◌∙◌, arith, eqb-true, nat_eq, nat_lt, nat_le, ◌==◌, if◌then◌else◌}
-use Rattle.std.specs.Map.{keys_of, lookup}
-use Rattle.std.specs.Prelude.{position}
-use Rattle.std.proofs.lemmas.Bool.Decides.{nat_tests}
-use Rattle.std.proofs.lemmas.List.Quantifiers.{position-Some}
-use Rattle.indexmap.specs.Layout.{set_value_at}
+-- A leader's match of a member rests on that member's answers: a message
+use Rattle.std.proofs.Common.{◌≡◌, ℕ, ◌+◌, ◌≤◌, ◌⊎◌, inl, inr, Bool, true, false, not, ◌&&◌, ◌||◌, min, List, [], length, Option, Some, None, refl, sym, ap, subst, ◌∙◌, arith, eqb-true, nat_lt, ◌==◌, if◌then◌else◌}
 use Rattle.rb_raftlog.specs.declared.entry.Body.{Body}
 use Rattle.rb_raftlog.specs.declared.entry.Body.TheVariants.{Payload, Change}
 use Rattle.rb_raftlog.specs.Log.{last, last_term}
 use Rattle.rb_tracker.proofs.SetLaws.{if_both}
-use Rattle.rb_tracker.specs.Active.{with_mark, marked_at}
-use Rattle.rb_tracker.specs.Commits.{match_in, match_of, commit_of}
+use Rattle.rb_tracker.specs.Commits.{match_of}
 use Rattle.rb_tracker.specs.Configs.{voters, members}
-use Rattle.rb_tracker.specs.Progresses.{PlainProgress, snapshotting, sent, marked, acked_in, acked, paused, is_news, freed_in, freed_through, refused_in, refused, believes, resumed}
-use Rattle.rb_tracker.specs.Sets.{rank}
-use Rattle.rb_tracker.specs.Trackers.{place, view_at, has_view, with_new, ids_of}
-use Rattle.rb_tracker.specs.declared.progress.ProgressState.{ProgressState}
-use Rattle.rb_tracker.specs.declared.progress.ProgressState.TheVariants as state
+use Rattle.rb_tracker.specs.Progresses.{PlainProgress, acked, paused, is_news, freed_through, refused, believes, resumed}
+use Rattle.rb_tracker.specs.Trackers.{place, view_at}
 use Rattle.rb_tracker.specs.declared.votes.VoteResult.{VoteResult}
 use Rattle.rb_tracker.specs.declared.votes.VoteResult.TheVariants as vote
 use Rattle.rb_message.specs.Messages.{has_term}
@@ -28,15 +19,12 @@ use Rattle.rb_message.specs.declared.kind.MessageKind.TheVariants as kind
 use Rattle.rb_message.specs.declared.message.Message.{Message}
 use Rattle.rb_message.specs.declared.role.Role.{Role}
 use Rattle.rb_message.specs.declared.role.Role.TheVariants as role
-use Rattle.rb_step.specs.declared.sends.Mode.{Mode}
 use Rattle.rb_step.specs.declared.sends.Mode.TheVariants as mode
-use Rattle.rb_step.specs.declared.sends.Sending.{Sending}
-use Rattle.rb_step.specs.declared.sends.Sending.TheVariants as sending
 use Rattle.rb_step.specs.Node.{PlainNode, Turn, told, with_node, ignored}
 use Rattle.rb_step.specs.Terms.{followed, raised, raised_by, lowered, lowered_by, answers_earlier, is_disturbed_by}
 use Rattle.rb_step.specs.Campaigns.{candidate, precandidate, stood, sounded_out, why_no_campaign, campaigned_unless, campaigned, stood_unless, stood_up}
-use Rattle.rb_step.specs.Sends.{viewed, snapshot_to, empty_to, entries_to, sends_by, sending_of, sends_with, sends_at, sends, tells, told_all}
-use Rattle.rb_step.specs.Leading.{is_log_full, appended, appended_change, new_view, with_view_of, with_views, in_lead, leading, led, can_commit}
+use Rattle.rb_step.specs.Sends.{viewed, told_all}
+use Rattle.rb_step.specs.Leading.{is_log_full, appended, appended_change, in_lead, leading, led}
 use Rattle.rb_step.specs.Votes.{grants, vote_answered, pre_vote_answered, count_of, counted, decided, pre_decided}
 use Rattle.rb_step.specs.Following.{heard, append_taken, snapshot_taken}
 use Rattle.rb_step.specs.Acknowledging.{heard_of, handed_to, commit_or_sent, mode_after, accepted_news, accepted_old, accepted_by, accepted_with, accepted_at, accepted, refused_with, refused_at, append_refused, lags, beat_answered_with, beat_answered_at, beat_answered}
@@ -45,134 +33,11 @@ use Rattle.rb_step.specs.Transferring.{cannot_take_lead, older_ended, urged, tra
 use Rattle.rb_step.specs.Step.{as_follower, given_in, as_precandidate, as_candidate, as_leader, by_role_of, at_term_by, at_term, stepped}
 use Rattle.rb_node_laws.specs.Matches.{RestsOn}
 use Rattle.rb_node_laws.proofs.Goes.{Core, core}
-use Rattle.rb_node_laws.proofs.LeaderLaws.{with_view_same, with_views_same}
+use Rattle.rb_node_laws.proofs.LeaderLaws.{with_views_same}
 use Rattle.rb_node_laws.proofs.SendLaws.{told_all_same}
-use Rattle.rb_node_laws.proofs.QuorumLaws.{same_match, sent_match}
-use Rattle.rb_node_laws.proofs.MemberLaws.{ids_set}
+use Rattle.rb_node_laws.proofs.QuorumLaws.{same_match}
 use Rattle.rb_node_laws.proofs.ViewStepLaws.{asked_views, append_kept, snapshot_kept}
-
-abbrev of : PlainNode → ℕ → ℕ
-of n id = match_of n.tracker.views id
-
-same_views : (a b : PlainNode) (id : ℕ) → b.tracker.views ≡ a.tracker.views → of b id ≡ of a id
-same_views a b id e = ap (λ (v : List (ℕ × PlainProgress)). match_of v id) e
-
--- ---- sending leaves each match
-
-snapshot_match : (o : Option PlainProgress) (n : PlainNode) (at to id : ℕ) → view_at n.tracker.views at ≡ o → of (snapshot_to o n at to) id ≡ of n id
-snapshot_match None n at to id is = refl
-snapshot_match (Some view) n at to id is = same_match n.tracker.views at view (snapshotting view n.applied) id is refl
-
-empty_match : (o : Option PlainProgress) (n : PlainNode) (to id : ℕ) → of (empty_to o n to) id ≡ of n id
-empty_match None n to id = refl
-empty_match (Some view) n to id = refl
-
-entries_match : (o : Option PlainProgress) (n : PlainNode) (at to id : ℕ) → view_at n.tracker.views at ≡ o → of (entries_to o n at to) id ≡ of n id
-entries_match None n at to id is = refl
-entries_match (Some view) n at to id is = same_match n.tracker.views at view (sent view (last n.log)) id is (sent_match view.state view (last n.log))
-
-sends_by_match : (s : Sending) (n : PlainNode) (at to id : ℕ) → of (sends_by s n at to) id ≡ of n id
-sends_by_match sending.Nothing n at to id = refl
-sends_by_match sending.Snapshot n at to id = snapshot_match (view_at n.tracker.views at) n at to id refl
-sends_by_match sending.Empty n at to id = empty_match (view_at n.tracker.views at) n to id
-sends_by_match sending.Entries n at to id = entries_match (view_at n.tracker.views at) n at to id refl
-
-sends_with_match : (o : Option PlainProgress) (n : PlainNode) (at to : ℕ) (how : Mode) (id : ℕ) → of (sends_with o n at to how) id ≡ of n id
-sends_with_match None n at to how id = refl
-sends_with_match (Some view) n at to how id = sends_by_match (sending_of n.log view how) n at to id
-
-sends_at_match : (o : Option ℕ) (n : PlainNode) (to : ℕ) (how : Mode) (id : ℕ) → of (sends_at o n to how) id ≡ of n id
-sends_at_match None n to how id = refl
-sends_at_match (Some at) n to how id = sends_with_match (view_at n.tracker.views at) n at to how id
-
-sends_match : (n : PlainNode) (to : ℕ) (how : Mode) (id : ℕ) → of (sends n to how) id ≡ of n id
-unfolding sends
-sends_match n to how id =
-    if_both (λ (x : PlainNode). of x id ≡ of n id) (to == n.id) n (sends_at (place n.tracker.views to) n to how)
-    (λ _. refl) (λ _. sends_at_match (place n.tracker.views to) n to how id)
-
-tells_match : (n : PlainNode) (ids : List ℕ) (id : ℕ) → of (tells n ids) id ≡ of n id
-tells_match n [] id = refl
-tells_match n (x ∷ xs) id = tells_match (sends n x mode.Tell) xs id ∙ sends_match n x mode.Tell id
-
-told_all_match : (n : PlainNode) (id : ℕ) → of (told_all n) id ≡ of n id
-unfolding told_all
-told_all_match n id = tells_match n (ids_of n.tracker.views) id
-
--- ---- a view that is written, or a new one, changes the match of its member alone
-
-nat_eq_is : (x y : ℕ) → nat_eq x y ≡ true → x ≡ y
-nat_eq_is x y h = grind (arith, nat_tests)
-
-abbrev Alone : ℕ → ℕ → ℕ → ℕ → ℕ → Type 0
-Alone new old id changed matched = (new ≡ old) ⊎ ((id ≡ changed) × (new ≡ matched))
-
-here_alone : (b : Bool) (id changed : ℕ) (x new : PlainProgress) (rest : Option PlainProgress) → (b ≡ true → id ≡ changed) → Alone (match_in (cond b (Some new) rest)) (match_in (cond b (Some x) rest)) id changed new.matched
-here_alone true id changed x new rest h = inr (h refl, refl)
-here_alone false id changed x new rest h = inl refl
-
-first_alone : (b : Bool) (id changed : ℕ) (new : PlainProgress) (rest : Option PlainProgress) → (b ≡ true → id ≡ changed) → Alone (match_in (cond b (Some new) rest)) (match_in rest) id changed new.matched
-first_alone true id changed new rest h = inr (h refl, refl)
-first_alone false id changed new rest h = inl refl
-
-there_alone : (b : Bool) (id changed matched : ℕ) (x : PlainProgress) (r s : Option PlainProgress) → Alone (match_in r) (match_in s) id changed matched → Alone (match_in (cond b (Some x) r)) (match_in (cond b (Some x) s)) id changed matched
-there_alone true id changed matched x r s h = inl refl
-there_alone false id changed matched x r s h = h
-
-set_alone : (views : List (ℕ × PlainProgress)) (at from id : ℕ) (new : PlainProgress) → at < length (keys_of views) → from ≡ get_or (keys_of views) at 0 → Alone (match_of (set_value_at views at new) id) (match_of views id) id from new.matched
-set_alone [] at from id new low e = absurd (omega (arith, low))
-set_alone (x ∷ xs) zero from id new low e = here_alone (nat_eq id x.0) id from x.1 new (lookup (nat_eq id) xs) (λ is. nat_eq_is id x.0 is ∙ sym e)
-set_alone (x ∷ xs) (suc at) from id new low e =
-    there_alone (nat_eq id x.0) id from new.matched x.1 (lookup (nat_eq id) (set_value_at xs at new)) (lookup (nat_eq id) xs) (set_alone xs at from id new (omega (arith, low)) e)
-
-put_alone : (views : List (ℕ × PlainProgress)) (i changed id : ℕ) (new : PlainProgress) → Alone (match_of (take i views ++ (changed, new) ∷ drop i views) id) (match_of views id) id changed new.matched
-put_alone views zero changed id new = first_alone (nat_eq id changed) id changed new (lookup (nat_eq id) views) (λ is. nat_eq_is id changed is)
-put_alone [] (suc i) changed id new = first_alone (nat_eq id changed) id changed new None (λ is. nat_eq_is id changed is)
-put_alone (x ∷ xs) (suc i) changed id new =
-    there_alone (nat_eq id x.0) id changed new.matched x.1 (lookup (nat_eq id) (take i xs ++ (changed, new) ∷ drop i xs)) (lookup (nat_eq id) xs) (put_alone xs i changed id new)
-
--- the view at a member's place is written
-place_set : (views : List (ℕ × PlainProgress)) (at from id : ℕ) (new : PlainProgress) → place views from ≡ Some at → Alone (match_of (set_value_at views at new) id) (match_of views id) id from new.matched
-place_set views at from id new is =
-    let found = position-Some (λ (k : ℕ). from == k) (keys_of views) at 0 is in
-    set_alone views at from id new found.0 (eqb-true from (get_or (keys_of views) at 0) found.1)
-
--- ---- new views
-
--- a match is no more than before, or of the node itself and durable
-abbrev OwnAtMost : PlainNode → PlainNode → ℕ → Type 0
-OwnAtMost a b id = (of b id ≤ of a id) ⊎ ((id ≡ a.id) × (of b id ≤ a.log.durable))
-
-new_at_most : (n : PlainNode) (changed id : ℕ) (active : Bool) (was now : ℕ) → id ≡ changed → now ≡ (new_view n changed active).matched → (now ≤ was) ⊎ ((id ≡ n.id) × (now ≤ n.log.durable))
-new_at_most n changed id active was now is =
-    if_both (λ (v : PlainProgress). now ≡ v.matched → (now ≤ was) ⊎ ((id ≡ n.id) × (now ≤ n.log.durable))) (changed == n.id) _ _
-    (λ own e. inr (is ∙ eqb-true changed n.id own, omega (arith, e))) (λ _ e. inl (omega (arith, e)))
-
-with_view_at_most : (n : PlainNode) (changed : ℕ) (active : Bool) (id : ℕ) → OwnAtMost n (with_view_of n changed active) id
-with_view_at_most n changed active id =
-    if_both (λ (x : PlainNode). OwnAtMost n x id) (has_view n.tracker.views changed) _ _ (λ _. inl (omega arith))
-    (λ _. elim (put_alone n.tracker.views (rank (keys_of n.tracker.views) changed) changed id (new_view n changed active)) as (λ _. OwnAtMost n (record n { tracker = with_new n.tracker changed (new_view n changed active) }) id) [
-      | inl stays ↦ inl (omega (arith, stays))
-      | inr here ↦ new_at_most n changed id active (of n id) (match_of (with_new n.tracker changed (new_view n changed active)).views id) here.0 here.1
-    ])
-
-at_most_then : (a b c : PlainNode) (id : ℕ) → core b ≡ core a → OwnAtMost a b id → OwnAtMost b c id → OwnAtMost a c id
-at_most_then a b c id e p q =
-    let same_id : b.id ≡ a.id = ap (λ (x : Core). x.id) e in
-    let same_durable : b.log.durable ≡ a.log.durable = ap (λ (x : Core). x.log.durable) e in
-    elim q as (λ _. OwnAtMost a c id) [
-      | inr own ↦ (let low = own.1 in inr (own.0 ∙ same_id, omega (arith, low, same_durable)))
-      | inl less ↦ elim p as (λ _. OwnAtMost a c id) [
-        | inl before ↦ inl (omega (arith, less, before))
-        | inr own ↦ (let low = own.1 in inr (own.0, omega (arith, less, low)))
-      ]
-    ]
-
-with_views_at_most : (n : PlainNode) (ids : List ℕ) (active : Bool) (id : ℕ) → OwnAtMost n (with_views n ids active) id
-with_views_at_most n [] active id = inl (omega arith)
-with_views_at_most n (x ∷ xs) active id =
-    at_most_then n (with_view_of n x active) (with_views (with_view_of n x active) xs active) id (with_view_same n x active)
-    (with_view_at_most n x active id) (with_views_at_most (with_view_of n x active) xs active id)
+use Rattle.rb_node_laws.proofs.MatchSendLaws.{of, same_views, sends_match, told_all_match, Alone, place_set, OwnAtMost, with_views_at_most, handed_match, commit_match, heard_match, heard_place, acked_matched, freed_matched, refused_matched}
 
 -- ---- a message: no more, its own, or an answer
 
@@ -191,12 +56,9 @@ Rests t m k new id =
 stays : (t : Turn) (m : Message) (k : MessageKind) (new : PlainNode) (id : ℕ) → of new id ≡ of t.node id → Rests t m k new id
 stays t m k new id e = inl (omega (arith, e))
 
-gone : (t : Turn) (m : Message) (k : MessageKind) (new : PlainNode) (id : ℕ) → new.tracker.views ≡ [] → Rests t m k new id
-gone t m k new id e = let none : of new id ≡ 0 = ap (λ (v : List (ℕ × PlainProgress)). match_of v id) e in inl (omega (arith, none))
-
 -- ---- the lead
 
-appended_durable : (t : Turn) (body : Body) → (appended t body).node.log.durable ≡ t.node.log.durable
+pub appended_durable : (t : Turn) (body : Body) → (appended t body).node.log.durable ≡ t.node.log.durable
 appended_durable t body = if_both (λ (u : Turn). u.node.log.durable ≡ t.node.log.durable) (is_log_full t.node) _ _ (λ _. refl) (λ _. refl)
 
 appended_id : (t : Turn) (body : Body) → (appended t body).node.id ≡ t.node.id
@@ -205,7 +67,7 @@ appended_id t body = if_both (λ (u : Turn). u.node.id ≡ t.node.id) (is_log_fu
 appended_match : (t : Turn) (body : Body) (id : ℕ) → of (appended t body).node id ≡ of t.node id
 appended_match t body id = if_both (λ (u : Turn). of u.node id ≡ of t.node id) (is_log_full t.node) _ _ (λ _. refl) (λ _. refl)
 
-change_match : (t : Turn) (body : Body) (id : ℕ) → of (appended_change t body).node id ≡ of t.node id
+pub change_match : (t : Turn) (body : Body) (id : ℕ) → of (appended_change t body).node id ≡ of t.node id
 change_match t body id = if_both (λ (u : Turn). of u.node id ≡ of t.node id) (is_log_full t.node) _ _ (λ _. refl) (λ _. refl)
 
 led_rests : (t : Turn) (m : Message) (k : MessageKind) (id : ℕ) → Rests t m k (led t).node id
@@ -228,28 +90,31 @@ led_rests t m k id =
 
 -- ---- campaigns and votes
 
-campaigned_rests_unless : (o : Option WhyNoCampaign) (t : Turn) (transfer : Bool) (m : Message) (k : MessageKind) (id : ℕ) → Rests t m k (campaigned_unless o t transfer).node id
-campaigned_rests_unless (Some reason) t transfer m k id = stays t m k t.node id refl
-campaigned_rests_unless None t transfer m k id =
+none_less : (a b : PlainNode) (id : ℕ) → b.tracker.views ≡ [] → of b id ≤ of a id
+none_less a b id e = let none : of b id ≡ 0 = ap (λ (v : List (ℕ × PlainProgress)). match_of v id) e in omega (arith, none)
+
+campaigned_less_unless : (o : Option WhyNoCampaign) (t : Turn) (transfer : Bool) (id : ℕ) → of (campaigned_unless o t transfer).node id ≤ of t.node id
+campaigned_less_unless (Some reason) t transfer id = omega arith
+campaigned_less_unless None t transfer id =
     let c = candidate t.node in
     let p = precandidate t.node in
-    if_both (λ (u : Turn). Rests t m k u.node id) (t.node.options.pre_vote && not transfer) _ _
-    (λ _. stays t m k (sounded_out t).node id (same_views t.node (sounded_out t).node id (asked_views p (voters p.tracker.config) (p.term + 1) (kind.PreVote (last_term p.log) (last p.log)) (kind.PreVoteResponse true))))
-    (λ _. gone t m k (stood t transfer).node id (asked_views c (voters c.tracker.config) c.term (kind.Vote (last_term c.log) (last c.log) transfer) (kind.VoteResponse true)))
+    if_both (λ (u : Turn). of u.node id ≤ of t.node id) (t.node.options.pre_vote && not transfer) _ _
+    (λ _. (let e = same_views t.node (sounded_out t).node id (asked_views p (voters p.tracker.config) (p.term + 1) (kind.PreVote (last_term p.log) (last p.log)) (kind.PreVoteResponse true)) in omega (arith, e)))
+    (λ _. none_less t.node (stood t transfer).node id (asked_views c (voters c.tracker.config) c.term (kind.Vote (last_term c.log) (last c.log) transfer) (kind.VoteResponse true)))
 
-campaigned_rests : (t : Turn) (transfer : Bool) (m : Message) (k : MessageKind) (id : ℕ) → Rests t m k (campaigned t transfer).node id
+pub campaigned_less : (t : Turn) (transfer : Bool) (id : ℕ) → of (campaigned t transfer).node id ≤ of t.node id
 unfolding campaigned
-campaigned_rests t transfer m k id = campaigned_rests_unless (why_no_campaign t.node) t transfer m k id
+campaigned_less t transfer id = campaigned_less_unless (why_no_campaign t.node) t transfer id
 
-stood_rests_unless : (o : Option WhyNoCampaign) (t : Turn) (m : Message) (k : MessageKind) (id : ℕ) → Rests t m k (stood_unless o t).node id
-stood_rests_unless (Some reason) t m k id = stays t m k t.node id refl
-stood_rests_unless None t m k id =
+stood_less_unless : (o : Option WhyNoCampaign) (t : Turn) (id : ℕ) → of (stood_unless o t).node id ≤ of t.node id
+stood_less_unless (Some reason) t id = omega arith
+stood_less_unless None t id =
     let c = candidate t.node in
-    gone t m k (stood t false).node id (asked_views c (voters c.tracker.config) c.term (kind.Vote (last_term c.log) (last c.log) false) (kind.VoteResponse true))
+    none_less t.node (stood t false).node id (asked_views c (voters c.tracker.config) c.term (kind.Vote (last_term c.log) (last c.log) false) (kind.VoteResponse true))
 
-stood_up_rests : (t : Turn) (m : Message) (k : MessageKind) (id : ℕ) → Rests t m k (stood_up t).node id
+stood_up_less : (t : Turn) (id : ℕ) → of (stood_up t).node id ≤ of t.node id
 unfolding stood_up
-stood_up_rests t m k id = stood_rests_unless (why_no_campaign t.node) t m k id
+stood_up_less t id = stood_less_unless (why_no_campaign t.node) t id
 
 -- counting changes no match, no role and no log
 by_counted : (t : Turn) (m : Message) (k : MessageKind) (granted : Bool) (new : PlainNode) (id : ℕ) → Rests (counted t m granted) m k new id → Rests t m k new id
@@ -265,54 +130,14 @@ by_counted t m k granted new id is =
 decided_rests : (v : VoteResult) (t : Turn) (m : Message) (k : MessageKind) (granted : Bool) (id : ℕ) → Rests t m k (decided v (counted t m granted)).node id
 decided_rests vote.Won t m k granted id = by_counted t m k granted (led (counted t m granted)).node id (led_rests (counted t m granted) m k id)
 decided_rests vote.Pending t m k granted id = stays t m k (counted t m granted).node id refl
-decided_rests vote.Lost t m k granted id = gone t m k (followed (counted t m granted) t.node.term 0).node id refl
+decided_rests vote.Lost t m k granted id = inl (omega arith)
 
 pre_decided_rests : (v : VoteResult) (t : Turn) (m : Message) (k : MessageKind) (granted : Bool) (id : ℕ) → Rests t m k (pre_decided v (counted t m granted)).node id
-pre_decided_rests vote.Won t m k granted id = by_counted t m k granted (stood_up (counted t m granted)).node id (stood_up_rests (counted t m granted) m k id)
+pre_decided_rests vote.Won t m k granted id = inl (stood_up_less (counted t m granted) id)
 pre_decided_rests vote.Pending t m k granted id = stays t m k (counted t m granted).node id refl
-pre_decided_rests vote.Lost t m k granted id = gone t m k (followed (counted t m granted) t.node.term 0).node id refl
+pre_decided_rests vote.Lost t m k granted id = inl (omega arith)
 
 -- ---- a leader
-
-handed_match : (n : PlainNode) (to i id : ℕ) → of (handed_to n to i) id ≡ of n id
-handed_match n to i id = if_both (λ (x : PlainNode). of x id ≡ of n id) (to == n.transferee && i == last n.log) _ _ (λ _. refl) (λ _. refl)
-
-commit_match : (n : PlainNode) (to : ℕ) (how : Mode) (id : ℕ) → of (commit_or_sent n to how) id ≡ of n id
-unfolding commit_or_sent
-commit_match n to how id =
-    if_both (λ (x : PlainNode). of x id ≡ of n id) (can_commit n (commit_of n.tracker)) _ _
-    (λ _. told_all_match (record n { commit = commit_of n.tracker }) id) (λ _. sends_match n to how id)
-
-heard_match_with : (o : Option PlainProgress) (n : PlainNode) (at id : ℕ) → view_at n.tracker.views at ≡ o → match_of (with_mark o n.tracker at true).views id ≡ of n id
-heard_match_with None n at id is = refl
-heard_match_with (Some view) n at id is = same_match n.tracker.views at view (marked view true) id is refl
-
-heard_match : (n : PlainNode) (at id : ℕ) → of (heard_of n at) id ≡ of n id
-unfolding marked_at
-heard_match n at id = heard_match_with (view_at n.tracker.views at) n at id refl
-
-heard_keys_with : (o : Option PlainProgress) (n : PlainNode) (at : ℕ) → keys_of (with_mark o n.tracker at true).views ≡ keys_of n.tracker.views
-heard_keys_with None n at = refl
-heard_keys_with (Some view) n at = ids_set n.tracker.views at (marked view true)
-
-heard_keys : (n : PlainNode) (at : ℕ) → keys_of (heard_of n at).tracker.views ≡ keys_of n.tracker.views
-unfolding marked_at
-heard_keys n at = heard_keys_with (view_at n.tracker.views at) n at
-
-acked_matched : (s : ProgressState) (view : PlainProgress) (i : ℕ) → (acked_in s view i).matched ≡ i
-acked_matched state.Probe view i = refl
-acked_matched state.Replicate view i = refl
-acked_matched state.Snapshot view i = if_both (λ (v : PlainProgress). v.matched ≡ i) (nat_le view.pending i) _ _ (λ _. refl) (λ _. refl)
-
-freed_matched : (s : ProgressState) (view : PlainProgress) (i : ℕ) → (freed_in s view i).matched ≡ view.matched
-freed_matched state.Probe view i = refl
-freed_matched state.Replicate view i = refl
-freed_matched state.Snapshot view i = refl
-
-refused_matched : (s : ProgressState) (view : PlainProgress) (i hint : ℕ) → (refused_in s view i hint).matched ≡ view.matched
-refused_matched state.Probe view i hint = refl
-refused_matched state.Replicate view i hint = refl
-refused_matched state.Snapshot view i hint = refl
 
 -- the sender's match becomes the index at most; nobody else's changes
 abbrev AloneOf : PlainNode → PlainNode → ℕ → ℕ → ℕ → Type 0
@@ -346,7 +171,7 @@ accepted_at_alone None t m i id is = inl refl
 accepted_at_alone (Some at) t m i id is =
     let n = heard_of t.node at in
     let j = min i (last t.node.log) in
-    let here : place n.tracker.views m.from ≡ Some at = ap (λ (ks : List ℕ). position (λ (k : ℕ). m.from == k) ks) (heard_keys t.node at) ∙ is in
+    let here : place n.tracker.views m.from ≡ Some at = heard_place t.node at m.from is in
     elim (accepted_with_alone (view_at n.tracker.views at) n at m.from j id here) as (λ _. AloneOf t.node (accepted_at (Some at) t m i).node id m.from j) [
       | inl same ↦ inl (same ∙ heard_match t.node at id)
       | inr new ↦ inr new
@@ -432,7 +257,7 @@ follower_rests (kind.Snapshot snapshot) t m id =
     stays t m (kind.Snapshot snapshot) (snapshot_taken u m.from snapshot).node id (same_views u.node (snapshot_taken u m.from snapshot).node id (snapshot_kept u m.from snapshot))
 follower_rests (kind.Proposal body) t m id = if_both (λ (u : Turn). Rests t m (kind.Proposal body) u.node id) (t.node.lead == 0) _ _ (λ _. inl (omega arith)) (λ _. inl (omega arith))
 follower_rests (kind.TransferLeader target) t m id = if_both (λ (u : Turn). Rests t m (kind.TransferLeader target) u.node id) (t.node.lead == 0) _ _ (λ _. inl (omega arith)) (λ _. inl (omega arith))
-follower_rests kind.TimeoutNow t m id = campaigned_rests t true m kind.TimeoutNow id
+follower_rests kind.TimeoutNow t m id = inl (campaigned_less t true id)
 follower_rests _ t m id = inl (omega arith)
 
 -- who gives in has no views any more

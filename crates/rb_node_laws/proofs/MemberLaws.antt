@@ -1,7 +1,6 @@
 -- Whom a leader has views of, as sets of ids: one view put in or taken out, the views of strangers, and those that are missing
-use Rattle.std.proofs.Common.{◌≡◌, ℕ, zero, suc, Bool, true, false, not, ◌&&◌, ◌||◌, List, [], ◌∷◌, ◌++◌, take, drop, map, Option, Some, None, is_some, cond, refl, sym, ap, subst, ◌∙◌, if◌then◌else◌, nat_eq, ◌==◌}
+use Rattle.std.proofs.Common.{◌≡◌, ℕ, zero, suc, Bool, true, false, not, ◌&&◌, ◌||◌, List, [], ◌∷◌, ◌++◌, take, drop, map, Option, Some, is_some, cond, refl, sym, ap, subst, ◌∙◌, if◌then◌else◌, nat_eq, ◌==◌}
 use Rattle.std.specs.Cmp.{nat_eq_equiv}
-use Rattle.std.specs.List.{insert}
 use Rattle.std.specs.Map.{keys_of, lookup, remove_entry}
 use Rattle.indexmap.specs.Layout.{set_value_at}
 use Rattle.rb_tracker.proofs.ChangeLaws.{has_union, same_has}

@@ -36,9 +36,11 @@ use Rattle.rb_step.specs.Transferring.{cannot_take_lead, older_ended, urged, tra
 use Rattle.rb_node.specs.Readying.{saved}
 use Rattle.rb_node_laws.specs.Sound.{IsSound, AreViewsOf}
 use Rattle.rb_node_laws.specs.Words.{IsOfLog, IsOfState, Sends, Answers}
-use Rattle.rb_node_laws.proofs.Goes.{core}
+use Rattle.rb_node_laws.proofs.Goes.{Core, core}
+use Rattle.rb_node_laws.proofs.SendLaws.{sends_same, told_all_same}
 use Rattle.rb_node_laws.proofs.Turns.{with_entry, own_size}
-use Rattle.rb_node_laws.proofs.LeaderLaws.{commit_moves}
+use Rattle.rb_node_laws.proofs.LeaderLaws.{with_views_same, commit_moves}
+use Rattle.rb_node_laws.proofs.MatchSendLaws.{place_here, commit_match, heard_place, acked_matched}
 use Rattle.rb_node_laws.proofs.ProgressLaws.{sound_snapshotting, sound_sent, sound_acked, sound_freed, sound_refused, sound_resumed}
 use Rattle.rb_node_laws.proofs.ViewLaws.{Views, kept_views, unchanged, written, snapshot_low, heard_views, leading_views, older_views, transfer_ended_views}
 
@@ -201,22 +203,25 @@ told_all_says w n = tells_says w n (ids_of n.tracker.views)
 
 -- ---- entries of its own, and the lead
 
-own_says : {R : PlainNode → PlainNode → Type 0} (w : Allows R) (n : PlainNode) (body : Body) → R n (with_own n body)
-own_says w n body =
+leads_not : (r : Role) → r ≡ role.Leader → r ≡ role.Candidate → ⊥
+leads_not r e f = let no : role.Leader ≡ role.Candidate = sym e ∙ f in cc
+
+own_says : {R : PlainNode → PlainNode → Type 0} (w : Allows R) (n : PlainNode) (body : Body) → n.role ≡ role.Leader → R n (with_own n body)
+own_says w n body leads =
     let e : Entry = record { term = n.term; body = body } in
     let x : PlainNode = record n { log = own n.log e } in
     next w {b = x} (quiet w (kept_views (with_entry (core n) e) refl refl) refl)
-    (w.wait x (message n.id n.id n.term (kind.AppendResponse (last n.log + 1))) (λ _. (refl, (refl, omega (arith, own_size n.log e)))))
+    (w.wait x (message n.id n.id n.term (kind.AppendResponse (last n.log + 1))) (λ _. (refl, (refl, omega (arith, own_size n.log e), λ stands. absurd (leads_not n.role leads stands)))))
 
-pub appended_says : {R : PlainNode → PlainNode → Type 0} (w : Allows R) (t : Turn) (body : Body) → R t.node (appended t body).node
-appended_says {R} w t body =
-    if_both (λ (u : Turn). R t.node u.node) (is_log_full t.node) _ _ (λ _. nothing w t.node) (λ _. own_says w t.node body)
+pub appended_says : {R : PlainNode → PlainNode → Type 0} (w : Allows R) (t : Turn) (body : Body) → t.node.role ≡ role.Leader → R t.node (appended t body).node
+appended_says {R} w t body leads =
+    if_both (λ (u : Turn). R t.node u.node) (is_log_full t.node) _ _ (λ _. nothing w t.node) (λ _. own_says w t.node body leads)
 
-pub appended_change_says : {R : PlainNode → PlainNode → Type 0} (w : Allows R) (t : Turn) (body : Body) → R t.node (appended_change t body).node
-appended_change_says {R} w t body =
+pub appended_change_says : {R : PlainNode → PlainNode → Type 0} (w : Allows R) (t : Turn) (body : Body) → t.node.role ≡ role.Leader → R t.node (appended_change t body).node
+appended_change_says {R} w t body leads =
     if_both (λ (u : Turn). R t.node u.node) (is_log_full t.node) _ _
     (λ _. nothing w t.node)
-    (λ _. next w {b = with_own t.node body} (own_says w t.node body) (idle w refl refl refl))
+    (λ _. next w {b = with_own t.node body} (own_says w t.node body leads) (idle w refl refl refl))
 
 with_view_words : (n : PlainNode) (id : ℕ) (active : Bool) → words (with_view_of n id active) ≡ words n
 with_view_words n id active = if_both (λ (x : PlainNode). words x ≡ words n) (has_view n.tracker.views id) _ _ (λ _. refl) (λ _. refl)
@@ -230,7 +235,7 @@ unfolding led
 led_says w t stands =
     let u : Turn = told (with_node t (leading t.node)) (Became t.node.id role.Leader t.node.term) in
     next w {b = u.node} (quiet w (leading_views t.node stands) (with_views_words (in_lead t.node) (members t.node.tracker.config) (not t.node.options.check_quorum)))
-    (next w (appended_says w u (Payload [])) (told_all_says w (appended u (Payload [])).node))
+    (next w (appended_says w u (Payload []) (ap (λ (c : Core). c.role) (with_views_same (in_lead t.node) (members t.node.tracker.config) (not t.node.options.check_quorum)))) (told_all_says w (appended u (Payload [])).node))
 
 -- ---- its commit
 
@@ -249,6 +254,12 @@ unfolding commit_or_sent
 commit_or_sent_says {R} w n to how =
     if_both (λ (x : PlainNode). R n x) (can_commit n (commit_of n.tracker)) _ _ (λ can. commit_says w n (commit_of n.tracker) can) (λ _. sends_says w n to how)
 
+commit_role : (n : PlainNode) (to : ℕ) (how : Mode) → (commit_or_sent n to how).role ≡ n.role
+unfolding commit_or_sent
+commit_role n to how =
+    if_both (λ (x : PlainNode). x.role ≡ n.role) (can_commit n (commit_of n.tracker)) _ _
+    (λ _. ap (λ (c : Core). c.role) (told_all_same (record n { commit = commit_of n.tracker }))) (λ _. ap (λ (c : Core). c.role) (sends_same n to how))
+
 -- ---- answers
 
 heard_words : (n : PlainNode) (at : ℕ) → words (heard_of n at) ≡ words n
@@ -257,41 +268,44 @@ heard_words n at = refl
 heard_says : {R : PlainNode → PlainNode → Type 0} (w : Allows R) (n : PlainNode) (at : ℕ) → R n (heard_of n at)
 heard_says w n at = quiet w (heard_views n at) (heard_words n at)
 
-handed_says : {R : PlainNode → PlainNode → Type 0} (w : Allows R) (n : PlainNode) (to i : ℕ) → R n (handed_to n to i)
-handed_says {R} w n to i =
+handed_says : {R : PlainNode → PlainNode → Type 0} (w : Allows R) (n : PlainNode) (to i : ℕ) → n.role ≡ role.Leader → match_of n.tracker.views to ≡ i → R n (handed_to n to i)
+handed_says {R} w n to i leads holds =
     if_both (λ (x : PlainNode). R n x) (to == n.transferee && i == last n.log) _ _
-    (λ both. w.send n (message n.id to n.term kind.TimeoutNow) (λ _. (refl, (refl, eqb-true to n.transferee (and_parts (to == n.transferee) (i == last n.log) both).0))))
+    (λ both. (let parts = and_parts (to == n.transferee) (i == last n.log) both in
+    w.send n (message n.id to n.term kind.TimeoutNow) (λ _. (refl, (refl, leads, eqb-true to n.transferee parts.0, holds ∙ eqb-true i (last n.log) parts.1)))))
     (λ _. nothing w n)
 
-news_says : {R : PlainNode → PlainNode → Type 0} (w : Allows R) (o : Option PlainProgress) (n : PlainNode) (at from i : ℕ) → view_at n.tracker.views at ≡ o → R n (accepted_news o n at from i)
-news_says w None n at from i is = nothing w n
-news_says w (Some view) n at from i is =
+news_says : {R : PlainNode → PlainNode → Type 0} (w : Allows R) (o : Option PlainProgress) (n : PlainNode) (at from i : ℕ) → view_at n.tracker.views at ≡ o → place n.tracker.views from ≡ Some at → n.role ≡ role.Leader → R n (accepted_news o n at from i)
+news_says w None n at from i is here leads = nothing w n
+news_says w (Some view) n at from i is here leads =
     let x = viewed n at (acked view i) in
     let how = mode_after (paused view) in
     next w {b = x} (quiet w (written n at view (acked view i) is (λ _ g. sound_acked view i g)) refl)
-    (next w (commit_or_sent_says w x from how) (handed_says w (commit_or_sent x from how) from i))
+    (next w (commit_or_sent_says w x from how)
+    (handed_says w (commit_or_sent x from how) from i (commit_role x from how ∙ leads)
+    (commit_match x from how from ∙ place_here n.tracker.views at from (acked view i) here ∙ acked_matched view.state view i)))
 
 old_says : {R : PlainNode → PlainNode → Type 0} (w : Allows R) (o : Option PlainProgress) (n : PlainNode) (at i : ℕ) → view_at n.tracker.views at ≡ o → R n (accepted_old o n at i)
 old_says w None n at i is = nothing w n
 old_says w (Some view) n at i is = quiet w (written n at view (freed_through view i) is (λ _ g. sound_freed view i g)) refl
 
-accepted_by_says : {R : PlainNode → PlainNode → Type 0} (w : Allows R) (b : Bool) (n : PlainNode) (at from i : ℕ) → R n (accepted_by b n at from i)
-accepted_by_says w true n at from i = news_says w (view_at n.tracker.views at) n at from i refl
-accepted_by_says w false n at from i = old_says w (view_at n.tracker.views at) n at i refl
+accepted_by_says : {R : PlainNode → PlainNode → Type 0} (w : Allows R) (b : Bool) (n : PlainNode) (at from i : ℕ) → place n.tracker.views from ≡ Some at → n.role ≡ role.Leader → R n (accepted_by b n at from i)
+accepted_by_says w true n at from i here leads = news_says w (view_at n.tracker.views at) n at from i refl here leads
+accepted_by_says w false n at from i here leads = old_says w (view_at n.tracker.views at) n at i refl
 
-accepted_with_says : {R : PlainNode → PlainNode → Type 0} (w : Allows R) (o : Option PlainProgress) (n : PlainNode) (at from i : ℕ) → R n (accepted_with o n at from i)
-accepted_with_says w None n at from i = nothing w n
-accepted_with_says w (Some view) n at from i = accepted_by_says w (is_news view i) n at from i
+accepted_with_says : {R : PlainNode → PlainNode → Type 0} (w : Allows R) (o : Option PlainProgress) (n : PlainNode) (at from i : ℕ) → place n.tracker.views from ≡ Some at → n.role ≡ role.Leader → R n (accepted_with o n at from i)
+accepted_with_says w None n at from i here leads = nothing w n
+accepted_with_says w (Some view) n at from i here leads = accepted_by_says w (is_news view i) n at from i here leads
 
-accepted_at_says : {R : PlainNode → PlainNode → Type 0} (w : Allows R) (o : Option ℕ) (t : Turn) (m : Message) (i : ℕ) → R t.node (accepted_at o t m i).node
-accepted_at_says w None t m i = nothing w t.node
-accepted_at_says w (Some at) t m i =
+accepted_at_says : {R : PlainNode → PlainNode → Type 0} (w : Allows R) (o : Option ℕ) (t : Turn) (m : Message) (i : ℕ) → place t.node.tracker.views m.from ≡ o → t.node.role ≡ role.Leader → R t.node (accepted_at o t m i).node
+accepted_at_says w None t m i is leads = nothing w t.node
+accepted_at_says w (Some at) t m i is leads =
     let n = heard_of t.node at in
-    next w (heard_says w t.node at) (accepted_with_says w (view_at n.tracker.views at) n at m.from (min i (last t.node.log)))
+    next w (heard_says w t.node at) (accepted_with_says w (view_at n.tracker.views at) n at m.from (min i (last t.node.log)) (heard_place t.node at m.from is) leads)
 
-pub accepted_says : {R : PlainNode → PlainNode → Type 0} (w : Allows R) (t : Turn) (m : Message) (i : ℕ) → R t.node (accepted t m i).node
+pub accepted_says : {R : PlainNode → PlainNode → Type 0} (w : Allows R) (t : Turn) (m : Message) (i : ℕ) → t.node.role ≡ role.Leader → R t.node (accepted t m i).node
 unfolding accepted
-accepted_says w t m i = accepted_at_says w (place t.node.tracker.views m.from) t m i
+accepted_says w t m i leads = accepted_at_says w (place t.node.tracker.views m.from) t m i refl leads
 
 refused_with_says : {R : PlainNode → PlainNode → Type 0} (w : Allows R) (o : Option PlainProgress) (t : Turn) (at : ℕ) (m : Message) (i hint : ℕ) → view_at t.node.tracker.views at ≡ o → R t.node (refused_with o t at m i hint).node
 refused_with_says w None t at m i hint is = nothing w t.node
@@ -328,40 +342,44 @@ beat_answered_says w t m = beat_at_says w (place t.node.tracker.views m.from) t 
 
 -- ---- proposals, and handing the lead over
 
-change_put_says : {R : PlainNode → PlainNode → Type 0} (w : Allows R) (o : Option WhyReplaced) (t : Turn) (body : Body) → R t.node (change_put o t body).node
-change_put_says w None t body = appended_change_says w t body
-change_put_says w (Some reason) t body = appended_says w (told t (ReplacedChange t.node.id (last t.node.log + 1) reason)) (Payload [])
+change_put_says : {R : PlainNode → PlainNode → Type 0} (w : Allows R) (o : Option WhyReplaced) (t : Turn) (body : Body) → t.node.role ≡ role.Leader → R t.node (change_put o t body).node
+change_put_says w None t body leads = appended_change_says w t body leads
+change_put_says w (Some reason) t body leads = appended_says w (told t (ReplacedChange t.node.id (last t.node.log + 1) reason)) (Payload []) leads
 
-put_in_says : {R : PlainNode → PlainNode → Type 0} (w : Allows R) (body : Body) (t : Turn) → R t.node (put_in body t).node
-put_in_says w (Payload bytes) t = appended_says w t (Payload bytes)
-put_in_says {R} w (Change transition words) t =
+put_in_says : {R : PlainNode → PlainNode → Type 0} (w : Allows R) (body : Body) (t : Turn) → t.node.role ≡ role.Leader → R t.node (put_in body t).node
+put_in_says w (Payload bytes) t leads = appended_says w t (Payload bytes) leads
+put_in_says {R} w (Change transition words) t leads =
     if_both (λ (u : Turn). R t.node u.node) (is_log_full t.node) _ _
-    (λ _. nothing w t.node) (λ _. change_put_says w (why_replaced t.node (length words)) t (Change transition words))
+    (λ _. nothing w t.node) (λ _. change_put_says w (why_replaced t.node (length words)) t (Change transition words) leads)
 
-pub proposed_says : {R : PlainNode → PlainNode → Type 0} (w : Allows R) (t : Turn) (body : Body) → R t.node (proposed t body).node
+pub proposed_says : {R : PlainNode → PlainNode → Type 0} (w : Allows R) (t : Turn) (body : Body) → t.node.role ≡ role.Leader → R t.node (proposed t body).node
 unfolding proposed
-proposed_says {R} w t body =
+proposed_says {R} w t body leads =
     if_both (λ (u : Turn). R t.node u.node) (takes_none t.node) _ _
-    (λ _. nothing w t.node) (λ _. next w (put_in_says w body t) (told_all_says w (put_in body t).node))
+    (λ _. nothing w t.node) (λ _. next w (put_in_says w body t leads) (told_all_says w (put_in body t).node))
 
 older_words : (t : Turn) → words (older_ended t).node ≡ words t.node
 older_words t = if_both (λ (u : Turn). words u.node ≡ words t.node) (t.node.transferee == 0) _ _ (λ _. refl) (λ _. refl)
 
-urged_says : {R : PlainNode → PlainNode → Type 0} (w : Allows R) (n : PlainNode) (target : ℕ) → target ≡ n.transferee → R n (urged n target)
-urged_says {R} w n target is =
+urged_says : {R : PlainNode → PlainNode → Type 0} (w : Allows R) (n : PlainNode) (target : ℕ) → n.role ≡ role.Leader → target ≡ n.transferee → R n (urged n target)
+urged_says {R} w n target leads is =
     if_both (λ (x : PlainNode). R n x) (match_of n.tracker.views target == last n.log) _ _
-    (λ _. w.send n (message n.id target n.term kind.TimeoutNow) (λ _. (refl, (refl, is)))) (λ _. sends_says w n target mode.Tell)
+    (λ holds. w.send n (message n.id target n.term kind.TimeoutNow) (λ _. (refl, (refl, leads, is, eqb-true (match_of n.tracker.views target) (last n.log) holds))))
+    (λ _. sends_says w n target mode.Tell)
 
-started_says : {R : PlainNode → PlainNode → Type 0} (w : Allows R) (t : Turn) (target : ℕ) → R t.node (transfer_started t target).node
-started_says w t target =
+started_says : {R : PlainNode → PlainNode → Type 0} (w : Allows R) (t : Turn) (target : ℕ) → t.node.role ≡ role.Leader → R t.node (transfer_started t target).node
+started_says w t target leads =
     let n : PlainNode = record t.node { elapsed = 0; transferee = target } in
-    next w {b = n} (idle w refl refl refl) (urged_says w n target refl)
+    next w {b = n} (idle w refl refl refl) (urged_says w n target leads refl)
 
-pub transferred_says : {R : PlainNode → PlainNode → Type 0} (w : Allows R) (t : Turn) (m : Message) (target : ℕ) → R t.node (transferred t m target).node
+older_role : (t : Turn) → (older_ended t).node.role ≡ t.node.role
+older_role t = if_both (λ (u : Turn). u.node.role ≡ t.node.role) (t.node.transferee == 0) _ _ (λ _. refl) (λ _. refl)
+
+pub transferred_says : {R : PlainNode → PlainNode → Type 0} (w : Allows R) (t : Turn) (m : Message) (target : ℕ) → t.node.role ≡ role.Leader → R t.node (transferred t m target).node
 unfolding transferred
-transferred_says {R} w t m target =
+transferred_says {R} w t m target leads =
     if_both (λ (u : Turn). R t.node u.node) (cannot_take_lead t.node target) _ _
-    (λ _. nothing w t.node) (λ _. next w (quiet w (older_views t) (older_words t)) (started_says w (older_ended t) target))
+    (λ _. nothing w t.node) (λ _. next w (quiet w (older_views t) (older_words t)) (started_says w (older_ended t) target (older_role t ∙ leads)))
 
 pub transfer_ended_words : (t : Turn) → words (transfer_ended t).node ≡ words t.node
 unfolding transfer_ended

@@ -12,7 +12,7 @@ use Rattle.rb_raftlog.specs.declared.snapshot.Snapshot.{Snapshot}
 use Rattle.rb_raftlog.specs.Log.{last, last_term, term_at, is_term, answer, compact_fault}
 use Rattle.rb_tracker.proofs.SetLaws.{if_both}
 use Rattle.rb_tracker.specs.Changes.{changed}
-use Rattle.rb_tracker.specs.Configs.{voters, members, is_member}
+use Rattle.rb_tracker.specs.Configs.{voters, members, is_member, is_joint}
 use Rattle.rb_tracker.specs.Progresses.{PlainProgress}
 use Rattle.rb_tracker.specs.Trackers.{place, view_at, ids_of, configured}
 use Rattle.rb_tracker.specs.declared.config.Config.{Config}
@@ -77,7 +77,7 @@ shown_says : {R : PlainNode → PlainNode → Type 0} (w : Allows R) (t : Turn) 
 shown_says {R} w t m =
     let n = t.node in
     if_both (λ (u : Turn). R n u.node) (answers_earlier n) _ _
-    (λ _. w.wait n (message n.id m.from n.term (kind.AppendResponse 0)) (λ _. (refl, (refl, omega arith)))) (λ _. nothing w n)
+    (λ _. w.wait n (message n.id m.from n.term (kind.AppendResponse 0)) (λ _. (refl, (refl, omega arith, λ _. refl)))) (λ _. nothing w n)
 
 lowered_says : {R : PlainNode → PlainNode → Type 0} (w : Allows R) (k : MessageKind) (t : Turn) (m : Message) → R t.node (lowered_by k t m).node
 lowered_says w (kind.PreVote last_term last_index) t m = w.wait t.node (message t.node.id m.from t.node.term (kind.PreVoteResponse false)) (λ _. (refl, tt))
@@ -183,41 +183,46 @@ counted_says w t m granted = idle w refl refl refl
 
 -- ---- a follower
 
-after_says : {R : PlainNode → PlainNode → Type 0} (w : Allows R) (a : Appended) (t : Turn) (from : ℕ) (append : PlainAppend) → (t.node.role ≡ role.Leader → ⊥) → Reaches a t.node.log t.node.commit → R t.node (after_log a t from append).node
-unfolding Reaches
-after_says w (Matched i) t from append follower reach =
-    let x = commits_to t.node (min append.commit i) in
-    next w {b = x} (quiet w (kept_views (after_log_keeps (Matched i) t from append follower reach) refl refl) refl)
-    (w.wait x (message x.id from x.term (kind.AppendResponse i)) (λ s. (refl, (refl, (let held = s.is_held in omega (arith, held, reach))))))
-after_says w (Refused hint) t from append follower reach =
-    w.wait t.node (message t.node.id from t.node.term (kind.AppendRefusal append.prev hint)) (λ _. (refl, refl))
-after_says w (BelowCommit i) t from append follower reach = nothing w t.node
+stands_not : (r : Role) → r ≡ role.Follower → r ≡ role.Candidate → ⊥
+stands_not r e f = let no : role.Follower ≡ role.Candidate = sym e ∙ f in cc
 
-append_says : {R : PlainNode → PlainNode → Type 0} (w : Allows R) (t : Turn) (from : ℕ) (append : PlainAppend) → (t.node.role ≡ role.Leader → ⊥) → R t.node (append_taken t from append).node
+after_says : {R : PlainNode → PlainNode → Type 0} (w : Allows R) (a : Appended) (t : Turn) (from : ℕ) (append : PlainAppend) → t.node.role ≡ role.Follower → Reaches a t.node.log t.node.commit → R t.node (after_log a t from append).node
+unfolding Reaches
+after_says w (Matched i) t from append follows reach =
+    let x = commits_to t.node (min append.commit i) in
+    next w {b = x} (quiet w (kept_views (after_log_keeps (Matched i) t from append (is_no_leader t.node.role follows) reach) refl refl) refl)
+    (w.wait x (message x.id from x.term (kind.AppendResponse i)) (λ s. (refl, (refl, (let held = s.is_held in omega (arith, held, reach)), λ stands. absurd (stands_not x.role follows stands)))))
+after_says w (Refused hint) t from append follows reach =
+    w.wait t.node (message t.node.id from t.node.term (kind.AppendRefusal append.prev hint)) (λ _. (refl, refl))
+after_says w (BelowCommit i) t from append follows reach = nothing w t.node
+
+append_says : {R : PlainNode → PlainNode → Type 0} (w : Allows R) (t : Turn) (from : ℕ) (append : PlainAppend) → t.node.role ≡ role.Follower → R t.node (append_taken t from append).node
 unfolding append_taken
-append_says w t from append follower =
+append_says w t from append follows =
     let n = t.node in
     let u : Turn = with_node t (with_appended n from append) in
-    next w {b = u.node} (quiet w (kept_views (with_append (core n) append.prev append.prev_term append.entries follower) refl refl) refl)
-    (after_says w (answer n.log append.prev append.prev_term append.entries n.commit) u from append follower
+    next w {b = u.node} (quiet w (kept_views (with_append (core n) append.prev append.prev_term append.entries (is_no_leader n.role follows)) refl refl) refl)
+    (after_says w (answer n.log append.prev append.prev_term append.entries n.commit) u from append follows
     (answer_reaches n.log append.prev append.prev_term append.entries n.commit))
 
-match_says : {R : PlainNode → PlainNode → Type 0} (w : Allows R) (n : PlainNode) (from : ℕ) → R n (with_match n from)
-match_says w n from = w.wait n (message n.id from n.term (kind.AppendResponse n.commit)) (λ s. (refl, (refl, s.is_held)))
+match_says : {R : PlainNode → PlainNode → Type 0} (w : Allows R) (n : PlainNode) (from : ℕ) → n.role ≡ role.Follower → R n (with_match n from)
+match_says w n from follows =
+    w.wait n (message n.id from n.term (kind.AppendResponse n.commit)) (λ s. (refl, (refl, s.is_held, λ stands. absurd (stands_not n.role follows stands))))
 
-snapshot_says : {R : PlainNode → PlainNode → Type 0} (w : Allows R) (t : Turn) (from : ℕ) (s : Snapshot) → (t.node.role ≡ role.Leader → ⊥) → R t.node (snapshot_taken t from s).node
+snapshot_says : {R : PlainNode → PlainNode → Type 0} (w : Allows R) (t : Turn) (from : ℕ) (s : Snapshot) → t.node.role ≡ role.Follower → R t.node (snapshot_taken t from s).node
 unfolding snapshot_taken
-snapshot_says {R} w t from s follower =
+snapshot_says {R} w t from s follows =
     let n = t.node in
+    let follower = is_no_leader n.role follows in
     let P : Turn → Type 0 = λ u. R n u.node in
-    if_both P (nat_le s.index n.commit) _ _ (λ _. match_says w n from)
+    if_both P (nat_le s.index n.commit) _ _ (λ _. match_says w n from follows)
     (λ past. (let above = leb-false s.index n.commit past in
     if_both P (is_term (term_at n.log s.index) s.term) _ _
     (λ holds. (let held = held_in n.log s.index s.term (is_term_is (term_at n.log s.index) s.term holds) in
     let x : PlainNode = record n { commit = s.index } in
-    next w {b = x} (quiet w (kept_views (committed (core n) s.index (omega (arith, above)) (λ _. held.1) (λ r. absurd (follower r))) refl refl) refl) (match_says w x from)))
+    next w {b = x} (quiet w (kept_views (committed (core n) s.index (omega (arith, above)) (λ _. held.1) (λ r. absurd (follower r))) refl refl) refl) (match_says w x from follows)))
     (λ _. (let x = restored_to n s in
-    next w {b = x} (quiet w (kept_views (with_snapshot (core n) s above follower) refl refl) refl) (match_says w x from)))))
+    next w {b = x} (quiet w (kept_views (with_snapshot (core n) s above follower) refl refl) refl) (match_says w x from follows)))))
 
 passed_says : {R : PlainNode → PlainNode → Type 0} (w : Allows R) (t : Turn) (body : Body) → R t.node (proposal_passed t (kind.Proposal body)).node
 passed_says {R} w t body =
@@ -240,11 +245,11 @@ beaten_says w n from commit follower =
 -- ---- a message
 
 follower_says : {R : PlainNode → PlainNode → Type 0} (w : Allows R) (k : MessageKind) (t : Turn) (m : Message) → t.node.role ≡ role.Follower → R t.node (as_follower k t m).node
-follower_says w (kind.Append append) t m is = append_says w t m.from append (is_no_leader t.node.role is)
+follower_says w (kind.Append append) t m is = append_says w t m.from append is
 follower_says w (kind.Heartbeat commit) t m is = beaten_says w t.node m.from commit (is_no_leader t.node.role is)
 follower_says w (kind.Snapshot snapshot) t m is =
     let u : Turn = with_node t (heard t.node m.from) in
-    next w {b = u.node} (idle w refl refl refl) (snapshot_says w u m.from snapshot (is_no_leader t.node.role is))
+    next w {b = u.node} (idle w refl refl refl) (snapshot_says w u m.from snapshot is)
 follower_says w (kind.Proposal body) t m is = passed_says w t body
 follower_says w (kind.TransferLeader target) t m is = transfer_passed_says w t target m
 follower_says w kind.TimeoutNow t m is = campaigned_says w t true
@@ -267,19 +272,19 @@ candidate_says w (kind.Heartbeat commit) t m stands = given_in_says w t m
 candidate_says w (kind.Snapshot snapshot) t m stands = given_in_says w t m
 candidate_says w _ t m stands = nothing w t.node
 
-leader_says : {R : PlainNode → PlainNode → Type 0} (w : Allows R) (k : MessageKind) (t : Turn) (m : Message) → R t.node (as_leader k t m).node
-leader_says w (kind.Proposal body) t m = proposed_says w t body
-leader_says w (kind.AppendResponse matched) t m = accepted_says w t m matched
-leader_says w (kind.AppendRefusal refused hint) t m = refused_says w t m refused hint
-leader_says w kind.HeartbeatResponse t m = beat_answered_says w t m
-leader_says w (kind.TransferLeader target) t m = transferred_says w t m target
-leader_says w _ t m = nothing w t.node
+leader_says : {R : PlainNode → PlainNode → Type 0} (w : Allows R) (k : MessageKind) (t : Turn) (m : Message) → t.node.role ≡ role.Leader → R t.node (as_leader k t m).node
+leader_says w (kind.Proposal body) t m is = proposed_says w t body is
+leader_says w (kind.AppendResponse matched) t m is = accepted_says w t m matched is
+leader_says w (kind.AppendRefusal refused hint) t m is = refused_says w t m refused hint
+leader_says w kind.HeartbeatResponse t m is = beat_answered_says w t m
+leader_says w (kind.TransferLeader target) t m is = transferred_says w t m target is
+leader_says w _ t m is = nothing w t.node
 
 role_says : {R : PlainNode → PlainNode → Type 0} (w : Allows R) (r : Role) (t : Turn) (m : Message) → t.node.role ≡ r → R t.node (by_role_of r t m).node
 role_says w role.Follower t m is = follower_says w m.kind t m is
 role_says w role.Precandidate t m is = precandidate_says w m.kind t m
 role_says w role.Candidate t m is = candidate_says w m.kind t m is
-role_says w role.Leader t m is = leader_says w m.kind t m
+role_says w role.Leader t m is = leader_says w m.kind t m is
 
 term_says : {R : PlainNode → PlainNode → Type 0} (w : Allows R) (k : MessageKind) (t : Turn) (m : Message) → ((last_term last_index : ℕ) (transfer : Bool) → k ≡ kind.Vote last_term last_index transfer → m.term ≡ t.node.term) → R t.node (at_term_by k t m).node
 term_says w (kind.Vote last_term last_index transfer) t m of_term = vote_says w t.node m last_term last_index (of_term last_term last_index transfer refl)
@@ -365,11 +370,15 @@ all_says w t i (e ∷ es) up known durable s =
     next w (one_says w t (i + 1) e (omega (arith, up)) (omega (arith, known)) (omega (arith, durable)))
     (all_says w following (i + 1) es (omega (arith, at)) (omega (arith, known, risen)) far gone.ordered)
 
+leads_first : (a b c d e : Bool) → (a && b && c && d && e) ≡ true → a ≡ true
+leads_first true b c d e h = refl
+leads_first false b c d e h = absurd (false≢true h)
+
 left_says : {R : PlainNode → PlainNode → Type 0} (w : Allows R) (t : Turn) → R t.node (joint_left t).node
 unfolding joint_left
 left_says {R} w t =
     if_both (λ (u : Turn). R t.node u.node) (leaves_joint t.node) _ _
-    (λ _. next w (appended_change_says w t (Change Auto [])) (told_all_says w (appended_change t (Change Auto [])).node))
+    (λ leaves. next w (appended_change_says w t (Change Auto []) (leads_then t.node.role (leads_first (is_leader t.node.role) (is_joint t.node.tracker.config) t.node.tracker.config.auto (t.node.transferee == 0) (nat_le t.node.pending_change t.node.applied) leaves))) (told_all_says w (appended_change t (Change Auto [])).node))
     (λ _. nothing w t.node)
 
 -- ---- ticks

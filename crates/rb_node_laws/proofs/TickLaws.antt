@@ -21,13 +21,13 @@ beat_each_same : (n : PlainNode) (ids : List ℕ) → core (beat_each n ids) ≡
 beat_each_same n [] = refl
 beat_each_same n (id ∷ ids) = beat_each_same (beat_to n id) ids ∙ beat_to_same n id
 
-beats_due_same : (t : Turn) → core (heartbeats_due t).node ≡ core t.node
+pub beats_due_same : (t : Turn) → core (heartbeats_due t).node ≡ core t.node
 unfolding heartbeats_due
 beats_due_same t =
     if_both (λ (u : Turn). core u.node ≡ core t.node) (nat_le HEARTBEAT_TICKS t.node.heartbeat_elapsed) _ _
     (λ _. beat_each_same (record t.node { heartbeat_elapsed = 0 }) (ids_of t.node.tracker.views)) (λ _. refl)
 
-looked_same : (n : PlainNode) → core (looked_anew n) ≡ core n
+pub looked_same : (n : PlainNode) → core (looked_anew n) ≡ core n
 looked_same n = if_both (λ (x : PlainNode). core x ≡ core n) n.options.check_quorum _ _ (λ _. refl) (λ _. refl)
 
 looks : {w : Ways} (t : Turn) → Keeps w (core t.node) (core (quorum_looked_at t).node)

@@ -104,7 +104,7 @@ all_durable c = logged c (made_durable c.log) c.commit c.applied (λ o. record {
   base = omega arith;
   durable = λ i _ d. omega (arith, d, o.within);
   kept = λ _ _ _. refl;
-  own = λ _. record { longer = omega arith; entries = λ _ _ _. refl; terms = λ _ _ _. refl };
+  own = λ _. record { longer = omega arith; written = omega (arith, o.within); entries = λ _ _ _. refl; terms = λ _ _ _. refl };
   commits = λ _. inl refl;
   ordered = record { past_base = o.past_base; is_durable = omega (arith, o.is_durable, o.within); within = omega arith; is_committed = o.is_committed; is_held = o.is_held };
 })
@@ -144,7 +144,7 @@ with_entry c e = logged c (own c.log e) c.commit c.applied (λ o. record {
   base = omega arith;
   durable = λ _ _ d. d;
   kept = λ i at _. own_entry c.log e i (omega (arith, at, o.is_held));
-  own = λ _. record { longer = omega (arith, own_size c.log e); entries = λ i held _. own_entry c.log e i held; terms = λ i held _. own_term c.log e i held };
+  own = λ _. record { longer = omega (arith, own_size c.log e); written = omega arith; entries = λ i held _. own_entry c.log e i held; terms = λ i held _. own_term c.log e i held };
   commits = λ _. inl refl;
   ordered = record { past_base = o.past_base; is_durable = o.is_durable; within = omega (arith, own_size c.log e, o.within); is_committed = o.is_committed; is_held = omega (arith, own_size c.log e, o.is_held) };
 })
@@ -249,6 +249,7 @@ without_front c i term low known durable at = logged c (compacted c.log i (Ok te
   kept = λ j _ above. compacted-entry c.log i term j low above;
   own = λ _. record {
     longer = omega (arith, size, low, known, o.is_committed, o.is_held);
+    written = omega arith;
     entries = λ j _ above. compacted-entry c.log i term j low above;
     terms = λ j _ above. compacted-term c.log i term j low at above;
   };

@@ -249,7 +249,7 @@ term_views (kind.Vote last_term last_index transfer) t m = vote_views t.node m l
 term_views (kind.PreVote last_term last_index) t m = pre_vote_views t.node m last_term last_index
 term_views _ t m = role_views t.node.role t m refl
 
-stepped_views : (t : Turn) (m : Message) → Views t.node (stepped t m).node
+pub stepped_views : (t : Turn) (m : Message) → Views t.node (stepped t m).node
 unfolding stepped
 stepped_views t m =
     let P : Turn → Type 0 = λ u. Views t.node u.node in
@@ -342,7 +342,7 @@ all_views t i (e ∷ es) up known durable s v =
     let risen : t.node.commit ≤ next.node.commit = gone.commit in
     all_views next (i + 1) es (omega (arith, at)) (omega (arith, known, risen)) far gone.ordered (first.views s v)
 
-left_views : (t : Turn) → Views t.node (joint_left t).node
+pub left_views : (t : Turn) → Views t.node (joint_left t).node
 unfolding joint_left
 left_views t =
     if_both (λ (u : Turn). Views t.node u.node) (leaves_joint t.node) _ _

@@ -1,6 +1,6 @@
 -- Who campaigns, what goes into a leader's log, what takes effect, and when nothing is ready (Ongaro's thesis, sections 3.4, 4.1 and 4.2;
 -- etcd raft documentation, "Ready")
-use Rattle.std.specs.Prelude.{ℕ, ◌≡◌, ◌+◌, ◌≤◌, ◌⊎◌, true, false, List, [], ◌∷◌, ◌++◌, None}
+use Rattle.std.specs.Prelude.{ℕ, ◌≡◌, ◌≤◌, ◌⊎◌, true, false, List, [], ◌∷◌, ◌++◌, None}
 use Rattle.rb_raftlog.specs.declared.entry.Body.{Body}
 use Rattle.rb_raftlog.specs.declared.entry.Body.TheVariants.{Payload, Change}
 use Rattle.rb_raftlog.specs.declared.entry.Entry.{Entry}
@@ -23,6 +23,11 @@ PutsChange old new body =
     (new.log ≡ old.log)
     ⊎ ((new.log ≡ own old.log (record { term = old.term; body = Payload [] }))
     ⊎ ((old.pending_change ≤ old.applied) × (new.log ≡ own old.log (record { term = old.term; body = body }))))
+
+-- the lead may be handed to another voter
+pub record MayTakeLead (n : PlainNode) (target : ℕ) : Type 0 where
+  pub votes : is_voter n.tracker.config target ≡ true
+  pub another : target ≡ n.id → ⊥
 
 -- a leader that steps down in its term follows nobody
 abbrev pub StepsDown : PlainNode → PlainNode → Type 0

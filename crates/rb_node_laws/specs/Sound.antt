@@ -22,9 +22,10 @@ pub record IsOrdered (log : LogValue) (commit applied : ℕ) : Type 0 where
 abbrev pub IsSound : PlainNode → Type 0
 IsSound n = IsOrdered n.log n.commit n.applied
 
--- A log that has gone on: what it held is there as it was, but for what was compacted.
+-- A log that has gone on: what it held is there as it was, but for what was compacted, and what was durable is so.
 pub record IsGrown (old new : LogValue) : Type 0 where
   pub longer : last old ≤ last new
+  pub written : old.durable ≤ new.durable
   pub entries : (i : ℕ) → i ≤ last old → new.base < i → entry_at new i ≡ entry_at old i
   pub terms : (i : ℕ) → i ≤ last old → new.base ≤ i → term_at new i ≡ term_at old i
 

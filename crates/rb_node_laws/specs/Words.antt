@@ -1,17 +1,18 @@
 -- What a node's messages say of it, at the moment at which it puts them out (Ongaro's thesis, sections 3.4 to 3.6, 3.10 and 5.1; etcd raft
 -- documentation, "MessageType")
-use Rattle.std.specs.Prelude.{ℕ, ◌≡◌, ◌+◌, ◌<◌, ◌≤◌, true, List, All, Ok, ◌⊎◌, Contains}
+use Rattle.std.specs.Prelude.{ℕ, ◌≡◌, ◌+◌, ◌<◌, ◌≤◌, true, max, List, [], ◌∷◌, ◌++◌, length, All, Ok, Some, ◌⊎◌, Contains, slice_get}
+use Rattle.rb_raftlog.specs.declared.entry.Entry.{Entry}
 use Rattle.rb_raftlog.specs.declared.snapshot.Snapshot.{Snapshot}
 use Rattle.rb_raftlog.specs.Laws.{AreOfLog}
-use Rattle.rb_raftlog.specs.Log.{last, last_term as last_term_of, term_at}
+use Rattle.rb_raftlog.specs.Log.{LogValue, last, last_term as last_term_of, term_at}
 use Rattle.rb_tracker.specs.Commits.{match_of}
 use Rattle.rb_tracker.specs.Configs.{state_of}
 use Rattle.rb_message.specs.Appends.{PlainAppend}
 use Rattle.rb_message.specs.declared.kind.MessageKind.{MessageKind}
 use Rattle.rb_message.specs.declared.kind.MessageKind.TheVariants as kind
 use Rattle.rb_message.specs.declared.message.Message.{Message}
-use Rattle.rb_message.specs.declared.role.Role.TheVariants.{Leader}
-use Rattle.rb_step.specs.Node.{PlainNode}
+use Rattle.rb_message.specs.declared.role.Role.TheVariants.{Candidate, Leader}
+use Rattle.rb_step.specs.Node.{PlainNode, message}
 use Rattle.rb_node_laws.specs.Sound.{IsGrown, HasSoundViews}
 
 -- ---- votes
@@ -52,14 +53,16 @@ pub record IsOfState (n : PlainNode) (snapshot : Snapshot) : Type 0 where
 -- ---- every message
 
 -- What is sent at once. A leader's entries and states, and heartbeats, go to others alone; a heartbeat's commit is at most the receiver's
--- match; a candidate names its last entry; the wish to campaign goes to whom the lead goes; what is for the leader goes to the leader.
+-- match; a candidate names its last entry; a leader's wish that another campaigns goes to whom the lead goes, who is known to hold its whole
+-- log; what is for the leader goes to the leader.
 abbrev pub SendsBy : MessageKind → PlainNode → Message → Type 0
 SendsBy (kind.Append append) n m = (m.term ≡ n.term) × (m.to ≡ n.id → ⊥) × (HasSoundViews n → n.role ≡ Leader) × IsOfLog n append
 SendsBy (kind.Snapshot snapshot) n m = (m.term ≡ n.term) × (m.to ≡ n.id → ⊥) × (HasSoundViews n → n.role ≡ Leader) × IsOfState n snapshot
 SendsBy (kind.Heartbeat commit) n m =
     (m.term ≡ n.term) × (m.to ≡ n.id → ⊥) × (commit ≤ match_of n.tracker.views m.to) × (commit ≤ n.commit)
 SendsBy kind.HeartbeatResponse n m = m.term ≡ n.term
-SendsBy kind.TimeoutNow n m = (m.term ≡ n.term) × (m.to ≡ n.transferee)
+SendsBy kind.TimeoutNow n m =
+    (m.term ≡ n.term) × (n.role ≡ Leader) × (m.to ≡ n.transferee) × (match_of n.tracker.views m.to ≡ last n.log)
 SendsBy (kind.Vote last_term last_index transfer) n m =
     (m.term ≡ n.term) × (m.to ≡ n.id → ⊥) × (last_term ≡ last_term_of n.log) × (last_index ≡ last n.log)
 SendsBy (kind.PreVote last_term last_index) n m =
@@ -71,16 +74,37 @@ SendsBy _ n m = ⊥
 abbrev pub Sends : PlainNode → Message → Type 0
 Sends n m = (m.from ≡ n.id) × SendsBy m.kind n m
 
--- What waits until it is durable: a vote of the node's term for whom it voted, and what it holds of its log.
+-- What waits until it is durable: a vote of the node's term for whom it voted, and what it holds of its log. A candidate has taken nothing
+-- from a leader of its term.
 abbrev pub AnswersBy : MessageKind → PlainNode → Message → Type 0
 AnswersBy (kind.VoteResponse granted) n m = (m.term ≡ n.term) × (granted ≡ true → n.vote ≡ m.to)
 AnswersBy (kind.PreVoteResponse granted) n m = Unit {0}
-AnswersBy (kind.AppendResponse matched) n m = (m.term ≡ n.term) × (matched ≤ last n.log)
+AnswersBy (kind.AppendResponse matched) n m = (m.term ≡ n.term) × (matched ≤ last n.log) × (n.role ≡ Candidate → matched ≡ 0)
 AnswersBy (kind.AppendRefusal refused hint) n m = m.term ≡ n.term
 AnswersBy _ n m = ⊥
 
 abbrev pub Answers : PlainNode → Message → Type 0
 Answers n m = (m.from ≡ n.id) × AnswersBy m.kind n m
+
+-- ---- answers to an append
+
+-- An append's entries stand in a log up to an index: at each place of one that isn't compacted is an entry of its term.
+abbrev pub HasEntries : LogValue → PlainAppend → ℕ → Type 0
+HasEntries log append upto =
+    (k : ℕ) (e : Entry) → slice_get append.entries k ≡ Some e → append.prev + 1 + k ≤ upto → log.base < append.prev + 1 + k
+    → term_at log (append.prev + 1 + k) ≡ Ok e.term
+
+-- Who accepts an append answers no index past what it was sent and what is committed, and holds the append's entries up to there.
+abbrev pub TellsOf : MessageKind → PlainNode → PlainAppend → Type 0
+TellsOf (kind.AppendResponse matched) n append =
+    (matched ≤ max n.commit (append.prev + length append.entries)) × HasEntries n.log append matched
+TellsOf _ n append = Unit {0}
+
+-- one more answer waits, for whom the append came from, and tells what is held
+pub record IsAnswered (before : List Message) (from : ℕ) (append : PlainAppend) (new : PlainNode) : Type 0 where
+  pub answer : MessageKind
+  pub waits : new.waiting ≡ before ++ message new.id from new.term answer ∷ []
+  pub tells : TellsOf answer new append
 
 -- ---- the moment
 

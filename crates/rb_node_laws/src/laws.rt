@@ -1,11 +1,13 @@
 //! What a node keeps, whatever is done with it.
-ghost use Rattle.std.specs.Prelude.{◌≡◌, ◌≤◌, ◌<◌, ◌⊎◌, ◌+◌, ◌++◌, ℕ, Bool, true, false, List, length, Contains, Result, Ok, Err};
+ghost use Rattle.std.specs.Prelude.{◌≡◌, ◌≤◌, ◌<◌, ◌⊎◌, ◌+◌, ◌++◌, ℕ, Bool, true, false, List, length, All, Contains, Result, Ok, Err};
 ghost use Rattle.rb_raftlog.specs.declared.raft_log.CompactFault.TheVariants.{AlreadyCompacted, PastApplied};
 ghost use Rattle.rb_raftlog.specs.declared.snapshot.Snapshot.{Snapshot};
-ghost use Rattle.rb_raftlog.specs.Log.{entry_at, term_at, is_term};
+ghost use Rattle.rb_raftlog.specs.Laws.{AreMatching, AreOfLog};
+ghost use Rattle.rb_raftlog.specs.Log.{LogValue, entry_at, term_at, is_term};
 ghost use Rattle.rb_message.specs.declared.role.Role.TheVariants.{Leader, Candidate};
 ghost use Rattle.rb_message.specs.declared.message.Message.{Message};
-ghost use Rattle.rb_message.specs.declared.kind.MessageKind.TheVariants.{Vote, PreVote};
+ghost use Rattle.rb_message.specs.Appends.{PlainAppend};
+ghost use Rattle.rb_message.specs.declared.kind.MessageKind.TheVariants.{Append, Vote, PreVote};
 ghost use Rattle.rb_step.specs.declared.options.Options.{Options};
 ghost use Rattle.rb_step.specs.Node.{PlainNode, Turn, started};
 ghost use Rattle.rb_step.specs.Campaigns.{campaigned, stood_up};
@@ -15,7 +17,7 @@ ghost use Rattle.rb_raftlog.specs.declared.entry.Body.TheVariants.{Change};
 ghost use Rattle.rb_raftlog.specs.declared.entry.Entry.{Entry};
 ghost use Rattle.rb_raftlog.specs.declared.entry.Transition.{Transition};
 ghost use Rattle.rb_raftlog.specs.declared.entry.Word.{Word};
-ghost use Rattle.rb_tracker.specs.Commits.{is_held};
+ghost use Rattle.rb_tracker.specs.Commits.{match_of, is_held};
 ghost use Rattle.rb_tracker.specs.Active.{quorum_active};
 ghost use Rattle.rb_tracker.specs.Changes.{changed};
 ghost use Rattle.rb_tracker.specs.Configs.{is_voter};
@@ -23,15 +25,16 @@ ghost use Rattle.rb_tracker.specs.declared.config.Config.{Config};
 ghost use Rattle.rb_step.specs.Changing.{applied_all, change_applied};
 ghost use Rattle.rb_step.specs.Proposing.{proposed};
 ghost use Rattle.rb_step.specs.Step.{stepped};
+ghost use Rattle.rb_step.specs.Transferring.{transferred};
 ghost use Rattle.rb_node.specs.Calls.{IsCompactedTo};
 ghost use Rattle.rb_node.specs.Readying.{applying, handed, has_ready};
 ghost use Rattle.rb_node.specs.Ticking.{counted};
 ghost use Rattle.rb_node_laws.specs.Calling.{Call, Propose, Tick, compacted_to, after, run};
-ghost use Rattle.rb_node_laws.specs.Choices.{MayCampaign, PutsChange, StepsDown, payloads, HasNothing};
+ghost use Rattle.rb_node_laws.specs.Choices.{MayCampaign, MayTakeLead, PutsChange, StepsDown, payloads, HasNothing};
 ghost use Rattle.rb_node_laws.specs.Elections.{VotesOnly, LeadsOnly, Granted, Elected, own_turn};
-ghost use Rattle.rb_node_laws.specs.Matches.{RestsOn};
+ghost use Rattle.rb_node_laws.specs.Matches.{RestsOn, Told, IsOfOthers, HasOwnAnswers, CountsDurable, IsHeldBetween};
 ghost use Rattle.rb_node_laws.specs.Sound.{IsSound, IsGrown, HasSameVote, HasSoundViews, HasViewsOfMembers};
-ghost use Rattle.rb_node_laws.specs.Words.{IsYes, IsPromised, HasPromises, AreTrueBetween};
+ghost use Rattle.rb_node_laws.specs.Words.{IsYes, IsPromised, HasPromises, IsAnswered, AreTrueBetween};
 
 /// A node that starts is sound, and after each call and any list of calls it still is: base, applied, durable, commit and last stay
 /// in order.
@@ -107,10 +110,11 @@ pub fn leaders_commit_own_terms()
 {}
 
 /// Where a leader's commit moves by a message, in the term that it leads, and where a node's moves by a change that takes effect, a
-/// quorum of the configuration holds what it moves to, by the views after it.
+/// quorum of the configuration holds what it moves to, by the views after it. Over any calls there is a moment at which a quorum held it.
 pub fn leaders_commit_what_a_quorum_holds()
     ensures step { (t : Turn) (m : Message) → IsSound t.node → t.node.role ≡ Leader → (stepped t m).node.term ≡ t.node.term → ((stepped t m).node.commit ≡ t.node.commit) ⊎ (is_held (stepped t m).node.tracker (stepped t m).node.commit ≡ true) }
     ensures change { (t : Turn) (transition : Transition) (words : List Word) → ((change_applied t transition words).node.commit ≡ t.node.commit) ⊎ (is_held (change_applied t transition words).node.tracker (change_applied t transition words).node.commit ≡ true) }
+    ensures run { (cs : List Call) (t : Turn) → IsSound t.node → t.node.role ≡ Leader → (run cs t).node.role ≡ Leader → (run cs t).node.term ≡ t.node.term → ((run cs t).node.commit ≡ t.node.commit) ⊎ IsHeldBetween t.node (run cs t).node }
 {}
 
 /// A leader's views stay sound: what a member is sent next is past what it is known to hold, and no more is in flight to it than may
@@ -144,11 +148,32 @@ pub fn messages_are_true()
     ensures waiting { (cs : List Call) (t : Turn) → IsSound t.node → AreTrueBetween t.node (run cs t).node t.node.waiting (run cs t).node.waiting }
 {}
 
+/// Who accepts an append holds it: at each place up to the index that it answers, unless it is compacted, is an entry of the term that was
+/// sent; and it answers no index past what was sent and what is committed. Where the node's log matches the one that the append is of, it goes on to match it; so what is held there is the very entry.
+pub fn answers_tell_what_is_held()
+    ensures held { (t : Turn) (m : Message) (append : PlainAppend) → IsSound t.node → m.kind ≡ Append append → ((stepped t m).node.waiting ≡ t.node.waiting) ⊎ IsAnswered t.node.waiting m.from append (stepped t m).node }
+    ensures matching { (t : Turn) (m : Message) (append : PlainAppend) (leader : LogValue) → IsSound t.node → m.kind ≡ Append append → AreMatching leader t.node.log → term_at leader append.prev ≡ Ok append.prev_term → AreOfLog leader append.prev append.entries → AreMatching leader (stepped t m).node.log }
+{}
+
 /// What a leader counts as held by a member rests on that member's answers: a message raises a match only where it is the sender's and its
 /// answer says so, in the leader's term and to no more than the leader's own log; a new leader's own match is what is durable, and it
 /// knows nothing of the others.
 pub fn matches_rest_on_answers()
     ensures { (t : Turn) (m : Message) (id : ℕ) → RestsOn t.node m (stepped t m).node id }
+{}
+
+/// Whatever is called, what a leader counts as held by another member rises by that member's answers alone: one of the calls brought it an
+/// answer to that index or further, in the term that it led, and its own log reached there. What waits in a node is its own.
+pub fn members_are_counted_by_their_answers()
+    ensures started { (id : ℕ) (start : Snapshot) (options : Options) → HasOwnAnswers (started id start options) }
+    ensures own { (cs : List Call) (t : Turn) → IsSound t.node → HasOwnAnswers t.node → HasOwnAnswers (run cs t).node }
+    ensures rises { (cs : List Call) (t : Turn) (id : ℕ) → IsSound t.node → HasSoundViews t.node → HasViewsOfMembers t.node → HasOwnAnswers t.node → (id ≡ t.node.id → ⊥) → (match_of (run cs t).node.tracker.views id ≤ match_of t.node.tracker.views id) ⊎ Told cs t id (match_of (run cs t).node.tracker.views id) }
+{}
+
+/// A leader counts of its own log what is durable and no more, as long as nobody else answers appends in its name.
+pub fn leaders_count_what_they_saved()
+    ensures started { (id : ℕ) (start : Snapshot) (options : Options) → CountsDurable (started id start options) }
+    ensures run { (cs : List Call) (t : Turn) → IsSound t.node → HasSoundViews t.node → HasViewsOfMembers t.node → HasOwnAnswers t.node → All (IsOfOthers t.node.id) cs → CountsDurable t.node → CountsDurable (run cs t).node }
 {}
 
 /// Nobody campaigns but a voter that doesn't lead, has saved what it restored, and has applied each change that it knows to be committed.
@@ -191,6 +216,11 @@ pub fn candidates_disturb_nobody()
 /// Where leaders step down on removal, one that a change leaves without a vote leads no more.
 pub fn removed_leaders_step_down()
     ensures { (t : Turn) (transition : Transition) (words : List Word) (c : Config) → changed t.node.tracker.config transition words ≡ Ok c → t.node.role ≡ Leader → t.node.options.step_down_on_removal ≡ true → is_voter c t.node.id ≡ false → StepsDown t.node (change_applied t transition words).node }
+{}
+
+/// A leader hands the lead to another voter alone.
+pub fn leads_go_to_voters()
+    ensures { (t : Turn) (m : Message) (target : ℕ) → ((transferred t m target).node ≡ t.node) ⊎ MayTakeLead t.node target }
 {}
 
 /// A leader that hands the lead over takes no proposal.

@@ -1,5 +1,6 @@
 use Rattle.std.proofs.Common.{refl}
-use Rattle.rb_node_laws.proofs.MemberStepLaws.{no_follower, called_stays, run_stays}
+use Rattle.rb_node_laws.proofs.MemberLeadLaws.{no_follower}
+use Rattle.rb_node_laws.proofs.MemberStepLaws.{called_stays, run_stays}
 use Rattle.rb_node_laws.proofs.laws.leaders_view_the_members.Goals as goal
 
 pub returns-clause-started : goal.returns-clause-started
