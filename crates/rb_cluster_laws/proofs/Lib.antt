@@ -1,0 +1,10 @@
+pub mod Holding
+pub mod LeaderHolds
+pub mod StepHolds
+pub mod CallHolds
+pub mod NetworkLaws
+pub mod SafetyLaws
+pub mod TieLaws
+pub mod DirectiveLaws
+pub mod EffectLaws
+pub mod ClusterLaws

@@ -1,0 +1,4 @@
+pub mod Network
+pub mod Honesty
+pub mod Votes
+pub mod Clusters

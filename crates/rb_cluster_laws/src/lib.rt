@@ -1,0 +1,11 @@
+//! Laws of a cluster of Raft nodes, in Raft's own words, over the definitions of a node's calls.
+//!
+//! The laws of `rb_node_laws` are about one node, whatever is done with it. These are about nodes that hear of each other only by
+//! messages, which may be lost, come late, more than once and in any order. None of them is run.
+#![tactic(auto)]
+
+mod laws;
+
+pub use laws::{
+    clusters_elect_one_leader, elections_are_safe, leaders_are_chosen, votes_are_cast_once,
+};
