@@ -1,0 +1,10 @@
+//! JSON text, put together of pieces.
+//!
+//! [`add_pieces`] puts pieces behind a text that is in memory: bytes as they are, numbers, and texts as they stand between quotes. What
+//! stands between quotes is a text of JSON, whatever its bytes are.
+#![tactic(auto)]
+
+mod escape;
+mod piece;
+
+pub use piece::{Piece, add_pieces};
