@@ -15,6 +15,10 @@ text_below key inner d = option_and_then (text_at inner) (get key d)
 abbrev pub number_at : List ℕ → Data → Option ℕ
 number_at key d = option_and_then (λ v. option_and_then as_u64 (as_number v)) (get key d)
 
+-- the number at a key of the object at another
+abbrev pub number_below : List ℕ → List ℕ → Data → Option ℕ
+number_below key inner d = option_and_then (number_at inner) (get key d)
+
 -- a position, where there are both of its numbers
 abbrev pub position_of_both : Option ℕ → Option ℕ → Option Position
 position_of_both None character = None

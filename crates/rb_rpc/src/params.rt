@@ -2,7 +2,7 @@
 
 ghost use Rattle.std.specs.Prelude.{◌≡◌, option_map};
 ghost use Rattle.serde_json.specs.View.{view};
-ghost use Rattle.rb_rpc.specs.Params.{number_at, position_at, range_at, text_at, text_below};
+ghost use Rattle.rb_rpc.specs.Params.{number_at, number_below, position_at, range_at, text_at, text_below};
 
 use rb_document::{Position, Range};
 use serde_json::Value;
@@ -19,6 +19,13 @@ pub fn text_below<'m>(params: &'m Value, key: &str, inner: &str) -> Option<&'m s
     ensures { option_map (λ text. text.now) result ≡ text_below key.now inner.now (view params.now) }
 {
     text_at(params.get(key)?, inner)
+}
+
+/// The natural number at a key of the object at another.
+pub fn number_below(params: &Value, key: &str, inner: &str) -> Option<u64>
+    ensures { result ≡ number_below key.now inner.now (view params.now) }
+{
+    number_at(params.get(key)?, inner)
 }
 
 /// The position at a key: an object with `line` and `character`.
