@@ -2,3 +2,4 @@ pub mod SentLaws
 pub mod InertLaws
 pub mod JsonLaws
 pub mod SizeLaws
+pub mod KeptLaws

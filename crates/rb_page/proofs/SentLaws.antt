@@ -29,7 +29,7 @@ pub sent_along : {old new : Option (List ℕ)} {text rest other : List ℕ} → 
 sent_along {old} {new} {text} e s = subst (λ (l : List ℕ). Sent old new text l) e s
 
 -- a beginning of a piece went out
-piece_front : {old mid : Option (List ℕ)} {text : List ℕ} (new : Option (List ℕ)) (a rest : List ℕ) → Sent old mid text (a ++ rest) → AppendsFront mid new a → AppendsFront old new text
+pub piece_front : {old mid : Option (List ℕ)} {text : List ℕ} (new : Option (List ℕ)) (a rest : List ℕ) → Sent old mid text (a ++ rest) → AppendsFront mid new a → AppendsFront old new text
 piece_front {old} {mid} new a rest s f = record {
   front = s.front ++ f.front;
   rest = f.rest ++ rest;

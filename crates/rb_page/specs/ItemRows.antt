@@ -1,6 +1,7 @@
 -- What a directive did, as rows: those of the items that it can show. What it shows of nodes that stand as they stood has none, since a page
 -- has what changed. (docs/PAGE.md)
 use Rattle.std.specs.Prelude.{ℕ, codes, List, [], ◌∷◌, length, drop}
+use Rattle.std.specs.List.{flat_map}
 use Rattle.rb_level.specs.declared.directive_error.DirectiveError.{DirectiveError}
 use Rattle.rb_message.specs.declared.hard_state.HardState.{HardState}
 use Rattle.rb_raftlog.specs.declared.entry.Entry.{Entry}
@@ -10,7 +11,7 @@ use Rattle.rb_texts.specs.Items.{PlainItem}
 use Rattle.rb_texts.specs.Items as items
 use Rattle.rb_page.specs.EventRows.{event_row}
 use Rattle.rb_page.specs.MessageRows.{message_row, verb_name}
-use Rattle.rb_page.specs.Rows.{PlainCell, number, text, Row, row}
+use Rattle.rb_page.specs.Rows.{PlainCell, number, text, Row, row, next_text}
 
 abbrev pub hard_row : HardState → Row
 hard_row h = row (codes "hard") (number h.term ∷ number h.vote ∷ number h.commit ∷ [])
@@ -42,3 +43,7 @@ item_rows (items.config c) = []
 item_rows (items.progress id view) = []
 item_rows (items.event e) = event_row e ∷ []
 item_rows (items.error e) = error_row e ∷ []
+
+-- the text of an item's rows, which follow another
+unfoldable pub item_text : PlainItem → List ℕ
+item_text item = flat_map next_text (item_rows item)

@@ -8,3 +8,4 @@ pub mod Sizes
 pub mod MessageRows
 pub mod EventRows
 pub mod ItemRows
+pub mod Kept

@@ -13,7 +13,7 @@ use rb_raftlog::Snapshot;
 use rb_script::{Sink, WriteFault};
 
 /// 1 for yes, 0 for no.
-pub(crate) fn flag(yes: bool) -> u64
+pub fn flag(yes: bool) -> u64
     ensures { result ≡ flag yes }
 {
     if yes { 1 } else { 0 }

@@ -31,7 +31,8 @@ pub(crate) fn type_name(message_type: MessageType) -> &'static [u8]
     }
 }
 
-pub(crate) fn role_name(role: Role) -> &'static [u8]
+/// What a role is called.
+pub fn role_name(role: Role) -> &'static [u8]
     ensures { result.now ≡ role_text role }
 {
     match role {
