@@ -1,6 +1,8 @@
 //! What a check shows, and no script leads to: lines of outputs that are empty or end in blanks, and a time that is known.
 
-use rb_check::{Colors, Failure, Outcome, Place, Table, Totals, put_directive, put_mismatch, put_totals};
+use rb_check::{
+    Colors, Failure, Outcome, Place, Table, Totals, put_directive, put_mismatch, put_totals,
+};
 use rb_script::{Block, Lines, ScriptFault, Through};
 use std::alloc::Global;
 use std::process::Abort;
