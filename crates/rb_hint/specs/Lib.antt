@@ -1,0 +1,4 @@
+pub mod Distance
+pub mod Choices
+pub mod Nearest
+pub mod Suggestions

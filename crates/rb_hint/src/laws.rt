@@ -1,0 +1,25 @@
+//! Laws of suggestions.
+
+ghost use Rattle.std.specs.Prelude.{◌≡◌, ◌≤◌, ◌<◌, true, is_some, length, List, Some};
+ghost use Rattle.std.specs.List.{list_all, Contains};
+ghost use Rattle.rb_level.specs.Levels.{level_of};
+ghost use Rattle.rb_directive.specs.Forms.{flag_of, transition_of};
+ghost use Rattle.rb_directive.specs.MessageTypes.{type_of};
+ghost use Rattle.rb_hint.specs.Choices.{levels, flags, transitions, types};
+ghost use Rattle.rb_hint.specs.Distance.{Word, distance};
+ghost use Rattle.rb_hint.specs.Nearest.{nearest};
+
+/// Each value that is suggested is one that a directive takes.
+pub fn choices_are_taken()
+    ensures levels { list_all (λ (w : Word). is_some (level_of w)) levels ≡ true }
+    ensures flags { list_all (λ (w : Word). is_some (flag_of w)) flags ≡ true }
+    ensures transitions { list_all (λ (w : Word). is_some (transition_of w)) transitions ≡ true }
+    ensures types { list_all (λ (w : Word). is_some (type_of w)) types ≡ true }
+{}
+
+/// The nearest of some words is one of them, and at most two letters off, but not all of its own.
+pub fn suggestions_are_near()
+    ensures among { (word w : Word) (cs : List Word) → nearest word cs ≡ Some w → Contains cs w }
+    ensures near { (word w : Word) (cs : List Word) → nearest word cs ≡ Some w → distance word w ≤ 2 }
+    ensures kept { (word w : Word) (cs : List Word) → nearest word cs ≡ Some w → 0 < length w → distance word w < length w }
+{}
