@@ -56,7 +56,9 @@ def unread(said: str, changed: set[str]) -> str:
 def goals_of(said: str, crate: str, function: str) -> list[str]:
     """The lines that show a goal of the function's own that isn't proved, those of lemmas that no function owns among them."""
     own, notes = [], []
-    folder = f"proofs/{function.replace('::', '/')}/"
+    *modules, name = function.split("::")
+    # The folder of a function that calls itself begins with a `+`.
+    folders = tuple("/".join(["proofs", *modules, it, ""]) for it in (name, f"+{name}"))
     for line in said.splitlines():
         if line.startswith("fn "):
             if line.startswith(f"fn {crate}::{function}: "):
@@ -71,7 +73,7 @@ def goals_of(said: str, crate: str, function: str) -> list[str]:
         elif "error" in found["text"] and not NAMES.search(found["text"]):
             file = found["file"]
             is_lemma = file.startswith("proofs/") and not re.search(r"/(Answers|Invariants|Proof)\.antt$", file)
-            if file.startswith(folder) or is_lemma:
+            if file.startswith(folders) or is_lemma:
                 own.append(line)
     return own
 
