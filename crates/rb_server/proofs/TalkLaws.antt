@@ -8,15 +8,12 @@ use Rattle.rb_rpc.specs.Messages.{HasNoMessage, NeverHasMessage}
 use Rattle.rb_rpc.specs.Reading.{LosesMessage}
 use Rattle.rb_rpc.specs.Said.{Said}
 use Rattle.rb_server.specs.declared.fault.ServeFault.{ServeFault}
-use Rattle.rb_server.specs.declared.phase.Phase.{Phase}
-use Rattle.rb_server.specs.declared.phase.Phase.TheVariants.{Fresh}
 use Rattle.rb_server.specs.declared.phase.Status.{Status}
 use Rattle.rb_server.specs.declared.phase.Status.TheVariants.{Closed, CutOff, NoMessage}
-use Rattle.rb_server.specs.declared.phase.Turned.{Turned}
-use Rattle.rb_server.specs.declared.phase.Turned.TheVariants.{On, Over}
-use Rattle.rb_server.specs.Replies.{sent}
-use Rattle.rb_server.specs.Talk.{Hears, answered, goes, Begins, stands, goes_on, exits, closes, cuts_off, strays, nothing, answer, waits, comes}
-use Rattle.rb_server.specs.Serves.{Responds, StartsAnswer, TurnsOut, Starts, TurnBreaks, Served, StartsOut, BreaksOff}
+use Rattle.rb_server.specs.Notices.{Diagnose}
+use Rattle.rb_server.specs.Replies.{PlainServer, Turned, On, Over, fresh}
+use Rattle.rb_server.specs.Talk.{Hears, told, goes, Begins, stands, goes_on, exits, closes, cuts_off, strays, nothing, answer, waits, comes}
+use Rattle.rb_server.specs.Serves.{Responds, StartsAnswer, TurnsOut, TurnBreaks, Served, BreaksOff, turned_of}
 
 -- ---- writes
 
@@ -43,129 +40,130 @@ none_err r held text = front_err r held held text (front_none held text)
 
 -- ---- a message
 
-pub responds_by : (phase : Phase) (body : List ℕ) (heard : Option Said) (old new : Option (List ℕ)) (r : Result Turned ServeFault) → Hears body heard
-    → IfOk r (λ turned. turned ≡ goes phase heard) → OnOk r (Appends old new (sent (answered phase heard))) → IfOk r (λ turned. Responds phase body turned old new)
-responds_by phase body heard old new (Ok turned) hears is wrote = record { heard = heard; hears = hears; turned_is = is; wrote = wrote }
-responds_by phase body heard old new (Err fault) hears is wrote = tt
+pub responds_by : (diagnose : Diagnose) (server then : PlainServer) (body : List ℕ) (heard : Option Said) (old new : Option (List ℕ)) (r : Result (Option Status) ServeFault) → Hears body heard
+    → IfOk r (λ over. turned_of over then ≡ goes server heard) → OnOk r (Appends old new (told diagnose server heard)) → IfOk r (λ over. Responds diagnose server body (turned_of over then) old new)
+responds_by diagnose server then body heard old new (Ok over) hears is wrote = record { heard = heard; hears = hears; turned_is = is; wrote = wrote }
+responds_by diagnose server then body heard old new (Err fault) hears is wrote = tt
 
-pub fails_by : (phase : Phase) (body : List ℕ) (heard : Option Said) (old new : Option (List ℕ)) (r : Result Turned ServeFault) → Hears body heard
-    → OnErr r (AppendsFront old new (sent (answered phase heard))) → OnErr r (StartsAnswer phase body old new)
-fails_by phase body heard old new (Ok turned) hears wrote = tt
-fails_by phase body heard old new (Err fault) hears wrote = record { text = sent (answered phase heard); may = answer phase body heard hears; wrote = wrote }
+pub fails_by : (diagnose : Diagnose) (server : PlainServer) (body : List ℕ) (heard : Option Said) (old new : Option (List ℕ)) (r : Result (Option Status) ServeFault) → Hears body heard
+    → OnErr r (AppendsFront old new (told diagnose server heard)) → OnErr r (StartsAnswer diagnose server body old new)
+fails_by diagnose server body heard old new (Ok turned) hears wrote = tt
+fails_by diagnose server body heard old new (Err fault) hears wrote = record { text = told diagnose server heard; may = answer server body heard hears; wrote = wrote }
 
-pub says_nothing : (phase : Phase) (body : List ℕ) (held : Option (List ℕ)) → StartsAnswer phase body held held
-says_nothing phase body held = record { text = []; may = nothing phase body; wrote = front_none held [] }
+pub says_nothing : (diagnose : Diagnose) (server : PlainServer) (body : List ℕ) (held : Option (List ℕ)) → StartsAnswer diagnose server body held held
+says_nothing diagnose server body held = record { text = []; may = nothing server body; wrote = front_none held [] }
 
 -- ---- a turn
 
-takes_by : (phase : Phase) (turned : Turned) (before left old new : Option (List ℕ)) (body : List ℕ) → LosesMessage before left body → Responds phase body turned old new
-    → TurnsOut phase turned before left old new
-takes_by phase (On next) None left old new body loses r = tt
-takes_by phase (On next) (Some all) None old new body loses r = absurd loses
-takes_by phase (On next) (Some all) (Some rest) old new body loses r =
+takes_by : (diagnose : Diagnose) (server : PlainServer) (turned : Turned) (before left old new : Option (List ℕ)) (body : List ℕ) → LosesMessage before left body → Responds diagnose server body turned old new
+    → TurnsOut diagnose server turned before left old new
+takes_by diagnose server (On next) None left old new body loses r = tt
+takes_by diagnose server (On next) (Some all) None old new body loses r = absurd loses
+takes_by diagnose server (On next) (Some all) (Some rest) old new body loses r =
     record { body = body; rest = rest; heard = r.heard; left_is = refl; message = loses; hears = r.hears; next_is = sym r.turned_is; wrote = r.wrote }
-takes_by phase (Over status) None left old new body loses r = tt
-takes_by phase (Over status) (Some all) None old new body loses r = absurd loses
-takes_by phase (Over status) (Some all) (Some rest) old new body loses r = record {
-  text = sent (answered phase r.heard);
-  ends = exits phase status all body rest r.heard loses r.hears (sym r.turned_is);
+takes_by diagnose server (Over status) None left old new body loses r = tt
+takes_by diagnose server (Over status) (Some all) None old new body loses r = absurd loses
+takes_by diagnose server (Over status) (Some all) (Some rest) old new body loses r = record {
+  text = told diagnose server r.heard;
+  ends = exits server status all body rest r.heard loses r.hears (sym r.turned_is);
   wrote = r.wrote;
 }
 
 -- a message came
-pub turns_by : (phase : Phase) (r : Result Turned ServeFault) (before left old new : Option (List ℕ)) (body seen : List ℕ) → seen ≡ body → LosesMessage before left body
-    → IfOk r (λ turned. Responds phase seen turned old new) → IfOk r (λ turned. TurnsOut phase turned before left old new)
-turns_by phase (Ok turned) before left old new body seen is loses r = takes_by phase turned before left old new body loses (subst (λ (b : List ℕ). Responds phase b turned old new) is r)
-turns_by phase (Err fault) before left old new body seen is loses r = tt
+pub turns_by : (diagnose : Diagnose) (server then : PlainServer) (r : Result (Option Status) ServeFault) (before left old new : Option (List ℕ)) (body seen : List ℕ) → seen ≡ body → LosesMessage before left body
+    → IfOk r (λ over. Responds diagnose server seen (turned_of over then) old new) → IfOk r (λ over. TurnsOut diagnose server (turned_of over then) before left old new)
+turns_by diagnose server then (Ok over) before left old new body seen is loses r =
+    takes_by diagnose server (turned_of over then) before left old new body loses (subst (λ (b : List ℕ). Responds diagnose server b (turned_of over then) old new) is r)
+turns_by diagnose server then (Err fault) before left old new body seen is loses r = tt
 
-starts_by : (phase : Phase) (before left old new : Option (List ℕ)) (body : List ℕ) → LosesMessage before left body → StartsAnswer phase body old new → TurnBreaks phase before old new
-starts_by phase None left old new body loses s = tt
-starts_by phase (Some all) None old new body loses s = absurd loses
-starts_by phase (Some all) (Some rest) old new body loses s = record { text = s.text; may = comes phase all body rest s.text loses s.may; wrote = s.wrote }
+starts_by : (diagnose : Diagnose) (server : PlainServer) (before left old new : Option (List ℕ)) (body : List ℕ) → LosesMessage before left body → StartsAnswer diagnose server body old new → TurnBreaks diagnose server before old new
+starts_by diagnose server None left old new body loses s = tt
+starts_by diagnose server (Some all) None old new body loses s = absurd loses
+starts_by diagnose server (Some all) (Some rest) old new body loses s = record { text = s.text; may = comes server all body rest s.text loses s.may; wrote = s.wrote }
 
-pub breaks_by : (phase : Phase) (r : Result Turned ServeFault) (before left old new : Option (List ℕ)) (body seen : List ℕ) → seen ≡ body → LosesMessage before left body
-    → OnErr r (StartsAnswer phase seen old new) → OnErr r (TurnBreaks phase before old new)
-breaks_by phase (Ok turned) before left old new body seen is loses s = tt
-breaks_by phase (Err fault) before left old new body seen is loses s = starts_by phase before left old new body loses (subst (λ (b : List ℕ). StartsAnswer phase b old new) is s)
+pub breaks_by : (diagnose : Diagnose) (server : PlainServer) (r : Result (Option Status) ServeFault) (before left old new : Option (List ℕ)) (body seen : List ℕ) → seen ≡ body → LosesMessage before left body
+    → OnErr r (StartsAnswer diagnose server seen old new) → OnErr r (TurnBreaks diagnose server before old new)
+breaks_by diagnose server (Ok turned) before left old new body seen is loses s = tt
+breaks_by diagnose server (Err fault) before left old new body seen is loses s = starts_by diagnose server before left old new body loses (subst (λ (b : List ℕ). StartsAnswer diagnose server b old new) is s)
 
 -- none came, since a call failed
-breaks_before : (phase : Phase) (before held : Option (List ℕ)) → TurnBreaks phase before held held
-breaks_before phase None held = tt
-breaks_before phase (Some all) held = record { text = []; may = waits phase all; wrote = front_none held [] }
+breaks_before : (diagnose : Diagnose) (server : PlainServer) (before held : Option (List ℕ)) → TurnBreaks diagnose server before held held
+breaks_before diagnose server None held = tt
+breaks_before diagnose server (Some all) held = record { text = []; may = waits server all; wrote = front_none held [] }
 
-pub breaks_err : {X E : Type 0} (r : Result X E) (phase : Phase) (before held : Option (List ℕ)) → OnErr r (TurnBreaks phase before held held)
-breaks_err (Ok x) phase before held = tt
-breaks_err (Err e) phase before held = breaks_before phase before held
+pub breaks_err : (diagnose : Diagnose) {X E : Type 0} (r : Result X E) (server : PlainServer) (before held : Option (List ℕ)) → OnErr r (TurnBreaks diagnose server before held held)
+breaks_err diagnose (Ok x) server before held = tt
+breaks_err diagnose (Err e) server before held = breaks_before diagnose server before held
 
 -- none is left
-pub closed_by : (phase : Phase) (before left held : Option (List ℕ)) → IsAtEnd before → TurnsOut phase (Over Closed) before left held held
-closed_by phase None left held at_end = tt
-closed_by phase (Some all) left held at_end = record { text = []; ends = closes phase all at_end; wrote = Appends-nil held }
+pub closed_by : (diagnose : Diagnose) (server : PlainServer) (before left held : Option (List ℕ)) → IsAtEnd before → TurnsOut diagnose server (Over Closed) before left held held
+closed_by diagnose server None left held at_end = tt
+closed_by diagnose server (Some all) left held at_end = record { text = []; ends = closes server all at_end; wrote = Appends-nil held }
 
-pub cut_by : (phase : Phase) (before left held : Option (List ℕ)) → IfSome before (λ all. HasNoMessage all × (all ≢ [])) → TurnsOut phase (Over CutOff) before left held held
-cut_by phase None left held cut = tt
-cut_by phase (Some all) left held cut = record { text = []; ends = cuts_off phase all cut.0 cut.1; wrote = Appends-nil held }
+pub cut_by : (diagnose : Diagnose) (server : PlainServer) (before left held : Option (List ℕ)) → IfSome before (λ all. HasNoMessage all × (all ≢ [])) → TurnsOut diagnose server (Over CutOff) before left held held
+cut_by diagnose server None left held cut = tt
+cut_by diagnose server (Some all) left held cut = record { text = []; ends = cuts_off server all cut.0 cut.1; wrote = Appends-nil held }
 
-pub stray_by : (phase : Phase) (before left held : Option (List ℕ)) → IfSome before NeverHasMessage → TurnsOut phase (Over NoMessage) before left held held
-stray_by phase None left held never = tt
-stray_by phase (Some all) left held never = record { text = []; ends = strays phase all never; wrote = Appends-nil held }
+pub stray_by : (diagnose : Diagnose) (server : PlainServer) (before left held : Option (List ℕ)) → IfSome before NeverHasMessage → TurnsOut diagnose server (Over NoMessage) before left held held
+stray_by diagnose server None left held never = tt
+stray_by diagnose server (Some all) left held never = record { text = []; ends = strays server all never; wrote = Appends-nil held }
 
 -- ---- all turns
 
 -- what was answered so far begins a conversation over all, whatever follows
-pub record SoFar (all : List ℕ) (phase : Phase) (left old new : Option (List ℕ)) : Type 0 where
+pub record SoFar (diagnose : Diagnose) (all : List ℕ) (server : PlainServer) (left old new : Option (List ℕ)) : Type 0 where
   pub text : List ℕ
   pub rest : List ℕ
   pub left_is : left ≡ Some rest
   pub wrote : Appends old new text
-  pub begins : (last : Phase) (end more : List ℕ) → Begins phase rest last end more → Begins Fresh all last end (text ++ more)
+  pub begins : (last : PlainServer) (end more : List ℕ) → Begins diagnose server rest last end more → Begins diagnose fresh all last end (text ++ more)
 
-begun : (all : List ℕ) (phase : Phase) (left old new : Option (List ℕ)) (far : SoFar all phase left old new) → Begins Fresh all phase far.rest far.text
-begun all phase left old new far = subst (λ (l : List ℕ). Begins Fresh all phase far.rest l) (append-nil far.text) (far.begins phase far.rest [] (stands phase far.rest))
+begun : (diagnose : Diagnose) (all : List ℕ) (server : PlainServer) (left old new : Option (List ℕ)) (far : SoFar diagnose all server left old new) → Begins diagnose fresh all server far.rest far.text
+begun diagnose all server left old new far = subst (λ (l : List ℕ). Begins diagnose fresh all server far.rest l) (append-nil far.text) (far.begins server far.rest [] (stands server far.rest))
 
-abbrev pub Far : Option (List ℕ) → Phase → Option (List ℕ) → Option (List ℕ) → Option (List ℕ) → Type 0
-Far None phase left old new = ⊤
-Far (Some all) phase left old new = SoFar all phase left old new
+abbrev pub Far : Diagnose → Option (List ℕ) → PlainServer → Option (List ℕ) → Option (List ℕ) → Option (List ℕ) → Type 0
+Far diagnose None server left old new = ⊤
+Far diagnose (Some all) server left old new = SoFar diagnose all server left old new
 
-pub far_none : (first left held : Option (List ℕ)) → left ≡ first → Far first Fresh left held held
-far_none None left held is = tt
-far_none (Some all) left held is = record { text = []; rest = all; left_is = is; wrote = Appends-nil held; begins = λ last end more b. b }
+pub far_none : (diagnose : Diagnose) (first left held : Option (List ℕ)) → left ≡ first → Far diagnose first fresh left held held
+far_none diagnose None left held is = tt
+far_none diagnose (Some all) left held is = record { text = []; rest = all; left_is = is; wrote = Appends-nil held; begins = λ last end more b. b }
 
-pub far_more : (first left after old mid new : Option (List ℕ)) (phase next : Phase) → Far first phase left old mid → TurnsOut phase (On next) left after mid new → Far first next after old new
-far_more None left after old mid new phase next far turned = tt
-far_more (Some all) left after old mid new phase next far turned =
-    let t = subst (λ (l : Option (List ℕ)). TurnsOut phase (On next) l after mid new) far.left_is turned in
-    let piece = sent (answered phase t.heard) in record {
+pub far_more : (diagnose : Diagnose) (first left after old mid new : Option (List ℕ)) (server next : PlainServer) → Far diagnose first server left old mid → TurnsOut diagnose server (On next) left after mid new → Far diagnose first next after old new
+far_more diagnose None left after old mid new server next far turned = tt
+far_more diagnose (Some all) left after old mid new server next far turned =
+    let t = subst (λ (l : Option (List ℕ)). TurnsOut diagnose server (On next) l after mid new) far.left_is turned in
+    let piece = told diagnose server t.heard in record {
       text = far.text ++ piece;
       rest = t.rest;
       left_is = t.left_is;
       wrote = Appends-trans old mid new far.text piece far.wrote t.wrote;
-      begins = λ last end more b. subst (λ (l : List ℕ). Begins Fresh all last end l) (sym (append_assoc far.text piece more))
-          (far.begins last end (piece ++ more) (goes_on phase next last far.rest t.body t.rest end more t.heard t.message t.hears t.next_is b));
+      begins = λ last end more b. subst (λ (l : List ℕ). Begins diagnose fresh all last end l) (sym (append_assoc far.text piece more))
+          (far.begins last end (piece ++ more) (goes_on server next last far.rest t.body t.rest end more t.heard t.message t.hears t.next_is b));
     }
 
-pub far_over : (first left after old mid new : Option (List ℕ)) (phase : Phase) (status : Status) → Far first phase left old mid → TurnsOut phase (Over status) left after mid new → Served first status old new
-far_over None left after old mid new phase status far turned = tt
-far_over (Some all) left after old mid new phase status far turned =
-    let e = subst (λ (l : Option (List ℕ)). TurnsOut phase (Over status) l after mid new) far.left_is turned in record {
+pub far_over : (diagnose : Diagnose) (first left after old mid new : Option (List ℕ)) (server : PlainServer) (status : Status) → Far diagnose first server left old mid → TurnsOut diagnose server (Over status) left after mid new → Served diagnose first status old new
+far_over diagnose None left after old mid new server status far turned = tt
+far_over diagnose (Some all) left after old mid new server status far turned =
+    let e = subst (λ (l : Option (List ℕ)). TurnsOut diagnose server (Over status) l after mid new) far.left_is turned in record {
       text = far.text ++ e.text;
-      talks = record { last = phase; left = far.rest; answers = far.text; ending = e.text; begins = begun all phase left old mid far; ends = e.ends; text_is = refl };
+      talks = record { last = server; left = far.rest; answers = far.text; ending = e.text; begins = begun diagnose all server left old mid far; ends = e.ends; text_is = refl };
       wrote = Appends-trans old mid new far.text e.text far.wrote e.wrote;
     }
 
-pub far_broken : (first left old mid new : Option (List ℕ)) (phase : Phase) → Far first phase left old mid → TurnBreaks phase left mid new → BreaksOff first old new
-far_broken None left old mid new phase far broken = tt
-far_broken (Some all) left old mid new phase far broken =
-    let s = subst (λ (l : Option (List ℕ)). TurnBreaks phase l mid new) far.left_is broken in record {
-      last = phase;
+pub far_broken : (diagnose : Diagnose) (first left old mid new : Option (List ℕ)) (server : PlainServer) → Far diagnose first server left old mid → TurnBreaks diagnose server left mid new → BreaksOff diagnose first old new
+far_broken diagnose None left old mid new server far broken = tt
+far_broken diagnose (Some all) left old mid new server far broken =
+    let s = subst (λ (l : Option (List ℕ)). TurnBreaks diagnose server l mid new) far.left_is broken in record {
+      last = server;
       left = far.rest;
       answers = far.text;
       next = s.text;
-      begins = begun all phase left old mid far;
+      begins = begun diagnose all server left old mid far;
       may = s.may;
       wrote = then_front old mid new far.text s.text far.wrote s.wrote;
     }
 
 -- all calls were made
-pub far_stopped : (first left old mid : Option (List ℕ)) (phase : Phase) → Far first phase left old mid → BreaksOff first old mid
-far_stopped first left old mid phase far = far_broken first left old mid mid phase far (breaks_before phase left mid)
+pub far_stopped : (diagnose : Diagnose) (first left old mid : Option (List ℕ)) (server : PlainServer) → Far diagnose first server left old mid → BreaksOff diagnose first old mid
+far_stopped diagnose first left old mid server far = far_broken diagnose first left old mid mid server far (breaks_before diagnose server left mid)

@@ -1,7 +1,7 @@
 -- What a client offers at `initialize`, and what the server can do. (LSP 3.17, "Initialize Request" and "PositionEncodingKind".)
-use Rattle.std.specs.Prelude.{ℕ, Bool, false, ◌||◌, List, Option, Some, None, codes, if◌then◌else◌, is_some, option_and_then}
+use Rattle.std.specs.Prelude.{ℕ, Bool, true, false, ◌||◌, List, Option, Some, None, codes, if◌then◌else◌, is_some, option_and_then}
 use Rattle.std.specs.Str.{bytes_eq}
-use Rattle.serde_json.specs.Data.{Data, string, object, no_members, member}
+use Rattle.serde_json.specs.Data.{Data, boolean, number, string, object, no_members, member, unsigned}
 use Rattle.serde_json.specs.Find.{get, at, as_str, as_object}
 use Rattle.rb_document.specs.declared.position.Encoding.{Encoding}
 use Rattle.rb_document.specs.declared.position.Encoding.TheVariants.{Utf8, Utf16}
@@ -35,8 +35,14 @@ abbrev pub encoding_name : Encoding → List ℕ
 encoding_name Utf8 = codes "utf-8"
 encoding_name Utf16 = codes "utf-16"
 
+-- it is told of documents that are opened and closed, and of changes one by one (2, "TextDocumentSyncKind")
+unfoldable pub synchronizes : Data
+synchronizes = object (member (codes "change") (number (unsigned 2)) (member (codes "openClose") (boolean true) no_members))
+
 -- what the server can do
 unfoldable pub initialized : Encoding → Data
 initialized encoding =
-    object (member (codes "capabilities") (object (member (codes "positionEncoding") (string (encoding_name encoding)) no_members))
+    object
+    (member
+    (codes "capabilities") (object (member (codes "positionEncoding") (string (encoding_name encoding)) (member (codes "textDocumentSync") synchronizes no_members)))
     (member (codes "serverInfo") (object (member (codes "name") (string (codes "raftbench")) no_members)) no_members))

@@ -1,5 +1,8 @@
 pub mod Methods
 pub mod Beginnings
+pub mod Documents
+pub mod Changes
+pub mod Notices
 pub mod Replies
 pub mod Talk
 pub mod Serves

@@ -1,5 +1,5 @@
--- What a server answers, and where it stands after that. (LSP 3.17, "Server lifecycle"; JSON-RPC 2.0, section 5.1. The sentences are
--- this project's.)
+-- What a server answers and publishes, and where it stands after that. (LSP 3.17, "Server lifecycle"; JSON-RPC 2.0, section 5.1. The
+-- sentences are this project's.)
 use Rattle.std.specs.Prelude.{ℕ, List, [], Option, Some, None, codes}
 use Rattle.serde_json.specs.Data.{Data, null}
 use Rattle.serde_json.specs.Written.{compact_text}
@@ -11,13 +11,13 @@ use Rattle.rb_rpc.specs.declared.answer.ErrorCode.TheVariants.{ParseError, Inval
 use Rattle.rb_server.specs.Methods.{method_of}
 use Rattle.rb_server.specs.Beginnings.{chosen_encoding, initialized}
 use Rattle.rb_server.specs.declared.method.Method.{Method}
-use Rattle.rb_server.specs.declared.method.Method.TheVariants.{Initialize, Shutdown, Exit, Unknown}
+use Rattle.rb_server.specs.declared.method.Method.TheVariants.{Initialize, Shutdown, Exit}
 use Rattle.rb_server.specs.declared.phase.Phase.{Phase}
 use Rattle.rb_server.specs.declared.phase.Phase.TheVariants.{Fresh, Running, Stopped}
 use Rattle.rb_server.specs.declared.phase.Status.{Status}
 use Rattle.rb_server.specs.declared.phase.Status.TheVariants.{Done, Exited}
-use Rattle.rb_server.specs.declared.phase.Turned.{Turned}
-use Rattle.rb_server.specs.declared.phase.Turned.TheVariants.{On, Over}
+use Rattle.rb_server.specs.Documents.{PlainDocument}
+use Rattle.rb_server.specs.Notices.{Diagnose, documents_after, notice_of, notice_text}
 
 -- ---- the answer to a request
 
@@ -83,13 +83,45 @@ abbrev pub status_of : Phase → Status
 status_of Stopped = Done
 status_of phase = Exited
 
--- after a notification
-abbrev pub unless_exit : Phase → Method → Turned
-unless_exit phase Exit = Over (status_of phase)
-unless_exit phase method = On phase
+-- a server, as it stands
+pub record PlainServer : Type 0 where
+  pub phase : Phase
+  pub documents : List PlainDocument
 
-abbrev pub turned_by : Phase → Said → Turned
-turned_by phase (request id method params) = On (after phase (method_of method) params)
-turned_by phase (notification method params) = unless_exit phase (method_of method)
-turned_by phase response = On phase
-turned_by phase invalid = On phase
+-- as it begins
+abbrev pub fresh : PlainServer
+fresh = record { phase = Fresh; documents = [] }
+
+-- what a message makes of it: it goes on, or ends
+pub data Turned : Type 0 where
+  On : PlainServer → Turned
+  Over : Status → Turned
+
+abbrev pub with_phase : PlainServer → Phase → PlainServer
+with_phase server phase = record { phase = phase; documents = server.documents }
+
+abbrev pub with_notice : PlainServer → Method → Option Data → PlainServer
+with_notice server method params =
+    record { phase = server.phase; documents = documents_after (notice_of server.phase method params) server.documents }
+
+-- after a notification
+abbrev pub noticed_by : PlainServer → Method → Option Data → Turned
+noticed_by server Exit params = Over (status_of server.phase)
+noticed_by server method params = On (with_notice server method params)
+
+abbrev pub turned_by : PlainServer → Said → Turned
+turned_by server (request id method params) = On (with_phase server (after server.phase (method_of method) params))
+turned_by server (notification method params) = noticed_by server (method_of method) params
+turned_by server response = On server
+turned_by server invalid = On server
+
+-- ---- what goes out
+
+-- of a notification: what it makes of a document is published
+abbrev pub published : Diagnose → PlainServer → Method → Option Data → List ℕ
+published diagnose server Exit params = []
+published diagnose server method params = notice_text diagnose (notice_of server.phase method params) (with_notice server method params).documents
+
+abbrev pub told_of : Diagnose → PlainServer → Said → List ℕ
+told_of diagnose server (notification method params) = published diagnose server (method_of method) params
+told_of diagnose server what = sent (reply server.phase what)

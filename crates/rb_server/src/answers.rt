@@ -1,16 +1,15 @@
-//! What is answered to a message, and where the server stands after it.
+//! What is answered to a request, and where the server stands after it.
 
 ghost use Rattle.std.specs.Prelude.{◌≡◌, false, IfOk, option_map};
 ghost use Rattle.serde_json.specs.View.{view};
 ghost use Rattle.serde_json.specs.Written.{has_float};
-ghost use Rattle.rb_rpc.specs.Said.{said_of};
-ghost use Rattle.rb_server.specs.Replies.{after, answer_to, fresh_answer, initialize_answer, no_json, no_message, reply, running_answer, turned_by};
+ghost use Rattle.rb_server.specs.Replies.{after, answer_to, fresh_answer, initialize_answer, no_json, no_message, running_answer};
 
 use crate::beginning::{chosen_encoding, initialized};
-use crate::method::{Method, method_of};
-use crate::phase::{Phase, Turned, status_of};
+use crate::method::Method;
+use crate::phase::Phase;
 use rb_document::Encoding;
-use rb_rpc::{ErrorCode, Incoming, failure, success};
+use rb_rpc::{ErrorCode, failure, success};
 use serde_json::Value;
 use std::alloc::{AllocError, Global};
 
@@ -69,8 +68,8 @@ fn running_answer(alloc: Global, method: Method, id: &Value) -> Result<Value, Al
     }
 }
 
-// The answer to a request.
-fn answer_to(
+/// The answer to a request.
+pub(crate) fn answer_to(
     alloc: Global,
     phase: Phase,
     method: Method,
@@ -86,29 +85,8 @@ fn answer_to(
     }
 }
 
-/// What is answered to what was heard: to a request one answer, to a notification none.
-pub(crate) fn reply(
-    alloc: Global,
-    phase: Phase,
-    heard: &Incoming<'_>,
-) -> Result<Option<Value>, AllocError>
-    ensures { IfOk result (λ answer. option_map view answer ≡ reply phase (said_of heard.now)) }
-{
-    match *heard {
-        Incoming::Request(id, method, params) => Ok(Some(answer_to(
-            alloc,
-            phase,
-            method_of(method),
-            params,
-            id,
-        )?)),
-        Incoming::Invalid => Ok(Some(no_message(alloc)?)),
-        _ => Ok(None),
-    }
-}
-
-// Where a server stands after a request.
-fn after(phase: Phase, method: Method, params: Option<&Value>) -> Phase
+/// Where a server stands after a request.
+pub(crate) fn after(phase: Phase, method: Method, params: Option<&Value>) -> Phase
     ensures { result ≡ after phase method (option_map (λ v. view v.now) params.entry) }
 {
     match (phase, method) {
@@ -121,29 +99,11 @@ fn after(phase: Phase, method: Method, params: Option<&Value>) -> Phase
     }
 }
 
-/// Where a server stands after what was heard, or how it ends.
-pub(crate) fn turned_by(phase: Phase, heard: &Incoming<'_>) -> Turned
-    ensures { result ≡ turned_by phase (said_of heard.now) }
-{
-    match *heard {
-        Incoming::Request(_, method, params) => {
-            Turned::On(after(phase, method_of(method), params))
-        }
-        Incoming::Notification(method, _) => {
-            if method_of(method) == Method::Exit {
-                Turned::Over(status_of(phase))
-            } else {
-                Turned::On(phase)
-            }
-        }
-        _ => Turned::On(phase),
-    }
-}
-
-// What is answered to JSON that is no message. Its id isn't known.
+/// What is answered to JSON that is no message. Its id isn't known.
 #[tactic(auto, unfolding(crate::specs::Replies::no_message))]
-fn no_message(alloc: Global) -> Result<Value, AllocError>
-    ensures { IfOk result (λ answer. view answer ≡ no_message) }
+pub(crate) fn no_message(alloc: Global) -> Result<Value, AllocError>
+    ensures value { IfOk result (λ answer. view answer ≡ no_message) }
+    ensures plain { IfOk result (λ answer. has_float (view answer) ≡ false) }
 {
     failure(
         alloc,

@@ -2,7 +2,7 @@
 
 ghost use Rattle.std.specs.Prelude.{◌≡◌, false, IfOk, option_map};
 ghost use Rattle.serde_json.specs.View.{view};
-ghost use Rattle.rb_server.specs.Beginnings.{chosen_encoding, encoding_name, initialized, names_bytes, offered, offers_bytes};
+ghost use Rattle.rb_server.specs.Beginnings.{chosen_encoding, encoding_name, initialized, names_bytes, offered, offers_bytes, synchronizes};
 
 use rb_document::Encoding;
 use serde_json::{Value, json};
@@ -62,11 +62,20 @@ fn encoding_name(encoding: Encoding) -> &'static str
     }
 }
 
+// That it is told of documents that are opened and closed, and of changes one by one.
+#[tactic(auto, unfolding(crate::specs::Beginnings::synchronizes))]
+fn synchronizes(alloc: Global) -> Result<Value, AllocError>
+    ensures { IfOk result (λ value. view value ≡ synchronizes) }
+{
+    json!(in alloc; {"openClose": true, "change": 2})
+}
+
 /// What is answered to `initialize`: what the server can do.
 #[tactic(auto, unfolding(crate::specs::Beginnings::initialized))]
 pub(crate) fn initialized(alloc: Global, encoding: Encoding) -> Result<Value, AllocError>
     ensures { IfOk result (λ value. view value ≡ initialized encoding) }
 {
     let name = encoding_name(encoding);
-    json!(in alloc; {"capabilities": {"positionEncoding": name}, "serverInfo": {"name": "raftbench"}})
+    let synchronizes = synchronizes(alloc)?;
+    json!(in alloc; {"capabilities": {"positionEncoding": name, "textDocumentSync": synchronizes}, "serverInfo": {"name": "raftbench"}})
 }

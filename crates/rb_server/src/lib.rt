@@ -1,8 +1,9 @@
 //! A language server's life: an editor's messages come in, each is answered before the next is read, up to the end.
 //!
 //! [`serve`] is a server over any [`Source`] of [`rb_line`] and any [`Sink`] of [`rb_script`]. It begins with `initialize`, does
-//! requests until `shutdown`, and ends with `exit`; a [`Status`] says how it ended. What each message is answered, and where the server
-//! stands after it, depends on the message and on where it stood before.
+//! requests until `shutdown`, and ends with `exit`; a [`Status`] says how it ended. It keeps the texts of the documents that the editor has
+//! open, and publishes the diagnostics of each as it changes. What documents mean, a [`Service`] knows. What each message is answered, what is
+//! published for it, and where the server stands then, depends on the message and on where it stood before.
 //!
 //! [`Source`]: rb_line::Source
 //! [`Sink`]: rb_script::Sink
@@ -10,15 +11,24 @@
 
 mod answers;
 mod beginning;
+mod changes;
+mod documents;
 mod fault;
 mod laws;
 mod limits;
 mod method;
 mod phase;
+mod publication;
+mod server;
+mod service;
 mod serving;
 
 pub use fault::ServeFault;
-pub use laws::{conversations_are_one, notifications_have_no_answer, requests_have_one_answer};
-pub use limits::limits_are;
+pub use laws::{
+    conversations_are_one, notifications_have_no_answer, requests_have_one_answer,
+    texts_are_diagnosed,
+};
+pub use limits::{MAX_DOCUMENTS, limits_are};
 pub use phase::Status;
+pub use service::Service;
 pub use serving::serve;

@@ -1,8 +1,12 @@
-//! Limits of what a server takes in, which definitions of the crates below name.
+//! Limits: how much a server keeps, and what it takes in, which definitions of the crates below name.
 
 ghost use Rattle.std.specs.Prelude.{◌≡◌, ◌^◌};
 ghost use Rattle.rb_rpc.specs.declared.limits.TheConstants.{MAX_FIELDS, MAX_HEAD, MAX_BODY, MAX_CALLS};
 ghost use Rattle.rb_document.specs.declared.limits.TheConstants.{MAX_TEXT};
+ghost use Rattle.rb_server.specs.declared.limits.TheConstants.{MAX_DOCUMENTS};
+
+/// How many documents a server keeps at once. The text of each has up to [`rb_document::MAX_TEXT`] bytes.
+pub const MAX_DOCUMENTS: usize = 1_000;
 
 /// The limits that definitions name are these numbers.
 pub fn limits_are()
@@ -11,4 +15,5 @@ pub fn limits_are()
     ensures body { MAX_BODY ≡ 33554432 }
     ensures calls { MAX_CALLS ≡ 2 ^ 40 }
     ensures text { MAX_TEXT ≡ 67108864 }
+    ensures documents { MAX_DOCUMENTS ≡ 1000 }
 {}

@@ -31,15 +31,6 @@ pub enum Status {
     NoMessage,
 }
 
-/// What one more message comes to.
-#[derive(Clone, Copy, Debug, PartialEq, Eq)]
-pub(crate) enum Turned {
-    /// The server goes on.
-    On(Phase),
-    /// It ends.
-    Over(Status),
-}
-
 /// How a server ends at `exit`.
 pub(crate) fn status_of(phase: Phase) -> Status
     ensures { result ≡ status_of phase }

@@ -1,128 +1,119 @@
 //! A server over a source and a sink.
 
-ghost use Rattle.std.specs.Prelude.{◌≡◌, false, None, Some, IfOk, IfSome, OnErr, OnOk, option_map};
+ghost use Rattle.std.specs.Prelude.{◌≡◌, None, Some, IfOk, OnErr, OnOk};
 ghost use Rattle.std.specs.Io.KnownBytes.{Appends};
 ghost use Rattle.serde_json.specs.View.{view};
-ghost use Rattle.serde_json.specs.Written.{has_float};
 ghost use Rattle.rb_script.specs.Writes.{AppendsFront};
 ghost use Rattle.rb_rpc.specs.Reading.{left_of};
 ghost use Rattle.rb_rpc.specs.Said.{said};
-ghost use Rattle.rb_server.specs.Replies.{sent};
-ghost use Rattle.rb_server.specs.Talk.{answered, goes};
-ghost use Rattle.rb_server.specs.Serves.{BreaksOff, Responds, Served, StartsAnswer, TurnBreaks, TurnsOut};
+ghost use Rattle.rb_server.specs.Talk.{goes, told};
+ghost use Rattle.rb_server.specs.Serves.{BreaksOff, Responds, Served, StartsAnswer, TurnBreaks, TurnsOut, turned_of};
 
-use crate::answers::{no_json, reply, turned_by};
 use crate::fault::ServeFault;
-use crate::phase::{Phase, Status, Turned};
+use crate::phase::Status;
+use crate::server::{Server, hear, refused};
+use crate::service::Service;
 use rb_line::Source;
-use rb_rpc::{MAX_CALLS, MessageReader, Next, ReadError, framed, incoming_of, read, text_of};
+use rb_rpc::{MAX_CALLS, MessageReader, Next, ReadError, read};
 use rb_script::Sink;
 use serde_json::Value;
 use std::alloc::Global;
 
-/// Serves an editor up to the end of the conversation. Each message is answered before the next is read, by one write.
+/// Serves an editor up to the end of the conversation. What each message has to have goes out before the next is read, by one write.
 ///
 /// # Errors
 ///
 /// `Io` at the first error of the source or the sink, an interrupted call too, and where [`MAX_CALLS`] calls of the source were made;
 /// `OutOfMemory` where memory was refused.
-pub fn serve<S: Source, W: Sink>(
+pub fn serve<V: Service, S: Source, W: Sink>(
     alloc: Global,
+    service: &mut V,
     source: &mut S,
     sink: &mut W,
 ) -> Result<Status, ServeFault>
     // What is written is the conversation over the bytes that come in, and the status is that of its end.
-    ensures ok { IfOk result (λ status. Served (S.left source.old) status (W.held sink.old) (W.held sink.new)) }
+    ensures ok { IfOk result (λ status. Served V.diagnose (S.left source.old) status (W.held sink.old) (W.held sink.new)) }
     // Where a call fails, a beginning of it went out.
-    ensures failed { OnErr result (BreaksOff (S.left source.old) (W.held sink.old) (W.held sink.new)) }
+    ensures failed { OnErr result (BreaksOff V.diagnose (S.left source.old) (W.held sink.old) (W.held sink.new)) }
 {
     let mut reader = MessageReader::new(alloc, MAX_CALLS);
-    let mut phase = Phase::Fresh;
+    let mut server = Server::new(alloc);
     for _ in 0..MAX_CALLS {
-        match turn(alloc, phase, &mut reader, source, sink) {
-            Ok(Turned::On(next)) => phase = next,
-            Ok(Turned::Over(status)) => return Ok(status),
+        match turn(alloc, service, &mut server, &mut reader, source, sink) {
+            Ok(None) => {}
+            Ok(Some(status)) => return Ok(status),
             Err(fault) => return Err(fault),
         }
     }
     Err(ServeFault::Io)
 }
 
-// Reads a message, and answers it.
-fn turn<S: Source, W: Sink>(
+// Reads a message, and does what it has to have.
+fn turn<V: Service, S: Source, W: Sink>(
     alloc: Global,
-    phase: Phase,
+    service: &mut V,
+    server: &mut Server,
     reader: &mut MessageReader,
     source: &mut S,
     sink: &mut W,
-) -> Result<Turned, ServeFault>
-    ensures ok { IfOk result (λ turned. TurnsOut phase turned (left_of reader.old (S.left source.old)) (left_of reader.new (S.left source.new)) (W.held sink.old) (W.held sink.new)) }
-    ensures failed { OnErr result (TurnBreaks phase (left_of reader.old (S.left source.old)) (W.held sink.old) (W.held sink.new)) }
+) -> Result<Option<Status>, ServeFault>
+    ensures ok { IfOk result (λ over. TurnsOut V.diagnose server.old (turned_of over server.new) (left_of reader.old (S.left source.old)) (left_of reader.new (S.left source.new)) (W.held sink.old) (W.held sink.new)) }
+    ensures failed { OnErr result (TurnBreaks V.diagnose server.old (left_of reader.old (S.left source.old)) (W.held sink.old) (W.held sink.new)) }
 {
     match reader.next(source)? {
-        Next::Message => respond(alloc, phase, reader.body(), sink),
-        Next::End => Ok(Turned::Over(Status::Closed)),
-        Next::CutOff => Ok(Turned::Over(Status::CutOff)),
-        Next::Bad => Ok(Turned::Over(Status::NoMessage)),
+        Next::Message => respond(alloc, service, server, reader.body(), sink),
+        Next::End => Ok(Some(Status::Closed)),
+        Next::CutOff => Ok(Some(Status::CutOff)),
+        Next::Bad => Ok(Some(Status::NoMessage)),
     }
 }
 
-// Answers a message.
-fn respond<W: Sink>(
+// Does what a message has to have.
+fn respond<V: Service, W: Sink>(
     alloc: Global,
-    phase: Phase,
+    service: &mut V,
+    server: &mut Server,
     body: &[u8],
     sink: &mut W,
-) -> Result<Turned, ServeFault>
-    ensures ok { IfOk result (λ turned. Responds phase body.now turned (W.held sink.old) (W.held sink.new)) }
-    ensures failed { OnErr result (StartsAnswer phase body.now (W.held sink.old) (W.held sink.new)) }
+) -> Result<Option<Status>, ServeFault>
+    ensures ok { IfOk result (λ over. Responds V.diagnose server.old body.now (turned_of over server.new) (W.held sink.old) (W.held sink.new)) }
+    ensures failed { OnErr result (StartsAnswer V.diagnose server.old body.now (W.held sink.old) (W.held sink.new)) }
 {
     match read(alloc, body) {
-        Ok(message) => respond_to(alloc, phase, &message, sink),
-        Err(ReadError::NotJson) => refuse(alloc, phase, sink),
+        Ok(message) => respond_to(alloc, service, server, &message, sink),
+        Err(ReadError::NotJson) => refuse::<V, W>(alloc, server, sink),
         Err(ReadError::OutOfMemory) => Err(ServeFault::OutOfMemory),
     }
 }
 
-// Answers what is JSON.
-fn respond_to<W: Sink>(
+// Does what JSON has to have.
+fn respond_to<V: Service, W: Sink>(
     alloc: Global,
-    phase: Phase,
+    service: &mut V,
+    server: &mut Server,
     message: &Value,
     sink: &mut W,
-) -> Result<Turned, ServeFault>
-    ensures turned { IfOk result (λ turned. turned ≡ goes phase (Some (said (view message.now)))) }
-    ensures wrote { OnOk result (Appends (W.held sink.old) (W.held sink.new) (sent (answered phase (Some (said (view message.now)))))) }
-    ensures failed { OnErr result (AppendsFront (W.held sink.old) (W.held sink.new) (sent (answered phase (Some (said (view message.now)))))) }
+) -> Result<Option<Status>, ServeFault>
+    ensures turned { IfOk result (λ over. turned_of over server.new ≡ goes server.old (Some (said (view message.now)))) }
+    ensures wrote { OnOk result (Appends (W.held sink.old) (W.held sink.new) (told V.diagnose server.old (Some (said (view message.now))))) }
+    ensures failed { OnErr result (AppendsFront (W.held sink.old) (W.held sink.new) (told V.diagnose server.old (Some (said (view message.now))))) }
 {
-    let heard = incoming_of(message);
-    let answer = reply(alloc, phase, &heard)?;
-    send(alloc, sink, answer)?;
-    Ok(turned_by(phase, &heard))
+    let heard = hear(alloc, service, server, message)?;
+    sink.put(heard.out.as_slice())?;
+    Ok(heard.over)
 }
 
-// Answers what isn't.
-fn refuse<W: Sink>(alloc: Global, phase: Phase, sink: &mut W) -> Result<Turned, ServeFault>
-    ensures turned { IfOk result (λ turned. turned ≡ goes phase None) }
-    ensures wrote { OnOk result (Appends (W.held sink.old) (W.held sink.new) (sent (answered phase None))) }
-    ensures failed { OnErr result (AppendsFront (W.held sink.old) (W.held sink.new) (sent (answered phase None))) }
+// Answers what is no JSON.
+fn refuse<V: Service, W: Sink>(
+    alloc: Global,
+    server: &mut Server,
+    sink: &mut W,
+) -> Result<Option<Status>, ServeFault>
+    ensures turned { IfOk result (λ over. turned_of over server.new ≡ goes server.old None) }
+    ensures wrote { OnOk result (Appends (W.held sink.old) (W.held sink.new) (told V.diagnose server.old None)) }
+    ensures failed { OnErr result (AppendsFront (W.held sink.old) (W.held sink.new) (told V.diagnose server.old None)) }
 {
-    let answer = no_json(alloc)?;
-    send(alloc, sink, Some(answer))?;
-    Ok(Turned::On(phase))
-}
-
-// Writes an answer, if there is one.
-fn send<W: Sink>(alloc: Global, sink: &mut W, answer: Option<Value>) -> Result<(), ServeFault>
-    requires { IfSome answer (λ value. has_float (view value) ≡ false) }
-    ensures wrote { OnOk result (Appends (W.held sink.old) (W.held sink.new) (sent (option_map view answer))) }
-    ensures failed { OnErr result (AppendsFront (W.held sink.old) (W.held sink.new) (sent (option_map view answer))) }
-{
-    let Some(answer) = answer else {
-        return Ok(());
-    };
-    let text = text_of(alloc, &answer)?;
-    let message = framed(alloc, text.as_str())?;
-    sink.put(message.as_bytes())?;
-    Ok(())
+    let out = refused(alloc)?;
+    sink.put(out.as_slice())?;
+    Ok(None)
 }

@@ -1,11 +1,30 @@
 //! What a server answers, by examples: codes are those of JSON-RPC 2.0 and of the language server protocol.
 
+use rb_document::Encoding;
 use rb_rpc::framed;
 use rb_script::Through;
-use rb_server::{ServeFault, Status, serve};
+use rb_server::{ServeFault, Service, Status, serve};
 use std::alloc::{AllocError, Global};
 use std::process::Abort;
 use std::test::Fail;
+
+// What it says of a text is that text.
+#[derive(Drop)]
+struct Echo;
+
+impl Service for Echo {
+    ghost diagnose = { λ encoding uri text. text };
+
+    fn add_diagnostics(
+        &mut self,
+        _encoding: Encoding,
+        _uri: &[u8],
+        text: &[u8],
+        out: &mut Vec<u8>,
+    ) -> Result<(), AllocError> {
+        out.extend_from_slice(text)
+    }
+}
 
 // The messages with these bodies, one after another.
 fn messages(alloc: Global, bodies: &[&str]) -> Result<String, AllocError> {
@@ -21,7 +40,7 @@ fn messages(alloc: Global, bodies: &[&str]) -> Result<String, AllocError> {
 fn served(alloc: Global, input: &[u8]) -> Result<(Vec<u8>, Status), ServeFault> {
     let mut source = input;
     let mut sink = Through(Vec::new(alloc));
-    let status = serve(alloc, &mut source, &mut sink)?;
+    let status = serve(alloc, &mut Echo, &mut source, &mut sink)?;
     Ok((sink.0, status))
 }
 
@@ -55,7 +74,7 @@ fn a_life(rt: HostRuntime) -> Result<(), Fail> {
         ],
         &[
             r#"{"error":{"code":-32002,"message":"initialize comes first"},"id":1,"jsonrpc":"2.0"}"#,
-            r#"{"id":2,"jsonrpc":"2.0","result":{"capabilities":{"positionEncoding":"utf-8"},"serverInfo":{"name":"raftbench"}}}"#,
+            r#"{"id":2,"jsonrpc":"2.0","result":{"capabilities":{"positionEncoding":"utf-8","textDocumentSync":{"change":2,"openClose":true}},"serverInfo":{"name":"raftbench"}}}"#,
             r#"{"id":"a","jsonrpc":"2.0","result":null}"#,
         ],
         Status::Done,
@@ -81,7 +100,7 @@ fn refusals(rt: HostRuntime) -> Result<(), Fail> {
             r#"{"error":{"code":-32602,"message":"params is no object"},"id":1,"jsonrpc":"2.0"}"#,
             r#"{"error":{"code":-32600,"message":"this is no message"},"id":null,"jsonrpc":"2.0"}"#,
             r#"{"error":{"code":-32700,"message":"this is no JSON"},"id":null,"jsonrpc":"2.0"}"#,
-            r#"{"id":3,"jsonrpc":"2.0","result":{"capabilities":{"positionEncoding":"utf-16"},"serverInfo":{"name":"raftbench"}}}"#,
+            r#"{"id":3,"jsonrpc":"2.0","result":{"capabilities":{"positionEncoding":"utf-16","textDocumentSync":{"change":2,"openClose":true}},"serverInfo":{"name":"raftbench"}}}"#,
             r#"{"error":{"code":-32600,"message":"initialize came before"},"id":4,"jsonrpc":"2.0"}"#,
             r#"{"error":{"code":-32601,"message":"there is no such method"},"id":5,"jsonrpc":"2.0"}"#,
             r#"{"id":6,"jsonrpc":"2.0","result":null}"#,
@@ -102,4 +121,29 @@ fn ends(rt: HostRuntime) -> Result<(), Fail> {
     let (_, stray) = served(alloc, b"what is this\r\n\r\n".as_slice())?;
     assert_eq!(rt; stray, Status::NoMessage);
     Ok(())
+}
+
+#[test]
+fn documents(rt: HostRuntime) -> Result<(), Fail> {
+    answers(
+        &rt,
+        rt.alloc(),
+        &[
+            r#"{"jsonrpc":"2.0","id":1,"method":"initialize","params":{}}"#,
+            r#"{"jsonrpc":"2.0","method":"textDocument/didOpen","params":{"textDocument":{"uri":"a","languageId":"","version":1,"text":"[\n]"}}}"#,
+            r#"{"jsonrpc":"2.0","method":"textDocument/didOpen","params":{"textDocument":{"uri":"\"b","languageId":"","version":1,"text":"[]"}}}"#,
+            r#"{"jsonrpc":"2.0","method":"textDocument/didChange","params":{"textDocument":{"uri":"a","version":2},"contentChanges":[{"range":{"start":{"line":1,"character":0},"end":{"line":1,"character":0}},"text":"2,"},{"range":{"start":{"line":0,"character":1},"end":{"line":1,"character":0}},"text":"1,"},{"range":{"start":{"line":0,"character":4},"end":{"line":0,"character":5}},"text":""}]}}"#,
+            r#"{"jsonrpc":"2.0","method":"textDocument/didClose","params":{"textDocument":{"uri":"a"}}}"#,
+            r#"{"jsonrpc":"2.0","method":"textDocument/didChange","params":{"textDocument":{"uri":"a","version":3},"contentChanges":[{"text":"[3]"}]}}"#,
+        ],
+        &[
+            r#"{"id":1,"jsonrpc":"2.0","result":{"capabilities":{"positionEncoding":"utf-16","textDocumentSync":{"change":2,"openClose":true}},"serverInfo":{"name":"raftbench"}}}"#,
+            "{\"jsonrpc\":\"2.0\",\"method\":\"textDocument/publishDiagnostics\",\"params\":{\"uri\":\"a\",\"version\":1,\"diagnostics\":[\n]}}",
+            r#"{"jsonrpc":"2.0","method":"textDocument/publishDiagnostics","params":{"uri":"\u0022b","version":1,"diagnostics":[]}}"#,
+            r#"{"jsonrpc":"2.0","method":"textDocument/publishDiagnostics","params":{"uri":"a","version":2,"diagnostics":[1,2]}}"#,
+            r#"{"jsonrpc":"2.0","method":"textDocument/publishDiagnostics","params":{"uri":"a","diagnostics":[]}}"#,
+            r#"{"jsonrpc":"2.0","method":"textDocument/publishDiagnostics","params":{"uri":"a","version":3,"diagnostics":[]}}"#,
+        ],
+        Status::Closed,
+    )
 }

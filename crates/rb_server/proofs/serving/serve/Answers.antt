@@ -1,9 +1,15 @@
+use Rattle.std.proofs.Common.{sym, subst}
 use Rattle.rb_rpc.specs.Reading.{left_of}
-use Rattle.rb_server.proofs.TalkLaws.{far_broken, far_more, far_none, far_over, far_stopped}
+use Rattle.rb_server.specs.Replies.{PlainServer}
+use Rattle.rb_server.proofs.TalkLaws.{Far, far_broken, far_more, far_none, far_over, far_stopped}
 use Rattle.rb_server.proofs.serving.serve.Goals as goal
 
 pub loop-init : goal.loop-init
-loop-init g c = far_none (g.S.Source.left c.args.source.now) _ _ (c.new-reader.ensures (g.S.Source.left c.args.source.now))
+loop-init g c =
+    let first = g.S.Source.left c.args.source.now in
+    let held = g.W.Sink.held c.args.sink.now in
+    subst (λ (s : PlainServer). Far g.V.Service.diagnose first s (left_of c.new-reader.result first) held held) (sym c.new-server.ensures)
+    (far_none g.V.Service.diagnose first (left_of c.new-reader.result first) held (c.new-reader.ensures first))
 
 pub loop-preserved : goal.loop-preserved
 loop-preserved g c =
@@ -13,17 +19,17 @@ loop-preserved g c =
     let old = g.W.Sink.held c.args.sink.now in
     let mid = g.W.Sink.held c.loop.sink in
     let new = g.W.Sink.held c.turn.new.sink in
-    far_more first left after old mid new c.loop.phase c.in-Ok-On.next c.loop.invariant (rw c.in-Ok-On.field-0-is at c.in-Ok-On.ensures.ok)
+    far_more g.V.Service.diagnose first left after old mid new c.loop.server c.turn.new.server c.loop.invariant (rw c.in-Ok-None.field-0-is at c.in-Ok-None.ensures.ok)
 
-pub returns-in-Ok-Over-clause-ok : goal.returns-in-Ok-Over-clause-ok
-returns-in-Ok-Over-clause-ok g c =
+pub returns-in-Ok-Some-clause-ok : goal.returns-in-Ok-Some-clause-ok
+returns-in-Ok-Some-clause-ok g c =
     let first = g.S.Source.left c.args.source.now in
     let left = left_of c.loop.reader (g.S.Source.left c.loop.source) in
     let after = left_of c.turn.new.reader (g.S.Source.left c.turn.new.source) in
     let old = g.W.Sink.held c.args.sink.now in
     let mid = g.W.Sink.held c.loop.sink in
     let new = g.W.Sink.held c.turn.new.sink in
-    far_over first left after old mid new c.loop.phase c.in-Ok-Over.status c.loop.invariant (rw c.in-Ok-Over.field-0-is at c.in-Ok-Over.ensures.ok)
+    far_over g.V.Service.diagnose first left after old mid new c.loop.server c.in-Ok-Some.status c.loop.invariant (rw c.in-Ok-Some.field-0-is at c.in-Ok-Some.ensures.ok)
 
 pub returns-in-Err-clause-failed : goal.returns-in-Err-clause-failed
 returns-in-Err-clause-failed g c =
@@ -32,9 +38,9 @@ returns-in-Err-clause-failed g c =
     let old = g.W.Sink.held c.args.sink.now in
     let mid = g.W.Sink.held c.loop.sink in
     let new = g.W.Sink.held c.turn.new.sink in
-    far_broken first left old mid new c.loop.phase c.loop.invariant c.in-Err.ensures.failed
+    far_broken g.V.Service.diagnose first left old mid new c.loop.server c.loop.invariant c.in-Err.ensures.failed
 
 pub returns-clause-failed : goal.returns-clause-failed
 returns-clause-failed g c =
     let left = left_of c.loop.reader (g.S.Source.left c.loop.source) in
-    far_stopped (g.S.Source.left c.args.source.now) left (g.W.Sink.held c.args.sink.now) (g.W.Sink.held c.loop.sink) c.loop.phase c.loop.invariant
+    far_stopped g.V.Service.diagnose (g.S.Source.left c.args.source.now) left (g.W.Sink.held c.args.sink.now) (g.W.Sink.held c.loop.sink) c.loop.server c.loop.invariant

@@ -1,0 +1,12 @@
+use Rattle.std.proofs.Common.{ap, ◌∙◌}
+use Rattle.serde_json.specs.View.{view}
+use Rattle.rb_server.specs.Replies.{sent, told_of}
+use Rattle.rb_server.proofs.PlainLaws.{id_is_plain_of}
+use Rattle.rb_server.proofs.server.hear.Goals as goal
+
+pub hear_request-requires : goal.hear_request-requires
+hear_request-requires g c = id_is_plain_of (view c.args.message.now) _ _ _ c.in-Request.ensures
+
+pub returns-in-Response-clause-out : goal.returns-in-Response-clause-out
+unfolding sent
+returns-in-Response-clause-out g c = c.silent.ensures.out ∙ ap (told_of g.V.Service.diagnose c.args.server.now) c.in-Response.ensures

@@ -1,0 +1,38 @@
+-- What a notification makes of the text of a document. (LSP 3.17, "DidOpenTextDocument Notification", "DidChangeTextDocument
+-- Notification" and "DidCloseTextDocument Notification".)
+use Rattle.std.specs.Prelude.{ℕ, nat_le, if◌then◌else◌, List, length, Option, Some, None, option_and_then, codes}
+use Rattle.serde_json.specs.Data.{Data, Items, no_items, item}
+use Rattle.serde_json.specs.Find.{get, as_array}
+use Rattle.rb_document.specs.declared.limits.TheConstants.{MAX_TEXT}
+use Rattle.rb_document.specs.declared.position.Encoding.{Encoding}
+use Rattle.rb_document.specs.Changes.{changed_by}
+use Rattle.rb_rpc.specs.Params.{range_at, text_at, text_below}
+use Rattle.rb_server.specs.declared.method.Method.{Method}
+use Rattle.rb_server.specs.declared.method.Method.TheVariants.{DidOpen, DidChange}
+
+-- a text that is short enough to be kept
+abbrev pub fitting : List ℕ → Option (List ℕ)
+fitting text = if nat_le (length text) MAX_TEXT then Some text else None
+
+-- the text with one change; where that has no range it is the whole text
+abbrev pub with_change : Encoding → Data → List ℕ → Option (List ℕ) → Option (List ℕ)
+with_change encoding d text None = None
+with_change encoding d text (Some new) = fitting (changed_by encoding (range_at (codes "range") d) new text)
+
+unfoldable pub changed_once : Encoding → Data → List ℕ → Option (List ℕ)
+changed_once encoding d text = with_change encoding d text (text_at (codes "text") d)
+
+-- with changes, one after another
+abbrev pub changed_all : Encoding → Items → Option (List ℕ) → Option (List ℕ)
+changed_all encoding no_items text = text
+changed_all encoding (item d ds) text = changed_all encoding ds (option_and_then (changed_once encoding d) text)
+
+abbrev pub with_changes : Encoding → Option Items → Option (List ℕ) → Option (List ℕ)
+with_changes encoding None text = None
+with_changes encoding (Some ds) text = changed_all encoding ds text
+
+-- the text after a notification, if it is kept
+abbrev pub text_after : Encoding → Method → Data → Option (List ℕ) → Option (List ℕ)
+text_after encoding DidOpen d text = option_and_then fitting (text_below (codes "textDocument") (codes "text") d)
+text_after encoding DidChange d text = option_and_then (λ t. with_changes encoding (option_and_then as_array (get (codes "contentChanges") d)) (Some t)) text
+text_after encoding method d text = None

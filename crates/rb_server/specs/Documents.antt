@@ -1,0 +1,26 @@
+-- The documents that an editor has open: the text of each, by its URI. (LSP 3.17, "Text Document Synchronization".)
+use Rattle.std.specs.Prelude.{ℕ, suc, ◌+◌, nat_lt, if◌then◌else◌, List, [], ◌∷◌, ◌++◌, length, take, drop, slice_get, Option, Some, None, option_map}
+use Rattle.std.specs.Str.{bytes_eq}
+use Rattle.rb_server.specs.declared.limits.TheConstants.{MAX_DOCUMENTS}
+
+pub record PlainDocument : Type 0 where
+  pub uri : List ℕ
+  pub text : List ℕ
+
+-- the index of the document with a URI; behind the last, where there is none
+unfoldable pub place_of : List ℕ → List PlainDocument → ℕ
+place_of uri [] = 0
+place_of uri (d ∷ ds) = if bytes_eq d.uri uri then 0 else suc (place_of uri ds)
+
+-- its text
+abbrev pub text_of : List ℕ → List PlainDocument → Option (List ℕ)
+text_of uri ds = option_map (λ d. d.text) (slice_get ds (place_of uri ds))
+
+-- those without it
+abbrev pub closed : List ℕ → List PlainDocument → List PlainDocument
+closed uri ds = take (place_of uri ds) ds ++ drop (place_of uri ds + 1) ds
+
+-- those with this text, if there is one, and room for it
+abbrev pub kept : List ℕ → Option (List ℕ) → List PlainDocument → List PlainDocument
+kept uri None ds = ds
+kept uri (Some text) ds = if nat_lt (length ds) MAX_DOCUMENTS then ds ++ record { uri = uri; text = text } ∷ [] else ds

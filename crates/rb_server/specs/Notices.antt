@@ -1,0 +1,68 @@
+-- Notifications of documents, and what is published of each: the diagnostics of its text as it stands. (LSP 3.17, "PublishDiagnostics
+-- Notification".)
+use Rattle.std.specs.Prelude.{ℕ, if◌then◌else◌, List, [], ◌++◌, Option, Some, None, codes, decimal}
+use Rattle.std.specs.List.{flat_map}
+use Rattle.serde_json.specs.Data.{Data}
+use Rattle.rb_document.specs.declared.position.Encoding.{Encoding}
+use Rattle.rb_json.specs.Escapes.{escaped}
+use Rattle.rb_rpc.specs.Messages.{frame}
+use Rattle.rb_rpc.specs.Params.{number_below, text_below}
+use Rattle.rb_server.specs.declared.method.Method.{Method}
+use Rattle.rb_server.specs.declared.phase.Phase.{Phase}
+use Rattle.rb_server.specs.declared.phase.Phase.TheVariants.{Running}
+use Rattle.rb_server.specs.Methods.{is_of_documents}
+use Rattle.rb_server.specs.Documents.{PlainDocument, text_of, closed, kept}
+use Rattle.rb_server.specs.Changes.{text_after}
+
+-- the diagnostics of a text, as a list in JSON: of the encoding of columns, the URI of the document, and its text
+abbrev pub Diagnose : Type 0
+Diagnose = Encoding → List ℕ → List ℕ → List ℕ
+
+-- ---- what is published
+
+-- the version of the text, where it has one, and what begins the list
+unfoldable pub middle_text : Option ℕ → List ℕ
+middle_text None = codes ",\"diagnostics\":"
+middle_text (Some n) = codes ",\"version\":" ++ (decimal n ++ codes ",\"diagnostics\":")
+
+-- those of the text of a document that is open, and else none
+abbrev pub list_text : Diagnose → Encoding → List ℕ → Option (List ℕ) → List ℕ
+list_text diagnose encoding uri None = codes "[]"
+list_text diagnose encoding uri (Some text) = diagnose encoding uri text
+
+unfoldable pub head_text : List ℕ → List ℕ
+head_text uri = codes "{\"jsonrpc\":\"2.0\",\"method\":\"textDocument/publishDiagnostics\",\"params\":{\"uri\":\"" ++ (flat_map escaped uri ++ codes "\"")
+
+unfoldable pub publication : Diagnose → Encoding → List ℕ → Option ℕ → Option (List ℕ) → List ℕ
+publication diagnose encoding uri version text =
+    head_text uri ++ (middle_text version ++ (list_text diagnose encoding uri text ++ codes "}}"))
+
+-- ---- a notification
+
+-- what it says: the document's URI, and what is given to the method
+pub record Notice : Type 0 where
+  pub encoding : Encoding
+  pub method : Method
+  pub uri : List ℕ
+  pub given : Data
+
+abbrev pub with_uri : Encoding → Method → Data → Option (List ℕ) → Option Notice
+with_uri encoding method d None = None
+with_uri encoding method d (Some uri) = Some (record { encoding = encoding; method = method; uri = uri; given = d })
+
+-- it is taken between `initialize` and `shutdown`, where it tells of a document
+abbrev pub notice_of : Phase → Method → Option Data → Option Notice
+notice_of (Running encoding) method (Some d) =
+    if is_of_documents method then with_uri encoding method d (text_below (codes "textDocument") (codes "uri") d) else None
+notice_of phase method params = None
+
+-- the documents after it
+abbrev pub documents_after : Option Notice → List PlainDocument → List PlainDocument
+documents_after None ds = ds
+documents_after (Some n) ds = kept n.uri (text_after n.encoding n.method n.given (text_of n.uri ds)) (closed n.uri ds)
+
+-- what goes out, where these are the documents after it
+abbrev pub notice_text : Diagnose → Option Notice → List PlainDocument → List ℕ
+notice_text diagnose None ds = []
+notice_text diagnose (Some n) ds =
+    frame (publication diagnose n.encoding n.uri (number_below (codes "textDocument") (codes "version") n.given) (text_of n.uri ds))

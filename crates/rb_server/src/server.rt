@@ -1,0 +1,210 @@
+//! A server, and what it hears.
+
+ghost use Rattle.std.specs.Prelude.{◌≡◌, [], false, Some, None, IfOk, OnOk, codes, option_map};
+ghost use Rattle.serde_json.specs.View.{view};
+ghost use Rattle.serde_json.specs.Written.{has_float};
+ghost use Rattle.rb_rpc.specs.Messages.{frame};
+ghost use Rattle.rb_rpc.specs.Params.{number_below};
+ghost use Rattle.rb_rpc.specs.Said.{said};
+ghost use Rattle.rb_server.specs.Changes.{text_after};
+ghost use Rattle.rb_server.specs.Documents.{closed, kept, text_of};
+ghost use Rattle.rb_server.specs.Notices.{documents_after, notice_of, notice_text, publication};
+ghost use Rattle.rb_server.specs.Replies.{after, answer_to, no_json, noticed_by, published, sent, told_of, turned_by, with_phase};
+ghost use Rattle.rb_server.specs.Serves.{turned_of};
+
+use crate::answers::{after, answer_to, no_json, no_message};
+use crate::changes::document_after;
+use crate::documents::Documents;
+use crate::method::{Method, is_of_documents, method_of};
+use crate::phase::{Phase, Status, status_of};
+use crate::publication::{framed, publication};
+use crate::service::Service;
+use rb_document::Encoding;
+use rb_rpc::{Incoming, incoming_of, number_below, text_below, text_of};
+use serde_json::Value;
+use std::alloc::{AllocError, Global};
+use std::marker::Model;
+
+/// A server: where it stands, and the documents that are open.
+#[derive(Drop)]
+pub(crate) struct Server {
+    phase: Phase,
+    documents: Documents,
+}
+
+impl Model for Server {
+    ghost use Rattle.rb_server.specs.Replies.{PlainServer};
+
+    ghost Value = { PlainServer };
+
+    ghost view = { λ s. record { phase = s.phase; documents = s.documents } };
+}
+
+impl Server {
+    ghost use Rattle.std.specs.Prelude.{◌≡◌};
+    ghost use Rattle.rb_server.specs.Replies.{fresh};
+
+    /// As it begins.
+    pub(crate) fn new(alloc: Global) -> Server
+        ensures { result ≡ fresh }
+    {
+        Server {
+            phase: Phase::Fresh,
+            documents: Documents::new(alloc),
+        }
+    }
+}
+
+/// What goes out for a message, and how the server ends, if it does.
+#[derive(Drop)]
+pub(crate) struct Heard {
+    pub(crate) out: Vec<u8>,
+    pub(crate) over: Option<Status>,
+}
+
+// Nothing goes out.
+fn silent(alloc: Global, over: Option<Status>) -> Heard
+    ensures out { result.out.items ≡ [] }
+    ensures over { result.over ≡ over }
+{
+    Heard {
+        out: Vec::new(alloc),
+        over,
+    }
+}
+
+// An answer as it goes out.
+#[tactic(auto, unfolding(crate::specs::Replies::sent))]
+fn sent(alloc: Global, answer: &Value) -> Result<Vec<u8>, AllocError>
+    requires { has_float (view answer.now) ≡ false }
+    ensures { IfOk result (λ out. out.items ≡ sent (Some (view answer.now))) }
+{
+    let text = text_of(alloc, answer)?;
+    framed(alloc, text.as_bytes())
+}
+
+// Hears a request.
+fn hear_request(
+    alloc: Global,
+    server: &mut Server,
+    id: &Value,
+    method: Method,
+    params: Option<&Value>,
+) -> Result<Heard, AllocError>
+    requires { has_float (view id.now) ≡ false }
+    ensures out { IfOk result (λ heard. heard.out.items ≡ sent (Some (answer_to server.old.phase method (option_map (λ v. view v.now) params.entry) (view id.now)))) }
+    ensures over { IfOk result (λ heard. heard.over ≡ None) }
+    ensures server { OnOk result (server.new ≡ with_phase server.old (after server.old.phase method (option_map (λ v. view v.now) params.entry))) }
+{
+    let answer = answer_to(alloc, server.phase, method, params, id)?;
+    let out = sent(alloc, &answer)?;
+    server.phase = after(server.phase, method, params);
+    Ok(Heard { out, over: None })
+}
+
+// Takes a notification of the document with this URI.
+fn notice<V: Service>(
+    alloc: Global,
+    service: &mut V,
+    documents: &mut Documents,
+    encoding: Encoding,
+    method: Method,
+    params: &Value,
+    uri: &[u8],
+) -> Result<Vec<u8>, AllocError>
+    ensures documents { OnOk result (documents.new ≡ kept uri.now (text_after encoding method (view params.now) (text_of uri.now documents.old)) (closed uri.now documents.old)) }
+    ensures out { IfOk result (λ out. out.items ≡ frame (publication V.diagnose encoding uri.now (number_below (codes "textDocument") (codes "version") (view params.now)) (text_of uri.now documents.new))) }
+{
+    let old = documents.take(uri);
+    let new = document_after(alloc, encoding, method, params, old)?;
+    documents.keep(uri, new)?;
+    let version = number_below(params, "textDocument", "version");
+    let body = publication(alloc, service, encoding, uri, version, documents.text(uri))?;
+    framed(alloc, body.as_slice())
+}
+
+// Takes a notification.
+fn take_notice<V: Service>(
+    alloc: Global,
+    service: &mut V,
+    server: &mut Server,
+    method: Method,
+    params: Option<&Value>,
+) -> Result<Vec<u8>, AllocError>
+    ensures phase { server.new.phase ≡ server.old.phase }
+    ensures documents { OnOk result (server.new.documents ≡ documents_after (notice_of server.old.phase method (option_map (λ v. view v.now) params.entry)) server.old.documents) }
+    ensures out { IfOk result (λ out. out.items ≡ notice_text V.diagnose (notice_of server.old.phase method (option_map (λ v. view v.now) params.entry)) server.new.documents) }
+{
+    let Phase::Running(encoding) = server.phase else {
+        return Ok(Vec::new(alloc));
+    };
+    let Some(params) = params else {
+        return Ok(Vec::new(alloc));
+    };
+    if !is_of_documents(method) {
+        return Ok(Vec::new(alloc));
+    }
+    let Some(uri) = text_below(params, "textDocument", "uri") else {
+        return Ok(Vec::new(alloc));
+    };
+    notice(
+        alloc,
+        service,
+        &mut server.documents,
+        encoding,
+        method,
+        params,
+        uri.as_bytes(),
+    )
+}
+
+// Hears a notification.
+fn hear_notification<V: Service>(
+    alloc: Global,
+    service: &mut V,
+    server: &mut Server,
+    method: Method,
+    params: Option<&Value>,
+) -> Result<Heard, AllocError>
+    ensures out { IfOk result (λ heard. heard.out.items ≡ published V.diagnose server.old method (option_map (λ v. view v.now) params.entry)) }
+    ensures turned { IfOk result (λ heard. turned_of heard.over server.new ≡ noticed_by server.old method (option_map (λ v. view v.now) params.entry)) }
+{
+    if method == Method::Exit {
+        return Ok(silent(alloc, Some(status_of(server.phase))));
+    }
+    let out = take_notice(alloc, service, server, method, params)?;
+    Ok(Heard { out, over: None })
+}
+
+/// Hears a message: what goes out for it, and where the server stands then.
+pub(crate) fn hear<V: Service>(
+    alloc: Global,
+    service: &mut V,
+    server: &mut Server,
+    message: &Value,
+) -> Result<Heard, AllocError>
+    ensures out { IfOk result (λ heard. heard.out.items ≡ told_of V.diagnose server.old (said (view message.now))) }
+    ensures turned { IfOk result (λ heard. turned_of heard.over server.new ≡ turned_by server.old (said (view message.now))) }
+{
+    match incoming_of(message) {
+        Incoming::Request(id, method, params) => {
+            hear_request(alloc, server, id, method_of(method), params)
+        }
+        Incoming::Notification(method, params) => {
+            hear_notification(alloc, service, server, method_of(method), params)
+        }
+        Incoming::Response => Ok(silent(alloc, None)),
+        Incoming::Invalid => Ok(Heard {
+            out: sent(alloc, &no_message(alloc)?)?,
+            over: None,
+        }),
+    }
+}
+
+/// What goes out for what is no JSON.
+pub(crate) fn refused(alloc: Global) -> Result<Vec<u8>, AllocError>
+    ensures { IfOk result (λ out. out.items ≡ sent (Some no_json)) }
+{
+    let answer = no_json(alloc)?;
+    sent(alloc, &answer)
+}
