@@ -9,7 +9,7 @@ use clap::{Arg, ArgAction, Command};
 use std::alloc::{AllocError, Global};
 
 /// What `--version` tells behind the program's name: its version, and the toolchain that it was proved with.
-pub const VERSION: &str = "0.1.0, proved with rattle-kit-13b logic dac8208d650f15bf";
+pub const VERSION: &str = "0.1.0, proved with rattle-kit-13f logic dac8208d650f15bf";
 
 const EVERY_HELP: &str = "Directives from one checkpoint to the next, 1 to 64 [default: 16]";
 

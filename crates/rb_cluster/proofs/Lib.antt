@@ -9,3 +9,4 @@ pub mod MailLaws
 pub mod RoundLaws
 pub mod ReadyLaws
 pub mod TickLaws
+pub mod ToldLaws

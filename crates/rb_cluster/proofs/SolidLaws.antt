@@ -1,5 +1,5 @@
 -- Every line that a directive prints is solid: whatever is done in a scene only adds lines of items to its screen.
-use Rattle.std.proofs.Common.{◌≡◌, ℕ, zero, suc, ◌+◌, Bool, true, false, List, [], ◌∷◌, map, length, Option, Some, None, refl, ◌∙◌}
+use Rattle.std.proofs.Common.{◌≡◌, ℕ, zero, suc, ◌+◌, Bool, true, false, List, [], ◌∷◌, map, length, Option, Some, None, refl, ap, ◌∙◌}
 use Rattle.std.specs.Prelude.{if◌then◌else◌}
 use Rattle.std.specs.List.{list_all, flat_map, range_with_len}
 use Rattle.std.proofs.lemmas.Bool.{and_from}
@@ -25,6 +25,7 @@ use Rattle.rb_texts.specs.Shapes.{is_solid}
 use Rattle.rb_texts.specs.Texts.{line_of}
 use Rattle.rb_texts.proofs.ShownLaws.{all_solid}
 use Rattle.rb_machine.specs.declared.screen.Screen.{Screen}
+use Rattle.rb_machine.specs.declared.screen.Way.TheVariants as ways
 use Rattle.rb_machine.specs.AddNodes.{start, options, began, added_each, nodes_added}
 use Rattle.rb_machine.specs.Cluster.{node_at, with_node}
 use Rattle.rb_machine.specs.Deliveries.{left_by, received, all_received, delivered, delivered_each, drop_item, dropped, dropped_each, meets_any, msgs_delivered}
@@ -32,12 +33,14 @@ use Rattle.rb_machine.specs.Outcome.{effect}
 use Rattle.rb_machine.specs.Pending.{has_room, mail, pushed, sent, all_sent}
 use Rattle.rb_machine.specs.Readies.{advanced_by, all_done, ready_done, ready_done_by, ready_done_each, ready_items}
 use Rattle.rb_machine.specs.Rounds.{chosen, is_ready, has_work, readied_each, round, settled}
-use Rattle.rb_machine.specs.Scenes.{Scene, showing, showing_all, shown, all_shown, with_cluster, acted, acted_by}
+use Rattle.rb_machine.specs.Scenes.{Scene, lines_of, showing, showing_all, shown, all_shown, with_cluster, acted, acted_by}
 use Rattle.rb_machine.specs.Snapshots.{queued, snapshot_sent_by, compact, compact_by}
 use Rattle.rb_machine.specs.Views.{log_shown_by, status_shown_by}
 
--- every line on the screen is solid
+-- it shows lines of a level, and each that is on it is solid
 pub record IsSolidScreen (screen : Screen) : Type 0 where
+  pub level : Level
+  pub printed : screen.way ≡ ways.At level
   pub each : list_all is_solid screen.lines ≡ true
 
 -- ---- printing
@@ -48,11 +51,13 @@ solid_items level (item ∷ items) = list_all-append is_solid (line_of level ite
 
 pub showing_solid : (screen : Screen) (item : PlainItem) → IsSolidScreen screen → IsSolidScreen (showing screen item)
 showing_solid screen item h =
-    record { each = list_all-append is_solid screen.lines (line_of screen.level item) ∙ and_from _ _ h.each (all_solid screen.level item) }
+    let solid : list_all is_solid (lines_of screen.way item) ≡ true = ap (λ way. list_all is_solid (lines_of way item)) h.printed ∙ all_solid h.level item in
+    record { level = h.level; printed = h.printed; each = list_all-append is_solid screen.lines (lines_of screen.way item) ∙ and_from _ _ h.each solid }
 
 pub showing_all_solid : (screen : Screen) (items : List PlainItem) → IsSolidScreen screen → IsSolidScreen (showing_all screen items)
 showing_all_solid screen items h =
-    record { each = list_all-append is_solid screen.lines (flat_map (line_of screen.level) items) ∙ and_from _ _ h.each (solid_items screen.level items) }
+    let solid : list_all is_solid (flat_map (lines_of screen.way) items) ≡ true = ap (λ way. list_all is_solid (flat_map (lines_of way) items)) h.printed ∙ solid_items h.level items in
+    record { level = h.level; printed = h.printed; each = list_all-append is_solid screen.lines (flat_map (lines_of screen.way) items) ∙ and_from _ _ h.each solid }
 
 -- ---- acting
 

@@ -11,17 +11,16 @@ use Rattle.rb_message.specs.declared.message.Message.{Message}
 use Rattle.rb_node.specs.Readying.{others}
 use Rattle.rb_texts.specs.Items.{PlainItem}
 use Rattle.rb_texts.specs.Items as items
-use Rattle.rb_texts.specs.Texts.{line_of}
 use Rattle.rb_machine.specs.declared.screen.Screen.{Screen}
 use Rattle.rb_machine.specs.Entries.{entry_items}
-use Rattle.rb_machine.specs.Scenes.{showing, showing_all}
+use Rattle.rb_machine.specs.Scenes.{lines_of, showing, showing_all}
 use Rattle.rb_cluster.proofs.ListLaws.{left_more, left_none}
 
 -- ---- items
 
 -- an item before others
 pub shown_first : (s : Screen) (x : PlainItem) (xs : List PlainItem) → showing_all (showing s x) xs ≡ showing_all s (x ∷ xs)
-shown_first s x xs = ap (λ lines. record s { lines = lines }) (append_assoc s.lines (line_of s.level x) (flat_map (line_of s.level) xs))
+shown_first s x xs = ap (λ lines. record s { lines = lines }) (append_assoc s.lines (lines_of s.way x) (flat_map (lines_of s.way) xs))
 
 shown_none : (s : Screen) → showing_all s [] ≡ s
 shown_none s = ap (λ lines. record s { lines = lines }) (append-nil s.lines)

@@ -5,3 +5,4 @@ pub use Rattle.rb_step.specs.Node
 pub use Rattle.rb_machine.specs.Cluster
 pub use Rattle.rb_machine.specs.Outcome
 pub mod Marks
+pub mod Told

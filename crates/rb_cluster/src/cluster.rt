@@ -43,6 +43,13 @@ impl<L: RaftLog> Cluster<L> {
     ghost use Rattle.std.specs.Prelude.{MatchOption, Some, None};
     ghost use Rattle.rb_machine.specs.Cluster.{node_at};
 
+    /// The nodes: that with id 1, that with id 2, and so on.
+    pub fn nodes(&self) -> &[Node<L>]
+        ensures { result.now ≡ self.now.nodes }
+    {
+        &self.nodes
+    }
+
     /// The node with this id.
     pub(crate) fn node_with(&self, id: u64) -> Option<&Node<L>>
         ensures { MatchOption result (node_at self.now id ≡ None) (λ node. node_at self.now id ≡ Some node.now) }

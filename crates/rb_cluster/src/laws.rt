@@ -15,7 +15,8 @@ ghost use Rattle.rb_directive.specs.declared.asking.Request.TheVariants as reque
 ghost use Rattle.rb_directive.specs.Requests.{request};
 ghost use Rattle.rb_step.specs.Node.{PlainNode};
 ghost use Rattle.rb_machine.specs.Cluster.{Cluster};
-ghost use Rattle.rb_machine.specs.Outcome.{outcome, refusal, refused, level_set, is_output};
+ghost use Rattle.rb_machine.specs.Outcome.{outcome, happened, refusal, refused, level_set, is_output};
+ghost use Rattle.rb_cluster.specs.Told.{AreOfOne};
 
 /// What a directive prints has at least one line, and none that is blank or `----` or holds a byte outside 32 to 126.
 pub fn outputs_have_lines()
@@ -32,7 +33,7 @@ pub fn outputs_can_be_expected()
 
 /// A directive that is refused changes nothing, and its error is all that it prints.
 pub fn refused_changes_nothing()
-    ensures { (c : Cluster) (d : PlainDirective) (e : DirectiveError) → refusal d c ≡ Some e → outcome c d ≡ refused c e }
+    ensures { (c : Cluster) (d : PlainDirective) (e : DirectiveError) → refusal d c ≡ Some e → outcome c d ≡ refused false c e }
 {}
 
 /// What is wrong with the arguments of a directive is so in every cluster.
@@ -57,4 +58,10 @@ pub fn views_change_nothing()
 /// `log-level` is never refused once it is read, and changes the level alone.
 pub fn log_level_sets_the_level()
     ensures { (c : Cluster) (d : PlainDirective) (a : Asked) (level : Level) → request d ≡ Ok a → a.request ≡ requests.LogLevel level → (outcome c d).cluster ≡ level_set level c }
+{}
+
+/// What a directive prints, and what it does as rows, are of the same items: printed are those that a level shows, and the rows are
+/// those of all.
+pub fn rows_are_of_what_is_printed()
+    ensures { (c : Cluster) (d : PlainDirective) → AreOfOne (outcome c d).output (happened c d) }
 {}

@@ -8,20 +8,19 @@ ghost use Rattle.rb_script.specs.Tokens.{plain};
 ghost use Rattle.rb_directive.specs.Requests.{request, IsWithin};
 ghost use Rattle.rb_step.specs.Node.{PlainNode};
 ghost use Rattle.rb_texts.specs.Items.{error};
-ghost use Rattle.rb_texts.specs.Texts.{line_of};
 ghost use Rattle.rb_machine.specs.Cluster.{is_node};
-ghost use Rattle.rb_machine.specs.Outcome.{absent, first_absent, missing_node, own_fault, fault, effect, level_set, unless_refused, refused, outcome_of, outcome};
-ghost use Rattle.rb_machine.specs.Scenes.{scene};
+ghost use Rattle.rb_machine.specs.Outcome.{absent, first_absent, missing_node, own_fault, fault, effect, level_set, unless_refused, refused, outcome_of, outcome, happened, way_of};
+ghost use Rattle.rb_machine.specs.Scenes.{scene, lines_of};
 
 use crate::add_nodes::add_nodes_fault;
 use crate::cluster::Cluster;
 use rb_directive::{Asked, Named, Request, request};
 use rb_level::{DirectiveError, Level};
-use rb_machine::Screen;
+use rb_machine::{Machine, Screen, Way};
 use rb_node::Node;
 use rb_raftlog::RaftLog;
 use rb_script::{DirectiveRef, Lines};
-use rb_texts::{Item, put};
+use rb_texts::Item;
 use std::alloc::{AllocError, Global};
 
 // Whether a node has this id.
@@ -64,17 +63,21 @@ fn missing_node<'d, L: RaftLog>(nodes: &[Node<L>], named: &Named) -> Option<Dire
     }
 }
 
-// The line of an error.
-fn error_line<'d>(
-    alloc: Global,
-    level: Level,
-    fault: DirectiveError<'d>,
-) -> Result<Lines, AllocError>
-    ensures { IfOk result (λ lines. lines ≡ line_of level (error fault.entry)) }
+// How items are shown: as rows of a page, or as lines of a level.
+fn way_of(as_rows: bool, level: Level) -> Way
+    ensures { result ≡ way_of as_rows level }
 {
-    let mut lines = Lines::new(alloc);
-    put(&mut lines, level, &Item::Error(fault))?;
-    Ok(lines)
+    if as_rows { Way::Rows } else { Way::At(level) }
+}
+
+// What is shown of an error.
+fn error_lines<'d>(alloc: Global, way: Way, fault: DirectiveError<'d>) -> Result<Lines, AllocError>
+    ensures { IfOk result (λ lines. lines ≡ lines_of way (error fault.entry)) }
+{
+    let lines = Lines::new(alloc);
+    let mut screen = Screen { way, lines };
+    screen.show(&Item::Error(fault))?;
+    Ok(screen.lines)
 }
 
 impl<L: RaftLog> Cluster<L> {
@@ -166,21 +169,32 @@ impl<L: RaftLog> Cluster<L> {
         }
     }
 
-    // Carries out what is asked for, and gives what it prints.
-    fn carry_out_asked(&mut self, asked: &Asked<'_>) -> Result<Lines, AllocError>
+    // Carries out what is asked for, and gives what it shows.
+    fn carry_out_asked(&mut self, as_rows: bool, asked: &Asked<'_>) -> Result<Lines, AllocError>
         requires within { IsWithin asked.now.request }
-        ensures cluster { OnOk result (self.new ≡ (unless_refused (fault asked.now.request self.old) asked.now self.old).cluster) }
-        ensures output { IfOk result (λ lines. lines ≡ (unless_refused (fault asked.now.request self.old) asked.now self.old).output) }
+        ensures cluster { OnOk result (self.new ≡ (unless_refused as_rows (fault asked.now.request self.old) asked.now self.old).cluster) }
+        ensures output { IfOk result (λ lines. lines ≡ (unless_refused as_rows (fault asked.now.request self.old) asked.now self.old).output) }
     {
         if let Some(error) = self.fault(&asked.request) {
-            return error_line(self.alloc, self.level, error);
+            return error_lines(self.alloc, way_of(as_rows, self.level), error);
         }
         let mut screen = Screen {
-            level: asked.log_level.unwrap_or(self.level),
+            way: way_of(as_rows, asked.log_level.unwrap_or(self.level)),
             lines: Lines::new(self.alloc),
         };
         self.perform(&asked.request, &mut screen)?;
         screen.or_ok()
+    }
+
+    // Runs a directive, and gives what it shows.
+    fn shown(&mut self, as_rows: bool, directive: &DirectiveRef<'_>) -> Result<Lines, AllocError>
+        ensures cluster { OnOk result (self.new ≡ (outcome_of as_rows (request (plain directive.now)) self.old).cluster) }
+        ensures output { IfOk result (λ lines. lines ≡ (outcome_of as_rows (request (plain directive.now)) self.old).output) }
+    {
+        match request(directive) {
+            Ok(asked) => self.carry_out_asked(as_rows, &asked),
+            Err(error) => error_lines(self.alloc, way_of(as_rows, self.level), error),
+        }
     }
 
     /// Runs a directive, and gives what it prints.
@@ -189,9 +203,15 @@ impl<L: RaftLog> Cluster<L> {
         ensures cluster { OnOk result (self.new ≡ (outcome self.old (plain directive.now)).cluster) }
         ensures output { IfOk result (λ lines. lines ≡ (outcome self.old (plain directive.now)).output) }
     {
-        match request(directive) {
-            Ok(asked) => self.carry_out_asked(&asked),
-            Err(error) => error_line(self.alloc, self.level, error),
-        }
+        self.shown(false, directive)
+    }
+
+    /// What a directive does, as rows of a page: a text an item, whatever the level is. It is done to a copy.
+    #[tactic(auto, unfolding(rb_machine::specs::Outcome::happened))]
+    pub fn happened(&self, directive: &DirectiveRef<'_>) -> Result<Lines, AllocError>
+        ensures { IfOk result (λ texts. texts ≡ happened self.now (plain directive.now)) }
+    {
+        let mut copy = Machine::try_copy(self)?;
+        copy.shown(true, directive)
     }
 }

@@ -1,5 +1,5 @@
 -- What a directive does: the first thing that refuses it is the whole output; else the effect of what it asks for. (This project's.)
-use Rattle.std.specs.Prelude.{ℕ, Bool, false, if◌then◌else◌, List, [], ◌∷◌, Option, Some, None, Result, Ok, Err}
+use Rattle.std.specs.Prelude.{ℕ, Bool, true, false, if◌then◌else◌, List, [], ◌∷◌, Option, Some, None, Result, Ok, Err}
 use Rattle.std.specs.List.{list_all}
 use Rattle.std.specs.Option.{unwrap_or, option_or}
 use Rattle.rb_script.specs.Lines.{Line}
@@ -16,8 +16,9 @@ use Rattle.rb_directive.specs.Requests.{request, nodes_of}
 use Rattle.rb_step.specs.Node.{PlainNode}
 use Rattle.rb_texts.specs.Items.{nothing_else, error}
 use Rattle.rb_texts.specs.Shapes.{is_solid}
-use Rattle.rb_texts.specs.Texts.{line_of}
 use Rattle.rb_machine.specs.declared.screen.Screen.{Screen}
+use Rattle.rb_machine.specs.declared.screen.Way.{Way}
+use Rattle.rb_machine.specs.declared.screen.Way.TheVariants as ways
 use Rattle.rb_machine.specs.Acts as acts
 use Rattle.rb_machine.specs.AddNodes.{add_nodes_fault, nodes_added}
 use Rattle.rb_machine.specs.Changes.{propose_change}
@@ -25,7 +26,7 @@ use Rattle.rb_machine.specs.Cluster.{Cluster, is_node}
 use Rattle.rb_machine.specs.Deliveries.{msgs_delivered}
 use Rattle.rb_machine.specs.Readies.{ready_done_each}
 use Rattle.rb_machine.specs.Rounds.{stabilized}
-use Rattle.rb_machine.specs.Scenes.{Scene, scene, with_cluster}
+use Rattle.rb_machine.specs.Scenes.{Scene, scene, with_cluster, lines_of}
 use Rattle.rb_machine.specs.Snapshots.{snapshot_sent, compact, compact_error}
 use Rattle.rb_machine.specs.Views.{log_shown, status_shown, states_shown}
 
@@ -112,36 +113,44 @@ effect requests.RaftState s = states_shown s
 
 -- ---- the whole
 
+-- as lines of a level, or as rows of a page
+abbrev pub way_of : Bool → Level → Way
+way_of as_rows level = if as_rows then ways.Rows else ways.At level
+
 -- `ok` where no line is left
-abbrev pub or_ok : Level → List Line → List Line
-or_ok level [] = line_of level nothing_else
-or_ok level (line ∷ lines) = line ∷ lines
+abbrev pub or_ok : Way → List Line → List Line
+or_ok way [] = lines_of way nothing_else
+or_ok way (line ∷ lines) = line ∷ lines
 
 -- an error is the whole output, and the cluster stays
-abbrev pub refused : Cluster → DirectiveError → Outcome
-refused c e = record { cluster = c; output = line_of c.level (error e) }
+abbrev pub refused : Bool → Cluster → DirectiveError → Outcome
+refused as_rows c e = record { cluster = c; output = lines_of (way_of as_rows c.level) (error e) }
 
 abbrev pub ended : Scene → Outcome
-ended s = record { cluster = s.cluster; output = or_ok s.screen.level s.screen.lines }
+ended s = record { cluster = s.cluster; output = or_ok s.screen.way s.screen.lines }
 
 -- the option `log-level` holds for this directive alone
-abbrev pub screen_of : Asked → Cluster → Screen
-screen_of a c = record { level = unwrap_or a.log_level c.level; lines = [] }
+abbrev pub screen_of : Bool → Asked → Cluster → Screen
+screen_of as_rows a c = record { way = way_of as_rows (unwrap_or a.log_level c.level); lines = [] }
 
-abbrev pub done : Asked → Cluster → Outcome
-done a c = ended (effect a.request (scene c (screen_of a c)))
+abbrev pub done : Bool → Asked → Cluster → Outcome
+done as_rows a c = ended (effect a.request (scene c (screen_of as_rows a c)))
 
-abbrev pub unless_refused : Option DirectiveError → Asked → Cluster → Outcome
-unless_refused (Some e) a c = refused c e
-unless_refused None a c = done a c
+abbrev pub unless_refused : Bool → Option DirectiveError → Asked → Cluster → Outcome
+unless_refused as_rows (Some e) a c = refused as_rows c e
+unless_refused as_rows None a c = done as_rows a c
 
-abbrev pub outcome_of : Result Asked DirectiveError → Cluster → Outcome
-outcome_of (Err e) c = refused c e
-outcome_of (Ok a) c = unless_refused (fault a.request c) a c
+abbrev pub outcome_of : Bool → Result Asked DirectiveError → Cluster → Outcome
+outcome_of as_rows (Err e) c = refused as_rows c e
+outcome_of as_rows (Ok a) c = unless_refused as_rows (fault a.request c) a c
 
 -- the cluster after a directive, and what it prints
 unfoldable pub outcome : Cluster → PlainDirective → Outcome
-outcome c d = outcome_of (request d) c
+outcome c d = outcome_of false (request d) c
+
+-- what it does, as rows of a page: a text an item, whatever the level is
+unfoldable pub happened : Cluster → PlainDirective → List Line
+happened c d = (outcome_of true (request d) c).output
 
 -- at least one line, and none that is blank or ---- or holds a byte outside 32 to 126
 unfoldable pub is_output : List Line → Bool

@@ -1,21 +1,30 @@
--- What a directive has done so far: the cluster that it leaves, and what it prints. (This project's.)
-use Rattle.std.specs.Prelude.{ℕ, List, [], ◌++◌, map, Option, Some, None}
+-- What a directive has done so far: the cluster that it leaves, and what it shows. (This project's.)
+use Rattle.std.specs.Prelude.{ℕ, List, [], ◌∷◌, ◌++◌, map, Option, Some, None}
 use Rattle.std.specs.List.{flat_map}
 use Rattle.rb_message.specs.declared.event.Event.{Event}
+use Rattle.rb_page.specs.ItemRows.{item_text}
+use Rattle.rb_script.specs.Lines.{Line}
 use Rattle.rb_step.specs.Node.{PlainNode, Turn, turn}
 use Rattle.rb_texts.specs.Items.{PlainItem, event}
 use Rattle.rb_texts.specs.Texts.{line_of}
 use Rattle.rb_machine.specs.declared.screen.Screen.{Screen}
+use Rattle.rb_machine.specs.declared.screen.Way.{Way}
+use Rattle.rb_machine.specs.declared.screen.Way.TheVariants as ways
 use Rattle.rb_machine.specs.Cluster.{Cluster, node_at, with_node}
 
--- ---- printing
+-- ---- showing
 
--- one more item is printed, where the level shows it
+-- an item, as it is shown
+abbrev pub lines_of : Way → PlainItem → List Line
+lines_of (ways.At level) = line_of level
+lines_of ways.Rows = λ item. item_text item ∷ []
+
+-- one more item is shown
 abbrev pub showing : Screen → PlainItem → Screen
-showing screen item = record screen { lines = screen.lines ++ line_of screen.level item }
+showing screen item = record screen { lines = screen.lines ++ lines_of screen.way item }
 
 abbrev pub showing_all : Screen → List PlainItem → Screen
-showing_all screen items = record screen { lines = screen.lines ++ flat_map (line_of screen.level) items }
+showing_all screen items = record screen { lines = screen.lines ++ flat_map (lines_of screen.way) items }
 
 -- ---- acting
 
@@ -39,7 +48,7 @@ events_shown s events = all_shown s (map event events)
 abbrev pub with_cluster : Scene → Cluster → Scene
 with_cluster s c = record s { cluster = c }
 
--- the node with this id becomes what its turn makes of it, and what it tells is printed
+-- the node with this id becomes what its turn makes of it, and what it tells is shown
 abbrev pub took : Scene → ℕ → Turn → Scene
 took s id t = events_shown (with_cluster s (with_node s.cluster id t.node)) t.events
 

@@ -1,0 +1,284 @@
+-- Whatever is done in a scene only shows items, and which they are doesn't depend on the screen.
+use Rattle.std.proofs.Common.{◌≡◌, ℕ, zero, suc, ◌+◌, Bool, true, false, List, [], ◌∷◌, ◌++◌, map, length, Option, Some, None, refl, ap, sym, ◌∙◌, append_assoc, append-nil}
+use Rattle.std.specs.Prelude.{if◌then◌else◌, Result, Ok, Err}
+use Rattle.std.specs.Option.{unwrap_or}
+use Rattle.std.specs.List.{flat_map, range_with_len}
+use Rattle.std.proofs.lemmas.List.Concat.{flat_map-append}
+use Rattle.rb_script.specs.Directive.{PlainDirective}
+use Rattle.rb_script.specs.Lines.{Line}
+use Rattle.rb_directive.specs.declared.asking.AddNodes.{AddNodes}
+use Rattle.rb_directive.specs.declared.asking.DeliverMsgs.{DeliverMsgs}
+use Rattle.rb_directive.specs.declared.asking.Request.{Request}
+use Rattle.rb_directive.specs.declared.asking.Request.TheVariants as requests
+use Rattle.rb_directive.specs.declared.message_type.TypeSet.{TypeSet}
+use Rattle.rb_directive.specs.declared.build.Asked.{Asked}
+use Rattle.rb_directive.specs.Requests.{request}
+use Rattle.rb_level.specs.declared.directive_error.DirectiveError.{DirectiveError}
+use Rattle.rb_message.specs.declared.kind.MessageKind.TheVariants as kinds
+use Rattle.rb_message.specs.declared.message.Message.{Message}
+use Rattle.rb_raftlog.specs.declared.snapshot.Snapshot.{Snapshot}
+use Rattle.rb_step.specs.declared.options.Options.{Options}
+use Rattle.rb_step.specs.Node.{PlainNode, Turn, turn, message}
+use Rattle.rb_step.specs.Sends.{snapshot_of}
+use Rattle.rb_step.specs.Step.{stepped}
+use Rattle.rb_node.specs.Calls.{node_started}
+use Rattle.rb_node.specs.Readying.{has_ready, handed, advanced}
+use Rattle.rb_texts.specs.Items.{PlainItem, error, event, moved, no_messages, nothing_ready, stopped}
+use Rattle.rb_texts.specs.declared.item.Verb.TheVariants as verbs
+use Rattle.rb_machine.specs.declared.screen.Screen.{Screen}
+use Rattle.rb_machine.specs.Acts as acts
+use Rattle.rb_machine.specs.AddNodes.{start, options, added_each, nodes_added}
+use Rattle.rb_machine.specs.Cluster.{Cluster, node_at, with_node}
+use Rattle.rb_machine.specs.Deliveries.{received, all_received, delivered, delivered_each, drop_item, dropped, dropped_each, meets_any, msgs_delivered}
+use Rattle.rb_machine.specs.declared.screen.Way.TheVariants as ways
+use Rattle.rb_machine.specs.Outcome.{effect, fault, level_set, or_ok, refused, screen_of, unless_refused, outcome_of, outcome, happened}
+use Rattle.rb_machine.specs.Pending.{has_room, mail, other_mail, with_pending, pushed, sent, all_sent}
+use Rattle.rb_machine.specs.Readies.{advanced_by, all_done, ready_done, ready_done_by, ready_done_each, ready_items}
+use Rattle.rb_machine.specs.Rounds.{chosen, is_ready, has_work, readied_each, round, settled}
+use Rattle.rb_machine.specs.Scenes.{Scene, scene, lines_of, showing_all, shown, all_shown, acted, acted_by}
+use Rattle.rb_machine.specs.Snapshots.{queued, snapshot_sent_by, compact_by, with_base}
+use Rattle.rb_machine.specs.Views.{log_items, status_items, state_item, log_shown_by, status_shown_by}
+use Rattle.rb_cluster.specs.Told.{AreOfOne, Tells}
+
+-- ---- one after another
+
+both_shown : (a : Screen) (xs ys : List PlainItem) → showing_all (showing_all a xs) ys ≡ showing_all a (xs ++ ys)
+both_shown a xs ys =
+    ap (λ (ls : List Line). record a { lines = ls }) (append_assoc a.lines (flat_map (lines_of a.way) xs) (flat_map (lines_of a.way) ys)
+    ∙ ap (λ (ls : List Line). a.lines ++ ls) (sym (flat_map-append (lines_of a.way) xs ys)))
+
+-- what is done after something
+after_tells : (first : Screen → Scene) (next : Scene → Scene) (t : Tells first) → Tells (λ (a : Screen). next (scene t.cluster a)) → Tells (λ (a : Screen). next (first a))
+after_tells first next t u = record {
+  cluster = u.cluster;
+  items = t.items ++ u.items;
+  is = λ a. ap next (t.is a) ∙ u.is (showing_all a t.items) ∙ ap (scene u.cluster) (both_shown a t.items u.items);
+}
+
+abbrev none_tells : (c : Cluster) → Tells (λ (a : Screen). scene c a)
+none_tells c = record { cluster = c; items = []; is = λ a. ap (λ (ls : List Line). scene c (record a { lines = ls })) (sym (append-nil a.lines)) }
+
+abbrev all_tells : (c : Cluster) (items : List PlainItem) → Tells (λ (a : Screen). all_shown (scene c a) items)
+all_tells c items = record { cluster = c; items = items; is = λ a. refl }
+
+abbrev one_tells : (c : Cluster) (item : PlainItem) → Tells (λ (a : Screen). shown (scene c a) item)
+one_tells c item = record {
+  cluster = c;
+  items = item ∷ [];
+  is = λ a. ap (λ (ls : List Line). scene c (record a { lines = a.lines ++ ls })) (sym (append-nil (lines_of a.way item)));
+}
+
+if_tells : (b : Bool) (first second : Screen → Scene) → Tells first → Tells second → Tells (λ (a : Screen). if b then first a else second a)
+if_tells true first second t u = record { cluster = t.cluster; items = t.items; is = t.is }
+if_tells false first second t u = record { cluster = u.cluster; items = u.items; is = u.is }
+
+-- ---- acting
+
+acted_by_tells : (n : Option PlainNode) (c : Cluster) (id : ℕ) (act : Turn → Turn) → Tells (λ (a : Screen). acted_by n (scene c a) id act)
+acted_by_tells None c id act = none_tells c
+acted_by_tells (Some n) c id act = all_tells (with_node c id (act (turn n [])).node) (map event (act (turn n [])).events)
+
+acted_tells : (c : Cluster) (id : ℕ) (act : Turn → Turn) → Tells (λ (a : Screen). acted (scene c a) id act)
+acted_tells c id act = acted_by_tells (node_at c id) c id act
+
+added_tells : (start : Snapshot) (options : Options) (c : Cluster) (ids : List ℕ) → Tells (λ (a : Screen). added_each start options (scene c a) ids)
+added_tells start options c [] = none_tells c
+added_tells start options c (id ∷ ids) =
+    let t : Turn = node_started id start options [] in
+    let more : Cluster = record c { nodes = c.nodes ++ t.node ∷ [] } in
+    after_tells (λ (a : Screen). all_shown (scene more a) (map event t.events)) (λ (s : Scene). added_each start options s ids)
+    (all_tells more (map event t.events)) (added_tells start options more ids)
+
+nodes_added_tells : (asked : AddNodes) (c : Cluster) → Tells (λ (a : Screen). nodes_added asked (scene c a))
+unfolding nodes_added
+nodes_added_tells asked c = added_tells (start asked) (options asked) c (range_with_len (length c.nodes + 1) asked.count)
+
+-- ---- sending
+
+sent_tells : (c : Cluster) (m : Message) → Tells (λ (a : Screen). sent (scene c a) m)
+sent_tells c m =
+    if_tells (has_room c.pending) (λ (a : Screen). pushed (scene c a) m) (λ (a : Screen). shown (scene c a) (moved verbs.NoRoomFor m))
+    (none_tells (with_pending c (c.pending ++ m ∷ []))) (one_tells c (moved verbs.NoRoomFor m))
+
+all_sent_tells : (c : Cluster) (ms : List Message) → Tells (λ (a : Screen). all_sent (scene c a) ms)
+all_sent_tells c [] = none_tells c
+all_sent_tells c (m ∷ ms) =
+    let t : Tells (λ (a : Screen). sent (scene c a) m) = sent_tells c m in
+    after_tells (λ (a : Screen). sent (scene c a) m) (λ (s : Scene). all_sent s ms) t (all_sent_tells t.cluster ms)
+
+-- ---- delivering and dropping
+
+received_tells : (c : Cluster) (id : ℕ) (m : Message) → Tells (λ (a : Screen). received (scene c a) id m)
+received_tells c id m =
+    after_tells (λ (a : Screen). shown (scene c a) (moved verbs.Deliver m)) (λ (s : Scene). acted s id (λ (t : Turn). stepped t m))
+    (one_tells c (moved verbs.Deliver m)) (acted_tells c id (λ (t : Turn). stepped t m))
+
+all_received_tells : (c : Cluster) (id : ℕ) (ms : List Message) → Tells (λ (a : Screen). all_received (scene c a) id ms)
+all_received_tells c id [] = none_tells c
+all_received_tells c id (m ∷ ms) =
+    let t : Tells (λ (a : Screen). received (scene c a) id m) = received_tells c id m in
+    after_tells (λ (a : Screen). received (scene c a) id m) (λ (s : Scene). all_received s id ms) t (all_received_tells t.cluster id ms)
+
+delivered_tells : (c : Cluster) (id : ℕ) (types : Option TypeSet) → Tells (λ (a : Screen). delivered (scene c a) id types)
+unfolding delivered
+delivered_tells c id types = all_received_tells (with_pending c (other_mail c.pending id types)) id (mail c.pending id types)
+
+delivered_each_tells : (c : Cluster) (ids : List ℕ) (types : Option TypeSet) → Tells (λ (a : Screen). delivered_each (scene c a) ids types)
+delivered_each_tells c [] types = none_tells c
+delivered_each_tells c (id ∷ ids) types =
+    let t : Tells (λ (a : Screen). delivered (scene c a) id types) = delivered_tells c id types in
+    after_tells (λ (a : Screen). delivered (scene c a) id types) (λ (s : Scene). delivered_each s ids types) t (delivered_each_tells t.cluster ids types)
+
+dropped_tells : (c : Cluster) (id : ℕ) (types : Option TypeSet) → Tells (λ (a : Screen). dropped (scene c a) id types)
+unfolding dropped
+dropped_tells c id types = all_tells (with_pending c (other_mail c.pending id types)) (map drop_item (mail c.pending id types))
+
+dropped_each_tells : (c : Cluster) (ids : List ℕ) (types : Option TypeSet) → Tells (λ (a : Screen). dropped_each (scene c a) ids types)
+dropped_each_tells c [] types = none_tells c
+dropped_each_tells c (id ∷ ids) types =
+    let t : Tells (λ (a : Screen). dropped (scene c a) id types) = dropped_tells c id types in
+    after_tells (λ (a : Screen). dropped (scene c a) id types) (λ (s : Scene). dropped_each s ids types) t (dropped_each_tells t.cluster ids types)
+
+msgs_delivered_tells : (asked : DeliverMsgs) (c : Cluster) → Tells (λ (a : Screen). msgs_delivered asked (scene c a))
+unfolding msgs_delivered
+msgs_delivered_tells asked c =
+    let t : Tells (λ (a : Screen). delivered_each (scene c a) asked.nodes asked.types) = delivered_each_tells c asked.nodes asked.types in
+    let goes : Tells (λ (a : Screen). dropped_each (delivered_each (scene c a) asked.nodes asked.types) asked.drop asked.types) =
+    after_tells (λ (a : Screen). delivered_each (scene c a) asked.nodes asked.types) (λ (s : Scene). dropped_each s asked.drop asked.types) t
+    (dropped_each_tells t.cluster asked.drop asked.types) in
+    if_tells (meets_any asked c.pending) (λ (a : Screen). dropped_each (delivered_each (scene c a) asked.nodes asked.types) asked.drop asked.types)
+    (λ (a : Screen). shown (scene c a) no_messages) goes (one_tells c no_messages)
+
+-- ---- what is ready
+
+advanced_by_tells : (n : Option PlainNode) (c : Cluster) (id : ℕ) → Tells (λ (a : Screen). advanced_by n (scene c a) id)
+advanced_by_tells None c id = none_tells c
+advanced_by_tells (Some n) c id =
+    let t : Turn = advanced (turn n []) in
+    let after : Cluster = with_node c id t.node in
+    let u : Tells (λ (a : Screen). all_sent (scene after a) (handed n)) = all_sent_tells after (handed n) in
+    after_tells (λ (a : Screen). all_sent (scene after a) (handed n)) (λ (s : Scene). all_shown s (map event t.events)) u (all_tells u.cluster (map event t.events))
+
+all_done_tells : (c : Cluster) (id : ℕ) (n : PlainNode) → Tells (λ (a : Screen). all_done (scene c a) id n)
+unfolding all_done
+all_done_tells c id n =
+    after_tells (λ (a : Screen). all_shown (scene c a) (ready_items id n)) (λ (s : Scene). advanced_by (node_at s.cluster id) s id)
+    (all_tells c (ready_items id n)) (advanced_by_tells (node_at c id) c id)
+
+ready_done_by_tells : (n : Option PlainNode) (c : Cluster) (id : ℕ) → Tells (λ (a : Screen). ready_done_by n (scene c a) id)
+ready_done_by_tells None c id = none_tells c
+ready_done_by_tells (Some n) c id =
+    if_tells (has_ready n) (λ (a : Screen). all_done (scene c a) id n) (λ (a : Screen). shown (scene c a) (nothing_ready id))
+    (all_done_tells c id n) (one_tells c (nothing_ready id))
+
+ready_done_tells : (c : Cluster) (id : ℕ) → Tells (λ (a : Screen). ready_done (scene c a) id)
+ready_done_tells c id = ready_done_by_tells (node_at c id) c id
+
+ready_done_each_tells : (c : Cluster) (ids : List ℕ) → Tells (λ (a : Screen). ready_done_each (scene c a) ids)
+ready_done_each_tells c [] = none_tells c
+ready_done_each_tells c (id ∷ ids) =
+    let t : Tells (λ (a : Screen). ready_done (scene c a) id) = ready_done_tells c id in
+    after_tells (λ (a : Screen). ready_done (scene c a) id) (λ (s : Scene). ready_done_each s ids) t (ready_done_each_tells t.cluster ids)
+
+-- ---- rounds
+
+readied_each_tells : (c : Cluster) (ids : List ℕ) → Tells (λ (a : Screen). readied_each (scene c a) ids)
+readied_each_tells c [] = none_tells c
+readied_each_tells c (id ∷ ids) =
+    let t : Tells (λ (a : Screen). if is_ready c id then ready_done (scene c a) id else scene c a) =
+    if_tells (is_ready c id) (λ (a : Screen). ready_done (scene c a) id) (λ (a : Screen). scene c a) (ready_done_tells c id) (none_tells c) in
+    after_tells (λ (a : Screen). if is_ready c id then ready_done (scene c a) id else scene c a) (λ (s : Scene). readied_each s ids) t (readied_each_tells t.cluster ids)
+
+round_tells : (c : Cluster) (ids : List ℕ) → Tells (λ (a : Screen). round (scene c a) ids)
+unfolding round
+round_tells c ids =
+    let t : Tells (λ (a : Screen). readied_each (scene c a) ids) = readied_each_tells c ids in
+    after_tells (λ (a : Screen). readied_each (scene c a) ids) (λ (s : Scene). delivered_each s ids None) t (delivered_each_tells t.cluster ids None)
+
+settled_tells : (allowed rounds : ℕ) (c : Cluster) (ids : List ℕ) → Tells (λ (a : Screen). settled allowed rounds (scene c a) ids)
+unfolding settled
+settled_tells allowed zero c ids =
+    if_tells (has_work c ids) (λ (a : Screen). shown (scene c a) (stopped allowed)) (λ (a : Screen). scene c a) (one_tells c (stopped allowed)) (none_tells c)
+settled_tells allowed (suc rounds) c ids =
+    let t : Tells (λ (a : Screen). round (scene c a) ids) = round_tells c ids in
+    let goes : Tells (λ (a : Screen). settled allowed rounds (round (scene c a) ids) ids) =
+    after_tells (λ (a : Screen). round (scene c a) ids) (λ (s : Scene). settled allowed rounds s ids) t (settled_tells allowed rounds t.cluster ids) in
+    if_tells (has_work c ids) (λ (a : Screen). settled allowed rounds (round (scene c a) ids) ids) (λ (a : Screen). scene c a) goes (none_tells c)
+
+-- ---- snapshots
+
+queued_tells : (c : Cluster) (m : Message) → Tells (λ (a : Screen). queued (scene c a) m)
+unfolding queued
+queued_tells c m =
+    if_tells (has_room c.pending) (λ (a : Screen). shown (pushed (scene c a) m) (moved verbs.Queue m)) (λ (a : Screen). shown (scene c a) (moved verbs.NoRoomFor m))
+    (one_tells (with_pending c (c.pending ++ m ∷ [])) (moved verbs.Queue m)) (one_tells c (moved verbs.NoRoomFor m))
+
+snapshot_sent_by_tells : (n : Option PlainNode) (from to : ℕ) (c : Cluster) → Tells (λ (a : Screen). snapshot_sent_by n from to (scene c a))
+snapshot_sent_by_tells None from to c = none_tells c
+snapshot_sent_by_tells (Some n) from to c = queued_tells c (message from to n.term (kinds.Snapshot (snapshot_of n)))
+
+compact_by_tells : (n : Option PlainNode) (id index : ℕ) (c : Cluster) → Tells (λ (a : Screen). compact_by n id index (scene c a))
+compact_by_tells None id index c = none_tells c
+compact_by_tells (Some n) id index c = all_tells (with_node c id (with_base n index)) (log_items (with_base n index))
+
+-- ---- views
+
+log_shown_by_tells : (n : Option PlainNode) (c : Cluster) → Tells (λ (a : Screen). log_shown_by n (scene c a))
+log_shown_by_tells None c = none_tells c
+log_shown_by_tells (Some n) c = all_tells c (log_items n)
+
+status_shown_by_tells : (n : Option PlainNode) (c : Cluster) → Tells (λ (a : Screen). status_shown_by n (scene c a))
+status_shown_by_tells None c = none_tells c
+status_shown_by_tells (Some n) c = all_tells c (status_items n)
+
+-- ---- the whole
+
+pub effect_tells : (r : Request) (c : Cluster) → Tells (λ (a : Screen). effect r (scene c a))
+effect_tells (requests.AddNodes asked) c = nodes_added_tells asked c
+effect_tells (requests.Campaign id) c = acted_tells c id _
+effect_tells (requests.Propose id payload) c = acted_tells c id _
+effect_tells (requests.ProposeConfChange asked) c = acted_tells c asked.id _
+effect_tells (requests.ProcessReady ids) c = ready_done_each_tells c ids
+effect_tells (requests.DeliverMsgs asked) c = msgs_delivered_tells asked c
+effect_tells (requests.Stabilize ids rounds) c = settled_tells rounds rounds c (chosen ids c.nodes)
+effect_tells (requests.TickElection id) c = acted_tells c id _
+effect_tells (requests.TickHeartbeat id) c = acted_tells c id _
+effect_tells (requests.SetRandomizedElectionTimeout id timeout) c = none_tells (acts.set_timeout id timeout c)
+effect_tells (requests.TransferLeadership from to) c = acted_tells c from _
+effect_tells (requests.ForgetLeader id) c = none_tells (acts.forget_leader id c)
+effect_tells (requests.ReportUnreachable id peer) c = none_tells (acts.report_unreachable id peer c)
+effect_tells (requests.SendSnapshot from to) c = snapshot_sent_by_tells (node_at c from) from to c
+effect_tells (requests.Compact id index) c = compact_by_tells (node_at c id) id index c
+effect_tells (requests.LogLevel level) c = none_tells (level_set level c)
+effect_tells (requests.RaftLog id) c = log_shown_by_tells (node_at c id) c
+effect_tells (requests.Status id) c = status_shown_by_tells (node_at c id) c
+effect_tells requests.RaftState c = all_tells c (map state_item c.nodes)
+
+-- ---- directives
+
+refused_of_one : (c : Cluster) (e : DirectiveError) → AreOfOne (refused false c e).output (refused true c e).output
+refused_of_one c e = record {
+  level = c.level;
+  items = error e ∷ [];
+  printed_is = sym (ap (or_ok (ways.At c.level)) (append-nil (lines_of (ways.At c.level) (error e))));
+  kept_is = refl;
+}
+
+unless_of_one : (e : Option DirectiveError) (a : Asked) (c : Cluster) → AreOfOne (unless_refused false e a c).output (unless_refused true e a c).output
+unless_of_one (Some e) a c = refused_of_one c e
+unless_of_one None a c =
+    let t : Tells (λ (screen : Screen). effect a.request (scene c screen)) = effect_tells a.request c in record {
+      level = unwrap_or a.log_level c.level;
+      items = t.items;
+      printed_is = ap (λ (s : Scene). or_ok s.screen.way s.screen.lines) (t.is (screen_of false a c));
+      kept_is = ap (λ (s : Scene). or_ok s.screen.way s.screen.lines) (t.is (screen_of true a c));
+    }
+
+outcome_of_one : (r : Result Asked DirectiveError) (c : Cluster) → AreOfOne (outcome_of false r c).output (outcome_of true r c).output
+outcome_of_one (Err e) c = refused_of_one c e
+outcome_of_one (Ok a) c = unless_of_one (fault a.request c) a c
+
+-- what a directive prints, and its rows, are of the same items
+pub are_of_one : (c : Cluster) (d : PlainDirective) → AreOfOne (outcome c d).output (happened c d)
+unfolding outcome happened
+are_of_one c d = outcome_of_one (request d) c
