@@ -12,10 +12,10 @@ ghost use Rattle.rb_bench.specs.Runs.{Answers, RunsOver, IsWritten, text_for, st
 use crate::fault::BenchFault;
 use crate::outlet::Outlet;
 use crate::reading::read_up_to;
-use crate::starting::{BenchSession, started};
+use crate::starting::{BenchSession, run_once};
 use crate::status::Status;
 use rb_line::Source;
-use rb_replay::{MAX_SPACING, is_spacing};
+use rb_replay::is_spacing;
 use rb_script::{MAX_SCRIPT, Sink, WriteFault};
 use std::alloc::Global;
 use std::mem::forget;
@@ -31,7 +31,7 @@ pub enum Mode {
 
 /// Reads a script, runs it and writes what `mode` asks for. The answer is the program's status: `Done`, or `Mismatches`
 /// where a report shows some. `every` is how many directives a session would have from one checkpoint to the next, 1 to 64;
-/// it changes no text, and a run, which nobody edits, keeps as few clusters as it may.
+/// it changes no text, and a run, which nobody edits, keeps none.
 ///
 /// What the run held is not given back, since the program ends behind it: who runs many scripts holds sessions of rb_replay.
 ///
@@ -93,8 +93,8 @@ pub fn run_bytes<W: Outlet>(
     if !is_spacing(every) {
         return Err(BenchFault::Spacing);
     }
-    // No edit follows, and no text depends on what is kept: so as little is kept as may be.
-    let session = started(alloc, &bytes, MAX_SPACING)?;
+    // No edit follows, and no text depends on what is kept.
+    let session = run_once(alloc, &bytes)?;
     drop(bytes);
     let answer = answer(&session, writer, mode);
     // To give it back piece by piece would take a short run a tenth of its time.

@@ -1,9 +1,10 @@
-//! A session on the script of some bytes.
+//! Sessions on the script of some bytes.
 
 ghost use Rattle.std.specs.Prelude.{◌≡◌, ◌≢◌, ◌↔◌, Err, true, false, IfOk, IfErr, IfSome};
 ghost use Rattle.rb_script.specs.Script.{PlainScript};
 ghost use Rattle.rb_script.specs.Reads.{Reads};
 ghost use Rattle.rb_script.specs.Reading.{read_of, early_fault};
+ghost use Rattle.rb_replay.specs.Holding.{IsFresh};
 ghost use Rattle.rb_replay.specs.Start.{is_spacing};
 ghost use Rattle.rb_bench.specs.Faults.{TellsFault};
 ghost use Rattle.rb_bench.specs.Serves.{IsStarted};
@@ -32,4 +33,20 @@ pub(crate) fn started(alloc: Global, bytes: &[u8], every: u64) -> Result<BenchSe
 {
     let mut meter = Meter::new();
     Ok(Session::start(alloc, bytes, every, &mut meter)?)
+}
+
+/// A session on the script of the bytes that keeps no cluster, since nobody edits it.
+pub(crate) fn run_once(alloc: Global, bytes: &[u8]) -> Result<BenchSession, BenchFault>
+    ensures script { IfOk result (λ s. Reads bytes.now s.script) }
+    ensures fresh { IfOk result IsFresh }
+    // What is a script is refused for want of memory alone.
+    ensures only { (s : PlainScript) → Reads bytes.now s → IfErr result (λ fault. fault ≡ BenchFault.OutOfMemory) }
+    ensures refused { IfErr result (λ fault. TellsFault fault (read_of bytes.now)) }
+    // What is too long is found whether or not there is memory.
+    ensures early { IfSome (early_fault bytes.now) (λ fault. result ≡ Err (BenchFault.Script fault)) }
+    // Nothing else is read or written, and no spacing is looked at.
+    ensures own { IfErr result (λ fault. (fault ≢ BenchFault.Io) × (fault ≢ BenchFault.Spacing)) }
+{
+    let mut meter = Meter::new();
+    Ok(Session::run_once(alloc, bytes, &mut meter)?)
 }

@@ -7,7 +7,7 @@ use rb_cluster::{Cluster, Meter};
 use rb_line::Incoming;
 use rb_machine::Machine;
 use rb_raftlog::PlainLog;
-use rb_replay::{MAX_SPACING, Session};
+use rb_replay::Session;
 use rb_script::{MAX_SCRIPT, Through};
 use std::io;
 use std::io::{BufWriter, Write};
@@ -26,7 +26,7 @@ fn is_told<M: Machine, R: Print + AllocGlobal>(rt: &R, session: &Session<M>) -> 
 /// Whether the script ran, and its report was written. What the run held isn't given back, since the program ends here.
 fn is_run<M: Machine<Meter = Meter>, R: Print + AllocGlobal>(rt: &R, script: &[u8]) -> bool {
     let mut meter = Meter::new();
-    match Session::<M>::start(rt.alloc(), script, MAX_SPACING, &mut meter) {
+    match Session::<M>::run_once(rt.alloc(), script, &mut meter) {
         Ok(session) => {
             let answer = is_told(rt, &session);
             forget(session);

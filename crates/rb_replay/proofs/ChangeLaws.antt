@@ -22,7 +22,6 @@ use Rattle.rb_replay.specs.Report.{differing, mismatches}
 use Rattle.rb_replay.specs.Holding.{Holding, IsFresh}
 use Rattle.rb_replay.specs.Reuse.{change_by, effect_of, change, change_of, change_for, IsChange}
 use Rattle.rb_replay.specs.Cuts.{no_cut, IsMended}
-use Rattle.rb_replay.proofs.FreshLaws.{spacing-least}
 use Rattle.rb_replay.proofs.RunLaws.{both, outputs-same, length-outputs}
 use Rattle.rb_replay.proofs.DifferingLaws.{differing-accepted}
 
@@ -93,7 +92,7 @@ spliced-change h new f put r t fresh made fr rf rs few t_is =
       old_within = rs;
       new_within = omega arith;
       lengths = omega arith;
-      spaced = spacing-least h.spacing fresh.spaced;
+      spaced = fresh.spaced;
       kept = fresh.near;
     }
 

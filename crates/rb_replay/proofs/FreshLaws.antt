@@ -1,7 +1,6 @@
 -- What a session holds is fresh.
-use Rattle.std.proofs.Common.{◌≡◌, ℕ, ◌+◌, ◌≤◌, nat_le, true, List, ◌++◌, length, take, drop, map, ap, sym, ◌∙◌, arith, subst}
-use Rattle.std.proofs.lemmas.Bool.{and_parts}
-use Rattle.std.proofs.lemmas.Bool.Decides.{nat_tests}
+use Rattle.std.proofs.Common.{◌≡◌, ℕ, ◌+◌, ◌/◌, ◌≤◌, List, [], ◌∷◌, ◌++◌, length, take, drop, map, ap, sym, ◌∙◌, arith, subst}
+use Rattle.std.proofs.Math.Nat.{div-eq_of_lt}
 use Rattle.std.proofs.lemmas.List.{map-append, take-map, drop-map}
 use Rattle.rb_script.specs.declared.limits.TheConstants.{MAX_DIRECTIVES}
 use Rattle.rb_script.specs.Script.{PlainScript}
@@ -9,10 +8,8 @@ use Rattle.rb_machine.specs.Cluster.{Cluster}
 use Rattle.rb_script.specs.Lines.{Line}
 use Rattle.rb_replay.specs.Run.{directives, state, outputs}
 use Rattle.rb_replay.specs.Report.{differing, mismatches}
-use Rattle.rb_replay.specs.Points.{AreKept, start_points}
+use Rattle.rb_replay.specs.Points.{AreKept, every, start_points}
 use Rattle.rb_replay.specs.Holding.{Holding, IsFresh}
-use Rattle.rb_replay.specs.Start.{is_spacing}
-use Rattle.rb_replay.specs.declared.spacing.TheConstants.{MAX_SPACING}
 use Rattle.rb_replay.proofs.NearLaws.{start-kept}
 use Rattle.rb_replay.proofs.RunLaws.{both, outputs-same, states-same, lengths-same}
 
@@ -37,18 +34,18 @@ joined-map meaning f r kept fresh =
     map-append meaning (take f kept) (fresh ++ drop r kept)
     ∙ both (λ (a b : List Cluster). a ++ b) (sym (take-map meaning f kept)) (map-append meaning fresh (drop r kept) ∙ ap (λ (b : List Cluster). map meaning fresh ++ b) (sym (drop-map meaning r kept)))
 
--- clusters are kept one directive apart, or more
-pub spacing-least : (every : ℕ) → is_spacing every ≡ true → 1 ≤ every
-spacing-least every is = let one : nat_le 1 every ≡ true = (and_parts (nat_le 1 every) (nat_le every MAX_SPACING) is).0 in grind (arith, nat_tests)
+-- Where the spacing is past the end, the empty cluster alone is kept.
+pub start-alone : (n : ℕ) → start_points (n + 1) n ≡ 0 ∷ []
+start-alone n = let none : n / (n + 1) ≡ 0 = div-eq_of_lt (omega arith) in ap (λ (j : ℕ). 0 ∷ every (n + 1) 0 j) none
 
 -- what a run of the whole script gives
-pub fresh-whole : (s : PlainScript) (K : ℕ) (os : List (List Line)) (ms points : List ℕ) (kept : List Cluster) → is_spacing K ≡ true → length s.blocks ≤ MAX_DIRECTIVES → os ≡ outputs s → ms ≡ differing (0 + 1) (drop 0 s.blocks) os → points ≡ start_points K (length s.blocks) → kept ≡ map (state s) points
+pub fresh-whole : (s : PlainScript) (K : ℕ) (os : List (List Line)) (ms points : List ℕ) (kept : List Cluster) → 1 ≤ K → length s.blocks ≤ MAX_DIRECTIVES → os ≡ outputs s → ms ≡ differing (0 + 1) (drop 0 s.blocks) os → points ≡ start_points K (length s.blocks) → kept ≡ map (state s) points
     → IsFresh (record { script = s; spacing = K; outputs = os; mismatches = ms; points = points; kept = kept })
 fresh-whole s K os ms points kept spaced few answered compared placed states = record {
   answered = answered;
   compared = compared ∙ ap (λ (n : ℕ). differing n s.blocks os) (omega arith) ∙ ap (differing 1 s.blocks) answered;
   states = states;
-  near = subst (AreKept K (length s.blocks)) (sym placed) (start-kept K (length s.blocks) (spacing-least K spaced));
+  near = subst (AreKept K (length s.blocks)) (sym placed) (start-kept K (length s.blocks) spaced);
   spaced = spaced;
   few = few;
 }

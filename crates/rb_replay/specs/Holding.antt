@@ -1,5 +1,5 @@
 -- What a session holds. (This project's.)
-use Rattle.std.specs.Prelude.{◌≡◌, ℕ, ◌≤◌, true, List, map, length}
+use Rattle.std.specs.Prelude.{◌≡◌, ℕ, ◌≤◌, List, map, length}
 use Rattle.rb_script.specs.declared.limits.TheConstants.{MAX_DIRECTIVES}
 use Rattle.rb_script.specs.Lines.{Line}
 use Rattle.rb_script.specs.Script.{PlainScript}
@@ -7,7 +7,6 @@ use Rattle.rb_machine.specs.Cluster.{Cluster}
 use Rattle.rb_replay.specs.Run.{state, outputs}
 use Rattle.rb_replay.specs.Report.{mismatches}
 use Rattle.rb_replay.specs.Points.{AreKept}
-use Rattle.rb_replay.specs.Start.{is_spacing}
 
 pub record Holding : Type 0 where
   pub script : PlainScript
@@ -24,5 +23,5 @@ pub record IsFresh (h : Holding) : Type 0 where
   pub compared : h.mismatches ≡ mismatches h.script
   pub states : h.kept ≡ map (state h.script) h.points
   pub near : AreKept h.spacing (length h.script.blocks) h.points
-  pub spaced : is_spacing h.spacing ≡ true
+  pub spaced : 1 ≤ h.spacing
   pub few : length h.script.blocks ≤ MAX_DIRECTIVES

@@ -44,7 +44,7 @@ fn read(alloc: Global, bytes: &[u8]) -> Result<Script, StartFault>
 }
 
 impl<M: Machine> Session<M> {
-    ghost use Rattle.std.specs.Prelude.{◌≡◌, ◌≢◌, ◌+◌, ◌≤◌, ◌^◌, ℕ, true, false, length, IfOk, IfErr, IfSome, OnOk, OnErr, Ok, Err};
+    ghost use Rattle.std.specs.Prelude.{◌≡◌, ◌≢◌, ◌+◌, ◌≤◌, ◌^◌, ◌∷◌, [], ℕ, true, false, length, IfOk, IfErr, IfSome, OnOk, OnErr, Ok, Err};
     ghost use Rattle.rb_script.specs.declared.limits.TheConstants.{MAX_DIRECTIVES};
     ghost use Rattle.rb_script.specs.Script.{PlainScript};
     ghost use Rattle.rb_script.specs.Reads.{Reads};
@@ -88,6 +88,29 @@ impl<M: Machine> Session<M> {
         Ok(Session::started(alloc, script, every as usize, meter)?)
     }
 
+    /// Reads the script of the bytes and runs it whole, as [`Session::start`] does, for whoever edits no directive: the empty
+    /// cluster alone is kept, so an edit runs all that stands before it again.
+    pub fn run_once(
+        alloc: Global,
+        bytes: &[u8],
+        meter: &mut M::Meter,
+    ) -> Result<Session<M>, StartFault>
+        requires { M.Meter.count_of meter.old ≤ 2 ^ 62 }
+        ensures script { IfOk result (λ s. Reads bytes.now s.script) }
+        ensures fresh { IfOk result IsFresh }
+        ensures points { IfOk result (λ s. s.points ≡ 0 ∷ []) }
+        ensures counted { IfOk result (λ s. M.Meter.count_of meter.new ≡ M.Meter.count_of meter.old + length s.script.blocks) }
+        ensures spaced { result ≢ Err StartFault.BadSpacing }
+        ensures only { (s : PlainScript) → Reads bytes.now s → IfErr result (λ fault. fault ≡ StartFault.OutOfMemory) }
+        ensures refused { IfErr result (λ fault. TellsStartFault fault (read_of bytes.now)) }
+        ensures early { IfSome (early_fault bytes.now) (λ fault. result ≡ Err (StartFault.Script fault)) }
+        ensures risen { IfErr result (λ fault. RisesFor fault bytes.now (M.Meter.count_of meter.old) (M.Meter.count_of meter.new)) }
+    {
+        let script = read(alloc, bytes)?;
+        let past_the_end = script.len() + 1;
+        Ok(Session::started(alloc, script, past_the_end, meter)?)
+    }
+
     /// Runs the script whole.
     fn started(
         alloc: Global,
@@ -95,7 +118,7 @@ impl<M: Machine> Session<M> {
         spacing: usize,
         meter: &mut M::Meter,
     ) -> Result<Session<M>, AllocError>
-        requires spacing { is_spacing spacing ≡ true }
+        requires spacing { 1 ≤ spacing }
         requires few { length script.blocks ≤ MAX_DIRECTIVES }
         requires meter { M.Meter.count_of meter.old ≤ 2 ^ 62 }
         ensures script { IfOk result (λ s. s.script ≡ script) }
