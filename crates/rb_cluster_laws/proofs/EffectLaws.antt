@@ -148,13 +148,13 @@ has_effect g s requests.RaftState x steady may tied = stays g s x.cluster tied
 
 -- ---- directives
 
-unless_reached : (g : Setting) (s : Network) (o : Option DirectiveError) (a : Asked) (c : Cluster) → fault a.request c ≡ o → IsSteadyRequest a.request → IsTied g s c → IsReached g s (unless_refused o a c).cluster
+unless_reached : (g : Setting) (s : Network) (o : Option DirectiveError) (a : Asked) (c : Cluster) → fault a.request c ≡ o → IsSteadyRequest a.request → IsTied g s c → IsReached g s (unless_refused false o a c).cluster
 unfolding fault
 unless_reached g s (Some e) a c is steady tied = stays g s c tied
 unless_reached g s None a c is steady tied =
-    has_effect g s a.request (scene c (screen_of a c)) steady (neither (missing_node c.nodes (nodes_of a.request)) (own_fault a.request c) is) tied
+    has_effect g s a.request (scene c (screen_of false a c)) steady (neither (missing_node c.nodes (nodes_of a.request)) (own_fault a.request c) is) tied
 
-by_request : (g : Setting) (s : Network) (r : Result Asked DirectiveError) (c : Cluster) → IsSteadyBy r → IsTied g s c → IsReached g s (outcome_of r c).cluster
+by_request : (g : Setting) (s : Network) (r : Result Asked DirectiveError) (c : Cluster) → IsSteadyBy r → IsTied g s c → IsReached g s (outcome_of false r c).cluster
 by_request g s (Err e) c steady tied = stays g s c tied
 by_request g s (Ok a) c steady tied = unless_reached g s (fault a.request c) a c refl steady tied
 
