@@ -1,0 +1,3 @@
+pub use Rattle.rb_machine.specs.Cluster
+pub use Rattle.rb_replay.specs.Run
+pub mod Looks

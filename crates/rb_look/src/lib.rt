@@ -1,0 +1,15 @@
+//! What stands after a directive of a script: its cluster, told by what directives would print there.
+//!
+//! [`look`] runs a script up to a directive, and asks for the state of each node, its log, what a leader knows of the others, and the messages
+//! on their way. The script stays as it is.
+#![tactic(auto)]
+
+mod answer;
+mod laws;
+mod looking;
+mod nodes;
+mod section;
+
+pub use laws::answers_are_those_of_the_script;
+pub use looking::look;
+pub use nodes::Nodes;
