@@ -1,7 +1,7 @@
 -- Every call of a node: what takes effect, ticks, what is ready, and the rest
-use Rattle.std.proofs.Common.{◌≡◌, ℕ, ◌+◌, ◌-◌, ◌<◌, Bool, true, false, not, ◌&&◌, List, [], ◌∷◌, length, min, Option, Some, None, Result, Ok, Err, refl, sym, ap, subst, ◌∙◌, if◌then◌else◌, nat_le, ◌==◌, eqb-true}
+use Rattle.std.proofs.Common.{◌≡◌, ℕ, ◌+◌, ◌-◌, ◌<◌, ◌≤◌, arith, Bool, true, false, not, ◌&&◌, List, [], ◌∷◌, length, min, Option, Some, None, Result, Ok, Err, refl, sym, ap, subst, ◌∙◌, if◌then◌else◌, nat_le, ◌==◌, eqb-true}
 use Rattle.std.specs.Prelude.{All, Contains}
-use Rattle.std.proofs.lemmas.Bool.{false≢true}
+use Rattle.std.proofs.lemmas.Bool.{false≢true, leb-false}
 use Rattle.std.proofs.lemmas.List.Elements.{All-nil, All-head, All-tail, All-take, All-drop, All-weaker, All-contains, All-contains_itself}
 use Rattle.rb_raftlog.specs.Bodies.{is_change}
 use Rattle.rb_raftlog.specs.declared.entry.Body.{Body}
@@ -9,7 +9,9 @@ use Rattle.rb_raftlog.specs.declared.entry.Body.TheVariants.{Payload, Change}
 use Rattle.rb_raftlog.specs.declared.entry.Entry.{Entry}
 use Rattle.rb_raftlog.specs.declared.raft_log.CompactFault.{CompactFault}
 use Rattle.rb_raftlog.specs.declared.raft_log.LogFault.{LogFault}
-use Rattle.rb_raftlog.specs.Log.{LogValue, between, made_durable, compact_fault, compacted, term_at}
+use Rattle.rb_raftlog.specs.Log.{LogValue, last, compact_fault, compacted, term_at}
+use Rattle.rb_raftlog.proofs.TermLaws.{held_in}
+use Rattle.rb_raftlog.proofs.PlaceLaws.{compacted-ends}
 use Rattle.rb_tracker.proofs.SetLaws.{if_both}
 use Rattle.rb_tracker.specs.Active.{unmarked}
 use Rattle.rb_tracker.specs.Commits.{match_of}
@@ -34,7 +36,8 @@ use Rattle.rb_node.specs.Readying.{applying, saved, own_stepped, advanced}
 use Rattle.rb_node.specs.Ticking.{counted as counted_tick, beat_to, beat_each, heartbeats_due, has_lost_quorum, looked_anew, quorum_looked_at, leader_counted, counted_up, leader_ticked, is_due, other_ticked, ticked_by}
 use Rattle.rb_node_laws.specs.Calling.{Call, Step, Campaign, Propose, Transfer, Tick, Advance, ForgetLeader, ReportUnreachable, SetTimeout, Compact, compacted_unless, after}
 use Rattle.rb_cluster_laws.specs.Honesty.{IsPlain, Keeps}
-use Rattle.rb_cluster_laws.proofs.Holding.{World, IsOwn, Holds, with_log, says}
+use Rattle.rb_cluster_laws.proofs.LinkedLogs.{compacted_linked}
+use Rattle.rb_cluster_laws.proofs.Holding.{World, IsOwn, IsChain, IsFine, Holds, with_log, says}
 use Rattle.rb_cluster_laws.proofs.LeaderHolds.{transfer_ended_holds}
 use Rattle.rb_cluster_laws.proofs.StepHolds.{followed_holds, campaigned_holds, Gives, stepped_holds}
 
@@ -72,7 +75,7 @@ left_holds {w} t h =
 beat_holds : {w : World} (n : PlainNode) (id : ℕ) → Holds w n → Holds w (beat_to n id)
 beat_holds {w} n id h =
     if_both (λ (x : PlainNode). Holds w x) (id == n.id) _ _ (λ _. h)
-    (λ _. says n (message n.id id n.term (kind.Heartbeat (min (match_of n.tracker.views id) n.commit))) tt h)
+    (λ _. says n (message n.id id n.term (kind.Heartbeat (min (match_of n.tracker.views id) n.commit))) tt (λ _ _. tt) h)
 
 beat_each_holds : {w : World} (n : PlainNode) (ids : List ℕ) → Holds w n → Holds w (beat_each n ids)
 beat_each_holds n [] h = h
@@ -93,7 +96,7 @@ unfolding quorum_looked_at
 quorum_holds {w} t h =
     let u : Turn = with_node t (looked_anew t.node) in
     if_both (λ (x : Turn). Holds w x.node) (has_lost_quorum t.node) _ _
-    (λ _. followed_holds (told t (LostQuorum t.node.id)) t.node.term 0 h)
+    (λ _. followed_holds (told t (LostQuorum t.node.id)) t.node.term 0 (omega arith) h)
     (λ _. beats_holds (transfer_ended u) (transfer_ended_holds u (looked_holds t.node h)))
 
 leader_counted_holds : {w : World} (t : Turn) → Holds w t.node → Holds w (leader_counted t).node
@@ -123,7 +126,7 @@ ticked_holds role.Leader t h = leader_ticked_holds t h
 
 -- an answer of the node that it takes in was put out
 abbrev IsHeard : World → ℕ → Message → Type 0
-IsHeard w id m = Keeps w.setting.config m × (m.to ≡ id → Gives w m)
+IsHeard w id m = IsFine w m.kind × (m.to ≡ id → Gives w m)
 
 own_holds : {w : World} (id : ℕ) (t : Turn) (ms : List Message) → All (IsHeard w id) ms → Holds w t.node → Holds w (own_stepped id t ms).node
 own_holds id t [] heard h = h
@@ -134,12 +137,16 @@ own_holds {w} id t (m ∷ ms) heard h =
     (if_both (λ (u : Turn). Holds w u.node) (m.to == id) (stepped t m) t
     (λ own. stepped_holds t m first.0 (first.1 (eqb-true m.to id own)) h) (λ _. h))
 
-heard_own : (w : World) (m : Message) (id : ℕ) → id ≡ w.id → IsOwn w m → Contains w.said m → IsHeard w id m
-heard_own w m id itself own among = (
-  own.1,
+-- what was said, and an append among it stands as the links have it
+abbrev pub IsOut : World → Message → Type 0
+IsOut w m = Contains w.said m × (w.setting.strict ≡ true → IsChain w.links m)
+
+heard_own : (w : World) (m : Message) (id : ℕ) → id ≡ w.id → IsOwn w m → IsOut w m → IsHeard w id m
+heard_own w m id itself own out = (
+  (own.1, out.1),
   λ to yes. record {
     answer = m;
-    among = among;
+    among = out.0;
     gives = (yes, subst (λ (x : ℕ). 0 < x) (sym (to ∙ itself)) w.some);
     by = refl;
     of_term = refl;
@@ -147,7 +154,7 @@ heard_own w m id itself own among = (
   },
 )
 
-all_heard : {w : World} (n : PlainNode) → Holds w n → ((m : Message) → Contains n.waiting m → Contains w.said m) → All (IsHeard w n.id) n.waiting
+all_heard : {w : World} (n : PlainNode) → Holds w n → ((m : Message) → Contains n.waiting m → IsOut w m) → All (IsHeard w n.id) n.waiting
 all_heard {w} n h said =
     All-weaker (Contains n.waiting) (IsHeard w n.id)
     (λ m waits. heard_own w m n.id h.itself (All-contains (IsOwn w) n.waiting m h.waiting waits) (said m waits)) n.waiting (All-contains_itself n.waiting)
@@ -161,9 +168,25 @@ saved_holds {w} n h = record {
   waiting = All-nil (IsOwn w);
   stands = h.stands;
   leads = h.leads;
+  linking = record {
+    links = h.linking.links;
+    since = h.linking.since;
+    own = h.linking.own;
+    holds = λ strict. (let c = h.linking.holds strict in record {
+      once = c.once;
+      single = c.single;
+      made = c.made;
+      logged = c.logged;
+      sent = All-nil (IsChain h.linking.links);
+      waiting = All-nil (IsChain h.linking.links);
+      past = c.past;
+      stands = c.stands;
+      leads = c.leads;
+    });
+  };
 }
 
-advanced_holds : {w : World} (t : Turn) → ((m : Message) → Contains t.node.waiting m → Contains w.said m) → Holds w t.node → Holds w (advanced t).node
+advanced_holds : {w : World} (t : Turn) → ((m : Message) → Contains t.node.waiting m → IsOut w m) → Holds w t.node → Holds w (advanced t).node
 unfolding advanced
 advanced_holds t said h =
     let n = t.node in
@@ -195,18 +218,35 @@ compacted_plain : (v : LogValue) (i : ℕ) (r : Result ℕ LogFault) → All IsP
 compacted_plain v i (Ok term) plain = All-drop IsPlain (i - v.base) v.entries plain
 compacted_plain v i (Err fault) plain = plain
 
-compacted_holds : {w : World} (o : Option CompactFault) (n : PlainNode) (i : ℕ) → Holds w n → Holds w (compacted_unless o n i)
-compacted_holds (Some fault) n i h = h
-compacted_holds None n i h = with_log n (compacted n.log i (term_at n.log i)) (compacted_plain n.log i (term_at n.log i) h.log) h
+-- what isn't refused lies past the base
+compacts_past : (v : LogValue) (i upto : ℕ) → compact_fault v i upto ≡ None → v.base < i
+compacts_past v i upto =
+    let P : Option CompactFault → Type 0 = λ o. o ≡ None → v.base < i in
+    if_both P (nat_le i v.base) _ _ (λ _ e. cc) (λ past _. leb-false i v.base past)
+
+compacted_last : (v : LogValue) (i : ℕ) (r : Result ℕ LogFault) → v.base < i → term_at v i ≡ r → last v ≤ last (compacted v i r)
+compacted_last v i (Ok term) low held =
+    let within = (held_in v i term held).1 in
+    let same = (compacted-ends v i term low within).1 in
+    omega (arith, same)
+compacted_last v i (Err fault) low held = omega arith
+
+compacted_holds : {w : World} (o : Option CompactFault) (n : PlainNode) (i upto : ℕ) → compact_fault n.log i upto ≡ o → Holds w n → Holds w (compacted_unless o n i)
+compacted_holds (Some fault) n i upto is h = h
+compacted_holds None n i upto is h =
+    let low = compacts_past n.log i upto is in
+    with_log n (compacted n.log i (term_at n.log i)) (compacted_plain n.log i (term_at n.log i) h.log)
+    (λ _ ls _ linked. compacted_linked ls n.log i (term_at n.log i) low refl linked)
+    (λ _. compacted_last n.log i (term_at n.log i) low refl) h
 
 -- what a call has to bring so that all this holds after it
 abbrev pub IsSafe : World → Call → PlainNode → Type 0
-IsSafe w (Step m) n = Keeps w.setting.config m × Gives w m
+IsSafe w (Step m) n = IsFine w m.kind × Gives w m
 IsSafe w (Propose body) n = is_change body ≡ false
-IsSafe w Advance n = (m : Message) → Contains n.waiting m → Contains w.said m
+IsSafe w Advance n = (m : Message) → Contains n.waiting m → IsOut w m
 IsSafe w _ n = Unit {0}
 
-no_answer : {w : World} (t : Turn) (m : Message) → (m.kind ≡ kind.VoteResponse true → ⊥) → Keeps w.setting.config m → Holds w t.node → Holds w (stepped t m).node
+no_answer : {w : World} (t : Turn) (m : Message) → (m.kind ≡ kind.VoteResponse true → ⊥) → IsFine w m.kind → Holds w t.node → Holds w (stepped t m).node
 no_answer t m none fine h = stepped_holds t m fine (λ yes. absurd (none yes)) h
 
 no_vote_proposes : (body : Body) → kind.Proposal body ≡ kind.VoteResponse true → ⊥
@@ -218,11 +258,13 @@ no_vote_transfers to e = cc
 pub called_holds : {w : World} (c : Call) (t : Turn) → IsSafe w c t.node → Holds w t.node → Holds w (after c t).node
 called_holds (Step m) t safe h = stepped_holds t m safe.0 safe.1 h
 called_holds Campaign t safe h = campaigned_holds t false h
-called_holds (Propose body) t safe h = no_answer t (message t.node.id t.node.id 0 (kind.Proposal body)) (no_vote_proposes body) safe h
-called_holds (Transfer to) t safe h = no_answer t (message t.node.id t.node.id 0 (kind.TransferLeader to)) (no_vote_transfers to) tt h
+called_holds (Propose body) t safe h = no_answer t (message t.node.id t.node.id 0 (kind.Proposal body)) (no_vote_proposes body) (safe, λ _. tt) h
+called_holds (Transfer to) t safe h = no_answer t (message t.node.id t.node.id 0 (kind.TransferLeader to)) (no_vote_transfers to) (tt, λ _. tt) h
 called_holds Tick t safe h = ticked_holds t.node.role t h
 called_holds Advance t safe h = advanced_holds t safe h
 called_holds ForgetLeader t safe h = forgotten_holds t.node.role t.node h
 called_holds (ReportUnreachable id) t safe h = reported_holds t.node id h
 called_holds (SetTimeout timeout) t safe h = h
-called_holds (Compact index) t safe h = compacted_holds (compact_fault t.node.log index (min t.node.applied t.node.log.durable)) t.node index h
+called_holds (Compact index) t safe h =
+    let upto = min t.node.applied t.node.log.durable in
+    compacted_holds (compact_fault t.node.log index upto) t.node index upto refl h

@@ -1,6 +1,6 @@
--- Election safety of a cluster, and where a cluster begins
-use Rattle.std.proofs.Common.{◌≡◌, ◌⊎◌, ℕ, zero, suc, ◌+◌, false, List, [], ◌∷◌, ◌++◌, length, length-append, Option, Some, None, Result, Ok, refl, sym, ap, subst, ◌∙◌, arith, inl, inr}
-use Rattle.std.specs.Prelude.{All, slice_get}
+-- Election safety and log matching of a cluster, and where a cluster begins
+use Rattle.std.proofs.Common.{◌≡◌, ◌⊎◌, ℕ, zero, suc, ◌+◌, false, true, List, [], ◌∷◌, ◌++◌, length, length-append, Option, Some, None, Result, Ok, refl, sym, ap, subst, ◌∙◌, arith, inl, inr}
+use Rattle.std.specs.Prelude.{slice_get}
 use Rattle.std.specs.List.{range_with_len}
 use Rattle.std.proofs.lemmas.List.Elements.{All-nil, All-same}
 use Rattle.rb_script.specs.Directive.{PlainDirective}
@@ -12,7 +12,7 @@ use Rattle.rb_directive.specs.declared.build.Asked.{Asked}
 use Rattle.rb_directive.specs.Requests.{request}
 use Rattle.rb_raftlog.specs.declared.conf_state.ConfState.{ConfState}
 use Rattle.rb_raftlog.specs.declared.snapshot.Snapshot.{Snapshot}
-use Rattle.rb_message.specs.declared.message.Message.{Message}
+use Rattle.rb_raftlog.specs.Laws.{AreMatching}
 use Rattle.rb_step.specs.declared.options.Options.{Options}
 use Rattle.rb_step.specs.Node.{PlainNode, started}
 use Rattle.rb_node.specs.Calls.{node_started}
@@ -21,20 +21,20 @@ use Rattle.rb_machine.specs.Cluster.{Cluster, empty}
 use Rattle.rb_machine.specs.Outcome.{fault, effect, screen_of, unless_refused, outcome_of, outcome}
 use Rattle.rb_machine.specs.Scenes.{Scene, scene}
 use Rattle.rb_cluster_laws.specs.Clusters.{AreSteady, led, IsNew}
-use Rattle.rb_cluster_laws.specs.Network.{Network, run, IsStarted, AreStarted, IsBegun, Leads}
-use Rattle.rb_cluster_laws.proofs.Holding.{Setting}
+use Rattle.rb_cluster_laws.specs.Network.{Network, run, IsStarted, AreStarted, Leads}
 use Rattle.rb_cluster_laws.proofs.SafetyLaws.{setting_of, begun_sane, one_leader}
+use Rattle.rb_cluster_laws.proofs.MatchingLaws.{two_match}
 use Rattle.rb_cluster_laws.proofs.TieLaws.{IsComing, IsTied, IsReached}
 use Rattle.rb_cluster_laws.proofs.EffectLaws.{reached_by}
 
 -- ---- two leaders
 
-new_tied : (members : ConfState) (single : members.outgoing ≡ []) (c : Cluster) → IsNew members c → IsTied (setting_of members single) (record { nodes = c.nodes; said = [] }) c
+new_tied : (members : ConfState) (single : members.outgoing ≡ []) (c : Cluster) → IsNew members c → IsTied (setting_of true members single) (record { nodes = c.nodes; said = [] }) c
 new_tied members single c new =
-    let g = setting_of members single in
+    let g = setting_of true members single in
     let s : Network = record { nodes = c.nodes; said = [] } in
     record {
-      sane = begun_sane members single s (record { started = new.started; silent = refl });
+      sane = begun_sane true members single s (record { started = new.started; silent = refl });
       nodes = refl;
       pending = All-same (IsComing g s) c.pending [] new.silent (All-nil (IsComing g s));
     }
@@ -42,7 +42,7 @@ new_tied members single c new =
 pub one_cluster_leader : (members : ConfState) (c : Cluster) (earlier later : List PlainDirective) (first second term : ℕ) → members.outgoing ≡ [] → IsNew members c → AreSteady earlier → AreSteady later → Leads (led c earlier).nodes first term → Leads (led (led c earlier) later).nodes second term → second ≡ first
 unfolding setting_of
 one_cluster_leader members c earlier later first second term single new steady steady_still a b =
-    let g = setting_of members single in
+    let g = setting_of true members single in
     let s : Network = record { nodes = c.nodes; said = [] } in
     let r : IsReached g s (led c earlier) = reached_by g s c earlier steady (new_tied members single c new) in
     let t = run r.happenings s in
@@ -50,6 +50,20 @@ one_cluster_leader members c earlier later first second term single new steady s
     one_leader members s r.happenings q.happenings first second term single (record { started = new.started; silent = refl }) r.honest q.honest
     (subst (λ (nodes : List PlainNode). Leads nodes first term) r.tied.nodes a)
     (subst (λ (nodes : List PlainNode). Leads nodes second term) q.tied.nodes b)
+
+-- ---- two logs
+
+pub cluster_matches : (members : ConfState) (c : Cluster) (earlier later : List PlainDirective) (j k : ℕ) (first second : PlainNode) → members.outgoing ≡ [] → IsNew members c → AreSteady earlier → AreSteady later → slice_get (led c earlier).nodes j ≡ Some first → slice_get (led (led c earlier) later).nodes k ≡ Some second → AreMatching first.log second.log
+unfolding setting_of
+cluster_matches members c earlier later j k first second single new steady steady_still at there =
+    let g = setting_of true members single in
+    let s : Network = record { nodes = c.nodes; said = [] } in
+    let r : IsReached g s (led c earlier) = reached_by g s c earlier steady (new_tied members single c new) in
+    let t = run r.happenings s in
+    let q : IsReached g t (led (led c earlier) later) = reached_by g t (led c earlier) later steady_still r.tied in
+    two_match members s r.happenings q.happenings j k first second single (record { started = new.started; silent = refl }) r.honest q.honest r.genuine q.genuine
+    (subst (λ (nodes : List PlainNode). slice_get nodes j ≡ Some first) r.tied.nodes at)
+    (subst (λ (nodes : List PlainNode). slice_get nodes k ≡ Some second) q.tied.nodes there)
 
 -- ---- the beginning
 

@@ -1,31 +1,20 @@
 -- Each directive of a cluster is a run of the network
-use Rattle.std.proofs.Common.{◌≡◌, ◌⊎◌, ℕ, zero, suc, ◌+◌, ◌-◌, ◌<◌, ◌≤◌, Bool, true, false, not, ◌&&◌, List, [], ◌∷◌, ◌++◌, length, min, filter, map, Option, Some, None, refl, sym, ap, subst, ◌∙◌, arith, inl, inr, if◌then◌else◌, nat_le, nat_lt, ◌==◌, eqb-true}
+use Rattle.std.proofs.Common.{◌≡◌, ℕ, zero, suc, ◌+◌, ◌-◌, ◌<◌, true, not, List, [], ◌∷◌, ◌++◌, length, Option, Some, None, refl, sym, ap, subst, ◌∙◌, arith, inl, inr, if◌then◌else◌, ◌==◌, eqb-true}
 use Rattle.std.specs.Prelude.{All, Contains, slice_get, slice_set, slice_index_or}
 use Rattle.std.specs.List.{range_with_len}
-use Rattle.std.specs.Option.{option_or}
-use Rattle.std.proofs.lemmas.Bool.{and_parts, leb-true}
+use Rattle.std.proofs.lemmas.Bool.{and_parts}
 use Rattle.std.proofs.lemmas.List.Elements.{All-nil, All-head, All-tail, All-cons, All-push, All-weaker, All-append, All-filter, All-contains_itself, Contains-append_left, Contains-append_right, filter_passes}
-use Rattle.rb_level.specs.declared.directive_error.DirectiveError.{DirectiveError}
-use Rattle.rb_level.specs.declared.directive_error.DirectiveError.TheVariants as errors
 use Rattle.rb_directive.specs.declared.asking.DeliverMsgs.{DeliverMsgs}
 use Rattle.rb_directive.specs.declared.message_type.TypeSet.{TypeSet}
-use Rattle.rb_raftlog.specs.declared.entry.Body.TheVariants.{Payload}
-use Rattle.rb_raftlog.specs.declared.raft_log.CompactFault.{CompactFault}
-use Rattle.rb_raftlog.specs.declared.raft_log.CompactFault.TheVariants as faults
-use Rattle.rb_raftlog.specs.Log.{compact_fault}
 use Rattle.rb_tracker.proofs.SetLaws.{if_both}
-use Rattle.rb_tracker.specs.Configs.{config_of, state_of}
-use Rattle.rb_tracker.specs.declared.config.Config.{Config}
 use Rattle.rb_message.specs.Messages.{type_of}
-use Rattle.rb_message.specs.declared.kind.MessageKind.TheVariants as kind
 use Rattle.rb_message.specs.declared.message.Message.{Message}
-use Rattle.rb_step.specs.Node.{PlainNode, Turn, turn, message}
-use Rattle.rb_step.specs.Sends.{snapshot_of}
+use Rattle.rb_step.specs.Node.{PlainNode, Turn, turn}
 use Rattle.rb_node.specs.Readying.{has_ready, handed, others}
 use Rattle.rb_node.specs.Ticking.{ticked}
-use Rattle.rb_node_laws.specs.Calling.{Call, Step, Tick, Advance, Compact, compacted_unless, after}
+use Rattle.rb_node_laws.specs.Calling.{Call, Step, Tick, Advance, after}
 use Rattle.rb_machine.specs.Acts.{ticked_times}
-use Rattle.rb_machine.specs.Cluster.{Cluster, is_node, node_at, with_node}
+use Rattle.rb_machine.specs.Cluster.{Cluster, node_at, with_node}
 use Rattle.rb_machine.specs.Deliveries.{left_by, received, all_received, delivered, delivered_each, dropped, dropped_each, meets_any, msgs_delivered}
 use Rattle.rb_machine.specs.MessageTypes.{is_meant}
 use Rattle.rb_machine.specs.Pending.{is_for, mail, other_mail, with_pending, has_room, sent, all_sent}
@@ -34,20 +23,19 @@ use Rattle.rb_machine.specs.Rounds.{is_chosen, chosen, is_ready, has_work, readi
 use Rattle.rb_machine.specs.Scenes.{Scene, shown, all_shown, with_cluster, acted_by, acted}
 use Rattle.rb_texts.specs.Items.{moved}
 use Rattle.rb_texts.specs.declared.item.Verb.TheVariants as verbs
-use Rattle.rb_cluster_laws.specs.Honesty.{Keeps, IsHonestCall}
-use Rattle.rb_cluster_laws.specs.Network.{Network, Happening, run}
+use Rattle.rb_cluster_laws.specs.Network.{Network, run}
 use Rattle.rb_cluster_laws.proofs.Holding.{Setting}
 use Rattle.rb_cluster_laws.proofs.NetworkLaws.{set_here}
-use Rattle.rb_cluster_laws.proofs.TieLaws.{IsComing, IsTied, IsReached, stays, next, still_coming, call_of, call_tied, said_now, call_reached}
+use Rattle.rb_cluster_laws.proofs.TieLaws.{IsComing, IsFair, IsTied, IsReached, stays, next, still_coming, call_of, call_tied, said_now, call_reached}
 
 -- ---- the node with an id acts
 
-acts_by : (g : Setting) (s : Network) (x : Scene) (id : ℕ) (call : Call) (o : Option PlainNode) → node_at x.cluster id ≡ o → IsTied g s x.cluster → IsHonestCall g.config s (id - 1 + 1) call → IsReached g s (acted_by o x id (λ t. after call t)).cluster
-acts_by g s x id call None at tied honest = stays g s x.cluster tied
-acts_by g s x id call (Some n) at tied honest = call_reached g s x.cluster id call (turn n []) tied at honest
+acts_by : (g : Setting) (s : Network) (x : Scene) (id : ℕ) (call : Call) (o : Option PlainNode) → node_at x.cluster id ≡ o → IsTied g s x.cluster → IsFair g s (id - 1 + 1) call → IsReached g s (acted_by o x id (λ t. after call t)).cluster
+acts_by g s x id call None at tied fair = stays g s x.cluster tied
+acts_by g s x id call (Some n) at tied fair = call_reached g s x.cluster id call (turn n []) tied at fair
 
-pub acts : (g : Setting) (s : Network) (x : Scene) (id : ℕ) (call : Call) → IsTied g s x.cluster → IsHonestCall g.config s (id - 1 + 1) call → IsReached g s (acted x id (λ t. after call t)).cluster
-acts g s x id call tied honest = acts_by g s x id call (node_at x.cluster id) refl tied honest
+pub acts : (g : Setting) (s : Network) (x : Scene) (id : ℕ) (call : Call) → IsTied g s x.cluster → IsFair g s (id - 1 + 1) call → IsReached g s (acted x id (λ t. after call t)).cluster
+acts g s x id call tied fair = acts_by g s x id call (node_at x.cluster id) refl tied fair
 
 -- ---- ticks, one upon another
 
@@ -70,7 +58,7 @@ then_ticks g s c id zero t at tied = subst (λ (nodes : List PlainNode). IsReach
 then_ticks g s c id (suc times) t at tied =
     let u = ticked t in
     let d = with_node c id u.node in
-    next g s d (with_node c id (ticked_times times u).node) (call_reached g s c id Tick t tied at tt)
+    next g s d (with_node c id (ticked_times times u).node) (call_reached g s c id Tick t tied at (tt, tt))
     (λ hs now. subst (λ (nodes : List PlainNode). IsReached g (run hs s) (with_nodes c nodes)) (set_again c.nodes (id - 1) u.node (ticked_times times u).node)
     (then_ticks g (run hs s) d id times u (set_here c.nodes (id - 1) t.node u.node at) now))
 
@@ -96,11 +84,11 @@ all_mail g s id types pending coming =
     let theirs : All (λ (m : Message). is_for id types m ≡ true) (mail pending id types) = filter_passes (is_for id types) pending in
     λ k d low. (came k d low, (let m = slice_index_or (mail pending id types) k d in eqb-true m.to id (and_parts (m.to == id) (is_meant types (type_of m.kind)) (theirs k d low)).0))
 
-honest_step : (g : Setting) (s : Network) (id : ℕ) (m : Message) → 0 < id → IsMail g s id m → IsHonestCall g.config s (id - 1 + 1) (Step m)
-honest_step g s id m some comes =
-    elim comes.0 as (λ _. IsHonestCall g.config s (id - 1 + 1) (Step m)) [
-      | inl said ↦ (let same : id ≡ id - 1 + 1 = omega (arith, some) in inl (said, comes.1 ∙ same))
-      | inr foreign ↦ inr foreign
+fair_step : (g : Setting) (s : Network) (id : ℕ) (m : Message) → 0 < id → IsMail g s id m → IsFair g s (id - 1 + 1) (Step m)
+fair_step g s id m some comes =
+    elim comes.0 as (λ _. IsFair g s (id - 1 + 1) (Step m)) [
+      | inl said ↦ (let same : id ≡ id - 1 + 1 = omega (arith, some) in (inl (said, comes.1 ∙ same), inl said))
+      | inr foreign ↦ (inr (foreign.0, foreign.1), inr foreign.2)
     ]
 
 all_reach : (g : Setting) (s : Network) (x : Scene) (id : ℕ) (ms : List Message) → 0 < id → All (IsMail g s id) ms → IsTied g s x.cluster → IsReached g s (all_received x id ms).cluster
@@ -109,7 +97,7 @@ all_reach g s x id (m ∷ ms) some comes tied =
     let y = received x id m in
     let rest = All-tail (IsMail g s id) m ms comes in
     next g s y.cluster (all_received y id ms).cluster
-    (acts g s (shown x (moved verbs.Deliver m)) id (Step m) tied (honest_step g s id m some (All-head (IsMail g s id) m ms comes)))
+    (acts g s (shown x (moved verbs.Deliver m)) id (Step m) tied (fair_step g s id m some (All-head (IsMail g s id) m ms comes)))
     (λ hs now. all_reach g (run hs s) y id ms some (All-weaker (IsMail g s id) (IsMail g (run hs s) id) (λ o mail. (still_coming g hs s o mail.0, mail.1)) ms rest) now)
 
 pub delivers : (g : Setting) (s : Network) (x : Scene) (id : ℕ) (types : Option TypeSet) → 0 < id → IsTied g s x.cluster → IsReached g s (delivered x id types).cluster
@@ -175,9 +163,10 @@ advances_by g s x id (Some n) at tied =
     record {
       happenings = hs;
       honest = (tt, tt);
+      genuine = (tt, tt);
       tied = sends_all g (run hs s) after_it (handed n)
           (All-weaker (Contains (n.sent ++ n.waiting)) (IsComing g (run hs s)) (λ m out. inl (said_now g s x.cluster id Advance t tied at m out)) (handed n) (handed_out n))
-          (call_tied g s x.cluster id Advance t tied at tt);
+          (call_tied g s x.cluster id Advance t tied at (tt, tt));
     }
 
 does_all : (g : Setting) (s : Network) (x : Scene) (id : ℕ) (n : PlainNode) → IsTied g s x.cluster → IsReached g s (all_done x id n).cluster

@@ -1,5 +1,5 @@
 -- The effect of each request, and directives one upon another
-use Rattle.std.proofs.Common.{◌≡◌, ◌⊎◌, ℕ, ◌+◌, ◌-◌, ◌<◌, ◌≤◌, Bool, true, false, ◌&&◌, List, [], ◌∷◌, ◌++◌, length, min, Option, Some, None, Result, Ok, Err, refl, sym, ap, subst, ◌∙◌, arith, inl, inr, if◌then◌else◌, nat_le, nat_lt}
+use Rattle.std.proofs.Common.{◌≡◌, ℕ, ◌+◌, ◌-◌, ◌<◌, ◌≤◌, true, false, List, [], ◌∷◌, ◌++◌, length, min, Option, Some, None, Result, Ok, Err, refl, sym, ap, subst, ◌∙◌, arith, inr, nat_le, nat_lt}
 use Rattle.std.specs.Prelude.{All, slice_get}
 use Rattle.std.specs.Option.{option_or}
 use Rattle.std.proofs.lemmas.Bool.{and_parts, leb-true}
@@ -26,17 +26,17 @@ use Rattle.rb_step.specs.Sends.{snapshot_of}
 use Rattle.rb_node.specs.Calls.{leader_forgotten, reported}
 use Rattle.rb_node_laws.specs.Calling.{Call, Campaign, Propose, Transfer, Tick, ForgetLeader, ReportUnreachable, SetTimeout, Compact, compacted_unless, after}
 use Rattle.rb_machine.specs.Cluster.{Cluster, is_node, node_at, with_node, changed_by}
-use Rattle.rb_machine.specs.Outcome.{absent, first_absent, missing_node, own_fault, fault, effect, refused, unless_refused, done, screen_of, outcome_of, outcome}
+use Rattle.rb_machine.specs.Outcome.{absent, first_absent, missing_node, own_fault, fault, effect, unless_refused, screen_of, outcome_of, outcome}
 use Rattle.rb_machine.specs.Pending.{has_room}
 use Rattle.rb_machine.specs.Rounds.{chosen}
 use Rattle.rb_machine.specs.Scenes.{Scene, scene}
-use Rattle.rb_machine.specs.Snapshots.{queued, snapshot_sent_by, error_of, compact_error_by, compact_error, with_base, compact_by}
+use Rattle.rb_machine.specs.Snapshots.{queued, snapshot_sent_by, error_of, compact_error_by, compact_error, compact_by}
 use Rattle.rb_machine.specs.Views.{log_shown_by, status_shown_by}
 use Rattle.rb_cluster_laws.specs.Clusters.{IsSteadyRequest, IsSteadyBy, AreSteady, led}
-use Rattle.rb_cluster_laws.specs.Honesty.{Keeps, IsHonestCall}
+use Rattle.rb_cluster_laws.specs.Honesty.{Keeps}
 use Rattle.rb_cluster_laws.specs.Network.{Network, run}
 use Rattle.rb_cluster_laws.proofs.Holding.{Setting}
-use Rattle.rb_cluster_laws.proofs.TieLaws.{IsComing, IsTied, IsReached, stays, next, call_reached}
+use Rattle.rb_cluster_laws.proofs.TieLaws.{IsComing, IsFair, IsTied, IsReached, stays, next, call_reached}
 use Rattle.rb_cluster_laws.proofs.DirectiveLaws.{acts, ticks, with_mail, delivers_msgs, readies_each, settles, chosen_some}
 
 -- ---- who must exist
@@ -63,10 +63,10 @@ all_present nodes (id ∷ ids) none =
 
 -- ---- changes that tell nothing
 
-changes_by : (g : Setting) (s : Network) (c : Cluster) (id : ℕ) (call : Call) (change : PlainNode → PlainNode) (o : Option PlainNode) → ((n : PlainNode) → (after call (turn n [])).node ≡ change n) → IsHonestCall g.config s (id - 1 + 1) call → node_at c id ≡ o → IsTied g s c → IsReached g s (changed_by o c id change)
-changes_by g s c id call change None is honest at tied = stays g s c tied
-changes_by g s c id call change (Some n) is honest at tied =
-    subst (λ (x : PlainNode). IsReached g s (with_node c id x)) (is n) (call_reached g s c id call (turn n []) tied at honest)
+changes_by : (g : Setting) (s : Network) (c : Cluster) (id : ℕ) (call : Call) (change : PlainNode → PlainNode) (o : Option PlainNode) → ((n : PlainNode) → (after call (turn n [])).node ≡ change n) → IsFair g s (id - 1 + 1) call → node_at c id ≡ o → IsTied g s c → IsReached g s (changed_by o c id change)
+changes_by g s c id call change None is fair at tied = stays g s c tied
+changes_by g s c id call change (Some n) is fair at tied =
+    subst (λ (x : PlainNode). IsReached g s (with_node c id x)) (is n) (call_reached g s c id call (turn n []) tied at fair)
 
 -- ---- a snapshot sent by hand
 
@@ -89,7 +89,7 @@ sends_snapshot g s x from to None at tied = stays g s x.cluster tied
 sends_snapshot g s x from to (Some n) at tied =
     let m = message from to n.term (kind.Snapshot (snapshot_of n)) in
     let keeps : Keeps g.config m = subst (λ (c : Config). config_of (state_of c) ≡ g.config) (sym (same_config g s x.cluster from n at tied)) g.back in
-    stays g s (queued x m).cluster (queues g s x m (inr (no_vote n, keeps)) tied)
+    stays g s (queued x m).cluster (queues g s x m (inr (no_vote n, keeps, tt)) tied)
 
 -- ---- compacting
 
@@ -110,7 +110,7 @@ compacts g s x id index (Some n) at none tied =
     let upto = min n.applied n.log.durable in
     let may : compact_fault n.log index upto ≡ None = no_error (compact_fault n.log index upto) (never_memory n.log index upto) none in
     subst (λ (y : PlainNode). IsReached g s (with_node x.cluster id y)) (ap (λ (f : Option CompactFault). compacted_unless f n index) may)
-    (call_reached g s x.cluster id (Compact index) (turn n []) tied at tt)
+    (call_reached g s x.cluster id (Compact index) (turn n []) tied at (tt, tt))
 
 -- ---- what is printed
 
@@ -128,17 +128,17 @@ pub has_effect : (g : Setting) (s : Network) (r : Request) (x : Scene) → IsSte
 unfolding compact_error
 has_effect g s (requests.AddNodes asked) x steady may tied = absurd steady
 has_effect g s (requests.ProposeConfChange asked) x steady may tied = absurd steady
-has_effect g s (requests.Campaign id) x steady may tied = acts g s x id Campaign tied tt
-has_effect g s (requests.Propose id payload) x steady may tied = acts g s x id (Propose (Payload payload)) tied refl
+has_effect g s (requests.Campaign id) x steady may tied = acts g s x id Campaign tied (tt, tt)
+has_effect g s (requests.Propose id payload) x steady may tied = acts g s x id (Propose (Payload payload)) tied (refl, tt)
 has_effect g s (requests.ProcessReady ids) x steady may tied = readies_each g s x ids tied
 has_effect g s (requests.DeliverMsgs asked) x steady may tied = delivers_msgs g s asked x (all_present x.cluster.nodes asked.nodes may.0) tied
 has_effect g s (requests.Stabilize ids rounds) x steady may tied = settles g s rounds rounds x (chosen ids x.cluster.nodes) (chosen_some ids x.cluster.nodes) tied
 has_effect g s (requests.TickElection id) x steady may tied = ticks g s x id ELECTION_TICKS tied
-has_effect g s (requests.TickHeartbeat id) x steady may tied = acts g s x id Tick tied tt
-has_effect g s (requests.SetRandomizedElectionTimeout id timeout) x steady may tied = changes_by g s x.cluster id (SetTimeout timeout) (λ (n : PlainNode). record n { timeout = timeout }) (node_at x.cluster id) (λ n. refl) tt refl tied
-has_effect g s (requests.TransferLeadership from to) x steady may tied = acts g s x from (Transfer to) tied tt
-has_effect g s (requests.ForgetLeader id) x steady may tied = changes_by g s x.cluster id ForgetLeader leader_forgotten (node_at x.cluster id) (λ n. refl) tt refl tied
-has_effect g s (requests.ReportUnreachable id peer) x steady may tied = changes_by g s x.cluster id (ReportUnreachable peer) (λ (n : PlainNode). reported n peer) (node_at x.cluster id) (λ n. refl) tt refl tied
+has_effect g s (requests.TickHeartbeat id) x steady may tied = acts g s x id Tick tied (tt, tt)
+has_effect g s (requests.SetRandomizedElectionTimeout id timeout) x steady may tied = changes_by g s x.cluster id (SetTimeout timeout) (λ (n : PlainNode). record n { timeout = timeout }) (node_at x.cluster id) (λ n. refl) (tt, tt) refl tied
+has_effect g s (requests.TransferLeadership from to) x steady may tied = acts g s x from (Transfer to) tied (tt, tt)
+has_effect g s (requests.ForgetLeader id) x steady may tied = changes_by g s x.cluster id ForgetLeader leader_forgotten (node_at x.cluster id) (λ n. refl) (tt, tt) refl tied
+has_effect g s (requests.ReportUnreachable id peer) x steady may tied = changes_by g s x.cluster id (ReportUnreachable peer) (λ (n : PlainNode). reported n peer) (node_at x.cluster id) (λ n. refl) (tt, tt) refl tied
 has_effect g s (requests.SendSnapshot from to) x steady may tied = sends_snapshot g s x from to (node_at x.cluster from) refl tied
 has_effect g s (requests.Compact id index) x steady may tied = compacts g s x id index (node_at x.cluster id) refl may.1 tied
 has_effect g s (requests.LogLevel level) x steady may tied = stays g s _ (record { sane = tied.sane; nodes = tied.nodes; pending = tied.pending })

@@ -1,36 +1,43 @@
 -- What holds of each node of a network whose configuration stays: all that it says and holds keeps the configuration, and who stands or
 -- leads has its votes from those who cast them
-use Rattle.std.proofs.Common.{◌≡◌, ℕ, ◌+◌, ◌<◌, true, List, [], ◌++◌, ◌∙◌}
-use Rattle.std.specs.Prelude.{All}
+use Rattle.std.proofs.Common.{◌≡◌, ◌⊎◌, ℕ, ◌+◌, ◌<◌, ◌≤◌, Bool, true, List, [], ◌++◌, sym, subst, ◌∙◌, arith, inl, inr}
+use Rattle.std.specs.Prelude.{All, Contains}
 use Rattle.std.proofs.lemmas.List.Elements.{All-push, Contains-append_left}
-use Rattle.rb_raftlog.specs.declared.entry.Entry.{Entry}
-use Rattle.rb_raftlog.specs.Log.{LogValue}
+use Rattle.rb_raftlog.specs.Log.{LogValue, last}
 use Rattle.rb_tracker.specs.Configs.{config_of, state_of, is_voter}
 use Rattle.rb_tracker.specs.Sets.{has}
 use Rattle.rb_tracker.specs.declared.config.Config.{Config}
 use Rattle.rb_tracker.specs.declared.votes.Votes.{Votes}
+use Rattle.rb_message.specs.declared.kind.MessageKind.{MessageKind}
+use Rattle.rb_message.specs.declared.kind.MessageKind.TheVariants as kind
 use Rattle.rb_message.specs.declared.message.Message.{Message}
 use Rattle.rb_message.specs.declared.role.Role.{Role}
 use Rattle.rb_message.specs.declared.role.Role.TheVariants as role
 use Rattle.rb_step.specs.Node.{PlainNode}
+use Rattle.rb_node_laws.specs.Words.{IsYes}
 use Rattle.rb_node_laws.proofs.Saying.{with_sent, with_waiting}
-use Rattle.rb_cluster_laws.specs.Honesty.{IsPlain, Keeps}
+use Rattle.rb_cluster_laws.specs.Honesty.{IsPlain, KeepsBy, Keeps}
 use Rattle.rb_cluster_laws.specs.Votes.{IsCast, IsChosen}
+use Rattle.rb_cluster_laws.proofs.Links.{Link, IsLinked, AreSingle, Extends}
+use Rattle.rb_cluster_laws.proofs.LinkedLogs.{log_from}
 
 -- ---- votes
 
--- what is the same for all nodes: a configuration that isn't joint, and that a snapshot brings back
+-- What is the same for all nodes: a configuration that isn't joint, and that a snapshot brings back. Where it is strict, nobody makes up
+-- appends.
 pub record Setting : Type 0 where
   pub config : Config
   pub single : config.outgoing ≡ []
   pub back : config_of (state_of config) ≡ config
+  pub strict : Bool
 
--- and for one of them
+-- and for one of them, before it is called: what was said, and the links that were made
 pub record World : Type 0 where
   pub id : ℕ
   pub some : 0 < id
   pub said : List Message
   pub setting : Setting
+  pub links : List Link
 
 -- the votes that a candidate has counted are cast for it
 pub record Stands (w : World) (term : ℕ) (votes : Votes) : Type 0 where
@@ -38,9 +45,17 @@ pub record Stands (w : World) (term : ℕ) (votes : Votes) : Type 0 where
   pub counted : (v : ℕ) → has votes.granted v ≡ true → IsCast w.said v term w.id
 
 -- a leader is a voter, and chosen
-pub record IsElect (w : World) (term : ℕ) : Type 0 where
-  pub may : is_voter w.setting.config w.id ≡ true
-  pub by : IsChosen w.setting.config w.said w.id term
+pub record IsElected (g : Setting) (said : List Message) (id term : ℕ) : Type 0 where
+  pub may : is_voter g.config id ≡ true
+  pub by : IsChosen g.config said id term
+
+abbrev pub IsElect : World → ℕ → Type 0
+IsElect w term = IsElected w.setting w.said w.id term
+
+-- of the votes that were said, those of one node and one term are for one candidate
+abbrev pub AreOnce : List Message → Type 0
+AreOnce said =
+    (a b : Message) → Contains said a → Contains said b → IsYes a → IsYes b → a.from ≡ b.from → a.term ≡ b.term → a.to ≡ b.to
 
 -- ---- a node
 
@@ -51,28 +66,62 @@ pub record Essence : Type 0 where
   pub role : Role
   pub votes : Votes
   pub config : Config
-  pub entries : List Entry
+  pub log : LogValue
   pub sent : List Message
   pub waiting : List Message
 
 abbrev pub essence : PlainNode → Essence
-essence n = record { id = n.id; term = n.term; role = n.role; votes = n.votes; config = n.tracker.config; entries = n.log.entries; sent = n.sent; waiting = n.waiting }
+essence n = record { id = n.id; term = n.term; role = n.role; votes = n.votes; config = n.tracker.config; log = n.log; sent = n.sent; waiting = n.waiting }
 
 -- an answer of the node itself
 abbrev pub IsOwn : World → Message → Type 0
 IsOwn w m = (m.from ≡ w.id) × Keeps w.setting.config m
 
+-- ---- its links
+
+-- what an append has stands as the links have it
+abbrev pub IsChainBy : List Link → MessageKind → Type 0
+IsChainBy ls (kind.Append append) = IsLinked ls (log_from append.prev append.prev_term append.entries)
+IsChainBy ls _ = Unit {0}
+
+abbrev pub IsChain : List Link → Message → Type 0
+IsChain ls m = IsChainBy ls m.kind
+
+-- A link was made by a leader of its term, and a leader has made those of its term up to its last entry. A candidate has made none.
+pub record IsIn (g : Setting) (said : List Message) (id : ℕ) (ls : List Link) (e : Essence) : Type 0 where
+  pub once : AreOnce said
+  pub single : AreSingle ls
+  pub made : (l : Link) → Contains ls l → IsElected g said l.maker l.entry.term
+  pub logged : IsLinked ls e.log
+  pub sent : All (IsChain ls) e.sent
+  pub waiting : All (IsChain ls) e.waiting
+  pub past : (l : Link) → Contains ls l → l.maker ≡ id → l.entry.term ≤ e.term
+  pub stands : e.role ≡ role.Candidate → (l : Link) → Contains ls l → l.maker ≡ id → l.entry.term ≡ e.term → ⊥
+  pub leads : e.role ≡ role.Leader → (l : Link) → Contains ls l → l.entry.term ≡ e.term → l.index ≤ last e.log
+
+-- the links now: those before the call, and those that the node has made in it
+pub record Linking (w : World) (e : Essence) : Type 0 where
+  pub links : List Link
+  pub since : Extends w.links links
+  pub own : (l : Link) → Contains links l → Contains w.links l ⊎ (l.maker ≡ w.id)
+  pub holds : w.setting.strict ≡ true → IsIn w.setting w.said w.id links e
+
 pub record Fits (w : World) (e : Essence) : Type 0 where
   pub itself : e.id ≡ w.id
   pub config : e.config ≡ w.setting.config
-  pub log : All IsPlain e.entries
+  pub log : All IsPlain e.log.entries
   pub sent : All (Keeps w.setting.config) e.sent
   pub waiting : All (IsOwn w) e.waiting
   pub stands : e.role ≡ role.Candidate → Stands w e.term e.votes
   pub leads : e.role ≡ role.Leader → IsElect w e.term
+  pub linking : Linking w e
 
 abbrev pub Holds : World → PlainNode → Type 0
 Holds w n = Fits w (essence n)
+
+-- a message that comes keeps the configuration, and an append stands as the links have it
+abbrev pub IsFine : World → MessageKind → Type 0
+IsFine w k = KeepsBy w.setting.config k × (w.setting.strict ≡ true → IsChainBy w.links k)
 
 -- ---- another role
 
@@ -96,11 +145,36 @@ leader_stands never = cc
 
 -- ---- another log, and another message
 
-pub with_log : {w : World} (n : PlainNode) (v : LogValue) → All IsPlain v.entries → Holds w n → Holds w (record n { log = v })
-with_log n v plain h = record { itself = h.itself; config = h.config; log = plain; sent = h.sent; waiting = h.waiting; stands = h.stands; leads = h.leads }
+-- as long as the log does not get shorter while the node leads
+pub with_log : {w : World} (n : PlainNode) (v : LogValue) → All IsPlain v.entries → (w.setting.strict ≡ true → (ls : List Link) → Extends w.links ls → IsLinked ls n.log → IsLinked ls v) → (n.role ≡ role.Leader → last n.log ≤ last v) → Holds w n → Holds w (record n { log = v })
+with_log n v plain linked longer h = record {
+  itself = h.itself;
+  config = h.config;
+  log = plain;
+  sent = h.sent;
+  waiting = h.waiting;
+  stands = h.stands;
+  leads = h.leads;
+  linking = record {
+    links = h.linking.links;
+    since = h.linking.since;
+    own = h.linking.own;
+    holds = λ strict. (let c = h.linking.holds strict in record {
+      once = c.once;
+      single = c.single;
+      made = c.made;
+      logged = linked strict h.linking.links h.linking.since c.logged;
+      sent = c.sent;
+      waiting = c.waiting;
+      past = c.past;
+      stands = c.stands;
+      leads = λ is l among term. (let low = c.leads is l among term in let high = longer is in omega (arith, low, high));
+    });
+  };
+}
 
-pub says : {w : World} (n : PlainNode) (m : Message) → Keeps w.setting.config m → Holds w n → Holds w (with_sent n m)
-says {w} n m fine h = record {
+pub says : {w : World} (n : PlainNode) (m : Message) → Keeps w.setting.config m → ((ls : List Link) → IsLinked ls n.log → IsChain ls m) → Holds w n → Holds w (with_sent n m)
+says {w} n m fine chain h = record {
   itself = h.itself;
   config = h.config;
   log = h.log;
@@ -108,10 +182,26 @@ says {w} n m fine h = record {
   waiting = h.waiting;
   stands = h.stands;
   leads = h.leads;
+  linking = record {
+    links = h.linking.links;
+    since = h.linking.since;
+    own = h.linking.own;
+    holds = λ strict. (let c = h.linking.holds strict in record {
+      once = c.once;
+      single = c.single;
+      made = c.made;
+      logged = c.logged;
+      sent = All-push (IsChain h.linking.links) n.sent m c.sent (chain h.linking.links c.logged);
+      waiting = c.waiting;
+      past = c.past;
+      stands = c.stands;
+      leads = c.leads;
+    });
+  };
 }
 
-pub waits : {w : World} (n : PlainNode) (m : Message) → m.from ≡ n.id → Keeps w.setting.config m → Holds w n → Holds w (with_waiting n m)
-waits {w} n m own fine h = record {
+pub waits : {w : World} (n : PlainNode) (m : Message) → m.from ≡ n.id → Keeps w.setting.config m → ((ls : List Link) → IsChain ls m) → Holds w n → Holds w (with_waiting n m)
+waits {w} n m own fine chain h = record {
   itself = h.itself;
   config = h.config;
   log = h.log;
@@ -119,6 +209,46 @@ waits {w} n m own fine h = record {
   waiting = All-push (IsOwn w) n.waiting m h.waiting (own ∙ h.itself, fine);
   stands = h.stands;
   leads = h.leads;
+  linking = record {
+    links = h.linking.links;
+    since = h.linking.since;
+    own = h.linking.own;
+    holds = λ strict. (let c = h.linking.holds strict in record {
+      once = c.once;
+      single = c.single;
+      made = c.made;
+      logged = c.logged;
+      sent = c.sent;
+      waiting = All-push (IsChain h.linking.links) n.waiting m c.waiting (chain h.linking.links);
+      past = c.past;
+      stands = c.stands;
+      leads = c.leads;
+    });
+  };
+}
+
+-- ---- another term or role, of the same log and messages
+
+pub becomes : {w : World} (a b : Essence) → b.log ≡ a.log → b.sent ≡ a.sent → b.waiting ≡ a.waiting → a.term ≤ b.term → (b.role ≡ role.Candidate → (a.term < b.term) ⊎ ((a.role ≡ role.Candidate) × (b.term ≡ a.term))) → (b.role ≡ role.Leader → (a.role ≡ role.Leader) × (b.term ≡ a.term)) → Linking w a → Linking w b
+becomes {w} a b log sent waiting later stands leads h = record {
+  links = h.links;
+  since = h.since;
+  own = h.own;
+  holds = λ strict. (let c = h.holds strict in record {
+    once = c.once;
+    single = c.single;
+    made = c.made;
+    logged = subst (IsLinked h.links) (sym log) c.logged;
+    sent = subst (All (IsChain h.links)) (sym sent) c.sent;
+    waiting = subst (All (IsChain h.links)) (sym waiting) c.waiting;
+    past = λ l among own. (let low = c.past l among own in omega (arith, low, later));
+    stands = λ is l among own term.
+        elim (stands is) as (λ _. ⊥) [
+          | inl new ↦ (let low = c.past l among own in omega (arith, low, new, term))
+          | inr old ↦ c.stands old.0 l among own (term ∙ old.1)
+        ];
+    leads = λ is l among term. (let old = leads is in let low = c.leads old.0 l among (term ∙ old.1) in subst (λ (v : LogValue). l.index ≤ last v) (sym log) low);
+  });
 }
 
 -- ---- more that was said
@@ -133,22 +263,50 @@ still_cast said more voter term candidate c = record {
   for_it = c.for_it;
 }
 
-abbrev pub hearing : World → List Message → World
-hearing w more = record w { said = w.said ++ more }
-
-still_elect : (w : World) (more : List Message) (term : ℕ) → IsElect w term → IsElect (hearing w more) term
-still_elect w more term e = record {
+pub still_elected : (g : Setting) (said more : List Message) (id term : ℕ) → IsElected g said id term → IsElected g (said ++ more) id term
+still_elected g said more id term e = record {
   may = e.may;
-  by = record { votes = e.by.votes; won = e.by.won; cast = λ v granted. still_cast w.said more v term w.id (e.by.cast v granted) };
+  by = record { votes = e.by.votes; won = e.by.won; cast = λ v granted. still_cast said more v term id (e.by.cast v granted) };
 }
 
-pub still_holds : (w : World) (more : List Message) (n : PlainNode) → Holds w n → Holds (hearing w more) n
-still_holds w more n h = record {
+-- the node at a place, before it is called
+abbrev pub world_of : Setting → List Message → List Link → ℕ → World
+world_of g said links place = record { id = place + 1; some = omega arith; said = said; setting = g; links = links }
+
+-- where more was said and more links were made, of which the node's are in order
+pub still_holds : (g : Setting) (said more : List Message) (old new : List Link) (place : ℕ) (n : PlainNode) → (g.strict ≡ true → IsIn g (said ++ more) (place + 1) new (essence n)) → Holds (world_of g said old place) n → Holds (world_of g (said ++ more) new place) n
+still_holds g said more old new place n linking h = record {
   itself = h.itself;
   config = h.config;
   log = h.log;
   sent = h.sent;
   waiting = h.waiting;
-  stands = λ is. (let s = h.stands is in record { may = s.may; counted = λ v granted. still_cast w.said more v n.term w.id (s.counted v granted) });
-  leads = λ is. still_elect w more n.term (h.leads is);
+  stands = λ is. (let s = h.stands is in record { may = s.may; counted = λ v granted. still_cast said more v n.term (place + 1) (s.counted v granted) });
+  leads = λ is. still_elected g said more (place + 1) n.term (h.leads is);
+  linking = record { links = new; since = λ l among. among; own = λ l among. inl among; holds = linking };
+}
+
+pub with_links : (g : Setting) (said : List Message) (old new : List Link) (place : ℕ) (n : PlainNode) → (g.strict ≡ true → IsIn g said (place + 1) new (essence n)) → Holds (world_of g said old place) n → Holds (world_of g said new place) n
+with_links g said old new place n linking h = record {
+  itself = h.itself;
+  config = h.config;
+  log = h.log;
+  sent = h.sent;
+  waiting = h.waiting;
+  stands = λ is. (let s = h.stands is in record { may = s.may; counted = s.counted });
+  leads = h.leads;
+  linking = record { links = new; since = λ l among. among; own = λ l among. inl among; holds = linking };
+}
+
+pub still_in : (g : Setting) (said more : List Message) (id : ℕ) (ls : List Link) (e : Essence) → AreOnce (said ++ more) → IsIn g said id ls e → IsIn g (said ++ more) id ls e
+still_in g said more id ls e once c = record {
+  once = once;
+  single = c.single;
+  made = λ l among. still_elected g said more l.maker l.entry.term (c.made l among);
+  logged = c.logged;
+  sent = c.sent;
+  waiting = c.waiting;
+  past = c.past;
+  stands = c.stands;
+  leads = c.leads;
 }

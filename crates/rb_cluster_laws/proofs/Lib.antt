@@ -1,9 +1,14 @@
+pub mod Links
+pub mod LinkedLogs
 pub mod Holding
+pub mod Electing
+pub mod Making
 pub mod LeaderHolds
 pub mod StepHolds
 pub mod CallHolds
 pub mod NetworkLaws
 pub mod SafetyLaws
+pub mod MatchingLaws
 pub mod TieLaws
 pub mod DirectiveLaws
 pub mod EffectLaws

@@ -1,23 +1,27 @@
 -- What holds of a network through all that happens in it, and that two leaders of one term are one node
-use Rattle.std.proofs.Common.{◌≡◌, ◌⊎◌, ℕ, zero, suc, ◌+◌, ◌<◌, true, false, List, [], ◌∷◌, ◌++◌, length, Option, Some, None, refl, sym, ap, subst, ◌∙◌, arith, inl, inr, ◌==◌, eqb-true}
+use Rattle.std.proofs.Common.{◌≡◌, ◌⊎◌, ℕ, zero, suc, ◌+◌, ◌<◌, ◌≤◌, true, List, [], ◌∷◌, ◌++◌, Option, Some, None, refl, sym, ap, subst, ◌∙◌, arith, inl, inr, ◌==◌, eqb-true}
 use Rattle.std.specs.Prelude.{All, Contains, slice_get, slice_set}
-use Rattle.std.proofs.lemmas.Bool.{false≢true, cases_Bool}
-use Rattle.std.proofs.lemmas.List.Elements.{All-nil, All-weaker, All-append, All-contains, All-same, Contains-append_left, Contains-append_right, Contains-append_cases}
+use Rattle.std.proofs.lemmas.Bool.{cases_Bool}
+use Rattle.std.proofs.lemmas.List.Elements.{All-nil, All-weaker, All-append, All-contains, Contains-append_left, Contains-append_right, Contains-append_cases}
 use Rattle.rb_message.specs.declared.event.Event.{Event}
+use Rattle.rb_message.specs.declared.kind.MessageKind.{MessageKind}
 use Rattle.rb_message.specs.declared.kind.MessageKind.TheVariants as kind
 use Rattle.rb_message.specs.declared.message.Message.{Message}
-use Rattle.rb_raftlog.specs.declared.entry.Body.{Body}
+use Rattle.rb_message.specs.declared.role.Role.TheVariants as role
+use Rattle.rb_raftlog.specs.Log.{last}
 use Rattle.rb_step.specs.Node.{PlainNode, Turn, turn}
-use Rattle.rb_node_laws.specs.Calling.{Call, Step, Propose, Advance, after, run as run_node}
+use Rattle.rb_node_laws.specs.Calling.{Call, Step, Propose, Advance, after}
 use Rattle.rb_node_laws.specs.Sound.{IsSound}
 use Rattle.rb_node_laws.specs.Words.{IsYes, IsPromised, HasPromises}
 use Rattle.rb_node_laws.proofs.CallLaws.{calls}
 use Rattle.rb_node_laws.proofs.Saying.{different}
 use Rattle.rb_node_laws.proofs.PromiseLaws.{Kept, NoYes, run_promises}
-use Rattle.rb_cluster_laws.specs.Honesty.{Keeps, IsHonestCall, AreHonest}
+use Rattle.rb_cluster_laws.specs.Honesty.{Keeps, IsHonestCall, AreHonest, IsNoAppend, IsGenuineCall, AreGenuine}
 use Rattle.rb_cluster_laws.specs.Network.{Network, Happening, put_out, happened_to, happened, run}
-use Rattle.rb_cluster_laws.proofs.Holding.{Setting, World, IsOwn, Holds, hearing, still_holds}
-use Rattle.rb_cluster_laws.proofs.StepHolds.{Gives}
+use Rattle.rb_cluster_laws.proofs.Links.{Link, Extends, still_linked}
+use Rattle.rb_cluster_laws.proofs.Holding.{Setting, World, IsElected, AreOnce, IsOwn, IsChainBy, IsChain, IsIn, Holds, essence, world_of, still_elected, still_holds, with_links, still_in}
+use Rattle.rb_cluster_laws.proofs.Electing.{one_elected}
+use Rattle.rb_cluster_laws.proofs.Making.{still_chains}
 use Rattle.rb_cluster_laws.proofs.CallHolds.{IsSafe, called_holds}
 
 -- ---- one node of the list changes
@@ -49,13 +53,11 @@ one_some x y e = cc
 
 -- ---- what holds
 
-abbrev pub world_of : Setting → List Message → ℕ → World
-world_of g said place = record { id = place + 1; some = omega arith; said = said; setting = g }
-
-pub record IsGood (g : Setting) (said : List Message) (place : ℕ) (n : PlainNode) : Type 0 where
+pub record IsGood (g : Setting) (said : List Message) (links : List Link) (place : ℕ) (n : PlainNode) : Type 0 where
   pub sound : IsSound n
   pub promises : HasPromises n
-  pub holds : Holds (world_of g said place) n
+  pub holds : Holds (world_of g said links place) n
+  pub linked : g.strict ≡ true → IsIn g said (place + 1) links (essence n)
 
 -- who gave a vote keeps it
 pub record IsGiven (nodes : List PlainNode) (m : Message) : Type 0 where
@@ -66,10 +68,12 @@ pub record IsGiven (nodes : List PlainNode) (m : Message) : Type 0 where
   pub promised : IsPromised node m.term m.to
 
 pub record IsSane (g : Setting) (s : Network) : Type 0 where
-  pub good : (k : ℕ) (n : PlainNode) → slice_get s.nodes k ≡ Some n → IsGood g s.said k n
+  pub links : List Link
+  pub good : (k : ℕ) (n : PlainNode) → slice_get s.nodes k ≡ Some n → IsGood g s.said links k n
   pub fine : All (Keeps g.config) s.said
+  pub chains : g.strict ≡ true → All (IsChain links) s.said
   pub given : (m : Message) → Contains s.said m → IsYes m → IsGiven s.nodes m
-  pub once : (a b : Message) → Contains s.said a → Contains s.said b → IsYes a → IsYes b → a.from ≡ b.from → a.term ≡ b.term → a.to ≡ b.to
+  pub once : AreOnce s.said
 
 -- ---- a node is called
 
@@ -87,13 +91,22 @@ out_fine {w} Advance n h =
     All-append (Keeps w.setting.config) n.sent n.waiting h.sent (All-weaker (IsOwn w) (Keeps w.setting.config) (λ m own. own.1) n.waiting h.waiting)
 out_fine {w} _ n h = All-nil (Keeps w.setting.config)
 
+no_append : (ls : List Link) (k : MessageKind) → IsNoAppend k → IsChainBy ls k
+no_append ls (kind.Append append) none = absurd none
+no_append ls _ none = tt
+
 -- the call that happens is one that a node stands
-safe_call : (g : Setting) (s : Network) (place : ℕ) (c : Call) (n : PlainNode) → IsSane g s → IsHonestCall g.config s (place + 1) c → IsSafe (world_of g (s.said ++ put_out c n) place) c n
-safe_call g s place (Step m) n sane honest =
-    let w = world_of g (s.said ++ []) place in
+safe_call : (g : Setting) (s : Network) (place : ℕ) (c : Call) (n : PlainNode) (sane : IsSane g s) → IsGood g s.said sane.links place n → IsHonestCall g.config s (place + 1) c → (g.strict ≡ true → IsGenuineCall s c) → IsSafe (world_of g (s.said ++ put_out c n) sane.links place) c n
+safe_call g s place (Step m) n sane good honest genuine =
+    let w = world_of g (s.said ++ []) sane.links place in
+    let chain : g.strict ≡ true → IsChainBy sane.links m.kind = λ strict.
+    (elim (genuine strict) as (λ _. IsChainBy sane.links m.kind) [
+      | inl said ↦ All-contains (IsChain sane.links) s.said m (sane.chains strict) said
+      | inr none ↦ no_append sane.links m.kind none
+    ]) in
     elim honest as (λ _. IsSafe w (Step m) n) [
       | inl said ↦ (
-        All-contains (Keeps g.config) s.said m sane.fine said.0,
+        (All-contains (Keeps g.config) s.said m sane.fine said.0, chain),
         λ yes. record {
           answer = m;
           among = Contains-append_left s.said [] m said.0;
@@ -103,29 +116,84 @@ safe_call g s place (Step m) n sane honest =
           for_it = said.1;
         },
       )
-      | inr foreign ↦ (foreign.1, λ yes. absurd (foreign.0 yes))
+      | inr foreign ↦ ((foreign.1, chain), λ yes. absurd (foreign.0 yes))
     ]
-safe_call g s place (Propose body) n sane honest = honest
-safe_call g s place Advance n sane honest = λ m waits. Contains-append_right s.said (n.sent ++ n.waiting) m (Contains-append_right n.sent n.waiting m waits)
-safe_call g s place _ n sane honest = tt
+safe_call g s place (Propose body) n sane good honest genuine = honest
+safe_call g s place Advance n sane good honest genuine = λ m waits. (
+  Contains-append_right s.said (n.sent ++ n.waiting) m (Contains-append_right n.sent n.waiting m waits),
+  λ strict. All-contains (IsChain sane.links) n.waiting m (good.linked strict).waiting waits,
+)
+safe_call g s place _ n sane good honest genuine = tt
+
+out_chains : (g : Setting) (said : List Message) (links : List Link) (id : ℕ) (c : Call) (n : PlainNode) → IsIn g said id links (essence n) → All (IsChain links) (put_out c n)
+out_chains g said links id Advance n h = All-append (IsChain links) n.sent n.waiting h.sent h.waiting
+out_chains g said links id _ n h = All-nil (IsChain links)
 
 -- ---- after the call
 
-good_after : (g : Setting) (said : List Message) (place : ℕ) (c : Call) (told : List Event) (n : PlainNode) → IsGood g said place n → IsSafe (world_of g (said ++ put_out c n) place) c n → IsGood g (said ++ put_out c n) place (after c (turn n told)).node
-good_after g said place c told n good safe =
+-- the links then, and the node
+record CallEnds (g : Setting) (said : List Message) (links : List Link) (place : ℕ) (n : PlainNode) : Type 0 where
+  now : List Link
+  since : Extends links now
+  own : (l : Link) → Contains now l → Contains links l ⊎ (l.maker ≡ place + 1)
+  good : IsGood g said now place n
+
+call_ends : (g : Setting) (said : List Message) (links : List Link) (place : ℕ) (c : Call) (told : List Event) (n : PlainNode) → AreOnce (said ++ put_out c n) → IsGood g said links place n → IsSafe (world_of g (said ++ put_out c n) links place) c n → CallEnds g (said ++ put_out c n) links place (after c (turn n told)).node
+call_ends g said links place c told n once good safe =
     let t : Turn = turn n told in
-    let w : World = world_of g (said ++ put_out c n) place in
+    let out = put_out c n in
+    let w : World = world_of g (said ++ out) links place in
+    let start : Holds w n = still_holds g said out links links place n (λ strict. still_in g said out (place + 1) links (essence n) once (good.linked strict)) good.holds in
+    let h : Holds w (after c t).node = called_holds {w = w} c t safe start in
     record {
-      sound = ((calls c t).goes good.sound).ordered;
-      promises = (run_promises (c ∷ []) t).keeps good.sound good.promises;
-      holds = called_holds {w = w} c t safe (still_holds (world_of g said place) (put_out c n) n good.holds);
+      now = h.linking.links;
+      since = h.linking.since;
+      own = h.linking.own;
+      good = record {
+        sound = ((calls c t).goes good.sound).ordered;
+        promises = (run_promises (c ∷ []) t).keeps good.sound good.promises;
+        holds = with_links g (said ++ out) links h.linking.links place (after c t).node h.linking.holds h;
+        linked = h.linking.holds;
+      };
     }
 
-still_good : (g : Setting) (said more : List Message) (place : ℕ) (n : PlainNode) → IsGood g said place n → IsGood g (said ++ more) place n
-still_good g said more place n good = record { sound = good.sound; promises = good.promises; holds = still_holds (world_of g said place) more n good.holds }
+-- the links that another node has made leave a node's own
+others_in : (g : Setting) (said more : List Message) (old new : List Link) (place k : ℕ) (x n : PlainNode) → (k ≡ place → ⊥) → Extends old new → ((l : Link) → Contains new l → Contains old l ⊎ (l.maker ≡ place + 1)) → IsIn g (said ++ more) (place + 1) new (essence x) → (n.role ≡ role.Leader → IsElected g said (k + 1) n.term) → IsIn g said (k + 1) old (essence n) → IsIn g (said ++ more) (k + 1) new (essence n)
+others_in g said more old new place k x n other since own its leads c = record {
+  once = its.once;
+  single = its.single;
+  made = its.made;
+  logged = still_linked old new n.log since c.logged;
+  sent = still_chains old new n.sent since c.sent;
+  waiting = still_chains old new n.waiting since c.waiting;
+  past = λ l among mine.
+      elim (own l among) as (λ _. l.entry.term ≤ n.term) [
+        | inl before ↦ c.past l before mine
+        | inr theirs ↦ absurd (other (omega (arith, mine, theirs)))
+      ];
+  stands = λ is l among mine term.
+      elim (own l among) as (λ _. ⊥) [
+        | inl before ↦ c.stands is l before mine term
+        | inr theirs ↦ other (omega (arith, mine, theirs))
+      ];
+  leads = λ is l among term.
+      elim (own l among) as (λ _. l.index ≤ last n.log) [
+        | inl before ↦ c.leads is l before term
+        | inr theirs ↦
+            let made : IsElected g (said ++ more) l.maker n.term = subst (λ (t : ℕ). IsElected g (said ++ more) l.maker t) term (its.made l among) in
+            let one : k + 1 ≡ l.maker = one_elected g (said ++ more) (k + 1) l.maker n.term its.once (still_elected g said more (k + 1) n.term (leads is)) made in
+            absurd (other (omega (arith, one, theirs)))
+      ];
+}
+
+still_good : (g : Setting) (said more : List Message) (links : List Link) (place k : ℕ) (x n : PlainNode) → (k ≡ place → ⊥) → (e : CallEnds g (said ++ more) links place x) → IsGood g said links k n → IsGood g (said ++ more) e.now k n
+still_good g said more links place k x n other e good =
+    let linked : g.strict ≡ true → IsIn g (said ++ more) (k + 1) e.now (essence n) = λ strict.
+    others_in g said more links e.now place k x n other e.since e.own (e.good.linked strict) good.holds.leads (good.linked strict) in
+    record { sound = good.sound; promises = good.promises; holds = still_holds g said more links e.now k n linked good.holds; linked = linked }
 
 -- the votes that the called node gave, those that it puts out now among them, it had promised
-pledged : (g : Setting) (s : Network) (place : ℕ) (c : Call) (n : PlainNode) (m : Message) → IsSane g s → slice_get s.nodes place ≡ Some n → IsGood g s.said place n → Contains (s.said ++ put_out c n) m → IsYes m → m.from ≡ place + 1 → IsPromised n m.term m.to
+pledged : (g : Setting) (s : Network) (place : ℕ) (c : Call) (n : PlainNode) (m : Message) (sane : IsSane g s) → slice_get s.nodes place ≡ Some n → IsGood g s.said sane.links place n → Contains (s.said ++ put_out c n) m → IsYes m → m.from ≡ place + 1 → IsPromised n m.term m.to
 pledged g s place c n m sane at good among gives own =
     elim (Contains-append_cases s.said (put_out c n) m among) as (λ _. IsPromised n m.term m.to) [
       | inl before ↦
@@ -136,15 +204,15 @@ pledged g s place c n m sane at good among gives own =
       | inr now ↦ All-contains (Kept n) n.waiting m good.promises.kept (out_waits c n m good.promises now gives) gives
     ]
 
-out_own : (g : Setting) (said : List Message) (place : ℕ) (c : Call) (n : PlainNode) (m : Message) → IsGood g said place n → Contains (put_out c n) m → IsYes m → m.from ≡ place + 1
-out_own g said place c n m good out gives =
-    let w = world_of g said place in
+out_own : (g : Setting) (said : List Message) (links : List Link) (place : ℕ) (c : Call) (n : PlainNode) (m : Message) → IsGood g said links place n → Contains (put_out c n) m → IsYes m → m.from ≡ place + 1
+out_own g said links place c n m good out gives =
+    let w = world_of g said links place in
     (All-contains (IsOwn w) n.waiting m good.holds.waiting (out_waits c n m good.promises out gives)).0
 
 -- of a node's votes of one term, that which it puts out now is for whom it voted before
-once_more : (g : Setting) (s : Network) (place : ℕ) (c : Call) (n : PlainNode) (a b : Message) → IsSane g s → slice_get s.nodes place ≡ Some n → IsGood g s.said place n → Contains (s.said ++ put_out c n) a → Contains (put_out c n) b → IsYes a → IsYes b → a.from ≡ b.from → a.term ≡ b.term → b.to ≡ a.to
+once_more : (g : Setting) (s : Network) (place : ℕ) (c : Call) (n : PlainNode) (a b : Message) (sane : IsSane g s) → slice_get s.nodes place ≡ Some n → IsGood g s.said sane.links place n → Contains (s.said ++ put_out c n) a → Contains (put_out c n) b → IsYes a → IsYes b → a.from ≡ b.from → a.term ≡ b.term → b.to ≡ a.to
 once_more g s place c n a b sane at good old now first second from term =
-    let own : a.from ≡ place + 1 = from ∙ out_own g s.said place c n b good now second in
+    let own : a.from ≡ place + 1 = from ∙ out_own g s.said sane.links place c n b good now second in
     let p : IsPromised n a.term a.to = pledged g s place c n a sane at good old first own in
     All-contains (λ (m : Message). IsYes m → m.term ≡ a.term → m.to ≡ a.to) n.waiting b p.alone (out_waits c n b good.promises now second) second (sym term)
 
@@ -170,7 +238,7 @@ still_given s place c told n m at sound gives was =
       }
     ]
 
-newly_given : (g : Setting) (s : Network) (place : ℕ) (c : Call) (told : List Event) (n : PlainNode) (m : Message) → IsSane g s → slice_get s.nodes place ≡ Some n → IsGood g s.said place n → Contains (s.said ++ put_out c n) m → IsYes m → m.from ≡ place + 1 → IsGiven (slice_set s.nodes place (after c (turn n told)).node) m
+newly_given : (g : Setting) (s : Network) (place : ℕ) (c : Call) (told : List Event) (n : PlainNode) (m : Message) (sane : IsSane g s) → slice_get s.nodes place ≡ Some n → IsGood g s.said sane.links place n → Contains (s.said ++ put_out c n) m → IsYes m → m.from ≡ place + 1 → IsGiven (slice_set s.nodes place (after c (turn n told)).node) m
 newly_given g s place c told n m sane at good among gives own =
     let x = (after c (turn n told)).node in
     record {
@@ -184,16 +252,16 @@ newly_given g s place c told n m sane at good among gives own =
 abbrev called_network : Network → ℕ → Call → List Event → PlainNode → Network
 called_network s place c told n = record { nodes = slice_set s.nodes place (after c (turn n told)).node; said = s.said ++ put_out c n }
 
-nodes_after : (g : Setting) (s : Network) (place : ℕ) (c : Call) (told : List Event) (n : PlainNode) (k : ℕ) (x : PlainNode) → IsSane g s → slice_get s.nodes place ≡ Some n → IsSafe (world_of g (s.said ++ put_out c n) place) c n → slice_get (called_network s place c told n).nodes k ≡ Some x → IsGood g (s.said ++ put_out c n) k x
-nodes_after g s place c told n k x sane at safe is =
+nodes_after : (g : Setting) (s : Network) (place : ℕ) (c : Call) (told : List Event) (n : PlainNode) (k : ℕ) (x : PlainNode) (sane : IsSane g s) → slice_get s.nodes place ≡ Some n → (e : CallEnds g (s.said ++ put_out c n) sane.links place (after c (turn n told)).node) → slice_get (called_network s place c told n).nodes k ≡ Some x → IsGood g (s.said ++ put_out c n) e.now k x
+nodes_after g s place c told n k x sane at e is =
     let new = (after c (turn n told)).node in
-    elim (same_or_not k place) as (λ _. IsGood g (s.said ++ put_out c n) k x) [
+    let said = s.said ++ put_out c n in
+    elim (same_or_not k place) as (λ _. IsGood g said e.now k x) [
       | inl same ↦
           let here : slice_get (slice_set s.nodes place new) place ≡ Some x = subst (λ (j : ℕ). slice_get (slice_set s.nodes place new) j ≡ Some x) same is in
           let it : new ≡ x = one_some new x (sym (set_here s.nodes place n new at) ∙ here) in
-          subst (λ (j : ℕ). IsGood g (s.said ++ put_out c n) j x) (sym same)
-          (subst (λ (y : PlainNode). IsGood g (s.said ++ put_out c n) place y) it (good_after g s.said place c told n (sane.good place n at) safe))
-      | inr other ↦ still_good g s.said (put_out c n) k x (sane.good k x (sym (set_elsewhere s.nodes place k new other) ∙ is))
+          subst (λ (j : ℕ). IsGood g said e.now j x) (sym same) (subst (λ (y : PlainNode). IsGood g said e.now place y) it e.good)
+      | inr other ↦ still_good g s.said (put_out c n) sane.links place k new x other e (sane.good k x (sym (set_elsewhere s.nodes place k new other) ∙ is))
     ]
 
 once_after : (g : Setting) (s : Network) (place : ℕ) (c : Call) (n : PlainNode) (a b : Message) → IsSane g s → slice_get s.nodes place ≡ Some n → Contains (s.said ++ put_out c n) a → Contains (s.said ++ put_out c n) b → IsYes a → IsYes b → a.from ≡ b.from → a.term ≡ b.term → a.to ≡ b.to
@@ -212,26 +280,47 @@ given_after g s place c told n m sane at among gives =
     let good = sane.good place n at in
     elim (Contains-append_cases s.said (put_out c n) m among) as (λ _. IsGiven (called_network s place c told n).nodes m) [
       | inl before ↦ still_given s place c told n m at good.sound gives (sane.given m before gives)
-      | inr now ↦ newly_given g s place c told n m sane at good among gives (out_own g s.said place c n m good now gives)
+      | inr now ↦ newly_given g s place c told n m sane at good among gives (out_own g s.said sane.links place c n m good now gives)
     ]
 
-called_sane : (g : Setting) (s : Network) (place : ℕ) (c : Call) (told : List Event) (n : PlainNode) → IsSane g s → slice_get s.nodes place ≡ Some n → IsHonestCall g.config s (place + 1) c → IsSane g (called_network s place c told n)
-called_sane g s place c told n sane at honest =
-    let safe = safe_call g s place c n sane honest in
+-- all is well, and no link was lost
+pub record Since (g : Setting) (before : List Link) (s : Network) : Type 0 where
+  pub sane : IsSane g s
+  pub since : Extends before sane.links
+
+called_sane : (g : Setting) (s : Network) (place : ℕ) (c : Call) (told : List Event) (n : PlainNode) (sane : IsSane g s) → slice_get s.nodes place ≡ Some n → IsHonestCall g.config s (place + 1) c → (g.strict ≡ true → IsGenuineCall s c) → Since g sane.links (called_network s place c told n)
+called_sane g s place c told n sane at honest genuine =
+    let good = sane.good place n at in
+    let out = put_out c n in
+    let once : AreOnce (s.said ++ out) = λ a b one two first second from term. once_after g s place c n a b sane at one two first second from term in
+    let e = call_ends g s.said sane.links place c told n once good (safe_call g s place c n sane good honest genuine) in
     record {
-      good = λ k x is. nodes_after g s place c told n k x sane at safe is;
-      fine = All-append (Keeps g.config) s.said (put_out c n) sane.fine (out_fine c n (sane.good place n at).holds);
-      given = λ m among gives. given_after g s place c told n m sane at among gives;
-      once = λ a b one two first second from term. once_after g s place c n a b sane at one two first second from term;
+      sane = record {
+        links = e.now;
+        good = λ k x is. nodes_after g s place c told n k x sane at e is;
+        fine = All-append (Keeps g.config) s.said out sane.fine (out_fine c n good.holds);
+        chains = λ strict.
+            All-append (IsChain e.now) s.said out (still_chains sane.links e.now s.said e.since (sane.chains strict))
+            (still_chains sane.links e.now out e.since (out_chains g s.said sane.links (place + 1) c n (good.linked strict)));
+        given = λ m among gives. given_after g s place c told n m sane at among gives;
+        once = once;
+      };
+      since = e.since;
     }
 
-happened_sane_to : (g : Setting) (s : Network) (h : Happening) (o : Option PlainNode) → slice_get s.nodes h.place ≡ o → IsSane g s → IsHonestCall g.config s (h.place + 1) h.call → IsSane g (happened_to o s h)
-happened_sane_to g s h None at sane honest = sane
-happened_sane_to g s h (Some n) at sane honest = called_sane g s h.place h.call h.told n sane at honest
+happened_sane_to : (g : Setting) (s : Network) (h : Happening) (o : Option PlainNode) → slice_get s.nodes h.place ≡ o → (sane : IsSane g s) → IsHonestCall g.config s (h.place + 1) h.call → (g.strict ≡ true → IsGenuineCall s h.call) → Since g sane.links (happened_to o s h)
+happened_sane_to g s h None at sane honest genuine = record { sane = sane; since = λ l among. among }
+happened_sane_to g s h (Some n) at sane honest genuine = called_sane g s h.place h.call h.told n sane at honest genuine
 
-pub run_sane : (g : Setting) (hs : List Happening) (s : Network) → IsSane g s → AreHonest g.config hs s → IsSane g (run hs s)
-run_sane g [] s sane honest = sane
-run_sane g (h ∷ hs) s sane honest = run_sane g hs (happened s h) (happened_sane_to g s h (slice_get s.nodes h.place) refl sane honest.0) honest.1
+pub run_since : (g : Setting) (hs : List Happening) (s : Network) (sane : IsSane g s) → AreHonest g.config hs s → (g.strict ≡ true → AreGenuine hs s) → Since g sane.links (run hs s)
+run_since g [] s sane honest genuine = record { sane = sane; since = λ l among. among }
+run_since g (h ∷ hs) s sane honest genuine =
+    let one = happened_sane_to g s h (slice_get s.nodes h.place) refl sane honest.0 (λ strict. (genuine strict).0) in
+    let rest = run_since g hs (happened s h) one.sane honest.1 (λ strict. (genuine strict).1) in
+    record { sane = rest.sane; since = λ l among. rest.since l (one.since l among) }
+
+pub run_sane : (g : Setting) (hs : List Happening) (s : Network) → IsSane g s → AreHonest g.config hs s → (g.strict ≡ true → AreGenuine hs s) → IsSane g (run hs s)
+run_sane g hs s sane honest genuine = (run_since g hs s sane honest genuine).sane
 
 -- ---- what was said stays said
 

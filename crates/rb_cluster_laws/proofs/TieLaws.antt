@@ -7,14 +7,18 @@ use Rattle.rb_message.specs.declared.message.Message.{Message}
 use Rattle.rb_step.specs.Node.{PlainNode, Turn}
 use Rattle.rb_node_laws.specs.Calling.{Call, after}
 use Rattle.rb_machine.specs.Cluster.{Cluster, node_at, with_node}
-use Rattle.rb_cluster_laws.specs.Honesty.{Keeps, IsHonestCall, AreHonest}
+use Rattle.rb_cluster_laws.specs.Honesty.{Keeps, IsHonestCall, AreHonest, IsNoAppend, IsGenuineCall, AreGenuine}
 use Rattle.rb_cluster_laws.specs.Network.{Network, Happening, put_out, happened_to, happened, run}
 use Rattle.rb_cluster_laws.proofs.Holding.{Setting}
 use Rattle.rb_cluster_laws.proofs.NetworkLaws.{IsSane, run_sane, still_said}
 
--- a message on its way was put out by a node, or gives no vote and keeps the configuration
+-- a message on its way was put out by a node; or it gives no vote, keeps the configuration and is no append
 abbrev pub IsComing : Setting → Network → Message → Type 0
-IsComing g s m = Contains s.said m ⊎ ((m.kind ≡ kind.VoteResponse true → ⊥) × Keeps g.config m)
+IsComing g s m = Contains s.said m ⊎ ((m.kind ≡ kind.VoteResponse true → ⊥) × Keeps g.config m × IsNoAppend m.kind)
+
+-- what a call brings is honest, and an append is genuine
+abbrev pub IsFair : Setting → Network → ℕ → Call → Type 0
+IsFair g s id call = IsHonestCall g.config s id call × IsGenuineCall s call
 
 pub record IsTied (g : Setting) (s : Network) (c : Cluster) : Type 0 where
   pub sane : IsSane g s
@@ -25,10 +29,11 @@ pub record IsTied (g : Setting) (s : Network) (c : Cluster) : Type 0 where
 pub record IsReached (g : Setting) (s : Network) (c : Cluster) : Type 0 where
   pub happenings : List Happening
   pub honest : AreHonest g.config happenings s
+  pub genuine : AreGenuine happenings s
   pub tied : IsTied g (run happenings s) c
 
 pub stays : (g : Setting) (s : Network) (c : Cluster) → IsTied g s c → IsReached g s c
-stays g s c tied = record { happenings = []; honest = tt; tied = tied }
+stays g s c tied = record { happenings = []; honest = tt; genuine = tt; tied = tied }
 
 -- ---- one upon another
 
@@ -40,12 +45,17 @@ honest_both : (g : Setting) (xs ys : List Happening) (s : Network) → AreHonest
 honest_both g [] ys s first second = second
 honest_both g (x ∷ xs) ys s first second = (first.0, honest_both g xs ys (happened s x) first.1 second)
 
+genuine_both : (xs ys : List Happening) (s : Network) → AreGenuine xs s → AreGenuine ys (run xs s) → AreGenuine (xs ++ ys) s
+genuine_both [] ys s first second = second
+genuine_both (x ∷ xs) ys s first second = (first.0, genuine_both xs ys (happened s x) first.1 second)
+
 pub next : (g : Setting) (s : Network) (c d : Cluster) → IsReached g s c → ((hs : List Happening) → IsTied g (run hs s) c → IsReached g (run hs s) d) → IsReached g s d
 next g s c d r go =
     let q = go r.happenings r.tied in
     record {
       happenings = r.happenings ++ q.happenings;
       honest = honest_both g r.happenings q.happenings s r.honest q.honest;
+      genuine = genuine_both r.happenings q.happenings s r.genuine q.genuine;
       tied = subst (λ (t : Network). IsTied g t d) (sym (run_both r.happenings q.happenings s)) q.tied;
     }
 
@@ -74,12 +84,12 @@ happens_there g s c id call t tied at =
     let there : slice_get s.nodes (id - 1) ≡ Some t.node = sym (ap (λ (nodes : List PlainNode). slice_get nodes (id - 1)) tied.nodes) ∙ at in
     ap (λ (o : Option PlainNode). happened_to o s h) there
 
-pub call_tied : (g : Setting) (s : Network) (c : Cluster) (id : ℕ) (call : Call) (t : Turn) → IsTied g s c → node_at c id ≡ Some t.node → IsHonestCall g.config s (id - 1 + 1) call → IsTied g (run (call_of id call t) s) (called_cluster c id call t)
-call_tied g s c id call t tied at honest =
+pub call_tied : (g : Setting) (s : Network) (c : Cluster) (id : ℕ) (call : Call) (t : Turn) → IsTied g s c → node_at c id ≡ Some t.node → IsFair g s (id - 1 + 1) call → IsTied g (run (call_of id call t) s) (called_cluster c id call t)
+call_tied g s c id call t tied at fair =
     let hs = call_of id call t in
     let is = happens_there g s c id call t tied at in
     record {
-      sane = run_sane g hs s tied.sane (honest, tt);
+      sane = run_sane g hs s tied.sane (fair.0, tt) (λ _. (fair.1, tt));
       nodes = ap (λ (nodes : List PlainNode). slice_set nodes (id - 1) (after call t).node) tied.nodes ∙ sym (ap (λ (x : Network). x.nodes) is);
       pending = All-weaker (IsComing g s) (IsComing g (run hs s)) (λ m coming. still_coming g hs s m coming) c.pending tied.pending;
     }
@@ -90,5 +100,5 @@ said_now g s c id call t tied at m out =
     let is = happens_there g s c id call t tied at in
     subst (λ (x : Network). Contains x.said m) (sym is) (Contains-append_right s.said (put_out call t.node) m out)
 
-pub call_reached : (g : Setting) (s : Network) (c : Cluster) (id : ℕ) (call : Call) (t : Turn) → IsTied g s c → node_at c id ≡ Some t.node → IsHonestCall g.config s (id - 1 + 1) call → IsReached g s (called_cluster c id call t)
-call_reached g s c id call t tied at honest = record { happenings = call_of id call t; honest = (honest, tt); tied = call_tied g s c id call t tied at honest }
+pub call_reached : (g : Setting) (s : Network) (c : Cluster) (id : ℕ) (call : Call) (t : Turn) → IsTied g s c → node_at c id ≡ Some t.node → IsFair g s (id - 1 + 1) call → IsReached g s (called_cluster c id call t)
+call_reached g s c id call t tied at fair = record { happenings = call_of id call t; honest = (fair.0, tt); genuine = (fair.1, tt); tied = call_tied g s c id call t tied at fair }

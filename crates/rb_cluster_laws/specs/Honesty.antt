@@ -2,7 +2,6 @@
 use Rattle.std.specs.Prelude.{ℕ, ◌≡◌, ◌+◌, ◌⊎◌, true, false, List, [], ◌∷◌, All, Contains}
 use Rattle.rb_raftlog.specs.Bodies.{is_change}
 use Rattle.rb_raftlog.specs.declared.entry.Entry.{Entry}
-use Rattle.rb_raftlog.specs.declared.snapshot.Snapshot.{Snapshot}
 use Rattle.rb_tracker.specs.Configs.{config_of}
 use Rattle.rb_tracker.specs.declared.config.Config.{Config}
 use Rattle.rb_message.specs.declared.kind.MessageKind.{MessageKind}
@@ -39,3 +38,18 @@ IsHonestCall c s id _ = Unit {0}
 abbrev pub AreHonest : Config → List Happening → Network → Type 0
 AreHonest c [] s = Unit {0}
 AreHonest c (h ∷ hs) s = IsHonestCall c s (h.place + 1) h.call × AreHonest c hs (happened s h)
+
+-- ---- appends are the nodes' own
+
+abbrev pub IsNoAppend : MessageKind → Type 0
+IsNoAppend (kind.Append append) = ⊥
+IsNoAppend _ = Unit {0}
+
+-- An append was put out by a node; it may come to any. Whatever else comes is open here.
+abbrev pub IsGenuineCall : Network → Call → Type 0
+IsGenuineCall s (Step m) = Contains s.said m ⊎ IsNoAppend m.kind
+IsGenuineCall s _ = Unit {0}
+
+abbrev pub AreGenuine : List Happening → Network → Type 0
+AreGenuine [] s = Unit {0}
+AreGenuine (h ∷ hs) s = IsGenuineCall s h.call × AreGenuine hs (happened s h)

@@ -1,18 +1,20 @@
 //! What the nodes of a cluster keep together, whatever happens.
-ghost use Rattle.std.specs.Prelude.{◌≡◌, ℕ, List, [], Ok};
+ghost use Rattle.std.specs.Prelude.{◌≡◌, ℕ, List, [], Ok, Some, slice_get};
 ghost use Rattle.rb_script.specs.Directive.{PlainDirective};
 ghost use Rattle.rb_directive.specs.declared.asking.AddNodes.{AddNodes};
 ghost use Rattle.rb_directive.specs.declared.asking.Request.TheVariants as requests;
 ghost use Rattle.rb_directive.specs.declared.build.Asked.{Asked};
 ghost use Rattle.rb_directive.specs.Requests.{request};
 ghost use Rattle.rb_raftlog.specs.declared.conf_state.ConfState.{ConfState};
+ghost use Rattle.rb_raftlog.specs.Laws.{AreMatching};
 ghost use Rattle.rb_tracker.specs.Configs.{config_of};
+ghost use Rattle.rb_step.specs.Node.{PlainNode};
 ghost use Rattle.rb_machine.specs.AddNodes.{start};
 ghost use Rattle.rb_machine.specs.Cluster.{Cluster, empty};
 ghost use Rattle.rb_machine.specs.Outcome.{outcome};
 ghost use Rattle.rb_cluster_laws.specs.Clusters.{AreSteady, led, IsNew};
 ghost use Rattle.rb_cluster_laws.specs.Network.{Network, Happening, run, IsBegun, Leads};
-ghost use Rattle.rb_cluster_laws.specs.Honesty.{AreHonest};
+ghost use Rattle.rb_cluster_laws.specs.Honesty.{AreHonest, AreGenuine};
 ghost use Rattle.rb_cluster_laws.specs.Votes.{IsCast, IsChosen};
 
 /// A node casts at most one vote in a term: of all the answers that were put out, those of one node that give a vote of one term give it to
@@ -39,4 +41,17 @@ pub fn clusters_elect_one_leader()
     ensures empty { (members : ConfState) → IsNew members empty }
     ensures added { (members : ConfState) (c : Cluster) (d : PlainDirective) (a : Asked) (r : AddNodes) → request d ≡ Ok a → a.request ≡ requests.AddNodes r → (start r).config ≡ members → IsNew members c → IsNew members (outcome c d).cluster }
     ensures single { (r : AddNodes) → (start r).config.outgoing ≡ [] }
+{}
+
+/// Log matching: the logs of two nodes, or of one, at whatever points of a run, are the same up to an index at which both have an entry of
+/// the same term, as far as both still have it. The nodes start with the same members, in no joint configuration; no vote and no append is
+/// forged, and the configuration stays. Snapshots may be made up.
+pub fn logs_match()
+    ensures { (members : ConfState) (s : Network) (earlier later : List Happening) (j k : ℕ) (first second : PlainNode) → members.outgoing ≡ [] → IsBegun members s → AreHonest (config_of members) earlier s → AreHonest (config_of members) later (run earlier s) → AreGenuine earlier s → AreGenuine later (run earlier s) → slice_get (run earlier s).nodes j ≡ Some first → slice_get (run later (run earlier s)).nodes k ≡ Some second → AreMatching first.log second.log }
+{}
+
+/// The same of a cluster of the bench, whatever directives it is given but `add-nodes` and `propose-conf-change`: logs of its nodes, at
+/// whatever points of the script, match.
+pub fn clusters_keep_logs_matching()
+    ensures { (members : ConfState) (c : Cluster) (earlier later : List PlainDirective) (j k : ℕ) (first second : PlainNode) → members.outgoing ≡ [] → IsNew members c → AreSteady earlier → AreSteady later → slice_get (led c earlier).nodes j ≡ Some first → slice_get (led (led c earlier) later).nodes k ≡ Some second → AreMatching first.log second.log }
 {}

@@ -7,5 +7,6 @@
 mod laws;
 
 pub use laws::{
-    clusters_elect_one_leader, elections_are_safe, leaders_are_chosen, votes_are_cast_once,
+    clusters_elect_one_leader, clusters_keep_logs_matching, elections_are_safe, leaders_are_chosen,
+    logs_match, votes_are_cast_once,
 };
