@@ -32,3 +32,4 @@ pub mod AdvanceSteps
 pub mod CountLaws
 pub mod CommitCallLaws
 pub mod AnswerLaws
+pub mod EventLaws

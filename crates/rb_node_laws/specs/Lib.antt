@@ -4,3 +4,4 @@ pub mod Elections
 pub mod Words
 pub mod Choices
 pub mod Matches
+pub mod Events

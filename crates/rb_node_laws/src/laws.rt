@@ -7,13 +7,13 @@ ghost use Rattle.rb_raftlog.specs.Log.{LogValue, entry_at, term_at, is_term};
 ghost use Rattle.rb_message.specs.declared.role.Role.TheVariants.{Leader, Candidate};
 ghost use Rattle.rb_message.specs.declared.message.Message.{Message};
 ghost use Rattle.rb_message.specs.Appends.{PlainAppend};
-ghost use Rattle.rb_message.specs.declared.kind.MessageKind.TheVariants.{Append, Vote, PreVote};
+ghost use Rattle.rb_message.specs.declared.kind.MessageKind.TheVariants.{Append, Vote, PreVote, Proposal, TransferLeader};
 ghost use Rattle.rb_step.specs.declared.options.Options.{Options};
-ghost use Rattle.rb_step.specs.Node.{PlainNode, Turn, started};
+ghost use Rattle.rb_step.specs.Node.{PlainNode, Turn, turn, started};
 ghost use Rattle.rb_step.specs.Campaigns.{campaigned, stood_up};
 ghost use Rattle.rb_step.specs.declared.limits.TheConstants.{ELECTION_TICKS};
 ghost use Rattle.rb_raftlog.specs.declared.entry.Body.{Body};
-ghost use Rattle.rb_raftlog.specs.declared.entry.Body.TheVariants.{Change};
+ghost use Rattle.rb_raftlog.specs.declared.entry.Body.TheVariants.{Payload, Change};
 ghost use Rattle.rb_raftlog.specs.declared.entry.Entry.{Entry};
 ghost use Rattle.rb_raftlog.specs.declared.entry.Transition.{Transition};
 ghost use Rattle.rb_raftlog.specs.declared.entry.Word.{Word};
@@ -26,12 +26,13 @@ ghost use Rattle.rb_step.specs.Changing.{applied_all, change_applied};
 ghost use Rattle.rb_step.specs.Proposing.{proposed};
 ghost use Rattle.rb_step.specs.Step.{stepped};
 ghost use Rattle.rb_step.specs.Transferring.{transferred};
-ghost use Rattle.rb_node.specs.Calls.{IsCompactedTo};
-ghost use Rattle.rb_node.specs.Readying.{applying, handed, has_ready};
-ghost use Rattle.rb_node.specs.Ticking.{counted};
-ghost use Rattle.rb_node_laws.specs.Calling.{Call, Propose, Tick, compacted_to, after, run};
+ghost use Rattle.rb_node.specs.Calls.{IsCompactedTo, called, leader_forgotten, reported};
+ghost use Rattle.rb_node.specs.Readying.{advanced, applying, handed, has_ready};
+ghost use Rattle.rb_node.specs.Ticking.{counted, ticked};
+ghost use Rattle.rb_node_laws.specs.Calling.{Call, Step, Campaign, Propose, Transfer, Tick, Advance, ForgetLeader, ReportUnreachable, SetTimeout, compacted_to, after, run};
 ghost use Rattle.rb_node_laws.specs.Choices.{MayCampaign, MayTakeLead, PutsChange, StepsDown, payloads, HasNothing};
 ghost use Rattle.rb_node_laws.specs.Elections.{VotesOnly, LeadsOnly, Granted, Elected, own_turn};
+ghost use Rattle.rb_node_laws.specs.Events.{OnlyAdded};
 ghost use Rattle.rb_node_laws.specs.Matches.{RestsOn, Told, IsOfOthers, HasOwnAnswers, CountsDurable, IsHeldBetween};
 ghost use Rattle.rb_node_laws.specs.Sound.{IsSound, IsGrown, HasSameVote, HasSoundViews, HasViewsOfMembers};
 ghost use Rattle.rb_node_laws.specs.Words.{IsYes, IsPromised, HasPromises, IsAnswered, AreTrueBetween};
@@ -44,12 +45,27 @@ pub fn nodes_stay_sound()
     ensures run { (cs : List Call) (t : Turn) → IsSound t.node → IsSound (run cs t).node }
 {}
 
-/// The calls of the laws are the calls of a node: compacting, whose contract is a relation, gives what the laws say, unless memory is
-/// refused.
+/// The calls of the laws are the calls of a node: each leaves what its contract says that it does. Compacting, whose contract is a relation,
+/// does unless memory is refused.
 pub fn calls_are_these()
+    ensures step { (t : Turn) (m : Message) → after (Step m) t ≡ stepped t m }
+    ensures campaign { (t : Turn) → after Campaign t ≡ campaigned t false }
+    ensures propose { (t : Turn) (bytes : List ℕ) → after (Propose (Payload bytes)) t ≡ called t (Proposal (Payload bytes)) }
+    ensures change { (t : Turn) (transition : Transition) (words : List Word) → after (Propose (Change transition words)) t ≡ called t (Proposal (Change transition words)) }
+    ensures transfer { (t : Turn) (to : ℕ) → after (Transfer to) t ≡ called t (TransferLeader to) }
+    ensures tick { (t : Turn) → after Tick t ≡ ticked t }
+    ensures advance { (t : Turn) → after Advance t ≡ advanced t }
+    ensures forget { (t : Turn) → after ForgetLeader t ≡ turn (leader_forgotten t.node) t.events }
+    ensures report { (t : Turn) (id : ℕ) → after (ReportUnreachable id) t ≡ turn (reported t.node id) t.events }
+    ensures timeout { (t : Turn) (ticks : ℕ) → after (SetTimeout ticks) t ≡ turn (record t.node { timeout = ticks }) t.events }
     ensures compacted { (old new : PlainNode) (index : ℕ) (done : Unit {0}) → IsCompactedTo old index (Ok done) new → new ≡ compacted_to old index }
     ensures already { (old new : PlainNode) (index : ℕ) → IsCompactedTo old index (Err AlreadyCompacted) new → new ≡ compacted_to old index }
     ensures past { (old new : PlainNode) (index : ℕ) → IsCompactedTo old index (Err PastApplied) new → new ≡ compacted_to old index }
+{}
+
+/// Events are only added, whatever is called: none is taken back or changed, and none comes before an earlier one.
+pub fn events_are_only_added()
+    ensures { (cs : List Call) (t : Turn) → OnlyAdded t.events (run cs t).events }
 {}
 
 /// The term never falls, and the id stays.

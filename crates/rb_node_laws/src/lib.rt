@@ -10,7 +10,7 @@ mod laws;
 pub use laws::{
     answers_tell_what_is_held, calls_are_these, campaigns_are_of_voters, candidates_disturb_nobody,
     changes_go_one_at_a_time, commit_never_falls, committed_entries_stay,
-    committed_entries_take_effect, leaders_append_only, leaders_are_elected,
+    committed_entries_take_effect, events_are_only_added, leaders_append_only, leaders_are_elected,
     leaders_commit_own_terms, leaders_commit_what_a_quorum_holds, leaders_count_what_they_saved,
     leaders_view_the_members, leaders_were_candidates, leads_go_to_voters, lost_quorums_end_a_lead,
     matches_rest_on_answers, members_are_counted_by_their_answers, messages_are_true,
