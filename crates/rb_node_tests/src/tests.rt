@@ -4,12 +4,10 @@
 //! beside the rules, and few functions make messages and nodes.
 
 mod calls;
-mod comparing;
 mod held;
 mod leading;
 mod making;
 mod moves;
-mod refusals;
 mod roles;
 mod rules;
 mod seen;

@@ -5,11 +5,10 @@ use super::moves::{ALONE, FOLLOWS, LEADS, Move, START, Says};
 use super::seen::{Said, kind_said};
 use rb_message::{HardState, Message};
 use rb_node::{HEARTBEAT_TICKS, MAX_TICKS, Node, ReadyView, limits_are};
-use rb_raftlog::{CompactFault, Entry, PlainLog, RaftLog};
+use rb_raftlog::{CompactFault, Entry, RaftLog};
 use rb_step::ELECTION_TICKS;
 use std::alloc::{AllocError, Global};
 use std::process::Abort;
-use std::test::Fail;
 
 /// What is ready: the hard state's term, vote and commit, and a snapshot's term and index, where there are such; how many entries are to
 /// be saved, and applied; how many messages were sent, and how many answers wait.
@@ -40,7 +39,7 @@ pub fn ready_of<L: RaftLog>(node: &Node<L>) -> Ready {
 
 const NOTHING: Ready = (None, None, 0, 0, 0, 0);
 
-const READY: [(&[Move], Ready); 8] = [
+static READY: [(&[Move], Ready); 8] = [
     (&[], (None, None, 0, 0, 0, 0)),
     (FOLLOWS, (None, None, 0, 0, 0, 0)),
     (LEADS, (None, None, 0, 0, 0, 0)),
@@ -64,21 +63,16 @@ const READY: [(&[Move], Ready); 8] = [
 ];
 
 /// What is ready once a node did all this, and whether something is.
-fn ready_after<P: Player>(alloc: Global, moves: &[Move]) -> Result<(Ready, bool), AllocError> {
-    let player: P = played(alloc, &START, moves)?;
-    Ok((player.ready(), player.has_ready()))
+fn ready_after<P: Player>(rt: &impl Abort, alloc: Global, moves: &[Move]) -> (Ready, bool) {
+    let player: P = played(rt, alloc, &START, moves);
+    (player.ready(), player.has_ready())
 }
 
-fn readies<P: Player>(
-    rt: &impl Abort,
-    alloc: Global,
-    rows: &[(&[Move], Ready)],
-) -> Result<(), Fail> {
+fn readies<P: Player>(rt: &impl Abort, alloc: Global, rows: &[(&[Move], Ready)]) {
     for (moves, wanted) in rows {
-        let came = ready_after::<P>(alloc, moves)?;
+        let came = ready_after::<P>(rt, alloc, moves);
         assert_eq!(rt; came, (*wanted, *wanted != NOTHING));
     }
-    Ok(())
 }
 
 /// Whether two entries are to be applied, and this is the second.
@@ -113,17 +107,17 @@ pub fn gone_out<L: RaftLog>(alloc: Global, node: &mut Node<L>) -> Result<Gone, A
     Ok((said, sent.len(), events.len(), node.has_ready()))
 }
 
-const TAKES_ENTRIES: &[Move] = &[
+static TAKES_ENTRIES: &[Move] = &[
     Move::Get(2, 2, Says::Append(1, 10, 12, 3)),
     Move::Get(2, 2, Says::Heartbeat(12)),
 ];
 
 /// What a follower is to apply, and what goes out: the sent messages, then the answers to others.
-fn hands_over<P: Player>(rt: &impl Abort, alloc: Global) -> Result<(), Fail> {
-    let mut player: P = played(alloc, &START, TAKES_ENTRIES)?;
-    assert!(rt; player.applies_what_it_saves());
-    assert!(rt; player.gone_out(alloc)? == (Said::HeartbeatAnswer, 2, 0, false));
-    Ok(())
+fn hands_over<P: Player>(rt: &impl Abort, alloc: Global) {
+    let mut player: P = played(rt, alloc, &START, TAKES_ENTRIES);
+    let second = player.applies_what_it_saves();
+    let gone = player.gone_out(alloc).expect(rt, "memory");
+    assert!(rt; second && gone == (Said::HeartbeatAnswer, 2, 0, false));
 }
 
 /// The index and the term of a node's snapshot, and whether this is its content.
@@ -147,7 +141,7 @@ fn compacts<P: Player>(player: &mut P) -> bool {
         && player.held().0 == 13
 }
 
-const LIVES: &[Move] = &[
+static LIVES: &[Move] = &[
     Move::Tick,
     Move::Campaign,
     Move::Advance,
@@ -158,21 +152,16 @@ const LIVES: &[Move] = &[
 ];
 
 /// A lone voter takes two payloads; its snapshot is its content, and its log can begin there.
-fn life<P: Player>(rt: &impl Abort, alloc: Global) -> Result<(), Fail> {
-    let mut player: P = played(alloc, &ALONE, LIVES)?;
-    assert!(rt; player.snapshot_seen(b"abcd")? == (13, 1, true) && compacts(&mut player));
-    Ok(())
+fn life<P: Player>(rt: &impl Abort, alloc: Global) {
+    let mut player: P = played(rt, alloc, &ALONE, LIVES);
+    let seen = player.snapshot_seen(b"abcd").expect(rt, "memory");
+    assert!(rt; seen == (13, 1, true) && compacts(&mut player));
 }
 
-pub fn all<P: Player>(rt: &impl Abort, alloc: Global) -> Result<(), Fail> {
-    readies::<P>(rt, alloc, &READY)?;
-    hands_over::<P>(rt, alloc)?;
-    life::<P>(rt, alloc)
-}
-
-#[test]
-fn plain_logs(rt: HostRuntime) -> Result<(), Fail> {
-    all::<Node<PlainLog>>(&rt, rt.alloc())
+pub fn all<P: Player>(rt: &impl Abort, alloc: Global) {
+    readies::<P>(rt, alloc, &READY);
+    hands_over::<P>(rt, alloc);
+    life::<P>(rt, alloc);
 }
 
 #[test]

@@ -3,10 +3,9 @@
 use super::making::{Player, played};
 use super::moves::{ALONE, FOLLOWS, Move, START, Says, Start};
 use rb_node::Node;
-use rb_raftlog::{PlainLog, RaftLog, Transition, WordKind};
-use std::alloc::{AllocError, Global};
+use rb_raftlog::{RaftLog, Transition, WordKind};
+use std::alloc::Global;
 use std::process::Abort;
-use std::test::Fail;
 
 /// The base, the last index and its term, the last that is durable, commit and applied.
 pub type Held = (u64, u64, u64, u64, u64, u64);
@@ -33,7 +32,7 @@ const CONFLICTS: Move = Move::Get(3, 3, Says::Append(2, 11, 10, 1));
 /// Nodes 1 and 2 hold 3/14, which node 1 appended in term 3 after three entries of term 2.
 const VOTED_FOR: Move = Move::Get(2, 3, Says::VoteAnswer(true));
 
-const HELD: [(&[Move], Held); 17] = [
+static HELD: [(&[Move], Held); 17] = [
     (FOLLOWS, (10, 10, 1, 10, 10, 10)),
     (&[HOLDS_THREE], (10, 13, 2, 10, 10, 10)),
     (&[HOLDS_THREE, Move::Advance], (10, 13, 2, 13, 10, 10)),
@@ -133,7 +132,7 @@ const HELD: [(&[Move], Held); 17] = [
 ];
 
 /// A leader counts its own entry once that is durable, and not before.
-const COUNTED: [(&[Move], Held); 2] = [
+static COUNTED: [(&[Move], Held); 2] = [
     (
         &[
             Move::Campaign,
@@ -156,7 +155,7 @@ const COUNTED: [(&[Move], Held); 2] = [
 ];
 
 /// A lone leader's entry isn't committed once a second voter is there, which lacks it.
-const SHARED: [(&[Move], Held); 1] = [(
+static SHARED: [(&[Move], Held); 1] = [(
     &[
         Move::Campaign,
         Move::Advance,
@@ -169,31 +168,20 @@ const SHARED: [(&[Move], Held); 1] = [(
     (10, 13, 1, 13, 12, 12),
 )];
 
-fn held<P: Player>(alloc: Global, start: &Start, moves: &[Move]) -> Result<Held, AllocError> {
-    let player: P = played(alloc, start, moves)?;
-    Ok(player.held())
+fn held<P: Player>(rt: &impl Abort, alloc: Global, start: &Start, moves: &[Move]) -> Held {
+    let player: P = played(rt, alloc, start, moves);
+    player.held()
 }
 
-fn hold<P: Player>(
-    rt: &impl Abort,
-    alloc: Global,
-    start: &Start,
-    rows: &[(&[Move], Held)],
-) -> Result<(), Fail> {
+fn hold<P: Player>(rt: &impl Abort, alloc: Global, start: &Start, rows: &[(&[Move], Held)]) {
     for (moves, wanted) in rows {
-        let came = held::<P>(alloc, start, moves)?;
+        let came = held::<P>(rt, alloc, start, moves);
         assert_eq!(rt; came, *wanted);
     }
-    Ok(())
 }
 
-pub fn all<P: Player>(rt: &impl Abort, alloc: Global) -> Result<(), Fail> {
-    hold::<P>(rt, alloc, &START, &HELD)?;
-    hold::<P>(rt, alloc, &START, &COUNTED)?;
-    hold::<P>(rt, alloc, &ALONE, &SHARED)
-}
-
-#[test]
-fn plain_logs(rt: HostRuntime) -> Result<(), Fail> {
-    all::<Node<PlainLog>>(&rt, rt.alloc())
+pub fn all<P: Player>(rt: &impl Abort, alloc: Global) {
+    hold::<P>(rt, alloc, &START, &HELD);
+    hold::<P>(rt, alloc, &START, &COUNTED);
+    hold::<P>(rt, alloc, &ALONE, &SHARED);
 }

@@ -156,4 +156,4 @@ const CHANGES: [Case; 11] = case_rows! {
     TWO_STEP_DOWN, REMOVES_ITSELF, &[], Move::Advance => FOLLOWER 1, Switched 2, Nothing 0 0, 0 0;
 };
 
-pub const TABLES: [&[Case]; 4] = [&ANSWERS, &WINDOWS, &TRANSFERS, &CHANGES];
+pub static TABLES: [&[Case]; 4] = [&ANSWERS, &WINDOWS, &TRANSFERS, &CHANGES];

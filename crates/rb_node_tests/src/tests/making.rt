@@ -3,7 +3,6 @@
 use super::calls::{Gone, Ready, applies_what_it_saves, gone_out, ready_of, snapshot_seen};
 use super::held::{Held, held_of};
 use super::moves::{Move, Says, Start};
-use super::refusals::{Standing, is_probed, standing_of};
 use super::seen::{Seen, seen_of};
 use rb_message::{Append, Event, Install, Message, MessageKind};
 use rb_node::Node;
@@ -12,6 +11,7 @@ use rb_raftlog::{
     Transition, Word, WordKind,
 };
 use std::alloc::{AllocError, Global};
+use std::process::Abort;
 
 /// A payload of one byte.
 pub fn payload(alloc: Global, byte: u8) -> Result<Shared<u8>, AllocError> {
@@ -255,14 +255,6 @@ pub trait Player: Drop {
     fn snapshot_seen(&self, content: &[u8]) -> Result<(u64, u64, bool), AllocError>;
 
     fn compact(&mut self, index: u64) -> Result<(), CompactFault>;
-
-    fn standing(&self) -> Standing;
-
-    fn is_probed(&self, id: u64) -> bool;
-
-    fn copy(&self) -> Result<Self, AllocError>;
-
-    fn is_same(&self, other: &Self) -> bool;
 }
 
 impl<L: RaftLog> Player for Node<L> {
@@ -307,46 +299,30 @@ impl<L: RaftLog> Player for Node<L> {
     fn compact(&mut self, index: u64) -> Result<(), CompactFault> {
         self.compact(index)
     }
-
-    fn standing(&self) -> Standing {
-        standing_of(self)
-    }
-
-    fn is_probed(&self, id: u64) -> bool {
-        is_probed(self, id)
-    }
-
-    fn copy(&self) -> Result<Node<L>, AllocError> {
-        self.try_copy()
-    }
-
-    fn is_same(&self, other: &Node<L>) -> bool {
-        self.same(other)
-    }
 }
 
-fn act_all<P: Player>(alloc: Global, player: &mut P, moves: &[Move]) -> Result<(), AllocError> {
+fn act_all<P: Player>(rt: &impl Abort, alloc: Global, player: &mut P, moves: &[Move]) {
     for what in moves {
-        player.act(alloc, *what)?;
+        player.act(alloc, *what).expect(rt, "memory");
     }
-    Ok(())
 }
 
 /// A node that started somewhere and did all this, in order.
-pub fn played<P: Player>(alloc: Global, start: &Start, moves: &[Move]) -> Result<P, AllocError> {
-    let mut player = P::start(alloc, start)?;
-    act_all(alloc, &mut player, moves)?;
-    Ok(player)
+pub fn played<P: Player>(rt: &impl Abort, alloc: Global, start: &Start, moves: &[Move]) -> P {
+    let mut player = P::start(alloc, start).expect(rt, "memory");
+    act_all(rt, alloc, &mut player, moves);
+    player
 }
 
 /// The same, and then some more.
 pub fn played_on<P: Player>(
+    rt: &impl Abort,
     alloc: Global,
     start: &Start,
     moves: &[Move],
     more: &[Move],
-) -> Result<P, AllocError> {
-    let mut player = played(alloc, start, moves)?;
-    act_all(alloc, &mut player, more)?;
-    Ok(player)
+) -> P {
+    let mut player = played(rt, alloc, start, moves);
+    act_all(rt, alloc, &mut player, more);
+    player
 }

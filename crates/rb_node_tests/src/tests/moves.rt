@@ -129,16 +129,6 @@ pub const TWO: Start = Start {
     ..START
 };
 
-pub const STEPS_DOWN: Start = Start {
-    options: STEP_DOWN,
-    ..START
-};
-
-pub const FIVE: Start = Start {
-    incoming: &[1, 2, 3, 4, 5],
-    ..START
-};
-
 pub const TWO_STEP_DOWN: Start = Start {
     options: STEP_DOWN,
     ..TWO

@@ -81,7 +81,7 @@ const AT_LEADERS: [(Says, Seen); 13] = rows! {
     Says::TimeoutNow => LEADER 3, Ignored 1, Nothing 0 0, 0 0;
 };
 
-pub const TABLES: [Table; 4] = [
+pub static TABLES: [Table; 4] = [
     Table {
         start: START,
         moves: FOLLOWS,

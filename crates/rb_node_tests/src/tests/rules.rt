@@ -217,4 +217,4 @@ const FULL_LOGS: [Case; 6] = case_rows! {
     FULL_SOUNDS_OUT, &[Move::Campaign, Move::Advance], &[], Move::Advance => LEADER 1, Won 3, Nothing 0 0, 0 0;
 };
 
-pub const TABLES: [&[Case]; 5] = [&VOTES, &CAMPAIGNS, &FOLLOWING, &TICKS, &FULL_LOGS];
+pub static TABLES: [&[Case]; 5] = [&VOTES, &CAMPAIGNS, &FOLLOWING, &TICKS, &FULL_LOGS];

@@ -6,9 +6,8 @@ use rb_message::{Event, Mail, Message, MessageKind, Role, WhyNoCampaign, WhyRepl
 use rb_node::Node;
 use rb_raftlog::RaftLog;
 use rb_tracker::VoteResult;
-use std::alloc::{AllocError, Global};
+use std::alloc::Global;
 use std::process::Abort;
-use std::test::Fail;
 
 pub const FOLLOWER: Role = Role::Follower;
 
@@ -231,52 +230,54 @@ pub struct Table {
     pub rows: &'static [(Says, Seen)],
 }
 
+/// This shows.
+fn is_seen(rt: &impl Abort, came: Seen, wanted: Seen) {
+    assert_eq!(rt; came, wanted);
+}
+
 /// What shows once a node that did all this does one thing more.
 fn seen_after<P: Player>(
+    rt: &impl Abort,
     alloc: Global,
     start: &Start,
     moves: &[Move],
     more: &[Move],
     last: Move,
-) -> Result<Seen, AllocError> {
-    let mut player: P = played_on(alloc, start, moves, more)?;
-    player.show(alloc, last)
+) -> Seen {
+    let mut player: P = played_on(rt, alloc, start, moves, more);
+    player.show(alloc, last).expect(rt, "memory")
 }
 
 /// Whether the node of a table shows what each row says, once it gets the row's message.
-fn answers_of<P: Player>(rt: &impl Abort, alloc: Global, table: &Table) -> Result<(), Fail> {
+fn answers_of<P: Player>(rt: &impl Abort, alloc: Global, table: &Table) {
     for (says, wanted) in table.rows {
         let last = Move::Get(table.from, table.term, *says);
-        let came = seen_after::<P>(alloc, &table.start, table.moves, &[], last)?;
-        assert_eq!(rt; came, *wanted);
+        let came = seen_after::<P>(rt, alloc, &table.start, table.moves, &[], last);
+        is_seen(rt, came, *wanted);
     }
-    Ok(())
 }
 
 /// The same of each table.
-pub fn answers<P: Player>(rt: &impl Abort, alloc: Global, tables: &[Table]) -> Result<(), Fail> {
+pub fn answers<P: Player>(rt: &impl Abort, alloc: Global, tables: &[Table]) {
     for table in tables {
-        answers_of::<P>(rt, alloc, table)?;
+        answers_of::<P>(rt, alloc, table);
     }
-    Ok(())
 }
 
 /// Where a node starts, what it does before and then, what it does at last, and what shows then.
 pub type Case = (Start, &'static [Move], &'static [Move], Move, Seen);
 
 /// Whether each case of a table shows what it says.
-fn cases_of<P: Player>(rt: &impl Abort, alloc: Global, rows: &[Case]) -> Result<(), Fail> {
+fn cases_of<P: Player>(rt: &impl Abort, alloc: Global, rows: &[Case]) {
     for (start, moves, more, last, wanted) in rows {
-        let came = seen_after::<P>(alloc, start, moves, more, *last)?;
-        assert_eq!(rt; came, *wanted);
+        let came = seen_after::<P>(rt, alloc, start, moves, more, *last);
+        is_seen(rt, came, *wanted);
     }
-    Ok(())
 }
 
 /// The same of each table.
-pub fn cases<P: Player>(rt: &impl Abort, alloc: Global, tables: &[&[Case]]) -> Result<(), Fail> {
+pub fn cases<P: Player>(rt: &impl Abort, alloc: Global, tables: &[&[Case]]) {
     for rows in tables {
-        cases_of::<P>(rt, alloc, rows)?;
+        cases_of::<P>(rt, alloc, rows);
     }
-    Ok(())
 }

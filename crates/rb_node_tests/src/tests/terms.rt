@@ -67,7 +67,7 @@ const UNDISTURBED: [(Says, Seen); 4] = rows! {
     Says::Heartbeat(10) => FOLLOWER 3, Became 1, HeartbeatAnswer 3 0, 1 0;
 };
 
-pub const TABLES: [Table; 6] = [
+pub static TABLES: [Table; 6] = [
     Table {
         start: START,
         moves: FOLLOWS,
