@@ -1,7 +1,6 @@
 mod examples;
 mod making;
 mod random;
-mod refusals;
 mod slow;
 mod tested;
 mod values;

@@ -1,16 +1,12 @@
 //! Examples, and every call once in both logs.
 
 use super::making::{
-    change, entries_of, filled, filled_at_once, payload, push, snapshot_of, take_items,
+    begin, change, filled, filled_at_once, payload, push, save, snapshot_of, take_items,
 };
 use super::tested::{Item, Numbers, Tested};
-use rb_raftlog::{
-    Appended, CompactFault, ConfState, Content, Entries, LogFault, PlainLog, Shared, Snapshot,
-    SplitLog,
-};
-use std::alloc::{AllocError, Global};
+use rb_raftlog::{Appended, CompactFault, Entries, LogFault, PlainLog, SplitLog};
+use std::alloc::Global;
 use std::process::Abort;
-use std::test::Fail;
 
 /// Ends the test where something isn't so. What looks at logs says what is so by this alone: an assertion is dear to prove.
 fn is(rt: &impl Abort, so: bool, what: &str) {
@@ -18,44 +14,35 @@ fn is(rt: &impl Abort, so: bool, what: &str) {
 }
 
 /// A hundred entries, of which those past 49 give way to another.
-fn of_two_terms<T: Tested>(alloc: Global) -> Result<T, AllocError> {
-    let mut log: T = filled_at_once(alloc, 0, 49)?;
-    push(alloc, &mut log, (2, 7))?;
-    log.save()?;
-    Ok(log)
+fn of_two_terms<T: Tested>(rt: &impl Abort, alloc: Global) -> T {
+    let mut log: T = filled_at_once(rt, alloc, 0, 49);
+    push(rt, alloc, &mut log, (2, 7));
+    save(rt, &mut log);
+    log
 }
 
 fn has_numbers<T: Tested>(log: &T, numbers: Numbers) -> bool {
     log.numbers() == numbers
 }
 
-/// Whether a log is the same as another that is made for this.
-fn is_like<T: Tested>(log: &T, made: Result<T, AllocError>) -> Result<bool, AllocError> {
-    Ok(log.is_same(&made?))
-}
-
 /// Sends payloads of a leader after an index and its term, and says whether it answers so.
 fn matches_at<T: Tested>(
+    rt: &impl Abort,
     alloc: Global,
     log: &mut T,
     after: (u64, u64),
     items: &[Item],
     commit: u64,
     index: u64,
-) -> Result<bool, AllocError> {
-    Ok(take_items(alloc, log, after, items, commit)? == Some(Appended::Matched(index)))
+) -> bool {
+    take_items(rt, alloc, log, after, items, commit) == Some(Appended::Matched(index))
 }
 
 /// An entry of a copy is replaced; the first log stays as it is. Where pages are cut is no matter.
-fn differs_from_its_copy<T: Tested>(
-    rt: &impl Abort,
-    alloc: Global,
-    log: &T,
-    copy: &mut T,
-) -> Result<(), AllocError> {
+fn differs_from_its_copy<T: Tested>(rt: &impl Abort, alloc: Global, log: &T, copy: &mut T) {
     is(
         rt,
-        matches_at(alloc, copy, (49, 1), &[(2, 7)], 49, 50)?,
+        matches_at(rt, alloc, copy, (49, 1), &[(2, 7)], 49, 50),
         "matched at 50",
     );
     is(
@@ -69,19 +56,20 @@ fn differs_from_its_copy<T: Tested>(
         "counts",
     );
     is(rt, !copy.is_same(log), "they differ");
-    copy.save()
+    save(rt, copy);
 }
 
-fn copies_share<T: Tested>(rt: &impl Abort, alloc: Global) -> Result<(), AllocError> {
-    let log: T = filled(alloc, 0, 100)?;
-    let mut copy = log.copied()?;
-    differs_from_its_copy(rt, alloc, &log, &mut copy)?;
-    is(
-        rt,
-        is_like(&copy, of_two_terms(alloc))?,
-        "the same, page by page or not",
-    );
-    Ok(())
+/// A log is the same as another.
+fn is_like<T: Tested>(rt: &impl Abort, log: &T, other: &T, what: &str) {
+    is(rt, log.is_same(other), what);
+}
+
+fn copies_share<T: Tested>(rt: &impl Abort, alloc: Global) {
+    let log: T = filled(rt, alloc, 0, 100);
+    let mut copy = log.copied().expect(rt, "memory");
+    differs_from_its_copy(rt, alloc, &log, &mut copy);
+    let other = of_two_terms(rt, alloc);
+    is_like(rt, &copy, &other, "the same, page by page or not");
 }
 
 /// What is at the ends of a log from 101 to 141.
@@ -131,56 +119,63 @@ fn is_compacted<T: Tested>(rt: &impl Abort, log: &mut T) {
 }
 
 /// A log that begins at 100 and takes what another sends after it.
-fn following<T: Tested>(rt: &impl Abort, alloc: Global, log: &T) -> Result<T, AllocError> {
-    let mut other = T::begin(alloc, 100, 1)?;
-    let told = other.take_shared((100, 1), &log.sent_after(0)?, 0)?;
+fn following<T: Tested>(rt: &impl Abort, alloc: Global, log: &T) -> T {
+    let mut other: T = begin(rt, alloc, 100, 1);
+    takes_all(rt, &mut other, &sent_after(rt, log, 0));
+    other
+}
+
+fn takes_all<T: Tested>(rt: &impl Abort, log: &mut T, sent: &Entries) {
+    let told = log.take_shared((100, 1), sent, 0).expect(rt, "memory");
     is(rt, told == Some(Appended::Matched(141)), "matched at 141");
-    Ok(other)
+}
+
+/// What a log sends after an index.
+fn sent_after<T: Tested>(rt: &impl Abort, log: &T, index: u64) -> Entries {
+    log.sent_after(index).expect(rt, "memory")
 }
 
 /// A log that was compacted is the same as one that began there.
-fn compacts<T: Tested>(rt: &impl Abort, alloc: Global) -> Result<(), AllocError> {
-    let mut log: T = filled(alloc, 10, 131)?;
+fn compacts<T: Tested>(rt: &impl Abort, alloc: Global) {
+    let mut log: T = filled(rt, alloc, 10, 131);
     is_compacted(rt, &mut log);
-    let mut other = following(rt, alloc, &log)?;
+    let mut other = following(rt, alloc, &log);
     is(rt, !log.is_same(&other), "not durable yet");
-    other.save()?;
-    is(rt, log.is_same(&other), "the same");
-    Ok(())
+    save(rt, &mut other);
+    is_like(rt, &log, &other, "the same");
 }
 
 /// So many entries of term 1, and one of term 2.
-fn ending_with<T: Tested>(alloc: Global, kept: u64) -> Result<T, AllocError> {
-    let mut log: T = filled(alloc, 0, kept)?;
-    push(alloc, &mut log, (2, 9))?;
-    log.save()?;
-    Ok(log)
+fn ending_with<T: Tested>(rt: &impl Abort, alloc: Global, kept: u64) -> T {
+    let mut log: T = filled(rt, alloc, 0, kept);
+    push(rt, alloc, &mut log, (2, 9));
+    save(rt, &mut log);
+    log
 }
 
 /// A cut at each side of the end of a page.
-fn cuts_at<T: Tested>(rt: &impl Abort, alloc: Global, kept: u64) -> Result<(), AllocError> {
-    let mut log: T = filled_at_once(alloc, 0, 200)?;
+fn cut_at<T: Tested>(rt: &impl Abort, alloc: Global, log: &mut T, kept: u64) {
     let last = kept.saturating_add(1);
     is(
         rt,
-        matches_at(alloc, &mut log, (kept, 1), &[(2, 9)], 0, last)?,
+        matches_at(rt, alloc, log, (kept, 1), &[(2, 9)], 0, last),
         "matched",
     );
-    is(rt, has_numbers(&log, (1, last, 1, 2, kept)), "cut there");
-    log.save()?;
-    is(
-        rt,
-        is_like(&log, ending_with(alloc, kept))?,
-        "the same as one that wasn't cut",
-    );
-    Ok(())
+    is(rt, has_numbers(log, (1, last, 1, 2, kept)), "cut there");
+    save(rt, log);
 }
 
-fn cuts<T: Tested>(rt: &impl Abort, alloc: Global) -> Result<(), AllocError> {
+fn cuts_at<T: Tested>(rt: &impl Abort, alloc: Global, kept: u64) {
+    let mut log: T = filled_at_once(rt, alloc, 0, 200);
+    cut_at(rt, alloc, &mut log, kept);
+    let other = ending_with(rt, alloc, kept);
+    is_like(rt, &log, &other, "the same as one that wasn't cut");
+}
+
+fn cuts<T: Tested>(rt: &impl Abort, alloc: Global) {
     for kept in [1, 62, 63, 64, 65, 127, 128, 129] {
-        cuts_at::<T>(rt, alloc, kept)?;
+        cuts_at::<T>(rt, alloc, kept);
     }
-    Ok(())
 }
 
 /// What is sent to a log that goes from 11 to 15 in term 1, where 14 is committed: after which index and term, which entries, and
@@ -193,12 +188,11 @@ static SENT: [(u64, u64, &'static [Item], Appended); 4] = [
 ];
 
 /// What a follower answers.
-fn answers<T: Tested>(rt: &impl Abort, alloc: Global, log: &mut T) -> Result<(), AllocError> {
+fn answers<T: Tested>(rt: &impl Abort, alloc: Global, log: &mut T) {
     for (prev, term, items, wanted) in SENT {
-        let told = take_items(alloc, log, (prev, term), items, 14)?;
+        let told = take_items(rt, alloc, log, (prev, term), items, 14);
         is(rt, told == Some(wanted), "the answer");
     }
-    Ok(())
 }
 
 fn compares<T: Tested>(rt: &impl Abort, log: &T) {
@@ -236,26 +230,21 @@ fn has_change<T: Tested>(rt: &impl Abort, log: &T) {
     );
 }
 
-fn follows<T: Tested>(rt: &impl Abort, alloc: Global) -> Result<(), AllocError> {
-    let mut log: T = filled(alloc, 10, 5)?;
-    answers(rt, alloc, &mut log)?;
+fn follows<T: Tested>(rt: &impl Abort, alloc: Global) {
+    let mut log: T = filled(rt, alloc, 10, 5);
+    answers(rt, alloc, &mut log);
     compares(rt, &log);
-    log.put(change(alloc, 3, 4)?)?;
+    log.put(change(rt, alloc, 3, 4)).expect(rt, "memory");
     has_change(rt, &log);
-    Ok(())
 }
 
 /// A snapshot takes the place of all.
-fn restores<T: Tested>(rt: &impl Abort, alloc: Global) -> Result<(), AllocError> {
-    let mut log: T = filled(alloc, 10, 70)?;
-    log.put_back(&snapshot_of(alloc, 500, 4)?);
-    is(
-        rt,
-        is_like(&log, T::begin(alloc, 500, 4))?,
-        "as one that begins there",
-    );
+fn restores<T: Tested>(rt: &impl Abort, alloc: Global) {
+    let mut log: T = filled(rt, alloc, 10, 70);
+    log.put_back(&snapshot_of(rt, alloc, 500, 4));
     is(rt, has_numbers(&log, (501, 500, 4, 4, 500)), "no entries");
-    Ok(())
+    let other = begin(rt, alloc, 500, 4);
+    is_like(rt, &log, &other, "as one that begins there");
 }
 
 /// What is at the greatest index that there is, in a log that goes up to it; then the log is compacted to it.
@@ -275,37 +264,34 @@ fn ends_there<T: Tested>(rt: &impl Abort, log: &mut T) {
 }
 
 /// A log can go up to the greatest index that there is, and can begin there. `put` gives it nothing more, as a log requires.
-fn ends_at_the_limit<T: Tested>(rt: &impl Abort, alloc: Global) -> Result<(), AllocError> {
-    let mut log: T = filled(alloc, 1_999_999_998, 2)?;
+fn ends_at_the_limit<T: Tested>(rt: &impl Abort, alloc: Global) {
+    let mut log: T = filled(rt, alloc, 1_999_999_998, 2);
     is(
         rt,
         has_numbers(&log, (1_999_999_999, 2_000_000_000, 1, 1, 2_000_000_000)),
         "two entries",
     );
-    push(alloc, &mut log, (1, 3))?;
+    push(rt, alloc, &mut log, (1, 3));
     ends_there(rt, &mut log);
-    Ok(())
 }
 
-fn all<T: Tested>(rt: &impl Abort, alloc: Global) -> Result<(), AllocError> {
-    copies_share::<T>(rt, alloc)?;
-    compacts::<T>(rt, alloc)?;
-    cuts::<T>(rt, alloc)?;
-    follows::<T>(rt, alloc)?;
-    ends_at_the_limit::<T>(rt, alloc)?;
-    restores::<T>(rt, alloc)
-}
-
-#[test]
-fn plain_logs(rt: HostRuntime) -> Result<(), Fail> {
-    all::<PlainLog>(&rt, rt.alloc())?;
-    Ok(())
+fn all<T: Tested>(rt: &impl Abort, alloc: Global) {
+    copies_share::<T>(rt, alloc);
+    compacts::<T>(rt, alloc);
+    cuts::<T>(rt, alloc);
+    follows::<T>(rt, alloc);
+    ends_at_the_limit::<T>(rt, alloc);
+    restores::<T>(rt, alloc);
 }
 
 #[test]
-fn split_logs(rt: HostRuntime) -> Result<(), Fail> {
-    all::<SplitLog>(&rt, rt.alloc())?;
-    Ok(())
+fn plain_logs(rt: HostRuntime) {
+    all::<PlainLog>(&rt, rt.alloc())
+}
+
+#[test]
+fn split_logs(rt: HostRuntime) {
+    all::<SplitLog>(&rt, rt.alloc())
 }
 
 /// What two logs of the entries 11 to 140 send after 60 is the same.
@@ -322,23 +308,20 @@ fn are_alike(rt: &impl Abort, sent: &Entries, shared: &Entries) {
     );
 }
 
-fn send_alike<P: Tested, S: Tested>(
-    rt: &impl Abort,
-    plain: &P,
-    split: &S,
-) -> Result<Entries, AllocError> {
-    let shared = split.sent_after(60)?;
-    are_alike(rt, &plain.sent_after(60)?, &shared);
-    shared.try_copy()
+fn send_alike<P: Tested, S: Tested>(rt: &impl Abort, plain: &P, split: &S) -> Entries {
+    let shared = sent_after(rt, split, 60);
+    are_alike(rt, &sent_after(rt, plain, 60), &shared);
+    shared
 }
 
 /// Whether the log sends these entries after an index.
-fn sends<T: Tested>(log: &T, index: u64, entries: &Entries) -> Result<bool, AllocError> {
-    Ok(entries.same(&log.sent_after(index)?))
+fn sends<T: Tested>(rt: &impl Abort, log: &T, index: u64, entries: &Entries) -> bool {
+    entries.same(&sent_after(rt, log, index))
 }
 
-fn one_entry(alloc: Global) -> Result<Entries, AllocError> {
-    Entries::from_vec(vec![in alloc; payload(alloc, 2, 3)?]?)
+fn one_entry(rt: &impl Abort, alloc: Global) -> Entries {
+    let entries = vec![in alloc; payload(rt, alloc, 2, 3)].expect(rt, "memory");
+    Entries::from_vec(entries).expect(rt, "memory")
 }
 
 fn first_piece(entries: &Entries) -> usize {
@@ -346,54 +329,36 @@ fn first_piece(entries: &Entries) -> usize {
 }
 
 /// What a log from 11 to 141 sends, whose last entry is of term 2.
-fn sends_its_end<S: Tested>(rt: &impl Abort, alloc: Global, split: &S) -> Result<(), AllocError> {
-    is(
-        rt,
-        sends(split, 141, &Entries::empty())?,
-        "nothing after its end",
-    );
-    is(rt, sends(split, 140, &one_entry(alloc)?)?, "its last entry");
-    is(
-        rt,
-        first_piece(&split.sent_after(140)?) == 1,
-        "in one piece",
-    );
-    Ok(())
+fn sends_its_end<S: Tested>(rt: &impl Abort, alloc: Global, split: &S) {
+    let none = sends(rt, split, 141, &Entries::empty());
+    is(rt, none, "nothing after its end");
+    let last = sends(rt, split, 140, &one_entry(rt, alloc));
+    is(rt, last, "its last entry");
+    let count = first_piece(&sent_after(rt, split, 140));
+    is(rt, count == 1, "in one piece");
 }
 
-fn stays<P: Tested, S: Tested>(
-    rt: &impl Abort,
-    plain: &P,
-    split: &S,
-    sent: &Entries,
-) -> Result<(), AllocError> {
-    is(rt, !sends(split, 60, sent)?, "one log has gone on");
-    is(rt, sends(plain, 60, sent)?, "the other sends the same");
-    Ok(())
+fn stays<P: Tested, S: Tested>(rt: &impl Abort, plain: &P, split: &S, sent: &Entries) {
+    is(rt, !sends(rt, split, 60, sent), "one log has gone on");
+    is(rt, sends(rt, plain, 60, sent), "the other sends the same");
 }
 
-fn share_between<P: Tested, S: Tested>(
-    rt: &impl Abort,
-    alloc: Global,
-    plain: &P,
-    split: &mut S,
-) -> Result<(), AllocError> {
-    let sent = send_alike(rt, plain, split)?;
-    push(alloc, split, (2, 3))?;
-    stays(rt, plain, split, &sent)
+fn share_between<P: Tested, S: Tested>(rt: &impl Abort, alloc: Global, plain: &P, split: &mut S) {
+    let sent = send_alike(rt, plain, split);
+    push(rt, alloc, split, (2, 3));
+    stays(rt, plain, split, &sent);
 }
 
 /// What a message holds of a log is the same whatever log it is of, and stays when the log goes on.
-fn share<P: Tested, S: Tested>(rt: &impl Abort, alloc: Global) -> Result<(), AllocError> {
-    let plain: P = filled(alloc, 10, 130)?;
-    let mut split: S = filled(alloc, 10, 130)?;
-    share_between(rt, alloc, &plain, &mut split)?;
-    sends_its_end(rt, alloc, &split)
+fn share<P: Tested, S: Tested>(rt: &impl Abort, alloc: Global) {
+    let plain: P = filled(rt, alloc, 10, 130);
+    let mut split: S = filled(rt, alloc, 10, 130);
+    share_between(rt, alloc, &plain, &mut split);
+    sends_its_end(rt, alloc, &split);
 }
 
 #[test]
-fn messages_share(rt: HostRuntime) -> Result<(), Fail> {
+fn messages_share(rt: HostRuntime) {
     assert!(rt; Entries::empty().is_empty() && Entries::empty().last_term().is_none());
-    share::<PlainLog, SplitLog>(&rt, rt.alloc())?;
-    Ok(())
+    share::<PlainLog, SplitLog>(&rt, rt.alloc());
 }

@@ -4,57 +4,63 @@ use super::tested::{Item, Tested};
 use rb_raftlog::{
     Appended, Body, ConfState, Content, Entry, Shared, Snapshot, Transition, Word, WordKind,
 };
-use std::alloc::{AllocError, Global};
+use std::alloc::Global;
+use std::process::Abort;
 
 /// A payload of one byte.
-pub fn payload(alloc: Global, term: u64, byte: u8) -> Result<Entry, AllocError> {
-    let bytes = vec![in alloc; byte]?;
-    Ok(Entry {
+pub fn payload(rt: &impl Abort, alloc: Global, term: u64, byte: u8) -> Entry {
+    let bytes = vec![in alloc; byte].expect(rt, "memory");
+    Entry {
         term,
-        body: Body::Payload(Shared::new(bytes)?),
-    })
+        body: Body::Payload(Shared::new(bytes).expect(rt, "memory")),
+    }
 }
 
 /// A change of one word.
-pub fn change(alloc: Global, term: u64, id: u64) -> Result<Entry, AllocError> {
+pub fn change(rt: &impl Abort, alloc: Global, term: u64, id: u64) -> Entry {
     let kind = WordKind::Voter;
-    let words = vec![in alloc; Word { kind, id }]?;
-    Ok(Entry {
+    let words = vec![in alloc; Word { kind, id }].expect(rt, "memory");
+    Entry {
         term,
         body: Body::Change {
             transition: Transition::Auto,
-            words: Shared::new(words)?,
+            words: Shared::new(words).expect(rt, "memory"),
         },
-    })
+    }
 }
 
-fn add_item(alloc: Global, entries: &mut Vec<Entry>, item: Item) -> Result<(), AllocError> {
-    entries.push(payload(alloc, item.0, item.1)?)?;
-    Ok(())
-}
-
-pub fn entries_of(alloc: Global, items: &[Item]) -> Result<Vec<Entry>, AllocError> {
+pub fn entries_of(rt: &impl Abort, alloc: Global, items: &[Item]) -> Vec<Entry> {
     let mut entries = Vec::new(alloc);
     for item in items {
-        add_item(alloc, &mut entries, *item)?;
+        entries
+            .push(payload(rt, alloc, item.0, item.1))
+            .expect(rt, "memory");
     }
-    Ok(entries)
+    entries
 }
 
 /// Takes payloads of a leader after an index and its term.
 pub fn take_items<T: Tested>(
+    rt: &impl Abort,
     alloc: Global,
     log: &mut T,
     after: (u64, u64),
     items: &[Item],
     commit: u64,
-) -> Result<Option<Appended>, AllocError> {
-    log.take(after, entries_of(alloc, items)?.as_slice(), commit)
+) -> Option<Appended> {
+    let entries = entries_of(rt, alloc, items);
+    log.take(after, entries.as_slice(), commit)
+        .expect(rt, "memory")
 }
 
 /// Appends a payload of one byte.
-pub fn push<T: Tested>(alloc: Global, log: &mut T, item: Item) -> Result<(), AllocError> {
-    log.put(payload(alloc, item.0, item.1)?)
+pub fn push<T: Tested>(rt: &impl Abort, alloc: Global, log: &mut T, item: Item) {
+    log.put(payload(rt, alloc, item.0, item.1))
+        .expect(rt, "memory");
+}
+
+pub fn save<T: Tested>(rt: &impl Abort, log: &mut T) {
+    log.save().expect(rt, "memory");
 }
 
 /// The payload of a filled log at a place.
@@ -62,51 +68,50 @@ fn kth(k: u64) -> Item {
     (1, (k % 251) as u8)
 }
 
-/// Appends a payload, and makes it durable.
-fn push_saved<T: Tested>(alloc: Global, log: &mut T, item: Item) -> Result<(), AllocError> {
-    push(alloc, log, item)?;
-    log.save()
+pub fn begin<T: Tested>(rt: &impl Abort, alloc: Global, base: u64, term: u64) -> T {
+    T::begin(alloc, base, term).expect(rt, "memory")
 }
 
 /// A log of a base of term 1, with as many entries of term 1, each made durable by itself.
-pub fn filled<T: Tested>(alloc: Global, base: u64, count: u64) -> Result<T, AllocError> {
-    let mut log = T::begin(alloc, base, 1)?;
+pub fn filled<T: Tested>(rt: &impl Abort, alloc: Global, base: u64, count: u64) -> T {
+    let mut log: T = begin(rt, alloc, base, 1);
     for k in 0..count {
-        push_saved(alloc, &mut log, kth(k))?;
+        push(rt, alloc, &mut log, kth(k));
+        save(rt, &mut log);
     }
-    Ok(log)
+    log
 }
 
 /// The same, made durable all at once.
-pub fn filled_at_once<T: Tested>(alloc: Global, base: u64, count: u64) -> Result<T, AllocError> {
-    let mut log = T::begin(alloc, base, 1)?;
+pub fn filled_at_once<T: Tested>(rt: &impl Abort, alloc: Global, base: u64, count: u64) -> T {
+    let mut log: T = begin(rt, alloc, base, 1);
     for k in 0..count {
-        push(alloc, &mut log, kth(k))?;
+        push(rt, alloc, &mut log, kth(k));
     }
-    log.save()?;
-    Ok(log)
+    save(rt, &mut log);
+    log
 }
 
-fn no_ids(alloc: Global) -> Result<Shared<u64>, AllocError> {
-    Shared::new(Vec::new(alloc))
+fn no_ids(rt: &impl Abort, alloc: Global) -> Shared<u64> {
+    Shared::new(Vec::new(alloc)).expect(rt, "memory")
 }
 
-fn nobody(alloc: Global) -> Result<ConfState, AllocError> {
-    Ok(ConfState {
-        incoming: no_ids(alloc)?,
-        outgoing: no_ids(alloc)?,
-        learners: no_ids(alloc)?,
-        next: no_ids(alloc)?,
+fn nobody(rt: &impl Abort, alloc: Global) -> ConfState {
+    ConfState {
+        incoming: no_ids(rt, alloc),
+        outgoing: no_ids(rt, alloc),
+        learners: no_ids(rt, alloc),
+        next: no_ids(rt, alloc),
         auto: false,
-    })
+    }
 }
 
 /// A snapshot of nobody.
-pub fn snapshot_of(alloc: Global, index: u64, term: u64) -> Result<Snapshot, AllocError> {
-    Ok(Snapshot {
+pub fn snapshot_of(rt: &impl Abort, alloc: Global, index: u64, term: u64) -> Snapshot {
+    Snapshot {
         index,
         term,
-        content: Content::from_slice(alloc, b"ab")?,
-        config: nobody(alloc)?,
-    })
+        content: Content::from_slice(alloc, b"ab").expect(rt, "memory"),
+        config: nobody(rt, alloc),
+    }
 }

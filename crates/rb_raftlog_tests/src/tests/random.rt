@@ -1,12 +1,11 @@
 //! Lists of calls that look random, on both logs, beside the plain slow one.
 
-use super::making::{entries_of, push, take_items};
+use super::making::{begin, entries_of, push, save, take_items};
 use super::slow::Slow;
 use super::tested::{Item, Tested};
 use rb_raftlog::{Appended, Entries, Entry, PlainLog, SplitLog};
-use std::alloc::{AllocError, Global};
+use std::alloc::Global;
 use std::process::Abort;
-use std::test::Fail;
 
 /// Numbers that look random.
 #[derive(Clone, Copy)]
@@ -34,12 +33,12 @@ struct Three<P: Tested, S: Tested> {
 }
 
 impl<P: Tested, S: Tested> Three<P, S> {
-    fn new(alloc: Global) -> Result<Three<P, S>, AllocError> {
-        Ok(Three {
-            plain: P::begin(alloc, 10, 1)?,
-            split: S::begin(alloc, 10, 1)?,
+    fn new(rt: &impl Abort, alloc: Global) -> Three<P, S> {
+        Three {
+            plain: begin(rt, alloc, 10, 1),
+            split: begin(rt, alloc, 10, 1),
             slow: Slow::new(alloc, 10, 1),
-        })
+        }
     }
 }
 
@@ -70,38 +69,46 @@ struct Sent {
 
 /// Takes entries of a leader, by a slice or as a message holds them.
 fn take<T: Tested>(
+    rt: &impl Abort,
     alloc: Global,
     log: &mut T,
     items: &[Item],
     sent: Sent,
-) -> Result<Option<Appended>, AllocError> {
-    if !sent.shared {
-        return take_items(alloc, log, sent.after, items, sent.commit);
+) -> Option<Appended> {
+    if sent.shared {
+        take_held(rt, log, &held(rt, alloc, items), sent)
+    } else {
+        take_items(rt, alloc, log, sent.after, items, sent.commit)
     }
-    let Some(held) = held(alloc, items)? else {
-        return Ok(None);
-    };
-    log.take_shared(sent.after, &held, sent.commit)
+}
+
+fn take_held<T: Tested>(
+    rt: &impl Abort,
+    log: &mut T,
+    entries: &Entries,
+    sent: Sent,
+) -> Option<Appended> {
+    log.take_shared(sent.after, entries, sent.commit)
+        .expect(rt, "memory")
 }
 
 /// Entries as a message holds them.
-fn held(alloc: Global, items: &[Item]) -> Result<Option<Entries>, AllocError> {
-    let entries = entries_of(alloc, items)?;
-    if entries.len() > 1_000 {
-        return Ok(None);
-    }
-    Ok(Some(Entries::from_vec(entries)?))
+fn held(rt: &impl Abort, alloc: Global, items: &[Item]) -> Entries {
+    let entries = entries_of(rt, alloc, items);
+    assert!(rt; entries.len() <= 1_000);
+    Entries::from_vec(entries).expect(rt, "memory")
 }
 
 /// Entries of terms that ascend now and then.
-fn items_of(alloc: Global, dice: &mut Dice) -> Result<Vec<Item>, AllocError> {
+fn items_of(rt: &impl Abort, alloc: Global, dice: &mut Dice) -> Vec<Item> {
     let mut items = Vec::new(alloc);
     let mut term = 1u64.saturating_add(dice.below(3));
     for _ in 0..dice.below(70) {
         term = term.saturating_add(dice.below(20) / 19);
-        items.push((term, (dice.below(3) % 3) as u8))?;
+        let item = (term, (dice.below(3) % 3) as u8);
+        items.push(item).expect(rt, "memory");
     }
-    Ok(items)
+    items
 }
 
 fn sent_to(slow: &Slow, dice: &mut Dice) -> Sent {
@@ -126,32 +133,41 @@ fn appends<P: Tested, S: Tested>(
     alloc: Global,
     three: &mut Three<P, S>,
     dice: &mut Dice,
-) -> Result<(), Fail> {
-    let items = items_of(alloc, dice)?;
+) {
     let sent = sent_to(&three.slow, dice);
+    let items = items_of(rt, alloc, dice);
+    append_to_all(rt, alloc, three, &items, sent);
+}
+
+fn append_to_all<P: Tested, S: Tested>(
+    rt: &impl Abort,
+    alloc: Global,
+    three: &mut Three<P, S>,
+    items: &[Item],
+    sent: Sent,
+) {
     let other = Sent {
         shared: !sent.shared,
         ..sent
     };
-    let plain = take(alloc, &mut three.plain, &items, sent)?;
-    let split = take(alloc, &mut three.split, &items, other)?;
+    let plain = take(rt, alloc, &mut three.plain, items, sent);
+    let split = take(rt, alloc, &mut three.split, items, other);
     let want = three
         .slow
-        .append(sent.after.0, sent.after.1, &items, sent.commit)?;
+        .append(rt, sent.after.0, sent.after.1, items, sent.commit);
     assert_eq!(rt; (plain, split), (Some(want), Some(want)));
-    Ok(())
 }
 
 /// Appends an entry of one's own.
 fn pushes<P: Tested, S: Tested>(
+    rt: &impl Abort,
     alloc: Global,
     three: &mut Three<P, S>,
     item: Item,
-) -> Result<(), Fail> {
-    three.slow.items.push(item)?;
-    push(alloc, &mut three.plain, item)?;
-    push(alloc, &mut three.split, item)?;
-    Ok(())
+) {
+    three.slow.items.push(item).expect(rt, "memory");
+    push(rt, alloc, &mut three.plain, item);
+    push(rt, alloc, &mut three.split, item);
 }
 
 /// Moves the base.
@@ -165,10 +181,10 @@ fn compacts<P: Tested, S: Tested>(rt: &impl Abort, three: &mut Three<P, S>, inde
     assert_eq!(rt; (plain.is_ok(), split.is_ok()), (can, can));
 }
 
-fn saves<P: Tested, S: Tested>(three: &mut Three<P, S>) -> Result<(), AllocError> {
+fn saves<P: Tested, S: Tested>(rt: &impl Abort, three: &mut Three<P, S>) {
     three.slow.durable = three.slow.last();
-    three.plain.save()?;
-    three.split.save()
+    save(rt, &mut three.plain);
+    save(rt, &mut three.split);
 }
 
 /// One call of all three.
@@ -177,53 +193,65 @@ fn step<P: Tested, S: Tested>(
     alloc: Global,
     three: &mut Three<P, S>,
     dice: &mut Dice,
-) -> Result<(), Fail> {
+) {
     match dice.below(8) {
         0 | 1 => {
             let term = 1u64.saturating_add(dice.below(3));
-            pushes(alloc, three, (term, (dice.below(3) % 3) as u8))?
+            pushes(rt, alloc, three, (term, (dice.below(3) % 3) as u8))
         }
-        2 | 3 => saves(three)?,
+        2 | 3 => saves(rt, three),
         4 => {
             let index = three.slow.base.saturating_add(dice.below(70));
             compacts(rt, three, index)
         }
-        _ => appends(rt, alloc, three, dice)?,
+        _ => appends(rt, alloc, three, dice),
     }
-    Ok(())
 }
 
 /// Puts copies of entries behind a log's own.
-fn put_all<T: Tested>(log: &mut T, piece: &[Entry]) -> Result<(), AllocError> {
+fn put_all<T: Tested>(rt: &impl Abort, log: &mut T, piece: &[Entry]) {
     for entry in piece {
-        log.put(entry.try_copy()?)?;
+        let copy = entry.try_copy().expect(rt, "memory");
+        log.put(copy).expect(rt, "memory");
     }
-    Ok(())
 }
 
-fn put_pieces<T: Tested>(log: &mut T, entries: &Entries) -> Result<(), AllocError> {
+fn put_pieces<T: Tested>(rt: &impl Abort, log: &mut T, entries: &Entries) {
     let mut rest = entries.pieces();
     for _ in 0..1_000 {
         let Some(piece) = rest.next() else { break };
-        put_all(log, piece)?;
+        put_all(rt, log, piece);
     }
-    Ok(())
 }
 
-/// What a log sends after an index, taken by a log that begins there, makes the same log.
-fn sends<T: Tested>(rt: &impl Abort, alloc: Global, log: &T, slow: &Slow) -> Result<(), Fail> {
-    let mut other = T::begin(alloc, slow.base, slow.base_term)?;
-    put_pieces(&mut other, &log.sent_after(0)?)?;
+/// A log that begins where another does and takes what that sends.
+fn sent_on<T: Tested>(rt: &impl Abort, alloc: Global, log: &T, slow: &Slow) -> T {
+    let mut other: T = begin(rt, alloc, slow.base, slow.base_term);
+    let sent = log.sent_after(0).expect(rt, "memory");
+    put_pieces(rt, &mut other, &sent);
+    other
+}
+
+/// What a log sends, taken by a log that begins there, makes the same log.
+fn sends<T: Tested>(rt: &impl Abort, alloc: Global, log: &T, slow: &Slow) {
+    let mut other = sent_on(rt, alloc, log, slow);
     let durable = slow.durable == slow.last();
     if durable {
-        other.save()?;
+        save(rt, &mut other);
     }
     assert!(rt; other.is_same(log) || !durable && log.unsaved() > 0);
-    Ok(())
 }
 
-fn is_its_copy<T: Tested>(log: &T) -> Result<bool, AllocError> {
-    Ok(log.is_same(&log.copied()?))
+fn is_its_copy<T: Tested>(rt: &impl Abort, log: &T) -> bool {
+    let copy = log.copied().expect(rt, "memory");
+    log.is_same(&copy)
+}
+
+fn all_agree<P: Tested, S: Tested>(rt: &impl Abort, three: &Three<P, S>) -> bool {
+    agrees(&three.plain, &three.slow)
+        && agrees(&three.split, &three.slow)
+        && is_its_copy(rt, &three.plain)
+        && is_its_copy(rt, &three.split)
 }
 
 /// All three agree after a call, and a copy that was made before it stays as it was.
@@ -232,34 +260,26 @@ fn go_on<P: Tested, S: Tested>(
     alloc: Global,
     three: &mut Three<P, S>,
     dice: &mut Dice,
-) -> Result<(), Fail> {
-    let before = three.split.copied()?;
+) {
+    let before = three.split.copied().expect(rt, "memory");
     let was = before.numbers();
-    step(rt, alloc, three, dice)?;
-    assert_eq!(rt; before.numbers(), was);
-    assert!(rt; agrees(&three.plain, &three.slow) && agrees(&three.split, &three.slow));
-    assert!(rt; is_its_copy(&three.plain)? && is_its_copy(&three.split)?);
-    Ok(())
+    step(rt, alloc, three, dice);
+    assert!(rt; before.numbers() == was && all_agree(rt, three));
 }
 
-fn one_list_of_calls<P: Tested, S: Tested>(
-    rt: &impl Abort,
-    alloc: Global,
-    dice: &mut Dice,
-) -> Result<(), Fail> {
-    let mut three: Three<P, S> = Three::new(alloc)?;
+fn one_list_of_calls<P: Tested, S: Tested>(rt: &impl Abort, alloc: Global, dice: &mut Dice) {
+    let mut three: Three<P, S> = Three::new(rt, alloc);
     for _ in 0..60 {
-        go_on(rt, alloc, &mut three, dice)?;
+        go_on(rt, alloc, &mut three, dice);
     }
-    sends(rt, alloc, &three.plain, &three.slow)?;
-    sends(rt, alloc, &three.split, &three.slow)
+    sends(rt, alloc, &three.plain, &three.slow);
+    sends(rt, alloc, &three.split, &three.slow);
 }
 
 #[test]
-fn logs_are_one(rt: HostRuntime) -> Result<(), Fail> {
+fn logs_are_one(rt: HostRuntime) {
     let mut dice = Dice { state: 12_345 };
     for _ in 0..40 {
-        one_list_of_calls::<PlainLog, SplitLog>(&rt, rt.alloc(), &mut dice)?;
+        one_list_of_calls::<PlainLog, SplitLog>(&rt, rt.alloc(), &mut dice);
     }
-    Ok(())
 }

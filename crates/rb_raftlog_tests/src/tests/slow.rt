@@ -2,7 +2,8 @@
 
 use super::tested::Item;
 use rb_raftlog::Appended;
-use std::alloc::{AllocError, Global};
+use std::alloc::Global;
+use std::process::Abort;
 
 /// A log as one list, that looks at every entry for everything.
 #[derive(Drop)]
@@ -75,33 +76,33 @@ impl Slow {
         Appended::Matched(commit)
     }
 
-    fn take(&mut self, prev: u64, items: &[Item]) -> Result<(), AllocError> {
+    fn take(&mut self, rt: &impl Abort, prev: u64, items: &[Item]) {
         let mut at = prev;
         for item in items {
             at = at.saturating_add(1);
             if self.term(at) != Some(item.0) {
                 self.keep_up_to(at.saturating_sub(1));
-                self.items.push(*item)?;
+                self.items.push(*item).expect(rt, "memory");
             }
         }
-        Ok(())
     }
 
     pub fn append(
         &mut self,
+        rt: &impl Abort,
         prev: u64,
         term: u64,
         items: &[Item],
         commit: u64,
-    ) -> Result<Appended, AllocError> {
+    ) -> Appended {
         if prev < commit {
-            return Ok(self.below(prev, items, commit));
+            return self.below(prev, items, commit);
         }
         if self.term(prev) != Some(term) {
-            return Ok(Appended::Refused(self.hint(prev, term)));
+            return Appended::Refused(self.hint(prev, term));
         }
-        self.take(prev, items)?;
-        Ok(Appended::Matched(prev.saturating_add(items.len() as u64)))
+        self.take(rt, prev, items);
+        Appended::Matched(prev.saturating_add(items.len() as u64))
     }
 
     /// Drops what is up to an index.
