@@ -1,5 +1,5 @@
-//! Runs the script on standard input over plain logs, and writes its report: tests/cases compares it with the program's. The status is 1 where
-//! there is none.
+//! Holds a session over plain logs on the script on standard input, takes one directive out and puts it back, and writes the report: tests/cases
+//! compares it with the program's. The status is 1 where there is none.
 #![tactic(auto)]
 
 use rb_bench::read_up_to;
@@ -8,7 +8,7 @@ use rb_line::Incoming;
 use rb_machine::Machine;
 use rb_raftlog::PlainLog;
 use rb_replay::Session;
-use rb_script::{MAX_SCRIPT, Through};
+use rb_script::{Edit, MAX_SCRIPT, Through};
 use std::io;
 use std::io::{BufWriter, Write};
 use std::mem::forget;
@@ -23,12 +23,32 @@ fn is_told<M: Machine, R: Print + AllocGlobal>(rt: &R, session: &Session<M>) -> 
     session.write_report(&mut out).is_ok() && out.0.flush().is_ok()
 }
 
+/// How many directives stand from one kept cluster to the next.
+const SPACING: u64 = 4;
+
+fn is_edited<M: Machine<Meter = Meter>>(session: &mut Session<M>, edit: &Edit) -> bool {
+    session.edit(edit, &mut Meter::new()).is_ok()
+}
+
+/// Whether the directive in the middle, if there is one, was taken out and put back: all that the session holds is then as it was.
+fn is_put_back<M: Machine<Meter = Meter>>(session: &mut Session<M>) -> bool {
+    let place = session.len() / 2 + 1;
+    let Some(block) = session.block(place) else {
+        return true;
+    };
+    let Ok(copy) = block.try_copy() else {
+        return false;
+    };
+    is_edited(session, &Edit::Remove(place)) && is_edited(session, &Edit::Insert(place, copy))
+}
+
 /// Whether the script ran, and its report was written. What the run held isn't given back, since the program ends here.
 fn is_run<M: Machine<Meter = Meter>, R: Print + AllocGlobal>(rt: &R, script: &[u8]) -> bool {
     let mut meter = Meter::new();
-    match Session::<M>::run_once(rt.alloc(), script, &mut meter) {
+    match Session::<M>::start(rt.alloc(), script, SPACING, &mut meter) {
         Ok(session) => {
-            let answer = is_told(rt, &session);
+            let mut session = session;
+            let answer = is_put_back(&mut session) && is_told(rt, &session);
             forget(session);
             answer
         }
