@@ -1,5 +1,5 @@
-//! Tests of clusters, of sessions over them, and of what the program does with sessions. There is nothing here but tests. They stand in one crate,
-//! since whatever starts a session pays for the proof of all that a session owns, once a crate.
+//! Tests of what the program does with sessions, over sources and outlets of which all is known or that fail, and of definitions that no script
+//! reaches. There is nothing here but tests.
 #![tactic(auto)]
 
 #[cfg(test)]

@@ -1,4 +1,4 @@
 mod bench;
-mod clusters;
 mod definitions;
-mod sessions;
+mod edits;
+mod reading;

@@ -48,14 +48,14 @@ impl<R: Abort> Source for Counted<'_, R> {
     }
 }
 
-/// Takes all text, and hands it on at once. Where there is no memory for it the test ends.
+/// Takes all text into memory, and hands it on at once. Where there is no room for it the test ends.
 #[derive(Drop)]
-struct Paper<'a, R> {
+struct InMemory<'a, R> {
     text: Vec<u8>,
     rt: &'a R,
 }
 
-impl<R: Abort> Sink for Paper<'_, R> {
+impl<R: Abort> Sink for InMemory<'_, R> {
     ghost use Rattle.std.specs.Prelude.{Some};
 
     ghost held = { λ p. Some p.text.items };
@@ -70,7 +70,7 @@ impl<R: Abort> Sink for Paper<'_, R> {
     }
 }
 
-impl<R: Abort> Outlet for Paper<'_, R> {
+impl<R: Abort> Outlet for InMemory<'_, R> {
     ghost use Rattle.std.specs.Prelude.{Some};
 
     ghost handed = { λ p. Some p.text.items };
@@ -80,7 +80,7 @@ impl<R: Abort> Outlet for Paper<'_, R> {
     }
 }
 
-/// What came of a run or a session: the answer, what is on the paper, how often the source was asked, and how often it failed.
+/// What came of a run or a session: the answer, what text was taken, how often the source was asked, and how often it failed.
 #[derive(Drop)]
 struct Came {
     answer: Result<Status, BenchFault>,
@@ -102,14 +102,14 @@ fn ran<R: Abort>(rt: &R, alloc: Global, script: &[u8], fails_at: Option<u64>) ->
         fails_at,
         rt,
     };
-    let mut paper = Paper {
+    let mut out = InMemory {
         text: Vec::new(alloc),
         rt,
     };
-    let answer = run_over(alloc, &mut source, &mut paper, Mode::Run, 16);
+    let answer = run_over(alloc, &mut source, &mut out, Mode::Run, 16);
     Came {
         answer,
-        text: paper.text,
+        text: out.text,
         made: source.made,
         failed: source.failed,
     }
@@ -134,14 +134,14 @@ fn talked<R: Abort>(
         fails_at,
         rt,
     };
-    let mut paper = Paper {
+    let mut out = InMemory {
         text: Vec::new(alloc),
         rt,
     };
-    let answer = serve(alloc, script, 16, &mut source, &mut paper);
+    let answer = serve(alloc, script, 16, &mut source, &mut out);
     Came {
         answer,
-        text: paper.text,
+        text: out.text,
         made: source.made,
         failed: source.failed,
     }

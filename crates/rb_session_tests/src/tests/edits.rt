@@ -1,0 +1,117 @@
+//! Edits that no command asks for: what directives print, and what a line of input is, no session can be given otherwise.
+
+use rb_script::{Edit, EditFault, Lines, Script, Through};
+use std::alloc::Global;
+use std::process::Abort;
+
+const SCRIPT: &[u8] = b"a\n----\n1\n\nb\n----\n2\n\nc\n----\n\n# tail\n";
+
+/// These lines, which may hold any bytes.
+fn lines_of(rt: &impl Abort, alloc: Global, texts: &[&[u8]]) -> Lines {
+    let mut lines = Lines::new(alloc);
+    for text in texts {
+        lines.push(text).expect(rt, "memory");
+    }
+    lines
+}
+
+/// One output for each of these lists of lines.
+fn outputs_of(rt: &impl Abort, alloc: Global, outputs: &[&[&[u8]]]) -> Vec<Lines> {
+    let mut all = Vec::new(alloc);
+    for lines in outputs {
+        all.push(lines_of(rt, alloc, lines)).expect(rt, "memory");
+    }
+    all
+}
+
+fn script_of(rt: &impl Abort, alloc: Global) -> Script {
+    Script::read(alloc, SCRIPT).expect(rt, "a script")
+}
+
+/// The script has this canonical text.
+fn is_text(rt: &impl Abort, alloc: Global, script: &Script, want: &[u8]) {
+    let mut text = Through(Vec::new(alloc));
+    script.write_to(&mut text).expect(rt, "memory");
+    assert_eq!(rt; text.0.as_slice(), want);
+}
+
+/// What the edit makes of a script with these outputs, or its fault.
+fn edited(
+    rt: &impl Abort,
+    script: &Script,
+    edit: &Edit,
+    outputs: &[Lines],
+) -> Result<Script, EditFault> {
+    assert_eq!(rt; outputs.len(), script.len());
+    script.edited(edit, outputs)
+}
+
+/// What the edit makes of the script above with these outputs, or its fault.
+fn made(
+    rt: &impl Abort,
+    alloc: Global,
+    edit: &Edit,
+    outputs: &[&[&[u8]]],
+) -> Result<Script, EditFault> {
+    let outputs = outputs_of(rt, alloc, outputs);
+    edited(rt, &script_of(rt, alloc), edit, outputs.as_slice())
+}
+
+// What directives print has no empty line in it, but what is accepted may.
+#[test]
+fn any_outputs_are_accepted(rt: HostRuntime) {
+    let outputs: &[&[&[u8]]] = &[&[b"x"], &[b"y", b""], &[]];
+    let script = made(&rt, rt.alloc(), &Edit::Accept, outputs).expect(&rt, "an edit");
+    let want = b"a\n----\nx\n\nb\n----\n----\ny\n\n----\n----\n\nc\n----\n\n# tail\n";
+    is_text(&rt, rt.alloc(), &script, want);
+}
+
+/// The edit of a script with these outputs is refused, since that can't be expected.
+fn is_refused(rt: &impl Abort, alloc: Global, edit: &Edit, outputs: &[&[&[u8]]]) {
+    let fault = made(rt, alloc, edit, outputs).err();
+    assert_eq!(rt; fault, Some(EditFault::BadExpectation));
+}
+
+// A line that comes in has no LF, and no CR at its end.
+#[test]
+fn lines_that_cannot_be_expected(rt: HostRuntime) {
+    for line in [b"a\r".as_slice(), b"a\nb"] {
+        let edit = Edit::Expect(1, lines_of(&rt, rt.alloc(), &[line]));
+        is_refused(&rt, rt.alloc(), &edit, &[&[], &[], &[]]);
+    }
+}
+
+// Nothing prints the line that ends an expectation.
+#[test]
+fn outputs_that_cannot_be_expected(rt: HostRuntime) {
+    let outputs: &[&[&[u8]]] = &[&[b"x"], &[b"y", b"----"], &[]];
+    is_refused(&rt, rt.alloc(), &Edit::Accept, outputs);
+}
+
+/// The script with these outputs for its expectations has this text.
+fn is_written_with(
+    rt: &impl Abort,
+    alloc: Global,
+    script: &Script,
+    outputs: &[Lines],
+    want: &[u8],
+) {
+    assert_eq!(rt; outputs.len(), script.len());
+    let mut text = Through(Vec::new(alloc));
+    script.write_with(outputs, &mut text).expect(rt, "memory");
+    assert_eq!(rt; text.0.as_slice(), want);
+}
+
+// A line that looks like the end of a head goes into the double form.
+#[test]
+fn outputs_in_place_of_expectations(rt: HostRuntime) {
+    let outputs = outputs_of(&rt, rt.alloc(), &[&[b"x"], &[b"----", b"y"], &[]]);
+    let want = b"a\n----\nx\n\nb\n----\n----\n----\ny\n----\n----\n\nc\n----\n\n# tail\n";
+    is_written_with(
+        &rt,
+        rt.alloc(),
+        &script_of(&rt, rt.alloc()),
+        outputs.as_slice(),
+        want,
+    );
+}
