@@ -5,12 +5,11 @@ mod changes;
 mod counts;
 mod progresses;
 mod quorums;
-mod refusals;
 mod trackers;
 mod windows;
 
 use rb_tracker::{Config, IdSet, Progress, Tracker, Votes};
-use std::alloc::{AllocError, Global};
+use std::alloc::Global;
 use std::process::Abort;
 
 /// The number that a digit stands for.
@@ -51,11 +50,11 @@ fn put_voters(rt: &impl Abort, config: &mut Config, incoming: &str, outgoing: &s
 }
 
 /// Puts in a view of an id that holds the log up to an index.
-fn hold(alloc: Global, tracker: &mut Tracker, id: u64, matched: u64) -> Result<(), AllocError> {
+fn hold(rt: &impl Abort, alloc: Global, tracker: &mut Tracker, id: u64, matched: u64) {
     if matched < 1_000 && !tracker.has_view(id) {
-        tracker.add(id, Progress::own(alloc, 1, matched, matched + 1)?)?;
+        let view = Progress::own(alloc, 1, matched, matched + 1).expect(rt, "memory");
+        tracker.add(id, view).expect(rt, "memory");
     }
-    Ok(())
 }
 
 /// Puts in views of the ids 1, 2 and so on, which hold the log up to a digit each. Who has `-` has no view.
@@ -64,7 +63,7 @@ fn hold_all(rt: &impl Abort, alloc: Global, tracker: &mut Tracker, digits: &str)
     for digit in digits.as_bytes() {
         id = id.saturating_add(1);
         if *digit != b'-' {
-            hold(alloc, tracker, id, number(*digit)).expect(rt, "memory");
+            hold(rt, alloc, tracker, id, number(*digit));
         }
     }
 }

@@ -3,7 +3,7 @@
 
 use super::{hold, mark};
 use rb_tracker::{Config, IdSet, Tracker, VoteResult, Votes};
-use std::alloc::{AllocError, Global};
+use std::alloc::Global;
 use std::process::Abort;
 
 /// How many sets of four ids there are.
@@ -103,7 +103,7 @@ fn voting(rt: &impl Abort, alloc: Global, incoming: u32, outgoing: u32) -> Confi
 fn hold_all(rt: &impl Abort, alloc: Global, tracker: &mut Tracker, ways: u32) {
     for id in 1..5 {
         let way = done(ways, id);
-        hold(alloc, tracker, u64::from(id), u64::from(way)).expect(rt, "memory");
+        hold(rt, alloc, tracker, u64::from(id), u64::from(way));
         mark(tracker, u64::from(id), way == 2);
     }
 }

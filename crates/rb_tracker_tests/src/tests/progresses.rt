@@ -4,12 +4,12 @@
 use super::number;
 use rb_tracker::ProgressState::{Probe, Replicate, Snapshot};
 use rb_tracker::{Progress, ProgressState};
-use std::alloc::{AllocError, Global};
+use std::alloc::Global;
 use std::process::Abort;
 
 /// A call that changes a view.
 #[derive(Clone, Copy)]
-pub enum Call {
+enum Call {
     Sent(u32),
     Acked(u32),
     Freed(u32),
@@ -18,11 +18,10 @@ pub enum Call {
     Probe,
     Snapshot(u32),
     Resume,
-    Mark(bool),
 }
 
 /// Makes a call.
-pub fn make(view: &mut Progress, call: Call) {
+fn make(view: &mut Progress, call: Call) {
     match call {
         Call::Sent(last) => view.sent(u64::from(last)),
         Call::Acked(index) => view.acked(u64::from(index)),
@@ -35,7 +34,6 @@ pub fn make(view: &mut Progress, call: Call) {
         Call::Probe => view.to_probe(),
         Call::Snapshot(index) => view.to_snapshot(u64::from(index)),
         Call::Resume => view.resume(),
-        Call::Mark(active) => view.set_active(active),
     }
 }
 
@@ -208,7 +206,7 @@ fn snapshots_arrive(rt: HostRuntime) {
 }
 
 /// The view after calls.
-pub fn after(rt: &impl Abort, alloc: Global, calls: &[Call]) -> Progress {
+fn after(rt: &impl Abort, alloc: Global, calls: &[Call]) -> Progress {
     let mut view = own(rt, alloc);
     for call in calls {
         make(&mut view, *call);
@@ -241,75 +239,4 @@ fn answers_that_tell_something(rt: HostRuntime) {
     for (k, row) in ANSWERS.iter().enumerate() {
         assert!(rt; is_answer(&rt, rt.alloc(), row), "in row {k}");
     }
-}
-
-/// Two lists of calls, and whether the views after them are the same. Those that aren't differ in one thing alone.
-static PAIRS: [(&[Call], &[Call], bool); 13] = [
-    (&[], &[], true),
-    (&[Call::Mark(false), Call::Mark(true)], &[], true),
-    (
-        &[Call::Probe, Call::Sent(4), Call::Resume],
-        &[Call::Probe],
-        true,
-    ),
-    (&[Call::Sent(5), Call::Acked(5)], &[Call::Acked(5)], true),
-    (
-        &[Call::Snapshot(9), Call::Acked(9)],
-        &[Call::Acked(9)],
-        true,
-    ),
-    // The state, the match, and the next index.
-    (&[Call::Probe], &[], false),
-    (
-        &[Call::Sent(5), Call::Acked(5)],
-        &[Call::Sent(5), Call::Freed(5)],
-        false,
-    ),
-    (&[Call::Sent(5), Call::Freed(5)], &[], false),
-    // A probe on its way, a snapshot that was sent, and the mark.
-    (&[Call::Probe, Call::Sent(4)], &[Call::Probe], false),
-    (&[Call::Snapshot(8), Call::Probe], &[Call::Probe], false),
-    (&[Call::Mark(false)], &[], false),
-    // What is in flight.
-    (
-        &[Call::Sent(7), Call::Sent(9)],
-        &[Call::Sent(8), Call::Sent(9)],
-        false,
-    ),
-    (&[Call::Sent(9)], &[Call::Sent(8), Call::Sent(9)], false),
-];
-
-/// Whether two views are the same, whichever is asked, and so are their copies.
-fn are_same(rt: &impl Abort, a: &Progress, b: &Progress) -> bool {
-    let copy = a.try_copy().expect(rt, "memory");
-    a.same(b) && b.same(a) && copy.same(a) && copy.same(b)
-}
-
-/// Whether they differ, whichever is asked, and the copy of one is it and not the other.
-fn are_different(rt: &impl Abort, a: &Progress, b: &Progress) -> bool {
-    let copy = a.try_copy().expect(rt, "memory");
-    !a.same(b) && !b.same(a) && copy.same(a) && !copy.same(b)
-}
-
-fn is_told(rt: &impl Abort, alloc: Global, pair: &(&[Call], &[Call], bool)) -> bool {
-    let a = after(rt, alloc, pair.0);
-    let b = after(rt, alloc, pair.1);
-    if pair.2 {
-        are_same(rt, &a, &b)
-    } else {
-        are_different(rt, &a, &b)
-    }
-}
-
-fn is_width_told(rt: &impl Abort, alloc: Global) -> bool {
-    let wider = Progress::own(alloc, 3, 3, 4).expect(rt, "memory");
-    are_different(rt, &wider, &own(rt, alloc))
-}
-
-#[test]
-fn same_sees_each_field(rt: HostRuntime) {
-    for (k, pair) in PAIRS.iter().enumerate() {
-        assert!(rt; is_told(&rt, rt.alloc(), pair), "in row {k}");
-    }
-    assert!(rt; is_width_told(&rt, rt.alloc()));
 }

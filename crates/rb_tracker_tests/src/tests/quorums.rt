@@ -5,7 +5,7 @@
 use super::{answered, mark, tracking};
 use rb_tracker::VoteResult::{Lost, Pending, Won};
 use rb_tracker::{Tracker, VoteResult, Votes};
-use std::alloc::{AllocError, Global};
+use std::alloc::Global;
 use std::process::Abort;
 
 /// Incoming voters, outgoing voters, what the ids 1, 2 and so on hold (`-`: no view), and the greatest index that a quorum holds.

@@ -38,7 +38,7 @@ fn turn(rt: &impl Abort, view: &mut Progress, after: u32, capacity: u32, part: u
 }
 
 /// A window is filled, and goes round by one, by its half, by all but one, and by all.
-pub fn goes_round(rt: &impl Abort, view: &mut Progress, capacity: u32) {
+fn goes_round(rt: &impl Abort, view: &mut Progress, capacity: u32) {
     assert!(rt; view.window().is_empty() && send(view, 0, capacity) && has_run(view, 0, capacity));
     let mut after: u32 = 0;
     for part in [
