@@ -1,11 +1,10 @@
 """Wrong bodies as they are kept: an edit a file, which says what to change in a crate and which function must refuse it.
 
 A file NAME.edit has a line `function: PATH`, the function's path below its crate as a check prints it, a line `file: FILE`
-below src/ or specs/, and pairs of lines `old: TEXT` and `new: TEXT`. Each old text stands once in its file. A law's crate has
-its definitions from crates below: `file: ../CRATE/specs/FILE` is one of those.
+below src/ or specs/, and pairs of lines `old: TEXT` and `new: TEXT`. Each old text stands once in its file, or once in the
+function. A law's crate has its definitions from crates below: `file: ../CRATE/specs/FILE` is one of those.
 """
 import dataclasses
-import functools
 import pathlib
 import re
 
@@ -66,6 +65,23 @@ def read_edit(path: pathlib.Path, crate: str) -> Edit:
     return Edit(crate, path.stem, function, tuple(changes))
 
 
+def function_at(text: str, at: int) -> str:
+    """The name of the function that a place of a file stands in, or none."""
+    heads = list(HEAD.finditer(text, 0, at))
+    is_behind = not heads or re.search(rf"(?m)^{heads[-1][1]}}}$", text[heads[-1].end() : at])
+    return "" if is_behind else heads[-1][2]
+
+
+def place_of(change: Change, text: str, function: str) -> int:
+    """Where the old text stands in its file: once, or once in the function. Raises BadEdit where it doesn't."""
+    found = [it.start() for it in re.finditer(re.escape(change.old), text)]
+    within = [at for at in found if function_at(text, at) == function.rpartition("::")[2]]
+    only = found if len(found) == 1 else within
+    if len(only) != 1:
+        raise BadEdit(f"an old text stands {len(found)} times in {change.file}: {change.old.strip()}")
+    return only[0]
+
+
 def texts_with(edits: list[Edit], folder: pathlib.Path) -> dict[str, str]:
     """The texts, by file, of a crate's files as the edits leave them. Raises BadEdit where an old text isn't there once."""
     texts: dict[str, str] = {}
@@ -76,40 +92,19 @@ def texts_with(edits: list[Edit], folder: pathlib.Path) -> dict[str, str]:
                     texts[change.file] = (folder / change.file).read_text()
                 except OSError as error:
                     raise BadEdit(f"{change.file}: {error.strerror}") from error
-            found = texts[change.file].count(change.old)
-            if found != 1:
-                raise BadEdit(f"an old text stands {found} times in {change.file}: {change.old.strip()}")
-            texts[change.file] = texts[change.file].replace(change.old, change.new)
+            text = texts[change.file]
+            at = place_of(change, text, edit.function)
+            texts[change.file] = text[:at] + change.new + text[at + len(change.old) :]
     return texts
 
 
 def is_within_its_function(edit: Edit, folder: pathlib.Path) -> bool:
     """Whether all that is changed stands in the function that must refuse it, so that no other function can see the edit."""
-    name = edit.function.rpartition("::")[2]
+    texts: dict[str, str] = {}
     for change in edit.changes:
-        text = (folder / change.file).read_text()
-        above = text[: text.find(change.old)]
-        heads = list(HEAD.finditer(above))
-        if not change.file.startswith("src/") or not heads or heads[-1][2] != name:
+        text = texts.get(change.file) or (folder / change.file).read_text()
+        at = place_of(change, text, edit.function)
+        if not change.file.startswith("src/") or function_at(text, at) != edit.function.rpartition("::")[2]:
             return False
-        if re.search(rf"(?m)^{heads[-1][1]}}}$", above[heads[-1].end() :]):
-            return False
+        texts[change.file] = text[:at] + change.new + text[at + len(change.old) :]
     return True
-
-
-@functools.lru_cache(maxsize=None)
-def calls_below(folder: pathlib.Path) -> dict[str, set[str]]:
-    """The names of functions of a crate that each of them calls, by themselves or by others. What only has the name of one counts too."""
-    called: dict[str, set[str]] = {}
-    for path in sorted((folder / "src").rglob("*.rt")):
-        text = path.read_text()
-        heads = list(HEAD.finditer(text))
-        for head, end in zip(heads, [*(it.start() for it in heads[1:]), len(text)]):
-            called.setdefault(head[2], set()).update(re.findall(r"(?<!Vec::)(?<!Some)\b(\w+)(?:::<[^>]*>)?\(", text[head.end() : end]))
-    below = {name: {it for it in names if it in called} for name, names in called.items()}
-    while True:
-        more = {name: set().union(*(below[it] for it in names)) - names for name, names in below.items()}
-        if not any(more.values()):
-            return below
-        for name, names in more.items():
-            below[name] |= names

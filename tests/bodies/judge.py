@@ -5,26 +5,22 @@ import tempfile
 from collections.abc import Callable
 
 from crates import Crate, check, make_ready
-from edits import BadEdit, Edit, calls_below, is_within_its_function, texts_with
-from said import Kind, Verdict, calls_one_refused, has_ended, unread, verdict_on, why_not_compiled
-
-
-def are_near(edit: Edit, other: Edit, folder: pathlib.Path) -> bool:
-    """Whether the functions of two edits are one, or one calls the other, so that a check of both may not tell which is refused."""
-    name, its = (it.function.rpartition("::")[2] for it in (edit, other))
-    below = calls_below(folder)
-    return edit.function == other.function or name in below.get(its, ()) or its in below.get(name, ())
+from edits import BadEdit, Edit, is_within_its_function, texts_with
+from said import Kind, Verdict, has_ended, unread, verdict_on, why_not_compiled
 
 
 def batch_of(edits: list[Edit], folder: pathlib.Path) -> list[Edit]:
-    """The first edits that one check can tell apart: one alone that changes more than its function, or one a function, none of which calls another."""
+    """The first edits that one check can tell apart: one alone that changes more than its function, or one a function.
+
+    Of one of these functions that calls another the goals are the same whatever the other does: they name its contract alone.
+    """
     batch: list[Edit] = []
     for edit in edits:
         if not is_within_its_function(edit, folder):
             if not batch:
                 return [edit]
             continue
-        if any(are_near(edit, other, folder) for other in batch):
+        if any(edit.function == other.function for other in batch):
             continue
         try:
             texts_with([*batch, edit], folder)
@@ -45,8 +41,7 @@ def tried(crate: Crate, batch: list[Edit], kept: pathlib.Path) -> dict[Edit, Ver
     found: dict[Edit, Verdict | None] = {}
     for edit in batch:
         verdict = verdict_on(said, crate.name, edit.function)
-        is_sure = is_alone or verdict.kind is Kind.PROVED or verdict.kind is Kind.REFUSED and not calls_one_refused(said, crate.name, edit.function)
-        found[edit] = verdict if is_sure else None
+        found[edit] = verdict if is_alone or verdict.kind in (Kind.PROVED, Kind.REFUSED) else None
     return found
 
 

@@ -91,7 +91,3 @@ def verdict_on(said: str, crate: str, function: str) -> Verdict:
         return Verdict(Kind.REFUSED, own[0])
     return Verdict(Kind.BY_CALLEE if "it calls" in told else Kind.BY_NAMES, line)
 
-
-def calls_one_refused(said: str, crate: str, function: str) -> bool:
-    """Whether the function calls one that isn't proved either."""
-    return bool(re.search(rf"(?m)^fn {re.escape(f'{crate}::{function}')}: .*it calls", said))
