@@ -1,8 +1,12 @@
 "use strict";
-// Takes plain text that is a script for one, also where a comment comes first.
+// Takes plain text that is a script for one, also where a comment comes first, and shows what `raftbench lsp` says of each script.
 
 const vscode = require("vscode");
+const { Client } = require("./client.js");
 const { isScript } = require("./detect.js");
+
+let client;
+let shown;
 
 function look(document) {
   if (document.languageId === "plaintext" && isScript(document.getText())) {
@@ -10,12 +14,69 @@ function look(document) {
   }
 }
 
-function activate(context) {
-  context.subscriptions.push(
-    vscode.workspace.onDidOpenTextDocument(look),
-    vscode.workspace.onDidSaveTextDocument(look),
-  );
-  vscode.workspace.textDocuments.forEach(look);
+function rangeOf(range) {
+  return new vscode.Range(range.start.line, range.start.character, range.end.line, range.end.character);
 }
 
-module.exports = { activate };
+// The protocol's severities count from 1, the editor's from 0.
+function diagnosticOf(told) {
+  const diagnostic = new vscode.Diagnostic(rangeOf(told.range), told.message, told.severity - 1);
+  diagnostic.code = told.code;
+  diagnostic.source = told.source;
+  return diagnostic;
+}
+
+function hear(method, params) {
+  if (method === "textDocument/publishDiagnostics") {
+    shown.set(vscode.Uri.parse(params.uri), params.diagnostics.map(diagnosticOf));
+  }
+}
+
+function start() {
+  const program = vscode.workspace.getConfiguration("raftbench").get("program");
+  client = new Client(program, hear, (why) => {
+    client = undefined;
+    shown.clear();
+    vscode.window.showWarningMessage(why);
+  });
+  client.begin();
+}
+
+function open(document) {
+  if (document.languageId !== "raftbench") return;
+  if (!client) start();
+  const { languageId, version } = document;
+  client.notify("textDocument/didOpen", { textDocument: { uri: document.uri.toString(), languageId, version, text: document.getText() } });
+}
+
+function change(event) {
+  if (event.document.languageId !== "raftbench" || !client || event.contentChanges.length === 0) return;
+  const { uri, version } = event.document;
+  const contentChanges = event.contentChanges.map(({ range, text }) => ({ range: { start: range.start, end: range.end }, text }));
+  client.notify("textDocument/didChange", { textDocument: { uri: uri.toString(), version }, contentChanges });
+}
+
+function close(document) {
+  if (document.languageId !== "raftbench" || !client) return;
+  client.notify("textDocument/didClose", { textDocument: { uri: document.uri.toString() } });
+}
+
+function activate(context) {
+  shown = vscode.languages.createDiagnosticCollection("raftbench");
+  context.subscriptions.push(
+    shown,
+    vscode.workspace.onDidOpenTextDocument(look),
+    vscode.workspace.onDidSaveTextDocument(look),
+    vscode.workspace.onDidOpenTextDocument(open),
+    vscode.workspace.onDidChangeTextDocument(change),
+    vscode.workspace.onDidCloseTextDocument(close),
+  );
+  vscode.workspace.textDocuments.forEach(look);
+  vscode.workspace.textDocuments.forEach(open);
+}
+
+function deactivate() {
+  return client && client.end();
+}
+
+module.exports = { activate, deactivate };

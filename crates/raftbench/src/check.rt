@@ -16,8 +16,13 @@ use std::time::Clock;
 #[derive(Clone, Copy)]
 pub(crate) struct Asked<'a> {
     pub(crate) paths: &'a [String],
-    pub(crate) filter: Option<&'a str>,
+    pub(crate) filters: &'a [String],
     pub(crate) accepts: bool,
+    /// Whether new errors are accepted too.
+    pub(crate) accepts_errors: bool,
+    /// Whether outputs of a script that has warnings are.
+    pub(crate) is_forced: bool,
+    pub(crate) is_quiet: bool,
     pub(crate) shown: Shown,
     pub(crate) colors: Colors,
     pub(crate) wants_progress: bool,
@@ -30,8 +35,8 @@ pub(crate) fn check<R: Files + Print + Clock + AllocGlobal, E: Write + Drop>(
     errors: E,
 ) -> Result<u8, Refusal> {
     let mut progress = Progress::from_now(rt, asked.wants_progress);
-    let mut report = Report::new(rt.alloc(), io::writer(rt), errors)?;
-    let found = find(rt, asked.paths, asked.filter);
+    let mut report = Report::new(rt.alloc(), io::writer(rt), errors, asked.is_quiet)?;
+    let found = find(rt, asked.paths, asked.filters);
     tell_lost(&found, &mut report);
     for (done, path) in found.scripts.iter().enumerate() {
         if progress.is_due(rt) {

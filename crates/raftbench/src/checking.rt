@@ -1,33 +1,31 @@
 //! Checking one script. Nothing is held longer than its script.
 
-ghost use Rattle.std.specs.Prelude.{IfOk};
 ghost use Rattle.rb_script.specs.Reads.{Reads};
-ghost use Rattle.raftbench.specs.Accepted.{IsAccepted};
 
+use crate::accepting::accept;
 use crate::check::Asked;
 use crate::report::{Ran, Report};
 use rb_bench::{ReadFault, read_up_to};
 use rb_check::Failure;
-use rb_checked::{ShowFault, Told, View, is_quiet, put_checked};
+use rb_checked::{ShowFault, Shown, Told, View, Warning, is_quiet, put_checked, warnings};
 use rb_cluster::{Cluster, Meter};
-use rb_files::{Beside, Trouble, opened, replace};
+use rb_files::{Trouble, opened};
 use rb_line::Incoming;
 use rb_raftlog::SplitLog;
-use rb_replay::{MAX_SPACING, Session, StartFault};
-use rb_script::{Edit, EditFault, MAX_SCRIPT, Through, WriteFault};
-use std::alloc::Global;
+use rb_replay::{Session, StartFault};
+use rb_script::{MAX_SCRIPT, WriteFault};
+use std::alloc::{AllocError, Global};
 use std::fs::Metadata;
-use std::io;
 use std::io::Write;
 use std::rt::Files;
 
-type CheckSession = Session<Cluster<SplitLog>>;
+pub(crate) type CheckSession = Session<Cluster<SplitLog>>;
 
 // The first bytes of a file, and what the system said of it when it was opened.
 #[derive(Drop)]
-struct Text {
-    bytes: Vec<u8>,
-    seen: Metadata,
+pub(crate) struct Text {
+    pub(crate) bytes: Vec<u8>,
+    pub(crate) seen: Metadata,
 }
 
 /// Checks the script at the path: shows what differs, and accepts it where that is asked for.
@@ -61,26 +59,84 @@ fn run<R: Files + AllocGlobal, W: Write + Drop, E: Write + Drop>(
     report: &mut Report<W, E>,
 ) {
     let mut meter = Meter::new();
-    // Accepting runs no directive again, so as few clusters are kept as there may be.
-    let session = match CheckSession::start(rt.alloc(), &text.bytes, MAX_SPACING, &mut meter) {
+    // No directive runs again, so as few clusters are kept as there may be.
+    let session = match CheckSession::run_once(rt.alloc(), &text.bytes, &mut meter) {
         Ok(session) => session,
         Err(StartFault::Script(fault)) => return report.refused(path, fault),
         Err(_) => return report.fail(path.as_bytes(), Trouble::alone(Failure::OutOfMemory)),
     };
-    let told = match show(rt.alloc(), &session, &text.bytes, asked, path, report) {
-        Ok(told) => told,
-        Err(trouble) => return report.fail(path.as_bytes(), trouble),
-    };
+    match answer(rt, asked, path, text, &session, report) {
+        Ok(()) => {}
+        Err(trouble) => report.fail(path.as_bytes(), trouble),
+    }
+}
+
+// Shows what there is to show, and accepts what is to be accepted.
+fn answer<R: Files + AllocGlobal, W: Write + Drop, E: Write + Drop>(
+    rt: &R,
+    asked: Asked<'_>,
+    path: &str,
+    text: Text,
+    session: &CheckSession,
+    report: &mut Report<W, E>,
+) -> Result<(), Trouble>
+    requires { Reads text.bytes.items session.now.script }
+{
+    let alloc = rt.alloc();
+    let bytes = text.bytes.as_slice();
+    let warnings = warnings_of(alloc, session, bytes)?;
+    let may_accept = asked.accepts && !session.mismatches().is_empty();
+    if may_accept || shows_warnings(asked.shown) {
+        report.warn(path, &warnings);
+    }
+    let told = show(alloc, session, bytes, asked, path, report)?;
     let ran = Ran {
         path,
         directives: session.len(),
         mismatches: session.mismatches().len(),
         told,
     };
-    if asked.accepts && ran.mismatches > 0 {
-        accept(rt, ran, session, text.seen, report);
+    if !may_accept {
+        report.ran(alloc, ran);
+    } else if asked.is_forced || warnings.is_empty() {
+        accept(rt, asked, ran, session, text, report);
     } else {
-        report.ran(rt.alloc(), ran);
+        report.ran(alloc, ran);
+        report.refuse_to_accept(path);
+    }
+    Ok(())
+}
+
+// The lines that look like a slip. Where each output is the expected one and there is no input, there are none.
+fn warnings_of(
+    alloc: Global,
+    session: &CheckSession,
+    bytes: &[u8],
+) -> Result<Vec<Warning>, AllocError>
+    requires { Reads bytes.now session.now.script }
+{
+    if session.mismatches().is_empty() && !has_input(session) {
+        return Ok(Vec::new(alloc));
+    }
+    warnings(alloc, session, bytes)
+}
+
+fn has_input(session: &CheckSession) -> bool {
+    for place in 1..=session.len() {
+        if let Some(block) = session.block(place) {
+            if block.directive().inputs() > 0 {
+                return true;
+            }
+        }
+    }
+    false
+}
+
+// With less than what differs only that is shown, and why nothing is accepted.
+fn shows_warnings(shown: Shown) -> bool {
+    match shown {
+        Shown::Differing | Shown::All => true,
+        Shown::First | Shown::Brief => false,
     }
 }
 
@@ -120,62 +176,5 @@ fn show<W: Write + Drop, E: Write + Drop>(
             Ok(nothing)
         }
         Err(ShowFault::OutOfMemory) => Err(Trouble::alone(Failure::OutOfMemory)),
-    }
-}
-
-// Writes the outputs into the script's file.
-fn accept<R: Files + AllocGlobal, W: Write + Drop, E: Write + Drop>(
-    rt: &R,
-    ran: Ran<'_>,
-    mut session: CheckSession,
-    seen: Metadata,
-    report: &mut Report<W, E>,
-) {
-    match write_accepted(rt, ran.path, &mut session, seen, report) {
-        Ok(()) => report.accepted(ran),
-        Err(trouble) => {
-            report.ran(rt.alloc(), ran);
-            report.fail(ran.path.as_bytes(), trouble);
-        }
-    }
-}
-
-fn write_accepted<R: Files + AllocGlobal, W: Write + Drop, E: Write + Drop>(
-    rt: &R,
-    path: &str,
-    session: &mut CheckSession,
-    seen: Metadata,
-    report: &mut Report<W, E>,
-) -> Result<(), Trouble> {
-    let text = accepted_text(rt.alloc(), session)?;
-    let mut place = Beside::new(rt, path, seen)?;
-    match replace(&mut place, &text) {
-        Ok(()) => Ok(()),
-        Err(why) => {
-            if let Some(left) = place.left() {
-                report.tell_left(left);
-            }
-            Err(why.trouble)
-        }
-    }
-}
-
-// The script's text with its outputs as its expectations.
-fn accepted_text(alloc: Global, session: &mut CheckSession) -> Result<Vec<u8>, Trouble>
-    ensures { IfOk result (λ text. IsAccepted session.old.script text.items) }
-{
-    let mut meter = Meter::new();
-    match session.edit(&Edit::Accept, &mut meter) {
-        Ok(_) => {}
-        Err(EditFault::OutOfMemory) => return Err(Trouble::alone(Failure::OutOfMemory)),
-        Err(_) => {
-            let cause = io::Error::other("with its outputs the script would be too long");
-            return Err(Trouble::of_writing(cause));
-        }
-    }
-    let mut sink = Through(Vec::new(alloc));
-    match session.write_script(&mut sink) {
-        Ok(()) => Ok(sink.0),
-        Err(_) => Err(Trouble::alone(Failure::OutOfMemory)),
     }
 }

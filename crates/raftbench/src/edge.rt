@@ -2,6 +2,10 @@
 
 use crate::check::{Asked, check};
 use crate::colors::{colors, wish_of};
+use crate::directives::directives;
+use crate::editing::serve_editor;
+use crate::look::look_at;
+use crate::misuse::Misuse;
 use crate::refusal::Refusal;
 use crate::spacing::spacing;
 use rb_args::{CheckChoice, Choice, Subcommand, chosen};
@@ -10,6 +14,7 @@ use rb_checked::Shown;
 use rb_line::Incoming;
 use rb_replay::is_spacing;
 use rb_script::{MAX_SCRIPT, Through};
+use std::alloc::Global;
 use std::fs::File;
 use std::io::{BufWriter, Write};
 use std::rt::{Env, Files};
@@ -30,15 +35,16 @@ pub(crate) fn status<
 >(rt: &R, errors: E, terminals: Terminals) -> u8 {
     match answered(rt, errors, terminals) {
         Ok(status) => status,
-        Err(refusal) => status_code(refusal.tell(rt)),
+        Err(refusal) => status_code(refusal.tell(rt, terminals.errors)),
     }
 }
 
 fn words<R: Env + AllocGlobal>(rt: &R) -> Result<Vec<String>, Refusal> {
     match env::args(rt) {
         Ok(args) => Ok(args.collect(rt.alloc())?),
-        // words that are no text
-        Err(error) if error.kind() == io::ErrorKind::InvalidData => Err(Refusal::Usage),
+        Err(error) if error.kind() == io::ErrorKind::InvalidData => {
+            Err(Refusal::Usage(Misuse::NoText))
+        }
         Err(error) => Err(Refusal::from(error)),
     }
 }
@@ -60,8 +66,32 @@ fn answered<R: Files + Input + Print + Env + Clock + AllocGlobal, E: Write + Dro
                 terminals,
             )
         }
-        Some(subcommand) => Ok(status_code(with_file(rt, subcommand, &choice)?)),
-        None => Err(Refusal::Usage),
+        Some(Subcommand::Directives) => Ok(status_code(directives(rt, choice.name.as_deref())?)),
+        Some(Subcommand::Lsp) => serve_editor(rt),
+        Some(subcommand) => match with_file(rt, subcommand, &choice) {
+            Ok(status) => Ok(status_code(status)),
+            Err(refusal) => Err(named(refusal, rt.alloc(), choice.every.as_deref())),
+        },
+        None => Err(Refusal::Usage(Misuse::NoCommand)),
+    }
+}
+
+// With the text of `--every`, where it is that.
+fn named(refusal: Refusal, alloc: Global, every: Option<&str>) -> Refusal {
+    match refusal {
+        Refusal::Usage(Misuse::Spacing) => match misused(alloc, every) {
+            Some(text) => Refusal::Usage(Misuse::Every(text)),
+            None => Refusal::Usage(Misuse::Spacing),
+        },
+        other => other,
+    }
+}
+
+// The word, where it is given and there is memory for it.
+fn misused(alloc: Global, word: Option<&str>) -> Option<String> {
+    match String::from_str(alloc, word?) {
+        Ok(text) => Some(text),
+        Err(_) => None,
     }
 }
 
@@ -73,21 +103,39 @@ fn check_all<R: Files + Print + Env + Clock + AllocGlobal, E: Write + Drop>(
     errors: E,
     terminals: Terminals,
 ) -> Result<u8, Refusal> {
-    let (Some(every), Some(wish)) = (spacing(every), wish_of(choice.color.as_deref())) else {
-        return Err(Refusal::Usage);
-    };
-    if !is_spacing(every) {
-        return Err(Refusal::Usage);
+    let alloc = rt.alloc();
+    if !is_usual(every) {
+        return Err(Refusal::OwnUsage(match misused(alloc, every) {
+            Some(text) => Misuse::Every(text),
+            None => Misuse::Spacing,
+        }));
     }
+    let Some(wish) = wish_of(choice.color.as_deref()) else {
+        return Err(Refusal::OwnUsage(match misused(alloc, choice.color.as_deref()) {
+            Some(text) => Misuse::Color(text),
+            None => Misuse::NoText,
+        }));
+    };
     let asked = Asked {
         paths: &choice.paths,
-        filter: choice.filter.as_deref(),
-        accepts: choice.accepts,
+        filters: &choice.filters,
+        accepts: choice.accepts || choice.accepts_errors,
+        accepts_errors: choice.accepts_errors,
+        is_forced: choice.is_forced,
+        is_quiet: choice.is_quiet,
         shown: shown(choice),
         colors: colors(rt, wish, terminals.output),
         wants_progress: terminals.errors,
     };
     check(rt, asked, errors)
+}
+
+// Whether the text of `--every` is a number that a session takes.
+fn is_usual(every: Option<&str>) -> bool {
+    match spacing(every) {
+        Some(every) => is_spacing(every),
+        None => false,
+    }
 }
 
 // How much of each script is shown; the least of what is asked for.
@@ -110,19 +158,22 @@ fn with_file<R: Files + Input + Print + AllocGlobal>(
     choice: &Choice,
 ) -> Result<Status, Refusal> {
     let Some(file) = &choice.file else {
-        return Err(Refusal::Usage);
+        return Err(Refusal::Usage(Misuse::NoFile));
     };
     if subcommand == Subcommand::Session && file.as_str() == "-" {
-        return Err(Refusal::Usage);
+        return Err(Refusal::Usage(Misuse::Input));
     }
     let Some(every) = spacing(choice.every.as_deref()) else {
-        return Err(Refusal::Usage);
+        return Err(Refusal::Usage(Misuse::Spacing));
     };
     match subcommand {
         Subcommand::Run => run(rt, file.as_str(), Mode::Run, every),
         Subcommand::Rewrite => run(rt, file.as_str(), Mode::Rewrite, every),
         Subcommand::Session => session(rt, file.as_str(), every),
-        Subcommand::Check => Err(Refusal::Usage),
+        Subcommand::Look => look_at(rt, file.as_str()),
+        Subcommand::Check | Subcommand::Directives | Subcommand::Lsp => {
+            Err(Refusal::Usage(Misuse::NoCommand))
+        }
     }
 }
 
@@ -144,10 +195,13 @@ fn run<R: Files + Input + Print + AllocGlobal>(
 }
 
 // A file that can't be opened has failed as input, whatever the system says was wanting.
-fn opened<R: Files>(rt: &R, file: &str) -> Result<R::File, Refusal> {
+fn opened<R: Files + AllocGlobal>(rt: &R, file: &str) -> Result<R::File, Refusal> {
     match File::open(rt, file) {
         Ok(opened) => Ok(opened),
-        Err(_) => Err(Refusal::Io),
+        Err(error) => match String::from_str(rt.alloc(), file) {
+            Ok(path) => Err(Refusal::Unopened(path, error)),
+            Err(_) => Err(Refusal::Io),
+        },
     }
 }
 
@@ -166,7 +220,7 @@ fn session<R: Files + Input + Print + AllocGlobal>(
 
 // The first bytes of the file, which is closed again. Where standard input was closed, the file took its place: what is
 // left of it must not be read for commands.
-fn script<R: Files + AllocGlobal>(rt: &R, file: &str) -> Result<Vec<u8>, Refusal> {
+pub(crate) fn script<R: Files + AllocGlobal>(rt: &R, file: &str) -> Result<Vec<u8>, Refusal> {
     let mut source = Incoming(opened(rt, file)?);
     Ok(read_up_to(rt.alloc(), &mut source, MAX_SCRIPT + 1)?)
 }

@@ -1,10 +1,16 @@
-//! `raftbench check PATH..` and `raftbench run|rewrite|session FILE`: the words, the files and the streams of the program.
+//! `raftbench check PATH..`, `raftbench run|rewrite|session FILE`, `raftbench look FILE:LINE`, `raftbench directives [NAME]`, `raftbench lsp`: the
+//! words, the files and the streams of the program.
 #![tactic(auto)]
 
+mod accepting;
 mod check;
 mod checking;
 mod colors;
+mod directives;
 mod edge;
+mod editing;
+mod look;
+mod misuse;
 mod progress;
 mod refusal;
 mod report;

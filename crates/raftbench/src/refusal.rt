@@ -1,5 +1,6 @@
 //! Why the program ends without having done what was asked.
 
+use crate::misuse::Misuse;
 use rb_args::ChoiceFault;
 use rb_bench::{BenchFault, ReadFault, Status, script_fault_line, script_fault_name};
 use rb_script::ScriptFault;
@@ -11,24 +12,43 @@ use std::io;
 pub(crate) enum Refusal {
     /// Help, or words that are not taken; the text is clap's.
     Clap(clap::Error),
-    Usage,
+    Usage(Misuse),
+    /// The same, where nothing fixes the text: the sentence alone is told.
+    OwnUsage(Misuse),
     Script(ScriptFault),
+    /// The file of this path couldn't be opened, and why.
+    Unopened(String, io::Error),
     Io,
     OutOfMemory,
 }
 
 impl Refusal {
-    /// Writes the one line that says why, and answers the status.
-    pub(crate) fn tell<R: Eprint + Print>(self, rt: &R) -> Status {
+    /// Writes the one line that says why, and answers the status. Where somebody reads, what a person wants to know follows it.
+    pub(crate) fn tell<R: Eprint + Print + AllocGlobal>(self, rt: &R, is_read: bool) -> Status {
         match self {
             Refusal::Clap(error) => tell_clap(rt, error),
-            Refusal::Usage => {
+            Refusal::Usage(misuse) => {
                 let _ = eprintln!(rt; "raftbench: bad usage");
+                if is_read {
+                    misuse.tell(rt);
+                }
+                Status::BadUsage
+            }
+            Refusal::OwnUsage(misuse) => {
+                let _ = eprint!(rt; "raftbench: ");
+                misuse.tell(rt);
                 Status::BadUsage
             }
             Refusal::Script(fault) => {
                 tell_script(rt, fault);
                 Status::BadScript
+            }
+            Refusal::Unopened(path, error) => {
+                let status = tell_io(rt);
+                if is_read {
+                    let _ = eprintln!(rt; "{path}: {error}");
+                }
+                status
             }
             Refusal::Io => tell_io(rt),
             Refusal::OutOfMemory => {
@@ -77,10 +97,19 @@ impl From<ChoiceFault> for Refusal {
 impl From<BenchFault> for Refusal {
     fn from(fault: BenchFault) -> Refusal {
         match fault {
-            BenchFault::Spacing => Refusal::Usage,
+            BenchFault::Spacing => Refusal::Usage(Misuse::Spacing),
             BenchFault::Script(fault) => Refusal::Script(fault),
             BenchFault::Io => Refusal::Io,
             BenchFault::OutOfMemory => Refusal::OutOfMemory,
+        }
+    }
+}
+
+impl From<ScriptFault> for Refusal {
+    fn from(fault: ScriptFault) -> Refusal {
+        match fault {
+            ScriptFault::OutOfMemory => Refusal::OutOfMemory,
+            fault => Refusal::Script(fault),
         }
     }
 }

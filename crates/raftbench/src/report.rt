@@ -6,13 +6,14 @@
 use crate::refusal::Refusal;
 use rb_check::{
     Failure, Outcome, Totals, put_accepted, put_brief, put_failure, put_refusal, put_totals,
-    status_code,
+    put_unaccepted, put_warning, status_code,
 };
-use rb_checked::Told;
+use rb_checked::{Told, Warning};
 use rb_files::Trouble;
 use rb_number::put_number;
 use rb_script::{ScriptFault, Sink, Through, WriteFault};
 use std::alloc::{AllocError, Global};
+use std::io;
 use std::io::{BufWriter, Write};
 
 // Takes the cursor back to the line's first column, and clears the line (ECMA-48).
@@ -43,20 +44,26 @@ pub(crate) struct Report<W: Write + Drop, E: Write + Drop> {
     errors: Through<BufWriter<E>>,
     totals: Totals,
     differing: Vec<Differing>,
-    // Standard output has failed.
+    // Nothing goes to standard output: it has failed, or nothing is wanted there.
     is_lost: bool,
     // How far the work is stands on the terminal.
     shows_progress: bool,
 }
 
 impl<W: Write + Drop, E: Write + Drop> Report<W, E> {
-    pub(crate) fn new(alloc: Global, output: W, errors: E) -> Result<Report<W, E>, Refusal> {
+    /// Where nothing is wanted, nothing goes to standard output.
+    pub(crate) fn new(
+        alloc: Global,
+        output: W,
+        errors: E,
+        is_quiet: bool,
+    ) -> Result<Report<W, E>, Refusal> {
         Ok(Report {
             output: Through(BufWriter::new(alloc, output)?),
             errors: Through(BufWriter::new(alloc, errors)?),
             totals: Totals::new(),
             differing: Vec::new(alloc),
-            is_lost: false,
+            is_lost: is_quiet,
             shows_progress: false,
         })
     }
@@ -66,7 +73,7 @@ impl<W: Write + Drop, E: Write + Drop> Report<W, E> {
         status_code(self.totals.status())
     }
 
-    /// Where the report of a script is written; None where standard output has failed.
+    /// Where the report of a script is written; None where nothing goes to standard output.
     pub(crate) fn sink(&mut self) -> Option<&mut Through<BufWriter<W>>> {
         if self.is_lost {
             return None;
@@ -77,10 +84,14 @@ impl<W: Write + Drop, E: Write + Drop> Report<W, E> {
 
     /// Hands on what was written, and takes note of what came of it.
     pub(crate) fn wrote(&mut self, written: Result<(), WriteFault>) {
-        let handed_on = written.is_ok() && self.output.0.flush().is_ok();
-        if !handed_on && !self.is_lost {
+        let handed_on = self.output.0.flush();
+        if (written.is_err() || handed_on.is_err()) && !self.is_lost {
             self.is_lost = true;
-            self.fail(b"raftbench", Trouble::alone(Failure::NotShown));
+            if is_reader_gone(&handed_on) {
+                self.totals.add(Outcome::Failed(Failure::NotShown));
+            } else {
+                self.fail(b"raftbench", Trouble::alone(Failure::NotShown));
+            }
         }
     }
 
@@ -111,16 +122,46 @@ impl<W: Write + Drop, E: Write + Drop> Report<W, E> {
         Ok(())
     }
 
-    /// A script that ran, and whose outputs were written into it.
-    pub(crate) fn accepted(&mut self, ran: Ran<'_>) {
+    /// A script that ran, and whose outputs were written into it, but those of the heads on these lines.
+    pub(crate) fn accepted(&mut self, alloc: Global, ran: Ran<'_>, left: &[usize]) {
+        let accepted = ran.mismatches.saturating_sub(left.len());
         self.totals.add(Outcome::Ran {
             directives: ran.directives,
-            mismatches: 0,
-            accepted: ran.mismatches,
+            mismatches: left.len(),
+            accepted,
             errors: ran.told.errors,
         });
+        let now = Ran {
+            mismatches: left.len(),
+            told: Told {
+                first: left.first().copied(),
+                errors: ran.told.errors,
+            },
+            ..ran
+        };
+        if self.keep(alloc, now).is_err() {
+            self.fail(ran.path.as_bytes(), Trouble::alone(Failure::OutOfMemory));
+        }
         if let Some(sink) = self.sink() {
-            let written = put_accepted(sink, ran.path.as_bytes(), ran.mismatches);
+            let written = put_accepted(sink, ran.path.as_bytes(), accepted);
+            self.wrote(written);
+        }
+    }
+
+    /// Lines of a script that look like a slip.
+    pub(crate) fn warn(&mut self, path: &str, warnings: &[Warning]) {
+        for warning in warnings {
+            if let Some(sink) = self.sink() {
+                let written = put_warning(sink, path.as_bytes(), warning.line, warning.doubt);
+                self.wrote(written);
+            }
+        }
+    }
+
+    /// A script into which nothing is written, since it has such lines.
+    pub(crate) fn refuse_to_accept(&mut self, path: &str) {
+        if let Some(sink) = self.sink() {
+            let written = put_unaccepted(sink, path.as_bytes());
             self.wrote(written);
         }
     }
@@ -186,6 +227,16 @@ impl<W: Write + Drop, E: Write + Drop> Report<W, E> {
         let _ = self.errors.0.flush();
     }
 
+    /// Where the output is that no script can expect.
+    pub(crate) fn tell_bad_output(&mut self, path: &str, line: usize) {
+        self.clear();
+        let _ = writeln!(
+            self.errors.0,
+            "{path}:{line}: this output has a line of more than 65,536 bytes, which no script can expect"
+        );
+        let _ = self.errors.0.flush();
+    }
+
     /// Shows how far the work is.
     pub(crate) fn show_progress(&mut self, done: usize, all: usize) {
         let _ = self.put_progress(done, all);
@@ -218,6 +269,14 @@ impl<W: Write + Drop, E: Write + Drop> Report<W, E> {
             self.wrote(written);
         }
         self.clear();
+    }
+}
+
+// Whether nobody reads any more: who has read enough need not be told.
+fn is_reader_gone(handed_on: &io::Result<()>) -> bool {
+    match handed_on {
+        Ok(()) => false,
+        Err(error) => error.kind() == io::ErrorKind::BrokenPipe,
     }
 }
 

@@ -5,7 +5,7 @@ use Rattle.clap.specs.Words.{IsAmong, Kinds, Row, Text, all_of, first_of, kind_o
 use Rattle.clap.specs.declared.error.Error.{Error}
 use Rattle.clap.specs.declared.error.kind.ErrorKind.TheVariants as kind
 use Rattle.rb_args.specs.declared.choice.Subcommand.{Subcommand}
-use Rattle.rb_args.specs.declared.choice.Subcommand.TheVariants.{Run, Rewrite, Session, Check}
+use Rattle.rb_args.specs.declared.choice.Subcommand.TheVariants.{Run, Rewrite, Session, Check, Look, Directives, Lsp}
 use Rattle.rb_args.specs.declared.choice.Choice.{Choice}
 use Rattle.rb_args.specs.declared.choice.CheckChoice.{CheckChoice}
 use Rattle.rb_args.specs.declared.choice.ChoiceFault.{ChoiceFault}
@@ -18,6 +18,9 @@ named_by name =
     else if bytes_eq name (codes "rewrite") then Some Rewrite
     else if bytes_eq name (codes "session") then Some Session
     else if bytes_eq name (codes "check") then Some Check
+    else if bytes_eq name (codes "look") then Some Look
+    else if bytes_eq name (codes "directives") then Some Directives
+    else if bytes_eq name (codes "lsp") then Some Lsp
     else None
 
 -- what is said by the text that clap gives a flag
@@ -25,20 +28,24 @@ abbrev pub is_set : Option Text → Bool
 is_set (Some text) = bytes_eq text (codes "true")
 is_set None = false
 
--- the PATHs, the filter, the choice of colours and the flags of `check`, by the matches of the subcommand, where one was met
+-- the PATHs, the filters, the choice of colours and the flags of `check`, by the matches of the subcommand, where one was met
 pub record IsCheckOf (rows : Option (List Row)) (check : CheckChoice) : Type 0 where
   pub paths : map string_bytes check.paths.items ≡ unwrap_or (option_and_then (all_of (codes "path")) rows) []
-  pub filter : option_map string_bytes check.filter ≡ option_and_then (first_of (codes "filter")) rows
+  pub filters : map string_bytes check.filters.items ≡ unwrap_or (option_and_then (all_of (codes "filter")) rows) []
   pub color : option_map string_bytes check.color ≡ option_and_then (first_of (codes "color")) rows
   pub accepts : check.accepts ≡ is_set (option_and_then (first_of (codes "accept")) rows)
+  pub errors : check.accepts_errors ≡ is_set (option_and_then (first_of (codes "accept-errors")) rows)
+  pub forced : check.is_forced ≡ is_set (option_and_then (first_of (codes "force")) rows)
   pub first : check.is_first ≡ is_set (option_and_then (first_of (codes "first")) rows)
   pub brief : check.is_brief ≡ is_set (option_and_then (first_of (codes "brief")) rows)
   pub verbose : check.is_verbose ≡ is_set (option_and_then (first_of (codes "verbose")) rows)
+  pub quiet : check.is_quiet ≡ is_set (option_and_then (first_of (codes "quiet")) rows)
 
--- the subcommand that was met, and the values of its FILE and its --every; and what is said to `check`
+-- the subcommand that was met, and the values of its FILE, its NAME and its --every; and what is said to `check`
 pub record IsChoiceOf (met : Option (Text × List Row)) (choice : Choice) : Type 0 where
   pub subcommand : choice.subcommand ≡ option_and_then (λ p. named_by p.0) met
   pub file : option_map string_bytes choice.file ≡ option_and_then (λ p. first_of (codes "file") p.1) met
+  pub name : option_map string_bytes choice.name ≡ option_and_then (λ p. first_of (codes "name") p.1) met
   pub every : option_map string_bytes choice.every ≡ option_and_then (λ p. first_of (codes "every") p.1) met
   pub check : IsCheckOf (option_map (λ p. p.1) met) choice.check
 

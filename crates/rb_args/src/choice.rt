@@ -13,6 +13,12 @@ pub enum Subcommand {
     Session,
     /// `check`: check scripts, and folders of them.
     Check,
+    /// `look`: show the cluster as it is after a directive.
+    Look,
+    /// `directives`: show what directives there are, or one of them.
+    Directives,
+    /// `lsp`: answer an editor.
+    Lsp,
 }
 
 /// What the words choose. What they don't give is `None`.
@@ -20,8 +26,10 @@ pub enum Subcommand {
 pub struct Choice {
     /// The subcommand.
     pub subcommand: Option<Subcommand>,
-    /// Its FILE, as it was given.
+    /// Its FILE, or of `look` its FILE:LINE, as it was given.
     pub file: Option<String>,
+    /// Its NAME, as it was given.
+    pub name: Option<String>,
     /// The text of its `--every`, as it was given.
     pub every: Option<String>,
     /// What is said to `check` alone.
@@ -33,18 +41,24 @@ pub struct Choice {
 pub struct CheckChoice {
     /// Its PATHs, as they were given and in that order.
     pub paths: Vec<String>,
-    /// The text of its `--filter`.
-    pub filter: Option<String>,
+    /// The texts of its `--filter`, in that order.
+    pub filters: Vec<String>,
     /// The text of its `--color`, as it was given.
     pub color: Option<String>,
     /// Whether `--accept` is given.
     pub accepts: bool,
+    /// Whether `--accept-errors` is given.
+    pub accepts_errors: bool,
+    /// Whether `--force` is given.
+    pub is_forced: bool,
     /// Whether `--verbose` is given.
     pub is_verbose: bool,
     /// Whether `--first` is given.
     pub is_first: bool,
     /// Whether `--brief` is given.
     pub is_brief: bool,
+    /// Whether `--quiet` is given.
+    pub is_quiet: bool,
 }
 
 /// Why the words choose nothing.

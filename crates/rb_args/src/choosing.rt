@@ -64,16 +64,20 @@ fn no_choice(alloc: Global) -> Choice
 {
     let check = CheckChoice {
         paths: Vec::new(alloc),
-        filter: None,
+        filters: Vec::new(alloc),
         color: None,
         accepts: false,
+        accepts_errors: false,
+        is_forced: false,
         is_verbose: false,
         is_first: false,
         is_brief: false,
+        is_quiet: false,
     };
     Choice {
         subcommand: None,
         file: None,
+        name: None,
         every: None,
         check,
     }
@@ -85,10 +89,12 @@ fn given(alloc: Global, name: &str, inner: &ArgMatches<'_>) -> Result<Choice, Al
 {
     let check = check_choice(alloc, inner)?;
     let file = text_of(alloc, inner, "file")?;
+    let about = text_of(alloc, inner, "name")?;
     let every = text_of(alloc, inner, "every")?;
     Ok(Choice {
         subcommand: named_by(name),
         file,
+        name: about,
         every,
         check,
     })
@@ -98,16 +104,19 @@ fn check_choice(alloc: Global, inner: &ArgMatches<'_>) -> Result<CheckChoice, Al
     ensures { IfOk result (IsCheckOf (Some (rows_of (found_of inner.now)))) }
 {
     let paths = texts_of(alloc, inner, "path")?;
-    let filter = text_of(alloc, inner, "filter")?;
+    let filters = texts_of(alloc, inner, "filter")?;
     let color = text_of(alloc, inner, "color")?;
     Ok(CheckChoice {
         paths,
-        filter,
+        filters,
         color,
         accepts: is_given(inner, "accept"),
+        accepts_errors: is_given(inner, "accept-errors"),
+        is_forced: is_given(inner, "force"),
         is_verbose: is_given(inner, "verbose"),
         is_first: is_given(inner, "first"),
         is_brief: is_given(inner, "brief"),
+        is_quiet: is_given(inner, "quiet"),
     })
 }
 
@@ -123,6 +132,12 @@ fn named_by(name: &str) -> Option<Subcommand>
         Some(Subcommand::Session)
     } else if name == "check" {
         Some(Subcommand::Check)
+    } else if name == "look" {
+        Some(Subcommand::Look)
+    } else if name == "directives" {
+        Some(Subcommand::Directives)
+    } else if name == "lsp" {
+        Some(Subcommand::Lsp)
     } else {
         None
     }

@@ -3,7 +3,7 @@
 ghost use Rattle.std.specs.Prelude.{◌≡◌, IfOk, codes, false};
 ghost use Rattle.clap.specs.Words.{app_of, new_app, rule_of, with_rule, with_subcommand};
 ghost use Rattle.clap.specs.declared.builder.command.Command.TheViews.{out-Command};
-ghost use Rattle.rb_args.specs.CommandLine.{command_line, subcommand_line, check_line, with_amounts, with_files, with_version, with_words, every_rule, flag_rule, option_rule, path_rule};
+ghost use Rattle.rb_args.specs.CommandLine.{command_line, subcommand_line, check_line, directives_line, plain_line, server_line, with_accepting, with_amounts, with_files, with_help, with_version, with_views, with_words, every_rule, flag_rule, letter_rule, many_rule, name_rule, option_rule, path_rule};
 
 use clap::{Arg, ArgAction, Command};
 use std::alloc::{AllocError, Global};
@@ -18,8 +18,8 @@ pub(crate) fn raftbench_command<'a>(alloc: Global) -> Result<Command<'a>, AllocE
     ensures { IfOk result (λ command. app_of command ≡ command_line) }
 {
     let check = check_command(alloc)?;
-    let command = bare_command(alloc).subcommand(check)?;
-    with_files(command, alloc)
+    let command = with_files(bare_command(alloc).subcommand(check)?, alloc)?;
+    with_help(with_views(command, alloc)?, alloc)
 }
 
 // raftbench, without a subcommand.
@@ -27,7 +27,9 @@ fn bare_command<'a>(alloc: Global) -> Command<'a>
     ensures { app_of result ≡ with_version (new_app (codes "raftbench")) }
 {
     Command::new(alloc, "raftbench")
-        .about("Runs scripts of etcd raft's interaction tests")
+        .about(
+            "Runs scripts of Raft directives on a cluster in memory, and shows where their outputs differ",
+        )
         .version(VERSION)
 }
 
@@ -40,22 +42,48 @@ fn with_files<'a>(command: Command<'a>, alloc: Global) -> Result<Command<'a>, Al
         alloc,
         "run",
         "Runs a script and reports where its output differs from what it expects",
-        "Script file; - is standard input",
+        "raftbench run [OPTIONS] <FILE>",
+        "FILE is a script's file; - is standard input",
     )?;
     let command = with_file(
         command,
         alloc,
         "rewrite",
         "Runs a script and writes it with the output that it gives",
-        "Script file; - is standard input",
+        "raftbench rewrite [OPTIONS] <FILE>",
+        "FILE is a script's file; - is standard input",
     )?;
     with_file(
         command,
         alloc,
         "session",
         "Keeps a script and answers the edits that standard input asks for",
-        "Script file",
+        "raftbench session [OPTIONS] <FILE>",
+        "FILE is a script's file",
     )
+}
+
+// The subcommand that shows what stands in a script.
+fn with_views<'a>(command: Command<'a>, alloc: Global) -> Result<Command<'a>, AllocError>
+    ensures { IfOk result (λ made. app_of made ≡ with_views (app_of command.entry)) }
+{
+    with_view(
+        command,
+        alloc,
+        "look",
+        "Shows each node, its log and the messages on their way after a directive",
+        "raftbench look <FILE:LINE>",
+        "FILE:LINE is a script's file and the line of a directive in it",
+    )
+}
+
+// The subcommands of no script.
+fn with_help<'a>(command: Command<'a>, alloc: Global) -> Result<Command<'a>, AllocError>
+    ensures { IfOk result (λ made. app_of made ≡ with_help (app_of command.entry)) }
+{
+    command
+        .subcommand(directives_command(alloc)?)?
+        .subcommand(server_command(alloc))
 }
 
 // One subcommand of a script.
@@ -64,40 +92,85 @@ fn with_file<'a>(
     alloc: Global,
     name: &'a str,
     about: &'a str,
+    usage: &'a str,
     file_help: &'a str,
 ) -> Result<Command<'a>, AllocError>
     ensures { IfOk result (λ made. app_of made ≡ with_subcommand (app_of command.entry) (subcommand_line name.entry.now).top) }
 {
-    command.subcommand(file_command(alloc, name, about, file_help)?)
+    command.subcommand(file_command(alloc, name, about, usage, file_help)?)
 }
 
 fn file_command<'a>(
     alloc: Global,
     name: &'a str,
     about: &'a str,
+    usage: &'a str,
     file_help: &'a str,
 ) -> Result<Command<'a>, AllocError>
     ensures app { IfOk result (λ command. app_of command ≡ subcommand_line name.entry.now) }
     ensures local { IfOk result (λ command. (out-Command command).has_globals ≡ false) }
 {
-    let file = Arg::new(alloc, "file").value_name("FILE").help(file_help);
+    view_command(alloc, name, about, usage, file_help)?.arg(every_argument(alloc))
+}
+
+// One subcommand of a script, without an option.
+fn with_view<'a>(
+    command: Command<'a>,
+    alloc: Global,
+    name: &'a str,
+    about: &'a str,
+    usage: &'a str,
+    file_help: &'a str,
+) -> Result<Command<'a>, AllocError>
+    ensures { IfOk result (λ made. app_of made ≡ with_subcommand (app_of command.entry) (plain_line name.entry.now).top) }
+{
+    command.subcommand(view_command(alloc, name, about, usage, file_help)?)
+}
+
+fn view_command<'a>(
+    alloc: Global,
+    name: &'a str,
+    about: &'a str,
+    usage: &'a str,
+    file_help: &'a str,
+) -> Result<Command<'a>, AllocError>
+    ensures app { IfOk result (λ command. app_of command ≡ plain_line name.entry.now) }
+    ensures local { IfOk result (λ command. (out-Command command).has_globals ≡ false) }
+{
+    // The program itself says that FILE is missing, so to clap it isn't required; help says that it is.
+    let file = Arg::new(alloc, "file").value_name("FILE").hide(true);
     Command::new(alloc, name)
         .about(about)
-        .arg(file)?
-        .arg(every_argument(alloc))
+        .override_usage(usage)
+        .after_help(file_help)
+        .arg(file)
 }
 
 fn check_command<'a>(alloc: Global) -> Result<Command<'a>, AllocError>
     ensures app { IfOk result (λ command. app_of command ≡ check_line) }
     ensures local { IfOk result (λ command. (out-Command command).has_globals ≡ false) }
 {
+    with_words(with_accepting(command_of_paths(alloc)?, alloc)?, alloc)
+}
+
+// The options of `check` that write into scripts.
+fn with_accepting<'a>(command: Command<'a>, alloc: Global) -> Result<Command<'a>, AllocError>
+    ensures app { IfOk result (λ made. app_of made ≡ with_accepting (app_of command.entry)) }
+    ensures local { (out-Command command.entry).has_globals ≡ false → IfOk result (λ made. (out-Command made).has_globals ≡ false) }
+{
     let command = with_flag(
-        command_of_paths(alloc)?,
+        command,
         alloc,
         "accept",
-        "Writes the outputs that came into the scripts",
+        "Writes the outputs that came into the scripts, but new errors",
     )?;
-    with_words(command, alloc)
+    let command = with_flag(command, alloc, "accept-errors", "Accepts new errors too")?;
+    with_flag(
+        command,
+        alloc,
+        "force",
+        "Accepts outputs of a script that has warnings too",
+    )
 }
 
 // The options of `check` that change how much is shown.
@@ -105,24 +178,30 @@ fn with_amounts<'a>(command: Command<'a>, alloc: Global) -> Result<Command<'a>, 
     ensures app { IfOk result (λ made. app_of made ≡ with_amounts (app_of command.entry)) }
     ensures local { (out-Command command.entry).has_globals ≡ false → IfOk result (λ made. (out-Command made).has_globals ≡ false) }
 {
-    let command = with_flag(
-        command,
+    let command = command.arg(letter_argument(
         alloc,
+        'v',
         "verbose",
         "Shows each directive with its output",
-    )?;
+    ))?;
     let command = with_flag(
         command,
         alloc,
         "first",
         "Shows the first mismatch of each script alone",
     )?;
-    with_flag(
+    let command = with_flag(
         command,
         alloc,
         "brief",
         "Shows one line for each script that differs",
-    )
+    )?;
+    command.arg(letter_argument(
+        alloc,
+        'q',
+        "quiet",
+        "Shows nothing: the status tells whether all match",
+    ))
 }
 
 fn command_of_paths<'a>(alloc: Global) -> Result<Command<'a>, AllocError>
@@ -139,13 +218,7 @@ fn with_words<'a>(command: Command<'a>, alloc: Global) -> Result<Command<'a>, Al
     ensures app { IfOk result (λ made. app_of made ≡ with_words (app_of command.entry)) }
     ensures local { (out-Command command.entry).has_globals ≡ false → IfOk result (λ made. (out-Command made).has_globals ≡ false) }
 {
-    let command = with_option(
-        command,
-        alloc,
-        "filter",
-        "WORD",
-        "Keeps the paths that have WORD in them",
-    )?;
+    let command = command.arg(filter_argument(alloc))?;
     let command = with_amounts(command, alloc)?;
     let command = with_option(command, alloc, "every", "K", EVERY_HELP)?;
     with_option(
@@ -194,6 +267,50 @@ fn path_argument<'a>(alloc: Global) -> Arg<'a>
         .help("Script, or folder whose *.txt and those of its folders are the scripts")
 }
 
+// directives [NAME]
+fn directives_command<'a>(alloc: Global) -> Result<Command<'a>, AllocError>
+    ensures app { IfOk result (λ command. app_of command ≡ directives_line) }
+    ensures local { IfOk result (λ command. (out-Command command).has_globals ≡ false) }
+{
+    Command::new(alloc, "directives")
+        .about("Shows the directives of scripts, or one of them with what it takes and an example")
+        .arg(name_argument(alloc))
+}
+
+// lsp
+fn server_command<'a>(alloc: Global) -> Command<'a>
+    ensures app { app_of result ≡ server_line }
+    ensures local { (out-Command result).has_globals ≡ false }
+{
+    Command::new(alloc, "lsp").about(
+        "Answers an editor on standard input and output, by the Language Server Protocol",
+    )
+}
+
+// NAME
+fn name_argument<'a>(alloc: Global) -> Arg<'a>
+    ensures rule { rule_of result ≡ name_rule }
+    ensures local { result.global ≡ false }
+{
+    Arg::new(alloc, "name")
+        .value_name("NAME")
+        .help("Directive to show")
+}
+
+// --filter WORD, any number of times
+fn filter_argument<'a>(alloc: Global) -> Arg<'a>
+    ensures rule { rule_of result ≡ many_rule (codes "filter") }
+    ensures local { result.global ≡ false }
+{
+    Arg::new(alloc, "filter")
+        .long("filter")
+        .value_name("WORD")
+        .action(ArgAction::Append)
+        .help(
+            "Keeps the paths that have WORD in them, or with !WORD those that don't; given several times, each holds",
+        )
+}
+
 // --every K
 fn every_argument<'a>(alloc: Global) -> Arg<'a>
     ensures rule { rule_of result ≡ every_rule }
@@ -211,6 +328,14 @@ fn option_argument<'a>(alloc: Global, name: &'a str, value_name: &'a str, help: 
         .long(name)
         .value_name(value_name)
         .help(help)
+}
+
+// --NAME, or -N
+fn letter_argument<'a>(alloc: Global, letter: char, name: &'a str, help: &'a str) -> Arg<'a>
+    ensures rule { rule_of result ≡ letter_rule letter name.entry.now }
+    ensures local { result.global ≡ false }
+{
+    flag_argument(alloc, name, help).short(letter)
 }
 
 // --NAME

@@ -1,5 +1,6 @@
-//! The words of the command line: `raftbench run|rewrite|session FILE [--every K]`, and
-//! `raftbench check PATH.. [--accept] [--filter WORD] [--verbose] [--first] [--brief] [--every K] [--color WHEN]`.
+//! The words of the command line: `raftbench run|rewrite|session FILE [--every K]`, `raftbench look FILE:LINE`,
+//! `raftbench directives [NAME]`, `raftbench lsp`, and
+//! `raftbench check PATH.. [--accept] [--accept-errors] [--force] [--filter WORD].. [-v] [--first] [--brief] [-q] [--every K] [--color WHEN]`.
 //!
 //! [`chosen`] reads the words with `clap` and tells what they choose. What a file, a number of directives or a
 //! choice of colours must be is for the caller to look at: here they are texts, as they were given.

@@ -5,7 +5,9 @@ pub mod Tables
 pub mod Diffs
 pub mod Folds
 pub mod Heads
+pub mod Hints
 pub mod Headings
+pub mod Notices
 pub mod Briefs
 pub mod Refusals
 pub mod Failures

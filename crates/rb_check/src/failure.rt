@@ -14,7 +14,13 @@ pub enum Failure {
     NotFound,
     /// The system lets nobody of this name read it.
     NoPermission,
-    /// It is a device, a pipe, a socket or the like.
+    /// It is a pipe.
+    Pipe,
+    /// It is a device.
+    Device,
+    /// It is a socket.
+    Socket,
+    /// It is something else that is neither a file nor a folder.
     NoFile,
     /// Its links lead back to themselves.
     LinkLoop,
@@ -36,6 +42,9 @@ fn sentence(failure: Failure) -> &'static [u8]
     match failure {
         Failure::NotFound => b"no such file or folder",
         Failure::NoPermission => b"there is no permission to read it",
+        Failure::Pipe => b"it is a pipe, neither a file nor a folder",
+        Failure::Device => b"it is a device, neither a file nor a folder",
+        Failure::Socket => b"it is a socket, neither a file nor a folder",
         Failure::NoFile => b"it is neither a file nor a folder",
         Failure::LinkLoop => b"its links lead round in a loop",
         Failure::NotRead => b"it could not be read",

@@ -10,10 +10,13 @@ mod accepted;
 mod brief;
 mod colors;
 mod diff;
+mod doubt;
 mod failure;
 mod fold;
 mod head;
+mod hint;
 mod laws;
+mod left;
 mod line;
 mod longest;
 mod mismatch;
@@ -30,16 +33,19 @@ mod totals;
 pub use accepted::put_accepted;
 pub use brief::put_brief;
 pub use colors::Colors;
+pub use diff::put_diff;
+pub use doubt::{Doubt, put_unaccepted, put_warning};
 pub use failure::{Failure, put_failure};
 pub use laws::{
     colors_go_around, counts_are_sums, diffs_are, diffs_are_longest, diffs_tell_both_sides,
     lines_are_told_apart, same_lines_are_plain, sentences_are_distinct,
     shown_diffs_tell_both_sides, statuses_are_greatest,
 };
+pub use left::put_left;
 pub use mismatch::{put_directive, put_mismatch, put_note};
 pub use outcome::Outcome;
 pub use place::Place;
-pub use refusal::put_refusal;
+pub use refusal::{fault_line, put_refusal, sentence};
 pub use side::Side;
 pub use status::{Status, status_code};
 pub use table::{MAX_CELLS, Table};

@@ -8,6 +8,7 @@ ghost use Rattle.rb_check.specs.Headings.{mismatch_text, directive_text, note_te
 
 use crate::colors::Colors;
 use crate::diff::put_diff;
+use crate::hint::put_hint;
 use crate::line::put_lines;
 use crate::piece::{Piece, put_pieces};
 use crate::place::{Place, put_heading};
@@ -16,54 +17,61 @@ use crate::table::Table;
 use rb_script::{DirectiveRef, Lines, Sink, WriteFault};
 
 /// Writes a mismatch: `PATH:LINE: HEAD`, with the line on which the directive's head begins and the head on one line, and then what
-/// differs: `- ` before a line that is expected, `+ ` before one that came out, and two blanks before one that is the same; last an empty
-/// line. On a failure what went out is a beginning of the text.
+/// differs: `- ` before a line that is expected, `+ ` before one that came out, and two blanks before one that is the same; the word that
+/// was probably meant, where that isn't empty; last an empty line. On a failure what went out is a beginning of the text.
 pub fn put_mismatch<S: Sink>(
     sink: &mut S,
     place: Place<'_>,
     directive: &DirectiveRef<'_>,
     expected: &Lines,
     output: &Lines,
+    hint: &[u8],
     colors: Colors,
     table: &mut Table,
 ) -> Result<(), WriteFault>
-    ensures wrote { Writes result (S.held sink.old) (S.held sink.new) (mismatch_text colors place.entry.path.now place.entry.line (head_text (plain directive.now)) expected.now output.now) }
+    ensures wrote { Writes result (S.held sink.old) (S.held sink.new) (mismatch_text colors place.entry.path.now place.entry.line (head_text (plain directive.now)) expected.now output.now hint.now) }
     ensures all { S.takes_all sink.old → IsOk result × S.takes_all sink.new }
 {
     put_heading(sink, place, directive)?;
     sink.put(b"\n")?;
     put_diff(sink, table, expected, output, colors)?;
+    put_hint(sink, hint)?;
     sink.put(b"\n")
 }
 
-/// Writes a directive with its output, each line after two blanks. On a failure what went out is a beginning of the text.
+/// Writes a directive with its output, each line after two blanks, and the word that was probably meant, where that isn't empty. On a failure what went out is a beginning of the text.
 pub fn put_directive<S: Sink>(
     sink: &mut S,
     place: Place<'_>,
     directive: &DirectiveRef<'_>,
     output: &Lines,
+    hint: &[u8],
 ) -> Result<(), WriteFault>
-    ensures wrote { Writes result (S.held sink.old) (S.held sink.new) (directive_text place.entry.path.now place.entry.line (head_text (plain directive.now)) output.now) }
+    ensures wrote { Writes result (S.held sink.old) (S.held sink.new) (directive_text place.entry.path.now place.entry.line (head_text (plain directive.now)) output.now hint.now) }
     ensures all { S.takes_all sink.old → IsOk result × S.takes_all sink.new }
 {
     put_heading(sink, place, directive)?;
     sink.put(b"\n")?;
-    put_lines(sink, Colors::Off, Side::Both, output, 0, output.len())
+    put_lines(sink, Colors::Off, Side::Both, output, 0, output.len())?;
+    put_hint(sink, hint)
 }
 
-/// Writes what is to be said of a directive: `PATH:LINE: HEAD: ` and the note. On a failure what went out is a beginning of the text.
+/// Writes what is to be said of a directive: `PATH:LINE: HEAD: ` and the note, and the word that was probably meant, where
+/// that isn't empty. On a failure what went out is a beginning of the text.
 pub fn put_note<S: Sink>(
     sink: &mut S,
     place: Place<'_>,
     directive: &DirectiveRef<'_>,
     note: &[u8],
+    hint: &[u8],
 ) -> Result<(), WriteFault>
-    ensures wrote { Writes result (S.held sink.old) (S.held sink.new) (note_text place.entry.path.now place.entry.line (head_text (plain directive.now)) note.now) }
+    ensures wrote { Writes result (S.held sink.old) (S.held sink.new) (note_text place.entry.path.now place.entry.line (head_text (plain directive.now)) note.now hint.now) }
     ensures all { S.takes_all sink.old → IsOk result × S.takes_all sink.new }
 {
     put_heading(sink, place, directive)?;
     put_pieces(
         sink,
         &[Piece::Bytes(b": "), Piece::Bytes(note), Piece::Bytes(b"\n")],
-    )
+    )?;
+    put_hint(sink, hint)
 }

@@ -7,8 +7,8 @@ ghost use Rattle.rb_check.specs.Refusals.{sentence, fault_line, refusal_text};
 use crate::piece::{Piece, put_pieces};
 use rb_script::{ScriptFault, Sink, WriteFault};
 
-// What is wrong, and what usually causes it.
-fn sentence(fault: ScriptFault) -> &'static [u8]
+/// What is wrong, and what usually causes it.
+pub fn sentence(fault: ScriptFault) -> &'static [u8]
     ensures { result.now ≡ sentence fault }
 {
     match fault {
@@ -32,8 +32,8 @@ fn sentence(fault: ScriptFault) -> &'static [u8]
     }
 }
 
-// The line that it is at, which counts from 1.
-fn fault_line(fault: ScriptFault) -> Option<usize>
+/// The line that it is at, which counts from 1.
+pub fn fault_line(fault: ScriptFault) -> Option<usize>
     ensures { result ≡ fault_line fault }
 {
     match fault {

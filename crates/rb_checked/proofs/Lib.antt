@@ -1,2 +1,4 @@
 pub mod ShownLaws
 pub mod MismatchLaws
+pub mod AcceptLaws
+pub mod DoubtLaws

@@ -1,5 +1,5 @@
 -- What `check` shows of a script that ran: its directives in order, each with the line of its head. (This project's.)
-use Rattle.std.specs.Prelude.{◌≡◌, ℕ, ◌-◌, Bool, true, false, ◌&&◌, if◌then◌else◌, List, [], ◌∷◌, ◌++◌, Option, Some, None, length, slice_index, slice_index_or}
+use Rattle.std.specs.Prelude.{◌≡◌, ℕ, ◌-◌, Bool, true, false, ◌&&◌, if◌then◌else◌, List, [], ◌∷◌, ◌++◌, Option, Some, None, length, slice_index, slice_index_or, unwrap_or}
 use Rattle.rb_script.specs.Lines.{Line}
 use Rattle.rb_script.specs.Script.{PlainBlock, PlainScript}
 use Rattle.rb_script.specs.Reading.{directive_of}
@@ -10,23 +10,28 @@ use Rattle.rb_check.specs.declared.colors.Colors.{Colors}
 use Rattle.rb_check.specs.Heads.{head_text}
 use Rattle.rb_check.specs.Headings.{mismatch_text, directive_text, note_text}
 use Rattle.rb_check.specs.Briefs.{brief_text}
+use Rattle.rb_hint.specs.Suggestions.{suggested}
 use Rattle.rb_checked.specs.declared.view.Shown.{Shown}
 use Rattle.rb_checked.specs.declared.view.Shown.TheVariants as shown
-use Rattle.rb_checked.specs.Errors.{first_line, is_unexpected}
+use Rattle.rb_checked.specs.Errors.{first_line, is_error, is_unexpected}
 
 -- the head of a block's directive, on one line
 abbrev pub head_of : PlainBlock → List ℕ
 head_of b = head_text (directive_of b)
 
+-- the word that was probably meant, where the output is an error and there is a near one
+abbrev pub hint_of : PlainBlock → List Line → List ℕ
+hint_of b output = if is_error output then unwrap_or (suggested (directive_of b)) [] else []
+
 -- a block that expects other lines than the output
 abbrev pub mismatch_shown : Colors → List ℕ → ℕ → PlainBlock → List Line → List ℕ
-mismatch_shown colors path line b output = mismatch_text colors path line (head_of b) b.expected output
+mismatch_shown colors path line b output = mismatch_text colors path line (head_of b) b.expected output (hint_of b output)
 
 -- a block that expects its output: an error that isn't said to be expected is named, and where all are shown the output is shown
 abbrev pub match_shown : Bool → List Line → List ℕ → ℕ → PlainBlock → List Line → List ℕ
 match_shown all ls path line b output =
-    if all then directive_text path line (head_of b) output
-    else (if is_unexpected ls line output then note_text path line (head_of b) (first_line output) else [])
+    if all then directive_text path line (head_of b) output (hint_of b output)
+    else (if is_unexpected ls line output then note_text path line (head_of b) (first_line output) (hint_of b output) else [])
 
 -- one directive, whose head begins on the line, of the lines of a script
 abbrev pub directive_shown : Bool → Colors → List Line → List ℕ → ℕ → PlainBlock → List Line → List ℕ

@@ -1,3 +1,5 @@
 pub mod Errors
 pub mod Checked
 pub mod Shows
+pub mod Accepting
+pub mod Doubts

@@ -9,7 +9,7 @@ use rb_replay::Session;
 use rb_script::{Block, Lines};
 
 /// The block of the directive at an index, which counts from 0.
-pub(crate) fn block_at<M: Machine>(session: &Session<M>, index: usize) -> &Block
+pub fn block_at<M: Machine>(session: &Session<M>, index: usize) -> &Block
     requires few { length session.now.script.blocks ≤ MAX_DIRECTIVES }
     requires within { index < length session.now.script.blocks }
     ensures { slice_get session.now.script.blocks index ≡ Some result.now }
@@ -23,7 +23,7 @@ fn outputs_are_whole<M: Machine>(_session: &Session<M>)
 {}
 
 /// The output of the directive at an index, which counts from 0.
-pub(crate) fn output_at<M: Machine>(session: &Session<M>, index: usize) -> &Lines
+pub fn output_at<M: Machine>(session: &Session<M>, index: usize) -> &Lines
     requires few { length session.now.script.blocks ≤ MAX_DIRECTIVES }
     requires within { index < length session.now.script.blocks }
     ensures { slice_get (outputs session.now.script) index ≡ Some result.now }
@@ -33,7 +33,7 @@ pub(crate) fn output_at<M: Machine>(session: &Session<M>, index: usize) -> &Line
 }
 
 /// The number at an index, which counts from 0.
-pub(crate) fn number_at(numbers: &[usize], index: usize) -> usize
+pub fn number_at(numbers: &[usize], index: usize) -> usize
     requires { index < length numbers.now }
     ensures { slice_get numbers.now index ≡ Some result }
 {

@@ -25,7 +25,7 @@ fn begins_error(line: &[u8]) -> bool
 }
 
 /// The first line of an output, which always has one; without lines an empty one.
-pub(crate) fn first_line(output: &Lines) -> &[u8]
+pub fn first_line(output: &Lines) -> &[u8]
     ensures { result.now ≡ first_line output.now }
 {
     if output.is_empty() {
@@ -41,9 +41,9 @@ pub(crate) fn is_error(output: &Lines) -> bool
     begins_error(first_line(output))
 }
 
-// Whether the line is empty or a comment.
+/// Whether the line is empty or a comment.
 #[tactic(auto, unfolding(rb_script::specs::Marks::is_lead))]
-fn is_lead(line: &[u8]) -> bool
+pub(crate) fn is_lead(line: &[u8]) -> bool
     ensures { result ≡ is_lead line.now }
 {
     match without_front(line) {
@@ -77,7 +77,7 @@ fn says_error(text: &Lines, line: usize) -> bool
 }
 
 /// Whether the output is an error that the script, whose lines these are, doesn't say is expected of the head on this line.
-pub(crate) fn is_unexpected(text: &Lines, line: usize, output: &Lines) -> bool
+pub fn is_unexpected(text: &Lines, line: usize, output: &Lines) -> bool
     ensures { result ≡ is_unexpected text.now line output.now }
 {
     is_error(output) && !says_error(text, line)

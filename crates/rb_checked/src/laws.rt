@@ -1,17 +1,23 @@
 //! Laws of what is shown of a script.
 
-ghost use Rattle.std.specs.Prelude.{◌≡◌, ℕ, List, [], length, slice_index, slice_get, Some, None};
-ghost use Rattle.std.specs.List.{flat_map};
+ghost use Rattle.std.specs.Prelude.{◌≡◌, ℕ, Bool, true, false, if◌then◌else◌, List, [], map, length, slice_index, slice_get, Some, None};
+ghost use Rattle.std.specs.List.{flat_map, list_all};
 ghost use Rattle.rb_script.specs.Lines.{Line, lines};
-ghost use Rattle.rb_script.specs.Script.{PlainBlock, PlainScript};
+ghost use Rattle.rb_script.specs.Script.{PlainBlock, PlainScript, expecting, with_outputs};
 ghost use Rattle.rb_script.specs.HeadLines.{AreHeadLines, StandsOn};
 ghost use Rattle.rb_replay.specs.Run.{outputs};
-ghost use Rattle.rb_replay.specs.Report.{mismatches};
+ghost use Rattle.rb_replay.specs.Report.{same_lines, mismatches};
 ghost use Rattle.rb_check.specs.declared.colors.Colors.{Colors};
 ghost use Rattle.rb_checked.specs.declared.view.Shown.TheVariants.{Differing};
 ghost use Rattle.rb_checked.specs.declared.view.Shown.{Shown};
 ghost use Rattle.rb_checked.specs.Checked.{checked_text, mismatch_at, NoneIsNamed};
 ghost use Rattle.rb_checked.specs.Shows.{IsQuiet, told_of};
+ghost use Rattle.rb_checked.specs.Errors.{is_unexpected};
+ghost use Rattle.rb_checked.specs.Accepting.{is_left, accepted};
+ghost use Rattle.rb_checked.specs.Doubts.{all_warnings, is_called_rightly};
+ghost use Rattle.rb_checked.specs.declared.names.TheConstants.{NAMES};
+ghost use Rattle.rb_directive.specs.declared.table.Row.{Row};
+ghost use Rattle.rb_directive.specs.Table.{directives};
 
 /// Each mismatch is shown once, in order, with the line of its directive; and nothing else is but errors that aren't said to be expected.
 pub fn mismatches_are_shown()
@@ -27,4 +33,29 @@ pub fn matching_scripts_show_nothing()
 /// The line that is shown with a directive is the one on which its head begins.
 pub fn shown_lines_are_of_heads()
     ensures { (bytes : List ℕ) (s : PlainScript) (heads : List ℕ) → AreHeadLines 1 (lines bytes) s.blocks heads → (k : ℕ) (b : PlainBlock) → slice_get s.blocks k ≡ Some b → StandsOn (lines bytes) b.head (slice_index heads k) }
+{}
+
+/// A script with what is accepted expects at each place what came there, where that was accepted, and is as it was at all others.
+pub fn accepted_scripts_are()
+    ensures { (errors : Bool) (ls : List Line) (heads : List ℕ) (s : PlainScript) (k line : ℕ) (b : PlainBlock) (output : List Line) → slice_get heads k ≡ Some line → slice_get s.blocks k ≡ Some b → slice_get (outputs s) k ≡ Some output → slice_get (accepted errors ls heads s).blocks k ≡ Some (if is_left errors ls line b output then b else expecting b output) }
+{}
+
+/// Without being asked for, no new error is accepted: its directive expects what it did.
+pub fn new_errors_are_left()
+    ensures { (ls : List Line) (heads : List ℕ) (s : PlainScript) (k line : ℕ) (b : PlainBlock) (output : List Line) → slice_get heads k ≡ Some line → slice_get s.blocks k ≡ Some b → slice_get (outputs s) k ≡ Some output → is_unexpected ls line output ≡ true → same_lines b.expected output ≡ false → slice_get (accepted false ls heads s).blocks k ≡ Some b }
+{}
+
+/// Where they are asked for, each directive expects its output.
+pub fn errors_are_accepted_on_request()
+    ensures { (ls : List Line) (heads : List ℕ) (s : PlainScript) → length heads ≡ length s.blocks → accepted true ls heads s ≡ with_outputs s (outputs s) }
+{}
+
+/// A line that is called a directive looks like one.
+pub fn called_lines_look_like_directives()
+    ensures { (ls : List Line) (heads : List ℕ) (bs : List PlainBlock) (os : List (List Line)) → list_all (is_called_rightly ls) (all_warnings ls heads bs os) ≡ true }
+{}
+
+/// A line that looks like a directive begins with a name of the table.
+pub fn names_are_those_of_the_table()
+    ensures { map (λ (row : Row). row.name) directives ≡ NAMES }
 {}

@@ -1,21 +1,39 @@
 //! What `raftbench check` shows of a script that ran: each directive that differs, in order, with the line on which its head begins, and
-//! each that answers an error which nobody said is expected.
+//! each that answers an error which nobody said is expected; and what accepting its outputs makes of it.
 //!
 //! [`put_checked`] writes it into any sink, of a session on any [`Machine`](rb_machine::Machine). What it writes is one definition,
-//! `Checked.checked_text`; the laws say that it is the mismatches.
+//! `Checked.checked_text`; the laws say that it is the mismatches. [`accept`] gives the text with what is accepted, and [`warnings`] the lines
+//! that look like a slip.
 #![tactic(auto)]
 
+mod accepting;
 mod answers;
 mod errors;
 mod fault;
+mod hint;
 mod laws;
+mod layout;
+mod names;
+mod part;
 mod put;
+mod splice;
 mod text;
 mod told;
 mod view;
+mod warning;
+mod written;
 
+pub use answers::{block_at, number_at, output_at};
+pub use errors::{first_line, is_unexpected};
 pub use fault::ShowFault;
-pub use laws::{matching_scripts_show_nothing, mismatches_are_shown, shown_lines_are_of_heads};
-pub use put::{is_quiet, put_checked};
+pub use laws::{
+    accepted_scripts_are, called_lines_look_like_directives, errors_are_accepted_on_request,
+    matching_scripts_show_nothing, mismatches_are_shown, names_are_those_of_the_table,
+    new_errors_are_left, shown_lines_are_of_heads,
+};
+pub use put::{is_quiet, put_checked, put_left_errors};
+pub use text::lines_of;
 pub use told::Told;
 pub use view::{Shown, View};
+pub use warning::{Warning, warnings};
+pub use written::{AcceptFault, Accepted, accept};

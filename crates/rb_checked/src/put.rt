@@ -9,29 +9,26 @@ ghost use Rattle.rb_script.specs.HeadLines.{AreHeadLines};
 ghost use Rattle.rb_script.specs.Writes.{Writes};
 ghost use Rattle.rb_replay.specs.Run.{outputs};
 ghost use Rattle.rb_replay.specs.Report.{same_lines, mismatches};
-ghost use Rattle.rb_checked.specs.Checked.{match_shown, directive_shown, all_shown, of_first, mismatch_at, brief_at, checked_text, IsFirst};
+ghost use Rattle.rb_checked.specs.Checked.{match_shown, mismatch_shown, directive_shown, all_shown, of_first, mismatch_at, brief_at, checked_text, IsFirst};
+ghost use Rattle.rb_checked.specs.Accepting.{all_left};
 ghost use Rattle.rb_checked.specs.Shows.{Shows, told_of, IsQuiet};
 
+use crate::accepting::put_all_left;
 use crate::answers::{block_at, number_at, output_at};
 use crate::errors::{count_errors, first_line, has_errors, is_unexpected};
 use crate::fault::ShowFault;
-use crate::text::lines_of;
+use crate::hint::hint_of;
+use crate::layout::{Layout, layout_of};
 use crate::told::Told;
 use crate::view::{Shown, View};
-use rb_check::{Place, Table, put_brief, put_directive, put_mismatch, put_note};
+use rb_check::{Colors, Place, Table, put_brief, put_directive, put_mismatch, put_note};
 use rb_machine::Machine;
 use rb_replay::Session;
-use rb_script::{Block, Lines, Sink, WriteFault, head_lines};
-use std::alloc::{AllocError, Global};
+use rb_script::{Block, Lines, Sink, WriteFault};
+use std::alloc::Global;
 
-// A script's lines, and those on which its heads begin.
-#[derive(Drop)]
-struct Layout {
-    text: Lines,
-    heads: Vec<usize>,
-}
-
-fn is_same(lines: &Lines, other: &Lines) -> bool
+/// Whether these are the same lines.
+pub(crate) fn is_same(lines: &Lines, other: &Lines) -> bool
     ensures { result ≡ same_lines lines.now other.now }
 {
     lines.same(other)
@@ -50,12 +47,40 @@ fn put_match<S: Sink>(
     ensures all { S.takes_all sink.old → IsOk result × S.takes_all sink.new }
 {
     if all {
-        return put_directive(sink, place, &block.directive(), output);
+        let hint = hint_of(block, output);
+        return put_directive(sink, place, &block.directive(), output, hint);
     }
     if !is_unexpected(text, place.line, output) {
         return Ok(());
     }
-    put_note(sink, place, &block.directive(), first_line(output))
+    let hint = hint_of(block, output);
+    put_note(sink, place, &block.directive(), first_line(output), hint)
+}
+
+// Writes a directive that expects other lines.
+fn put_differing<S: Sink>(
+    sink: &mut S,
+    block: &Block,
+    output: &Lines,
+    place: Place<'_>,
+    colors: Colors,
+    table: &mut Table,
+) -> Result<(), WriteFault>
+    ensures wrote { Writes result (S.held sink.old) (S.held sink.new) (mismatch_shown colors place.entry.path.now place.entry.line block.now output.now) }
+    ensures all { S.takes_all sink.old → IsOk result × S.takes_all sink.new }
+{
+    let hint = hint_of(block, output);
+    let expected = block.expected();
+    put_mismatch(
+        sink,
+        place,
+        &block.directive(),
+        expected,
+        output,
+        hint,
+        colors,
+        table,
+    )
 }
 
 // Writes one directive.
@@ -74,19 +99,10 @@ fn put_shown<S: Sink>(
 {
     let path = view.path;
     let place = Place { path, line };
-    let expected = block.expected();
-    if is_same(expected, output) {
+    if is_same(block.expected(), output) {
         return put_match(sink, block, output, text, place, all);
     }
-    put_mismatch(
-        sink,
-        place,
-        &block.directive(),
-        expected,
-        output,
-        view.colors,
-        table,
-    )
+    put_differing(sink, block, output, place, view.colors, table)
 }
 
 // Writes what is shown of each directive, where a script's heads begin on these lines.
@@ -137,12 +153,12 @@ fn put_mismatch_at<M: Machine, S: Sink>(
     let block = block_at(session, index);
     let path = view.path;
     let line = number_at(heads, index);
-    put_mismatch(
+    let output = output_at(session, index);
+    put_differing(
         sink,
+        block,
+        output,
         Place { path, line },
-        &block.directive(),
-        block.expected(),
-        output_at(session, index),
         view.colors,
         table,
     )
@@ -240,21 +256,6 @@ fn told<M: Machine>(session: &Session<M>, layout: &Layout) -> Told
     Told { first, errors }
 }
 
-// The lines of the bytes, which are a script, and those of its heads.
-fn layout_of(alloc: Global, bytes: &[u8]) -> Result<Layout, AllocError>
-    ensures text { IfOk result (λ l. l.text ≡ lines bytes.now) }
-    ensures heads { (s : PlainScript) → Reads bytes.now s → IfOk result (λ l. AreHeadLines 1 (lines bytes.now) s.blocks l.heads.items) }
-{
-    match head_lines(alloc, bytes) {
-        Ok(heads) => Ok(Layout {
-            text: lines_of(alloc, bytes)?,
-            heads,
-        }),
-        // Where they are a script it can be nothing else.
-        Err(_) => Err(AllocError),
-    }
-}
-
 /// Whether there is nothing to show, and nothing to find.
 pub fn is_quiet<M: Machine>(session: &Session<M>, shown: Shown) -> bool
     ensures { IsTrue result → IsQuiet shown session.now.script }
@@ -285,6 +286,43 @@ pub fn put_checked<M: Machine, S: Sink>(
     };
     match put_wanted(sink, session, &layout, view, &mut table) {
         Ok(()) => Ok(told(session, &layout)),
+        Err(_) => Err(ShowFault::Writing),
+    }
+}
+
+fn put_left_of<M: Machine, S: Sink>(
+    sink: &mut S,
+    session: &Session<M>,
+    layout: &Layout,
+    path: &[u8],
+    errors: bool,
+) -> Result<(), WriteFault>
+    requires { length layout.now.heads.items ≡ length session.now.script.blocks }
+    ensures wrote { Writes result (S.held sink.old) (S.held sink.new) (all_left errors layout.now.text path.now layout.now.heads.items session.now.script.blocks (outputs session.now.script)) }
+    ensures all { S.takes_all sink.old → IsOk result × S.takes_all sink.new }
+{
+    let heads = layout.heads.as_slice();
+    put_all_left(sink, session, heads, &layout.text, path, errors)
+}
+
+/// Writes which outputs of the script of the bytes are not accepted. On a failure of the writer what went out is a beginning of the text.
+pub fn put_left_errors<M: Machine, S: Sink>(
+    alloc: Global,
+    sink: &mut S,
+    session: &Session<M>,
+    bytes: &[u8],
+    path: &[u8],
+    errors: bool,
+) -> Result<(), ShowFault>
+    requires { Reads bytes.now session.now.script }
+    ensures wrote { (heads : List ℕ) → AreHeadLines 1 (lines bytes.now) session.now.script.blocks heads → Shows result (S.held sink.old) (S.held sink.new) (all_left errors (lines bytes.now) path.now heads session.now.script.blocks (outputs session.now.script)) }
+    ensures all { S.takes_all sink.old → (result ≢ Err ShowFault.Writing) × S.takes_all sink.new }
+{
+    let Ok(layout) = layout_of(alloc, bytes) else {
+        return Err(ShowFault::OutOfMemory);
+    };
+    match put_left_of(sink, session, &layout, path, errors) {
+        Ok(()) => Ok(()),
         Err(_) => Err(ShowFault::Writing),
     }
 }

@@ -1,11 +1,19 @@
 //! The lines of a script's bytes.
 
 ghost use Rattle.std.specs.Prelude.{◌≡◌, ◌≢◌, ◌<◌, ◌∷◌, ◌++◌, [], ℕ, length, slice_index, IfOk, IfSome, IfNone, MatchOption};
+ghost use Rattle.std.specs.Str.{bytes_eq};
 ghost use Rattle.rb_script.specs.Lines.{lines};
 
 use memchr::memchr;
 use rb_script::{Lines, without_returns};
 use std::alloc::{AllocError, Global};
+
+/// Whether these are the same bytes.
+pub(crate) fn is_same_text(text: &[u8], other: &[u8]) -> bool
+    ensures { result ≡ bytes_eq text.now other.now }
+{
+    text == other
+}
 
 // Where the first line feed stands.
 fn line_feed(bytes: &[u8]) -> Option<usize>
@@ -16,8 +24,8 @@ fn line_feed(bytes: &[u8]) -> Option<usize>
     memchr(b'\n', bytes)
 }
 
-// The first line of the bytes, and what follows it.
-fn next_line(bytes: &[u8]) -> Option<(&[u8], &[u8])>
+/// The first line of the bytes, and what follows it.
+pub(crate) fn next_line(bytes: &[u8]) -> Option<(&[u8], &[u8])>
     ensures cut { MatchOption result (bytes.now ≡ []) (λ found. lines bytes.now ≡ found.0.now ∷ lines found.1.now) }
     ensures shorter { IfSome result (λ found. length found.1.now < length bytes.now) }
 {
@@ -31,7 +39,7 @@ fn next_line(bytes: &[u8]) -> Option<(&[u8], &[u8])>
 }
 
 /// The lines of the bytes, without their ends.
-pub(crate) fn lines_of(alloc: Global, bytes: &[u8]) -> Result<Lines, AllocError>
+pub fn lines_of(alloc: Global, bytes: &[u8]) -> Result<Lines, AllocError>
     ensures { IfOk result (λ all. all ≡ lines bytes.now) }
 {
     let mut all = Lines::new(alloc);

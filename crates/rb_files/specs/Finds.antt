@@ -1,16 +1,25 @@
 -- What finding scripts gives. (This project's.)
-use Rattle.std.specs.Prelude.{ℕ, List, Option, Some, None, ⊤, map, string_bytes}
+use Rattle.std.specs.Prelude.{◌≡◌, ℕ, List, ◌∷◌, String, map, string_bytes}
 use Rattle.std.specs.List.{All}
 use Rattle.std.specs.Str.Iter.{HasSubslice}
+use Rattle.std.specs.declared.alloc.Global.{Global}
 use Rattle.rb_files.specs.Troubles.{IsOfReading}
 use Rattle.rb_files.specs.declared.finding.Found.{Found}
 use Rattle.rb_files.specs.declared.finding.Lost.{Lost}
+use Rattle.rb_files.specs.declared.finding.Waiting.{Waiting}
 use Rattle.rb_files.specs.declared.trouble.Trouble.{Trouble}
 
--- where a word is given, the path has it in it
-abbrev pub IsKept : Option (List ℕ) → List ℕ → Type 0
-IsKept (Some word) path = HasSubslice path word
-IsKept None path = ⊤
+abbrev pub exclamation_mark : ℕ
+exclamation_mark = 33
+
+-- the path has not what stands behind the word's `!`, or without that it has the word
+pub record IsMet (word path : List ℕ) : Type 0 where
+  pub left_out : (rest : List ℕ) → word ≡ exclamation_mark ∷ rest → HasSubslice path rest → ⊥
+  pub wanted : ((rest : List ℕ) → word ≡ exclamation_mark ∷ rest → ⊥) → HasSubslice path word
+
+-- each of the words holds of the path
+abbrev pub IsKept : List (String Global) → List ℕ → Type 0
+IsKept words path = All (λ word. IsMet (string_bytes word) path) words
 
 -- why each of them is lost is what the system said, where it said something
 unfoldable pub AreTold : List Lost → Type 0
@@ -20,7 +29,11 @@ AreTold lost = All (λ l. IsOfReading l.trouble) lost
 abbrev pub losses : List Lost → List (List ℕ × Trouble)
 losses lost = map (λ l. (l.path.items, l.trouble)) lost
 
--- what is found where a word is given or not: each path has it, and each loss is reported
-pub record IsFound (word : Option (List ℕ)) (found : Found) : Type 0 where
-  pub kept : All (λ path. IsKept word (string_bytes path)) found.scripts.items
+-- the paths that wait
+abbrev pub paths_of : List Waiting → List (List ℕ)
+paths_of waiting = map (λ w. string_bytes w.path) waiting
+
+-- what is found by some words: each holds of each path, and each loss is reported
+pub record IsFound (words : List (String Global)) (found : Found) : Type 0 where
+  pub kept : All (λ path. IsKept words (string_bytes path)) found.scripts.items
   pub told : AreTold found.lost.items

@@ -1,3 +1,4 @@
 pub mod Finds
+pub mod Ignored
 pub mod Places
 pub mod Troubles

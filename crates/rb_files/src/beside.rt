@@ -74,7 +74,9 @@ impl<'a, R: Files + AllocGlobal> Beside<'a, R> {
                 Err(error) => return Err(error),
             }
         }
-        Err(io::Error::from(ErrorKind::AlreadyExists))
+        Err(io::Error::other(
+            "its folder has all of .raftbench-0.new to .raftbench-999.new; remove them",
+        ))
     }
 
     fn new_path(&self, number: usize) -> io::Result<String> {

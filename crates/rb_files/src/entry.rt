@@ -10,7 +10,7 @@ use crate::trouble::Trouble;
 use rb_check::Failure;
 use std::fs;
 use std::fs::Metadata;
-use std::os::unix::fs::MetadataExt;
+use std::os::unix::fs::{FileTypeExt, MetadataExt};
 use std::path::Path;
 use std::rt::Files;
 
@@ -45,14 +45,17 @@ pub(crate) struct FileId {
 pub(crate) enum Entry {
     Folder(FolderId),
     File(FileId),
-    /// A device, a pipe, a socket.
-    Other,
+    /// A device, a pipe, a socket: why it is no script.
+    Other(Failure),
 }
 
 /// What stands at the path, its links followed.
 pub(crate) fn entry_at<R: Files + AllocGlobal>(rt: &R, path: &str) -> Result<Entry, Trouble>
     ensures { IfErr result IsOfReading }
 {
+    if let Some(failure) = no_file_at(rt, path) {
+        return Ok(Entry::Other(failure));
+    }
     let target = followed(rt, path)?;
     let metadata = looked_at(rt, target.as_str())?;
     if metadata.is_dir() {
@@ -60,7 +63,25 @@ pub(crate) fn entry_at<R: Files + AllocGlobal>(rt: &R, path: &str) -> Result<Ent
     } else if metadata.is_file() {
         Ok(Entry::File(file_id(rt, target.as_str())?))
     } else {
-        Ok(Entry::Other)
+        Ok(Entry::Other(Failure::NoFile))
+    }
+}
+
+// What the system follows the path to, where that is no file and no folder. The link of a process's own pipe, to which /dev/stdin leads,
+// names nothing that could be followed by its text.
+fn no_file_at<R: Files>(rt: &R, path: &str) -> Option<Failure> {
+    let Ok(metadata) = fs::metadata(rt, path) else {
+        return None;
+    };
+    let kind = metadata.file_type();
+    if kind.is_fifo() {
+        Some(Failure::Pipe)
+    } else if kind.is_socket() {
+        Some(Failure::Socket)
+    } else if kind.is_char_device() || kind.is_block_device() {
+        Some(Failure::Device)
+    } else {
+        None
     }
 }
 

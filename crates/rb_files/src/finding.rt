@@ -2,18 +2,25 @@
 //!
 //! A path is a script, or a folder, whose names that end in `.txt` are scripts, with those of its folders: in the order of the names, where a
 //! folder's scripts stand in its name's place. Each script and each folder is looked at once, so that loops of links end.
+//! What a folder's file `.raftbenchignore` names, a path a line, isn't looked at, unless it is itself one of the paths.
 
-ghost use Rattle.std.specs.Prelude.{◌≡◌, ◌↔◌, ◌++◌, ◌∷◌, [], true, IfOk, option_map, string_bytes};
-ghost use Rattle.rb_files.specs.Finds.{AreTold, IsFound, IsKept, losses};
+ghost use Rattle.std.specs.Prelude.{◌≡◌, ◌||◌, ◌++◌, ◌∷◌, if◌then◌else◌, [], true, IfOk, map, string_bytes};
+ghost use Rattle.std.specs.List.{list_any};
+ghost use Rattle.std.specs.Str.{bytes_eq};
+ghost use Rattle.rb_files.specs.Finds.{AreTold, IsFound, losses, paths_of};
+ghost use Rattle.rb_files.specs.Ignored.{ignored_by};
 ghost use Rattle.rb_files.specs.Troubles.{IsOfReading};
 
 use crate::entry::{Entry, FileId, FolderId, entry_at};
+use crate::filter::is_kept;
+use crate::ignored::{IGNORED, ignored_by, ignored_in};
 use crate::listing::{Listing, listed};
 use crate::trouble::Trouble;
 use rb_check::Failure;
 use std::alloc::{AllocError, Global};
 use std::collections::BTreeSet;
 use std::convert::AsStr;
+use std::fs;
 use std::path::Path;
 use std::rt::Files;
 
@@ -37,16 +44,16 @@ pub struct Found {
     pub is_cut: bool,
 }
 
-/// The scripts of the paths; of them those whose paths have the word in them, where one is given.
+/// The scripts of the paths; of them those whose paths have each of the words in them, and none that stands behind a `!`.
 #[tactic(auto, using(crate::proofs::FindLaws::nothing_told))]
-pub fn find<R: Files + AllocGlobal, S: AsStr>(rt: &R, paths: &[S], word: Option<&str>) -> Found
-    // Each path has the word, and each loss is what the system said. That all scripts are found is only tested: what
+pub fn find<R: Files + AllocGlobal, S: AsStr>(rt: &R, paths: &[S], words: &[String]) -> Found
+    // Each word holds of each path, and each loss is what the system said. That all scripts are found is only tested: what
     // the system's folders hold is not known.
-    ensures { IsFound (option_map (λ w. w.now) word.entry) result }
+    ensures { IsFound words.now result }
 {
     let mut search = Search::new(rt.alloc());
     for path in paths {
-        if search.look_from(rt, path.as_str(), word).is_err() {
+        if search.look_from(rt, path.as_str(), words).is_err() {
             search.found.is_cut = true;
             break;
         }
@@ -60,6 +67,8 @@ struct Waiting {
     path: String,
     // A path of the command line is a script whatever its name is; of a folder's names those are that end in `.txt`.
     is_script: bool,
+    // It was a folder when its name was listed.
+    is_folder: bool,
 }
 
 #[derive(Drop)]
@@ -68,6 +77,8 @@ struct Search {
     waiting: Vec<Waiting>,
     folders: BTreeSet<FolderId>,
     files: BTreeSet<FileId>,
+    // what a folder's file says isn't to be looked at
+    ignored: Vec<String>,
     found: Found,
 }
 
@@ -80,6 +91,7 @@ impl Search {
             waiting: Vec::new(alloc),
             folders: BTreeSet::new(alloc),
             files: BTreeSet::new(alloc),
+            ignored: Vec::new(alloc),
             found: Found {
                 scripts: Vec::new(alloc),
                 lost: Vec::new(alloc),
@@ -93,21 +105,22 @@ impl Search {
         &mut self,
         rt: &R,
         path: &str,
-        word: Option<&str>,
+        words: &[String],
     ) -> Result<(), AllocError>
-        requires { IsFound (option_map (λ w. w.now) word) self.old.found }
-        ensures { IsFound (option_map (λ w. w.now) word.entry) self.new.found }
+        requires { IsFound words.now self.old.found }
+        ensures { IsFound words.now self.new.found }
     {
         let path = String::from_str(rt.alloc(), path)?;
         self.waiting.push(Waiting {
             path,
             is_script: true,
+            is_folder: false,
         })?;
         for _ in 0..u64::MAX {
             let Some(next) = self.waiting.pop() else {
                 break;
             };
-            self.look_at(rt, next, word)?;
+            self.look_at(rt, next, words)?;
         }
         Ok(())
     }
@@ -117,13 +130,13 @@ impl Search {
         &mut self,
         rt: &R,
         next: Waiting,
-        word: Option<&str>,
+        words: &[String],
     ) -> Result<(), AllocError>
-        requires { IsFound (option_map (λ w. w.now) word) self.old.found }
-        ensures { IsFound (option_map (λ w. w.now) word.entry) self.new.found }
+        requires { IsFound words.now self.old.found }
+        ensures { IsFound words.now self.new.found }
     {
         match entry_at(rt, next.path.as_str()) {
-            Ok(entry) => self.look_in(rt, next, entry, word),
+            Ok(entry) => self.look_in(rt, next, entry, words),
             Err(trouble) => self.miss(next, trouble),
         }
     }
@@ -135,30 +148,30 @@ impl Search {
         rt: &R,
         next: Waiting,
         entry: Entry,
-        word: Option<&str>,
+        words: &[String],
     ) -> Result<(), AllocError>
-        requires { IsFound (option_map (λ w. w.now) word) self.old.found }
-        ensures { IsFound (option_map (λ w. w.now) word.entry) self.new.found }
+        requires { IsFound words.now self.old.found }
+        ensures { IsFound words.now self.new.found }
     {
         match entry {
             Entry::Folder(id) => self.enter(rt, next.path, id),
-            Entry::File(id) if next.is_script => self.take(next.path, id, word),
+            Entry::File(id) if next.is_script => self.take(next.path, id, words),
             Entry::File(_) => Ok(()),
-            Entry::Other if next.is_script => {
-                self.lose(next.path, Trouble::alone(Failure::NoFile))
+            Entry::Other(failure) if next.is_script => {
+                self.lose(next.path, Trouble::alone(failure))
             }
-            Entry::Other => Ok(()),
+            Entry::Other(_) => Ok(()),
         }
     }
 
-    // What isn't there and would be no script is nothing that was lost.
+    // What isn't there, and was no folder and would be no script, is nothing that was lost.
     fn miss(&mut self, next: Waiting, trouble: Trouble) -> Result<(), AllocError>
         ensures scripts { self.new.found.scripts ≡ self.old.found.scripts }
         ensures told { AreTold self.old.found.lost.items → IsOfReading trouble → AreTold self.new.found.lost.items }
-        ensures lost { next.is_script ≡ true
+        ensures lost { (next.is_script || next.is_folder) ≡ true
             → IfOk result (λ _. losses self.new.found.lost.items ≡ losses self.old.found.lost.items ++ (string_bytes next.path, trouble) ∷ []) }
     {
-        if !next.is_script && trouble.failure == Failure::NotFound {
+        if !next.is_script && !next.is_folder && trouble.failure == Failure::NotFound {
             return Ok(());
         }
         self.lose(next.path, trouble)
@@ -174,11 +187,11 @@ impl Search {
         Ok(self.found.lost.push(Lost { path, trouble })?)
     }
 
-    fn take(&mut self, path: String, id: FileId, word: Option<&str>) -> Result<(), AllocError>
-        requires { IsFound (option_map (λ w. w.now) word) self.old.found }
-        ensures { IsFound (option_map (λ w. w.now) word.entry) self.new.found }
+    fn take(&mut self, path: String, id: FileId, words: &[String]) -> Result<(), AllocError>
+        requires { IsFound words.now self.old.found }
+        ensures { IsFound words.now self.new.found }
     {
-        if is_kept(path.as_str(), word) && self.files.insert(id)? {
+        if is_kept(path.as_str(), words) && self.files.insert(id)? {
             self.found.scripts.push(path)?;
         }
         Ok(())
@@ -197,27 +210,82 @@ impl Search {
         if !self.folders.insert(id)? {
             return Ok(());
         }
+        match ignored_in(rt, folder.as_str()) {
+            Ok(Some(text)) => self.ignore(rt.alloc(), folder.as_str(), text.as_str())?,
+            Ok(None) => {}
+            Err(trouble) => return self.lose(ignored_path(rt.alloc(), folder.as_str())?, trouble),
+        }
         match listed(rt, folder.as_str()) {
-            Ok(listing) => self.wait_for(rt.alloc(), folder.as_str(), listing),
+            Ok(listing) => self.wait_for(rt, folder.as_str(), listing),
             Err(trouble) => self.lose(folder, trouble),
         }
     }
 
-    fn wait_for(&mut self, alloc: Global, folder: &str, listing: Listing) -> Result<(), AllocError>
+    // Takes note of what the text of a folder's file names.
+    fn ignore(&mut self, alloc: Global, folder: &str, text: &str) -> Result<(), AllocError>
+        ensures found { self.new.found ≡ self.old.found }
+        ensures ignored { IfOk result (λ _. map string_bytes self.new.ignored.items
+            ≡ map string_bytes self.old.ignored.items ++ ignored_by folder.now text.now) }
+    {
+        let mut paths = ignored_by(alloc, folder, text)?;
+        self.ignored.append(&mut paths)
+    }
+
+    // Whether a folder's file names the path.
+    fn is_ignored(&self, path: &str) -> bool
+        ensures { result ≡ list_any (λ ignored. bytes_eq (string_bytes ignored) path.now) self.now.ignored.items }
+    {
+        for ignored in &self.ignored {
+            if ignored.as_str() == path {
+                return true;
+            }
+        }
+        false
+    }
+
+    fn wait_for<R: Files + AllocGlobal>(
+        &mut self,
+        rt: &R,
+        folder: &str,
+        listing: Listing,
+    ) -> Result<(), AllocError>
         ensures scripts { self.new.found.scripts ≡ self.old.found.scripts }
         ensures told { AreTold self.old.found.lost.items → AreTold self.new.found.lost.items }
     {
+        let alloc = rt.alloc();
         for name in &listing.strange {
             self.lose_strange(alloc, folder, name)?;
         }
         for name in listing.names.iter().rev() {
             let path = Path::new(folder).join(alloc, name.as_str())?.into_string();
-            self.waiting.push(Waiting {
-                path,
-                is_script: is_script_name(name.as_str()),
-            })?;
+            self.let_wait(rt, path, is_script_name(name.as_str()))?;
         }
         Ok(())
+    }
+
+    // Lets a path of a folder wait, unless a folder's file names it.
+    fn let_wait<R: Files>(
+        &mut self,
+        rt: &R,
+        path: String,
+        is_script: bool,
+    ) -> Result<(), AllocError>
+        ensures found { self.new.found ≡ self.old.found }
+        ensures waits { IfOk result (λ _. paths_of self.new.waiting.items
+            ≡ (if list_any (λ ignored. bytes_eq (string_bytes ignored) (string_bytes path)) self.old.ignored.items
+            then paths_of self.old.waiting.items else paths_of self.old.waiting.items ++ string_bytes path ∷ [])) }
+    {
+        if self.is_ignored(path.as_str()) {
+            return Ok(());
+        }
+        let is_folder = !is_script && is_folder_now(rt, path.as_str());
+        Ok(
+            self.waiting.push(Waiting {
+                path,
+                is_script,
+                is_folder,
+            })?,
+        )
     }
 
     // A name that is no text can be opened by nobody here, be it a script's or a folder's.
@@ -234,18 +302,20 @@ impl Search {
     }
 }
 
-// Whether the path has the word in it.
-#[tactic(auto, using(std::proofs::lemmas::Str::Pattern::contains_text))]
-fn is_kept(path: &str, word: Option<&str>) -> bool
-    ensures { (result ≡ true) ↔ IsKept (option_map (λ w. w.now) word.entry) path.now }
-{
-    match word {
-        Some(word) => path.contains(word),
-        None => true,
-    }
+// Where a folder's file of what isn't looked at stands.
+fn ignored_path(alloc: Global, folder: &str) -> Result<String, AllocError> {
+    Ok(Path::new(folder).join(alloc, IGNORED)?.into_string())
 }
 
 // Whether a file of this name in a folder is a script.
 fn is_script_name(name: &str) -> bool {
     name.ends_with(".txt")
+}
+
+// What vanishes until its turn comes is known to have been a folder.
+fn is_folder_now<R: Files>(rt: &R, path: &str) -> bool {
+    match fs::metadata(rt, path) {
+        Ok(metadata) => metadata.is_dir(),
+        Err(_) => false,
+    }
 }

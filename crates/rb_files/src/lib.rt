@@ -6,7 +6,9 @@
 
 mod beside;
 mod entry;
+mod filter;
 mod finding;
+mod ignored;
 mod listing;
 mod opening;
 mod place;

@@ -28,7 +28,7 @@ fn machine_at<M: Machine>(
     meter: &mut M::Meter,
 ) -> Result<M, AllocError>
     requires there { place ≤ length script.now.blocks }
-    requires few { length script.now.blocks ≤ MAX_DIRECTIVES }
+    requires few { place ≤ MAX_DIRECTIVES }
     requires meter { M.Meter.count_of meter.old ≤ 2 ^ 62 }
     ensures machine { IfOk result (λ m. M.meaning m ≡ state script.now place) }
     ensures counted { M.Meter.count_of meter.new ≤ M.Meter.count_of meter.old + place }
@@ -152,7 +152,7 @@ pub fn look<M: Nodes>(
     meter: &mut M::Meter,
 ) -> Result<Lines, AllocError>
     requires there { place ≤ length script.now.blocks }
-    requires few { length script.now.blocks ≤ MAX_DIRECTIVES }
+    requires few { place ≤ MAX_DIRECTIVES }
     requires meter { M.Meter.count_of meter.old ≤ 2 ^ 62 }
     ensures { IfOk result (λ lines. lines ≡ looked script.now place) }
 {

@@ -2,7 +2,7 @@ use Rattle.std.proofs.Common.{◌≡◌, ◌∙◌, ◌≤◌, Bool, drop, lengt
 use Rattle.std.specs.Prelude.{if◌then◌else◌}
 use Rattle.std.proofs.lemmas.List.{drop_all}
 use Rattle.rb_replay.specs.Run.{outputs}
-use Rattle.rb_checked.specs.Errors.{is_unexpected, error_count}
+use Rattle.rb_checked.specs.Errors.{is_unexpected}
 use Rattle.rb_checked.proofs.ShownLaws.{count-step, count-done}
 use Rattle.rb_checked.proofs.errors.count_errors.Goals as goal
 

@@ -1,5 +1,5 @@
 use Rattle.std.proofs.Common.{◌∙◌, List, ◌++◌, ap, sym, append-nil}
-use Rattle.rb_script.specs.Lines.{Line, lines}
+use Rattle.rb_script.specs.Lines.{Line}
 use Rattle.rb_script.proofs.LineLaws.{lines_nil}
 use Rattle.rb_checked.proofs.text.lines_of.Goals as goal
 

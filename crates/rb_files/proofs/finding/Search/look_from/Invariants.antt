@@ -1,6 +1,5 @@
-use Rattle.std.proofs.Common.{option_map}
 use Rattle.rb_files.specs.Finds.{IsFound}
 use Rattle.rb_files.proofs.finding.Search.look_from.Given as goal
 
 abbrev pub invariant-loop : goal.invariant-loop
-invariant-loop g l = IsFound (option_map (λ w. w.now) l.word) l.self.found
+invariant-loop g l = IsFound l.words l.self.found

@@ -1,0 +1,124 @@
+//! Accepting the outputs of one script.
+
+ghost use Rattle.rb_script.specs.Reads.{Reads};
+
+use crate::check::Asked;
+use crate::checking::{CheckSession, Text};
+use crate::report::{Ran, Report};
+use rb_check::Failure;
+use rb_checked::{AcceptFault, Accepted, ShowFault, accept as accepted, put_left_errors};
+use rb_files::{Beside, Trouble, replace};
+use rb_script::WriteFault;
+use std::alloc::Global;
+use std::fs::Metadata;
+use std::io;
+use std::io::Write;
+use std::rt::Files;
+
+/// Writes the outputs into the script's file: those that are accepted. The others are told.
+pub(crate) fn accept<R: Files + AllocGlobal, W: Write + Drop, E: Write + Drop>(
+    rt: &R,
+    asked: Asked<'_>,
+    ran: Ran<'_>,
+    session: &CheckSession,
+    text: Text,
+    report: &mut Report<W, E>,
+)
+    requires { Reads text.bytes.items session.now.script }
+{
+    let alloc = rt.alloc();
+    let errors = asked.accepts_errors;
+    match accepted(alloc, session, &text.bytes, errors) {
+        Ok(made) => {
+            if !made.left.is_empty() {
+                tell_left(alloc, session, &text.bytes, ran.path, errors, report);
+            }
+            keep(rt, ran, &made, text.seen, report);
+        }
+        Err(fault) => fail(alloc, ran, fault, report),
+    }
+}
+
+// Says which outputs are not accepted.
+fn tell_left<W: Write + Drop, E: Write + Drop>(
+    alloc: Global,
+    session: &CheckSession,
+    bytes: &[u8],
+    path: &str,
+    errors: bool,
+    report: &mut Report<W, E>,
+)
+    requires { Reads bytes.now session.now.script }
+{
+    let Some(sink) = report.sink() else {
+        return;
+    };
+    match put_left_errors(alloc, sink, session, bytes, path.as_bytes(), errors) {
+        Ok(()) => report.wrote(Ok(())),
+        Err(ShowFault::Writing) => report.wrote(Err(WriteFault)),
+        Err(ShowFault::OutOfMemory) => {
+            report.fail(path.as_bytes(), Trouble::alone(Failure::OutOfMemory));
+        }
+    }
+}
+
+// Puts the new text in the file's place, unless nothing is accepted.
+fn keep<R: Files + AllocGlobal, W: Write + Drop, E: Write + Drop>(
+    rt: &R,
+    ran: Ran<'_>,
+    made: &Accepted,
+    seen: Metadata,
+    report: &mut Report<W, E>,
+) {
+    if made.left.len() >= ran.mismatches {
+        return report.ran(rt.alloc(), ran);
+    }
+    match write(rt, ran.path, &made.text, seen, report) {
+        Ok(()) => report.accepted(rt.alloc(), ran, &made.left),
+        Err(trouble) => {
+            report.ran(rt.alloc(), ran);
+            report.fail(ran.path.as_bytes(), trouble);
+        }
+    }
+}
+
+fn write<R: Files + AllocGlobal, W: Write + Drop, E: Write + Drop>(
+    rt: &R,
+    path: &str,
+    text: &[u8],
+    seen: Metadata,
+    report: &mut Report<W, E>,
+) -> Result<(), Trouble> {
+    let mut place = Beside::new(rt, path, seen)?;
+    match replace(&mut place, text) {
+        Ok(()) => Ok(()),
+        Err(why) => {
+            if let Some(left) = place.left() {
+                report.tell_left(left);
+            }
+            Err(why.trouble)
+        }
+    }
+}
+
+// Says why nothing of the script is accepted.
+fn fail<W: Write + Drop, E: Write + Drop>(
+    alloc: Global,
+    ran: Ran<'_>,
+    fault: AcceptFault,
+    report: &mut Report<W, E>,
+) {
+    report.ran(alloc, ran);
+    let path = ran.path.as_bytes();
+    match fault {
+        AcceptFault::BadOutput(line) => {
+            report.fail(path, Trouble::alone(Failure::NotWritten));
+            report.tell_bad_output(ran.path, line);
+        }
+        AcceptFault::TooLong => {
+            let cause = io::Error::other("with its outputs the script would be too long");
+            report.fail(path, Trouble::of_writing(cause));
+        }
+        AcceptFault::OutOfMemory => report.fail(path, Trouble::alone(Failure::OutOfMemory)),
+    }
+}

@@ -1,0 +1,20 @@
+//! `raftbench lsp`: an editor over standard input and output.
+
+use crate::refusal::Refusal;
+use rb_diagnostics::lsp;
+use rb_line::Incoming;
+use rb_script::Through;
+use rb_server::{ServeFault, Status};
+use std::io;
+
+/// Serves an editor, and gives the program's status.
+pub(crate) fn serve_editor<R: Input + Print + AllocGlobal>(rt: &R) -> Result<u8, Refusal> {
+    let mut source = Incoming(rt.reader());
+    let mut sink = Through(io::writer(rt));
+    match lsp(rt.alloc(), &mut source, &mut sink) {
+        Ok(Status::Done) => Ok(0),
+        Ok(Status::Exited | Status::Closed) => Ok(1),
+        Ok(Status::CutOff | Status::NoMessage) | Err(ServeFault::Io) => Err(Refusal::Io),
+        Err(ServeFault::OutOfMemory) => Err(Refusal::OutOfMemory),
+    }
+}

@@ -1,0 +1,89 @@
+//! `raftbench look FILE:LINE`: what stands after a directive.
+
+ghost use Rattle.std.specs.Prelude.{◌≤◌, length};
+
+use crate::directives::handed_on;
+use crate::edge::script;
+use crate::misuse::Misuse;
+use crate::refusal::Refusal;
+use rb_bench::Status;
+use rb_check::{Place, put_directive};
+use rb_cluster::{Cluster, Meter};
+use rb_look::look;
+use rb_number::number_of;
+use rb_raftlog::SplitLog;
+use rb_script::{Block, Lines, MAX_DIRECTIVES, Script, Through, head_lines};
+use std::alloc::{AllocError, Global};
+use std::io;
+use std::io::BufWriter;
+use std::rt::Files;
+
+/// Shows the cluster as it is after the last directive whose head begins at the line, or above it.
+pub(crate) fn look_at<R: Files + Print + AllocGlobal>(
+    rt: &R,
+    word: &str,
+) -> Result<Status, Refusal> {
+    let alloc = rt.alloc();
+    let Some((path, line)) = path_and_line(word) else {
+        return Err(no_place(alloc, word));
+    };
+    let bytes = script(rt, path)?;
+    let script = Script::read(alloc, bytes.as_slice())?;
+    let heads = head_lines(alloc, bytes.as_slice())?;
+    let Some((place, head)) = place_at(heads.as_slice(), line) else {
+        return Err(no_place(alloc, word));
+    };
+    let Some(block) = script.block(place) else {
+        return Err(no_place(alloc, word));
+    };
+    let seen = seen(alloc, &script, place.min(script.len()))?;
+    let at = Place {
+        path: path.as_bytes(),
+        line: head,
+    };
+    show(rt, at, block, &seen)
+}
+
+// FILE, and the number behind its last colon.
+fn path_and_line(word: &str) -> Option<(&str, usize)> {
+    let (path, line) = word.rsplit_once(':')?;
+    Some((path, number_of(line.as_bytes())? as usize))
+}
+
+// The last of the heads at the line or above it: which directive it is, from 1 on, and its line.
+fn place_at(heads: &[usize], line: usize) -> Option<(usize, usize)> {
+    let place = heads.partition_point(|head| *head <= line);
+    if place == 0 {
+        return None;
+    }
+    Some((place, heads[place - 1]))
+}
+
+fn no_place(alloc: Global, word: &str) -> Refusal {
+    match String::from_str(alloc, word) {
+        Ok(text) => Refusal::OwnUsage(Misuse::Place(text)),
+        Err(_) => Refusal::OutOfMemory,
+    }
+}
+
+// What is to be seen after so many directives of the script.
+fn seen(alloc: Global, script: &Script, place: usize) -> Result<Lines, AllocError>
+    requires { place ≤ length script.now.blocks }
+{
+    let mut meter = Meter::new();
+    look::<Cluster<SplitLog>>(alloc, script, place.min(MAX_DIRECTIVES), &mut meter)
+}
+
+fn show<R: Print + AllocGlobal>(
+    rt: &R,
+    at: Place<'_>,
+    block: &Block,
+    seen: &Lines,
+) -> Result<Status, Refusal> {
+    let mut sink = Through(BufWriter::new(rt.alloc(), io::writer(rt))?);
+    let written = put_directive(&mut sink, at, &block.directive(), seen, b"");
+    match handed_on(sink, written) {
+        Ok(()) => Ok(Status::Done),
+        Err(_) => Err(Refusal::Io),
+    }
+}

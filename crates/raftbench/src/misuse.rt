@@ -1,0 +1,77 @@
+//! What is wrong with the words of the command line, in a sentence.
+
+use rb_args::{ChoiceFault, chosen};
+use std::alloc::Global;
+use std::str;
+
+/// What is wrong with the words.
+#[derive(Debug, Drop)]
+pub(crate) enum Misuse {
+    /// A word is no text.
+    NoText,
+    /// No subcommand is named.
+    NoCommand,
+    /// No FILE is named.
+    NoFile,
+    /// A session's FILE is standard input.
+    Input,
+    /// What stands behind `--every` is none of its numbers.
+    Every(String),
+    /// So it is, where its text isn't kept.
+    Spacing,
+    /// What stands behind `--color` is none of its words.
+    Color(String),
+    /// What stands behind `look` names no directive of a file.
+    Place(String),
+    /// No directive has the name; and the one that is near it.
+    Directive(String, Option<&'static [u8]>),
+}
+
+impl Misuse {
+    /// Says what a person wants to know.
+    pub(crate) fn tell<R: Eprint + AllocGlobal>(&self, rt: &R) {
+        let _ = match self {
+            Misuse::NoText => eprintln!(rt; "the words are to be UTF-8"),
+            Misuse::NoCommand => return tell_help(rt),
+            Misuse::NoFile => eprintln!(rt; "FILE is missing: the file of a script"),
+            Misuse::Input => eprintln!(rt;
+                "-: a session's commands come from standard input, so its script stands in a file"
+            ),
+            Misuse::Every(text) => eprintln!(rt; "--every {text}: a number from 1 to 64"),
+            Misuse::Spacing => eprintln!(rt; "--every: a number from 1 to 64"),
+            Misuse::Color(text) => eprintln!(rt; "--color {text}: auto, always or never"),
+            Misuse::Place(text) => eprintln!(rt;
+                "{text}: FILE:LINE, where a directive stands at the line or above it"
+            ),
+            Misuse::Directive(name, meant) => return tell_directive(rt, name.as_str(), *meant),
+        };
+    }
+}
+
+fn tell_directive<R: Eprint>(rt: &R, name: &str, meant: Option<&'static [u8]>) {
+    let meant = match meant {
+        Some(bytes) => str::from_utf8(bytes).unwrap_or(""),
+        None => "",
+    };
+    let _ = if meant.is_empty() {
+        eprintln!(rt;
+            "no directive is called {name}; raftbench directives shows those that there are"
+        )
+    } else {
+        eprintln!(rt; "no directive is called {name}; did you mean {meant}?")
+    };
+}
+
+// The help of the whole program.
+fn tell_help<R: Eprint + AllocGlobal>(rt: &R) {
+    if let Some(help) = help(rt.alloc()) {
+        let _ = eprint!(rt; "{help}");
+    }
+}
+
+fn help(alloc: Global) -> Option<clap::Error> {
+    match chosen(alloc, &["raftbench", "--help"]) {
+        Err(ChoiceFault::Refused(help)) => Some(help),
+        _ => None,
+    }
+}

@@ -1,0 +1,71 @@
+//! Lines that look like a slip.
+
+ghost use Rattle.std.specs.Prelude.{◌≡◌, IsOk};
+ghost use Rattle.rb_script.specs.Writes.{Writes};
+ghost use Rattle.rb_check.specs.Notices.{doubt_sentence, warning_text, unaccepted_text};
+
+use crate::piece::{Piece, put_pieces};
+use rb_script::{Sink, WriteFault};
+
+/// Why a line looks like a slip.
+#[derive(Clone, Copy, Debug, PartialEq, Eq)]
+pub enum Doubt {
+    /// A directive could stand on it, and it is expected.
+    InExpectation,
+    /// A directive could stand on it, and it is input.
+    InInput,
+    /// It is input of a directive that takes none.
+    Unread,
+}
+
+fn sentence(doubt: Doubt) -> &'static [u8]
+    ensures { result.now ≡ doubt_sentence doubt }
+{
+    match doubt {
+        Doubt::InExpectation =>
+            b"this looks like a directive inside an expectation: an empty line is missing before it",
+        Doubt::InInput =>
+            b"this looks like a directive inside input: a line ---- is missing before it",
+        Doubt::Unread =>
+            b"this is input, and the directive above it takes none: a line ---- is missing before it",
+    }
+}
+
+/// Writes a warning: `PATH:LINE: warning: ` and a sentence. On a failure what went out is a beginning of the text.
+pub fn put_warning<S: Sink>(
+    sink: &mut S,
+    path: &[u8],
+    line: usize,
+    doubt: Doubt,
+) -> Result<(), WriteFault>
+    ensures wrote { Writes result (S.held sink.old) (S.held sink.new) (warning_text path.now line doubt) }
+    ensures all { S.takes_all sink.old → IsOk result × S.takes_all sink.new }
+{
+    put_pieces(
+        sink,
+        &[
+            Piece::Bytes(path),
+            Piece::Bytes(b":"),
+            Piece::Number(line as u64),
+            Piece::Bytes(b": warning: "),
+            Piece::Bytes(sentence(doubt)),
+            Piece::Bytes(b"\n"),
+        ],
+    )
+}
+
+/// Writes that nothing was accepted in a script, since it has warnings. On a failure what went out is a beginning of the text.
+pub fn put_unaccepted<S: Sink>(sink: &mut S, path: &[u8]) -> Result<(), WriteFault>
+    ensures wrote { Writes result (S.held sink.old) (S.held sink.new) (unaccepted_text path.now) }
+    ensures all { S.takes_all sink.old → IsOk result × S.takes_all sink.new }
+{
+    put_pieces(
+        sink,
+        &[
+            Piece::Bytes(path),
+            Piece::Bytes(
+                b": nothing was accepted, since it has warnings; --force accepts all the same\n",
+            ),
+        ],
+    )
+}

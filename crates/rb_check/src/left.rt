@@ -1,0 +1,33 @@
+//! A directive whose output was not accepted.
+
+ghost use Rattle.std.specs.Prelude.{IsOk};
+ghost use Rattle.rb_script.specs.Tokens.{plain};
+ghost use Rattle.rb_script.specs.Writes.{Writes};
+ghost use Rattle.rb_check.specs.Heads.{head_text};
+ghost use Rattle.rb_check.specs.Notices.{left_text};
+
+use crate::piece::{Piece, put_pieces};
+use crate::place::{Place, put_heading};
+use rb_script::{DirectiveRef, Sink, WriteFault};
+
+/// Writes that a directive's error was not accepted: `PATH:LINE: HEAD: `, the error, and that. On a failure what went out is a beginning
+/// of the text.
+pub fn put_left<S: Sink>(
+    sink: &mut S,
+    place: Place<'_>,
+    directive: &DirectiveRef<'_>,
+    error: &[u8],
+) -> Result<(), WriteFault>
+    ensures wrote { Writes result (S.held sink.old) (S.held sink.new) (left_text place.entry.path.now place.entry.line (head_text (plain directive.now)) error.now) }
+    ensures all { S.takes_all sink.old → IsOk result × S.takes_all sink.new }
+{
+    put_heading(sink, place, directive)?;
+    put_pieces(
+        sink,
+        &[
+            Piece::Bytes(b": "),
+            Piece::Bytes(error),
+            Piece::Bytes(b" was not accepted\n"),
+        ],
+    )
+}

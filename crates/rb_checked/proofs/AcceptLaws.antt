@@ -1,0 +1,156 @@
+-- What is accepted and what is left, one directive after another.
+use Rattle.std.proofs.Common.{◌≡◌, ◌∙◌, ℕ, zero, suc, ◌+◌, ◌≤◌, Bool, true, false, List, [], ◌∷◌, ◌++◌, drop, length, Option, Some, Result, Ok, Err, refl, ap, sym, subst, arith}
+use Rattle.std.specs.Prelude.{slice_get, ◌&&◌, not, nat_lt, if◌then◌else◌, IfOk}
+use Rattle.std.specs.List.{list_all}
+use Rattle.std.proofs.lemmas.Bool.Decides.{nat_tests}
+use Rattle.std.proofs.lemmas.Option.{slice_get_within}
+use Rattle.rb_script.specs.declared.edit.Edit.TheVariants.{Accept}
+use Rattle.rb_script.specs.declared.fault.EditFault.{EditFault}
+use Rattle.rb_script.specs.declared.fault.EditFault.TheVariants.{BadExpectation, TooLong}
+use Rattle.rb_script.specs.declared.limits.TheConstants.{MAX_SCRIPT}
+use Rattle.rb_script.specs.Lines.{Line}
+use Rattle.rb_script.specs.Script.{PlainBlock, PlainScript, text, expecting, all_expecting, with_outputs}
+use Rattle.rb_script.specs.Valid.{IsScript}
+use Rattle.rb_script.specs.Reads.{Reads}
+use Rattle.rb_script.specs.Edits.{edited, unless, fitting, is_expectation, Makes}
+use Rattle.rb_script.proofs.SharedLaws.{outputs_count, outputs_valid}
+use Rattle.rb_script.proofs.ScriptLaws.{reads_once}
+use Rattle.rb_script.proofs.TextLaws.{text_reads}
+use Rattle.rb_replay.specs.Report.{same_lines}
+use Rattle.rb_replay.proofs.ChangeLaws.{accepted}
+use Rattle.rb_check.proofs.PieceLaws.{drop-get}
+use Rattle.rb_checked.specs.Errors.{is_unexpected}
+use Rattle.rb_checked.specs.Accepting.{is_left, accepted_lines, accepted_of, one_left, left_heads, left_shown, all_left}
+
+-- one directive more
+pub accepted_step : (errors : Bool) (ls : List Line) (heads : List ℕ) (bs : List PlainBlock) (os : List (List Line)) (i line : ℕ) (b : PlainBlock) (o : List Line)
+    → slice_get heads i ≡ Some line → slice_get bs i ≡ Some b → slice_get os i ≡ Some o
+    → accepted_of errors ls (drop i heads) (drop i bs) (drop i os) ≡ accepted_lines errors ls line b o ∷ accepted_of errors ls (drop (i + 1) heads) (drop (i + 1) bs) (drop (i + 1) os)
+accepted_step errors ls heads bs os i line b o head block output =
+    ap (λ (ns : List ℕ). accepted_of errors ls ns (drop i bs) (drop i os)) (drop-get heads i line head)
+    ∙ ap (λ (cs : List PlainBlock). accepted_of errors ls (line ∷ drop (i + 1) heads) cs (drop i os)) (drop-get bs i b block)
+    ∙ ap (λ (outs : List (List Line)). accepted_of errors ls (line ∷ drop (i + 1) heads) (b ∷ drop (i + 1) bs) outs) (drop-get os i o output)
+
+pub accepted_done : (errors : Bool) (ls : List Line) (heads : List ℕ) (bs : List PlainBlock) (os : List (List Line)) → heads ≡ [] → accepted_of errors ls heads bs os ≡ []
+accepted_done errors ls [] bs os none = refl
+accepted_done errors ls (line ∷ heads) bs os none = absurd cc
+
+pub left_step : (errors : Bool) (ls : List Line) (heads : List ℕ) (bs : List PlainBlock) (os : List (List Line)) (i line : ℕ) (b : PlainBlock) (o : List Line)
+    → slice_get heads i ≡ Some line → slice_get bs i ≡ Some b → slice_get os i ≡ Some o
+    → left_heads errors ls (drop i heads) (drop i bs) (drop i os) ≡ one_left errors ls line b o ++ left_heads errors ls (drop (i + 1) heads) (drop (i + 1) bs) (drop (i + 1) os)
+left_step errors ls heads bs os i line b o head block output =
+    ap (λ (ns : List ℕ). left_heads errors ls ns (drop i bs) (drop i os)) (drop-get heads i line head)
+    ∙ ap (λ (cs : List PlainBlock). left_heads errors ls (line ∷ drop (i + 1) heads) cs (drop i os)) (drop-get bs i b block)
+    ∙ ap (λ (outs : List (List Line)). left_heads errors ls (line ∷ drop (i + 1) heads) (b ∷ drop (i + 1) bs) outs) (drop-get os i o output)
+
+pub left_done : (errors : Bool) (ls : List Line) (heads : List ℕ) (bs : List PlainBlock) (os : List (List Line)) → heads ≡ [] → left_heads errors ls heads bs os ≡ []
+left_done errors ls [] bs os none = refl
+left_done errors ls (line ∷ heads) bs os none = absurd cc
+
+pub all_left_step : (errors : Bool) (ls : List Line) (path heads : List ℕ) (bs : List PlainBlock) (os : List (List Line)) (i line : ℕ) (b : PlainBlock) (o : List Line)
+    → slice_get heads i ≡ Some line → slice_get bs i ≡ Some b → slice_get os i ≡ Some o
+    → all_left errors ls path (drop i heads) (drop i bs) (drop i os) ≡ left_shown errors ls path line b o ++ all_left errors ls path (drop (i + 1) heads) (drop (i + 1) bs) (drop (i + 1) os)
+all_left_step errors ls path heads bs os i line b o head block output =
+    ap (λ (ns : List ℕ). all_left errors ls path ns (drop i bs) (drop i os)) (drop-get heads i line head)
+    ∙ ap (λ (cs : List PlainBlock). all_left errors ls path (line ∷ drop (i + 1) heads) cs (drop i os)) (drop-get bs i b block)
+    ∙ ap (λ (outs : List (List Line)). all_left errors ls path (line ∷ drop (i + 1) heads) (b ∷ drop (i + 1) bs) outs) (drop-get os i o output)
+
+pub all_left_done : (errors : Bool) (ls : List Line) (path heads : List ℕ) (bs : List PlainBlock) (os : List (List Line)) → heads ≡ [] → all_left errors ls path heads bs os ≡ []
+all_left_done errors ls path [] bs os none = refl
+all_left_done errors ls path (line ∷ heads) bs os none = absurd cc
+
+-- ---- the script with what is accepted
+
+one_block : (t : Bool) (b : PlainBlock) (o : List Line) → expecting b (if t then b.expected else o) ≡ (if t then b else expecting b o)
+one_block true b o = refl
+one_block false b o = refl
+
+pub accepted_at : (errors : Bool) (ls : List Line) (heads : List ℕ) (bs : List PlainBlock) (os : List (List Line)) (k line : ℕ) (b : PlainBlock) (o : List Line)
+    → slice_get heads k ≡ Some line → slice_get bs k ≡ Some b → slice_get os k ≡ Some o
+    → slice_get (all_expecting bs (accepted_of errors ls heads bs os)) k ≡ Some (if is_left errors ls line b o then b else expecting b o)
+unfolding all_expecting
+accepted_at errors ls [] bs os k line b o h hb ho = absurd (omega (arith, slice_get_within [] k line h))
+accepted_at errors ls (n ∷ heads) [] os k line b o h hb ho = absurd (omega (arith, slice_get_within [] k b hb))
+accepted_at errors ls (n ∷ heads) (c ∷ bs) [] k line b o h hb ho = absurd (omega (arith, slice_get_within [] k o ho))
+accepted_at errors ls (n ∷ heads) (c ∷ bs) (p ∷ os) zero line b o h hb ho =
+    let head : n ≡ line = cc in
+    let block : c ≡ b = cc in
+    let output : p ≡ o = cc in
+    rw (head, block, output) (ap (λ (x : PlainBlock). Some x) (one_block (is_left errors ls line b o) b o))
+accepted_at errors ls (n ∷ heads) (c ∷ bs) (p ∷ os) (suc k) line b o h hb ho = accepted_at errors ls heads bs os k line b o h hb ho
+
+-- as many as there are directives
+pub accepted_len : (errors : Bool) (ls : List Line) (heads : List ℕ) (bs : List PlainBlock) (os : List (List Line)) → length heads ≡ length bs → length os ≡ length bs → length (accepted_of errors ls heads bs os) ≡ length bs
+accepted_len errors ls [] [] os h e = refl
+accepted_len errors ls [] (b ∷ bs) os h e = absurd (omega (arith, h))
+accepted_len errors ls (n ∷ heads) [] os h e = absurd (omega (arith, h))
+accepted_len errors ls (n ∷ heads) (b ∷ bs) [] h e = absurd (omega (arith, e))
+accepted_len errors ls (n ∷ heads) (b ∷ bs) (o ∷ os) h e = let rest = accepted_len errors ls heads bs os (omega (arith, h)) (omega (arith, e)) in omega (arith, rest)
+
+-- ---- what an accepting edit makes is a script
+
+not_false : (t : Bool) → not t ≡ false → t ≡ true
+not_false true e = refl
+not_false false e = absurd cc
+
+unless-ok : (test : Bool) (fault : EditFault) (made : Result PlainScript EditFault) (new : PlainScript) → unless test fault made ≡ Ok new → (test ≡ false) × (made ≡ Ok new)
+unless-ok true fault made new e = absurd cc
+unless-ok false fault made new e = (refl, e)
+
+pub accepted_valid : (s new : PlainScript) (os : List (List Line)) → IsScript s → length os ≡ length s.blocks → edited s Accept os ≡ Ok new → IsScript new
+unfolding edited
+accepted_valid s new os h count e =
+    let first = unless-ok (not (list_all is_expectation os)) BadExpectation (fitting (with_outputs s os)) new e in
+    let second = unless-ok (nat_lt MAX_SCRIPT (length (text (with_outputs s os)))) TooLong (Ok (with_outputs s os)) new first.1 in
+    let good : list_all is_expectation os ≡ true = not_false (list_all is_expectation os) first.0 in
+    let short : length (text (with_outputs s os)) ≤ MAX_SCRIPT = grind (arith, nat_tests) in
+    let made : with_outputs s os ≡ new = cc in
+    subst IsScript made (record {
+      blocks = outputs_valid s.blocks os h.blocks good;
+      tail = h.tail;
+      tail_lines = h.tail_lines;
+      few = omega (arith, h.few, outputs_count s.blocks os count);
+      short_text = short;
+    })
+
+-- what the edit answered is that script, and is valid
+pub made_of : (r : Result PlainScript EditFault) (s : PlainScript) (os : List (List Line)) → Makes r (edited s Accept os) → IfOk r (λ new. new ≡ with_outputs s os)
+made_of (Ok new) s os made = sym (accepted s new os made)
+made_of (Err e) s os made = tt
+
+pub valid_of : (r : Result PlainScript EditFault) (s : PlainScript) (os : List (List Line)) → IsScript s → length os ≡ length s.blocks → Makes r (edited s Accept os) → IfOk r (λ new. IsScript new)
+valid_of (Ok new) s os valid count made = accepted_valid s new os valid count made
+valid_of (Err e) s os valid count made = tt
+
+-- ---- reading back
+
+-- two scripts with one canonical text are one
+pub text_once : (s t : PlainScript) → IsScript s → IsScript t → text s ≡ text t → s ≡ t
+text_once s t hs ht same = reads_once (text s) s t (text_reads s hs) (subst (λ (bytes : List ℕ). Reads bytes t) (sym same) (text_reads t ht))
+
+-- ---- what is left, and what is when all is asked for
+
+left_when : (t : Bool) (b c : PlainBlock) → t ≡ true → (if t then b else c) ≡ b
+left_when true b c is = refl
+left_when false b c is = absurd cc
+
+-- a new error is left
+new_left : (u s : Bool) → u ≡ true → s ≡ false → (not false && (u && not s)) ≡ true
+new_left true false new differs = refl
+new_left true true new differs = absurd cc
+new_left false s new differs = absurd cc
+
+pub left_new : (ls : List Line) (heads : List ℕ) (bs : List PlainBlock) (os : List (List Line)) (k line : ℕ) (b : PlainBlock) (o : List Line)
+    → slice_get heads k ≡ Some line → slice_get bs k ≡ Some b → slice_get os k ≡ Some o → is_unexpected ls line o ≡ true → same_lines b.expected o ≡ false
+    → slice_get (all_expecting bs (accepted_of false ls heads bs os)) k ≡ Some b
+left_new ls heads bs os k line b o h hb ho new differs =
+    accepted_at false ls heads bs os k line b o h hb ho
+    ∙ ap (λ (x : PlainBlock). Some x) (left_when (is_left false ls line b o) b (expecting b o) (new_left (is_unexpected ls line o) (same_lines b.expected o) new differs))
+
+pub all_accepted : (ls : List Line) (heads : List ℕ) (bs : List PlainBlock) (os : List (List Line)) → length heads ≡ length bs → length os ≡ length bs → accepted_of true ls heads bs os ≡ os
+all_accepted ls [] [] [] h e = refl
+all_accepted ls [] [] (o ∷ os) h e = absurd (omega (arith, e))
+all_accepted ls [] (b ∷ bs) os h e = absurd (omega (arith, h))
+all_accepted ls (n ∷ heads) [] os h e = absurd (omega (arith, h))
+all_accepted ls (n ∷ heads) (b ∷ bs) [] h e = absurd (omega (arith, e))
+all_accepted ls (n ∷ heads) (b ∷ bs) (o ∷ os) h e = ap (λ (xs : List (List Line)). o ∷ xs) (all_accepted ls heads bs os (omega (arith, h)) (omega (arith, e)))

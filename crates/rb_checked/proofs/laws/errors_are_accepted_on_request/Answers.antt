@@ -1,0 +1,10 @@
+use Rattle.std.proofs.Common.{List, ap}
+use Rattle.rb_script.specs.Lines.{Line}
+use Rattle.rb_script.specs.Script.{with_outputs}
+use Rattle.rb_replay.specs.Run.{outputs}
+use Rattle.rb_checked.proofs.AcceptLaws.{all_accepted}
+use Rattle.rb_checked.proofs.ShownLaws.{outputs_len}
+use Rattle.rb_checked.proofs.laws.errors_are_accepted_on_request.Goals as goal
+
+pub returns : goal.returns
+returns c = λ ls heads s count. ap (λ (os : List (List Line)). with_outputs s os) (all_accepted ls heads s.blocks (outputs s) count (outputs_len s))

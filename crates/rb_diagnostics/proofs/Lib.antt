@@ -1,0 +1,4 @@
+pub mod HeadLaws
+pub mod FindingLaws
+pub mod WritingLaws
+pub mod QuietLaws

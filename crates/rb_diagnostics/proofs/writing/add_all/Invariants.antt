@@ -1,0 +1,8 @@
+-- What went out so far, and what is left.
+use Rattle.std.proofs.Common.{◌≡◌, ◌++◌, [], drop}
+use Rattle.rb_diagnostics.specs.Texts.{listed}
+use Rattle.rb_diagnostics.proofs.writing.add_all.Given as goal
+
+abbrev pub invariant-loop-diagnostic : goal.invariant-loop-diagnostic
+invariant-loop-diagnostic l =
+    l.out.items ++ listed l.encoding l.text l.lead (drop l.diagnostic-index l.list) ≡ l.initial.out.items ++ listed l.encoding l.text [] l.list

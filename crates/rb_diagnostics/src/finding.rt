@@ -1,0 +1,82 @@
+//! What is to be said of a directive that ran.
+
+ghost use Rattle.std.specs.Prelude.{◌≡◌, IfOk};
+ghost use Rattle.rb_replay.specs.Report.{same_lines};
+ghost use Rattle.rb_diagnostics.specs.Findings.{diff_message, error_output, finding, mismatch};
+
+use crate::diagnostic::{Diagnostic, Kind};
+use rb_check::{Colors, Table, put_diff};
+use rb_checked::{first_line, is_unexpected};
+use rb_script::{Block, Lines, Through};
+use std::alloc::{AllocError, Global};
+
+fn is_same(lines: &Lines, other: &Lines) -> bool
+    ensures { result ≡ same_lines lines.now other.now }
+{
+    lines.same(other)
+}
+
+// The diff that `check` shows, without the end of its last line.
+fn diff_message(
+    alloc: Global,
+    table: &mut Table,
+    expected: &Lines,
+    output: &Lines,
+) -> Result<Vec<u8>, AllocError>
+    ensures { IfOk result (λ message. message.items ≡ diff_message expected.now output.now) }
+{
+    let mut sink = Through(Vec::new(alloc));
+    let Ok(()) = put_diff(&mut sink, table, expected, output, Colors::Off) else {
+        return Err(AllocError);
+    };
+    let mut message = sink.0;
+    message.truncate(message.len().saturating_sub(1));
+    Ok(message)
+}
+
+fn mismatch(
+    alloc: Global,
+    table: &mut Table,
+    line: usize,
+    expected: &Lines,
+    output: &Lines,
+) -> Result<Diagnostic, AllocError>
+    ensures { IfOk result (λ d. d ≡ mismatch line expected.now output.now) }
+{
+    Ok(Diagnostic {
+        line,
+        kind: Kind::Mismatch,
+        message: diff_message(alloc, table, expected, output)?,
+    })
+}
+
+fn error_output(alloc: Global, line: usize, output: &Lines) -> Result<Diagnostic, AllocError>
+    ensures { IfOk result (λ d. d ≡ error_output line output.now) }
+{
+    Ok(Diagnostic {
+        line,
+        kind: Kind::ErrorOutput,
+        message: Vec::from_slice(alloc, first_line(output))?,
+    })
+}
+
+/// What is to be said of a directive, whose head begins on a line, of the lines of a script.
+#[tactic(auto, unfolding(crate::specs::Findings::finding))]
+pub(crate) fn finding(
+    alloc: Global,
+    table: &mut Table,
+    text: &Lines,
+    line: usize,
+    block: &Block,
+    output: &Lines,
+) -> Result<Option<Diagnostic>, AllocError>
+    ensures { IfOk result (λ found. found ≡ finding text.now line block.now output.now) }
+{
+    if !is_same(block.expected(), output) {
+        return Ok(Some(mismatch(alloc, table, line, block.expected(), output)?));
+    }
+    if is_unexpected(text, line, output) {
+        return Ok(Some(error_output(alloc, line, output)?));
+    }
+    Ok(None)
+}

@@ -1,0 +1,93 @@
+//! The file in a folder that names what isn't looked at.
+
+ghost use Rattle.std.specs.Prelude.{◌≡◌, IfErr, IfOk, map, option_map, string_bytes};
+ghost use Rattle.std.specs.Io.BufRead.{strip_last};
+ghost use Rattle.std.specs.Str.Lines.{lines};
+ghost use Rattle.rb_files.specs.Ignored.{ignored_by, named_by, slash};
+ghost use Rattle.rb_files.specs.Troubles.{IsOfReading};
+
+use crate::opening::opened;
+use crate::trouble::Trouble;
+use rb_check::Failure;
+use std::alloc::{AllocError, Global};
+use std::io::ErrorKind;
+use std::path::Path;
+use std::rt::Files;
+use std::{fs, io};
+
+/// Its name.
+pub(crate) const IGNORED: &str = ".raftbenchignore";
+
+/// The text of the folder's file; none, where it has no such file, or lets nobody see whether it has.
+pub(crate) fn ignored_in<R: Files + AllocGlobal>(
+    rt: &R,
+    folder: &str,
+) -> Result<Option<String>, Trouble>
+    ensures { IfErr result IsOfReading }
+{
+    let path = Path::new(folder).join(rt.alloc(), IGNORED)?;
+    // A folder that may not be entered shows nothing of what is in it: each script there is told by itself.
+    if fs::symlink_metadata(rt, path.as_str()).is_err_and(is_unseen) {
+        return Ok(None);
+    }
+    text_of(rt, path.as_str())
+}
+
+fn is_unseen(error: io::Error) -> bool {
+    error.kind() == ErrorKind::PermissionDenied
+}
+
+fn text_of<R: Files + AllocGlobal>(rt: &R, path: &str) -> Result<Option<String>, Trouble>
+    ensures { IfErr result IsOfReading }
+{
+    let file = match opened(rt, path) {
+        Ok((file, _)) => file,
+        Err(trouble) if trouble.failure == Failure::NotFound => return Ok(None),
+        Err(trouble) => return Err(trouble),
+    };
+    match io::read_to_string(rt.alloc(), file) {
+        Ok(text) => Ok(Some(text)),
+        Err(error) => Err(Trouble::of_reading(error)),
+    }
+}
+
+/// The paths that the text of the folder's file names.
+pub(crate) fn ignored_by(alloc: Global, folder: &str, text: &str) -> Result<Vec<String>, AllocError>
+    ensures { IfOk result (λ paths. map string_bytes paths.items ≡ ignored_by folder.now text.now) }
+{
+    let lines = lines_of(alloc, text)?;
+    let mut paths = Vec::new(alloc);
+    for line in &lines {
+        if let Some(name) = named_by(line) {
+            paths.push(Path::new(folder).join(alloc, name)?.into_string())?;
+        }
+    }
+    Ok(paths)
+}
+
+fn lines_of(alloc: Global, text: &str) -> Result<Vec<&str>, AllocError>
+    ensures { IfOk result (λ all. map (λ line. line.now) all.items ≡ lines text.now) }
+{
+    text.lines().collect(alloc)
+}
+
+// What a line names; an empty line and a comment name nothing.
+fn named_by(line: &str) -> Option<&str>
+    ensures { option_map (λ name. name.now) result ≡ named_by line.now }
+{
+    let name = without_slash(line.trim());
+    if name.is_empty() || name.starts_with('#') {
+        return None;
+    }
+    Some(name)
+}
+
+// A folder's name may end in a slash.
+fn without_slash(name: &str) -> &str
+    ensures { result.now ≡ strip_last slash name.now }
+{
+    match name.strip_suffix('/') {
+        Some(front) => front,
+        None => name,
+    }
+}

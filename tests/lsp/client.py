@@ -1,0 +1,86 @@
+"""A client of the language server, without an editor: frames messages, and reads what comes. (LSP 3.17, base protocol.)"""
+import json
+import subprocess
+
+MOST_SECONDS = 120
+
+
+def framed(body):
+    """A message with this body: a value of JSON, or bytes as they are."""
+    text = body if isinstance(body, bytes) else json.dumps(body, ensure_ascii=False).encode()
+    return b"Content-Length: %d\r\n\r\n%s" % (len(text), text)
+
+
+def unframed(stream):
+    """The bodies of a stream that was read whole, as values of JSON. A ValueError where it is no such stream."""
+    bodies = []
+    while stream:
+        head, found, rest = stream.partition(b"\r\n\r\n")
+        name, colon, length = head.partition(b": ")
+        if not found or not colon or name != b"Content-Length":
+            raise ValueError(f"no message begins with {stream[:40]!r}")
+        if len(rest) < int(length):
+            raise ValueError("the last message is cut off")
+        bodies.append(json.loads(rest[:int(length)]))
+        stream = rest[int(length):]
+    return bodies
+
+
+def request(number, method, **params):
+    return {"jsonrpc": "2.0", "id": number, "method": method, "params": params}
+
+
+def notification(method, **params):
+    return {"jsonrpc": "2.0", "method": method, "params": params}
+
+
+def opened(uri, text, version=1):
+    document = {"uri": uri, "languageId": "raftbench", "version": version, "text": text}
+    return notification("textDocument/didOpen", textDocument=document)
+
+
+def changed(uri, version, *changes):
+    return notification("textDocument/didChange", textDocument={"uri": uri, "version": version}, contentChanges=list(changes))
+
+
+class Client:
+    """A server that runs, and the conversation with it. As a context it is ended behind the block."""
+
+    def __init__(self, program):
+        self.server = subprocess.Popen([program, "lsp"], stdin=subprocess.PIPE, stdout=subprocess.PIPE, stderr=subprocess.PIPE)
+
+    def __enter__(self):
+        return self
+
+    def __exit__(self, *error):
+        self.server.kill()
+        self.server.communicate()
+
+    def send(self, body):
+        self.server.stdin.write(framed(body))
+        self.server.stdin.flush()
+
+    def receive(self):
+        """The next message. An EOFError where there is none."""
+        length = None
+        while (line := self.server.stdout.readline()) != b"\r\n":
+            if not line:
+                raise EOFError("the server wrote nothing more")
+            length = int(line.removeprefix(b"Content-Length: "))
+        body = self.server.stdout.read(length)
+        return json.loads(body)
+
+    def begin(self, *encodings):
+        """Says that columns may count in these, besides UTF-16, and gives the name of what the server took."""
+        general = {"general": {"positionEncodings": list(encodings)}} if encodings else {}
+        self.send(request(0, "initialize", processId=None, rootUri=None, capabilities=general))
+        answer = self.receive()
+        self.send(notification("initialized"))
+        return answer["result"]["capabilities"]["positionEncoding"]
+
+    def end(self):
+        """Ends it as an editor does, and gives the status."""
+        self.send(request("end", "shutdown"))
+        self.receive()
+        self.send(notification("exit"))
+        return self.server.wait(timeout=MOST_SECONDS)

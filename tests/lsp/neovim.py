@@ -1,0 +1,65 @@
+"""Opens a script in Neovim without a screen, with the files of editors/vim and editors/nvim, and looks at what is shown: a mismatch is marked when it is
+typed, and is gone when it is mended and the script saved.
+"""
+import pathlib
+import shutil
+import subprocess
+import tempfile
+
+TOP = pathlib.Path(__file__).resolve().parents[2]
+MOST_SECONDS = 120
+SCRIPT = "log-level debug\n----\nok\n"
+
+# Waits until there are as many diagnostics as are due, and writes them.
+DRIVER = """
+local function wait_for(count)
+  local is_there = vim.wait(60000, function() return #vim.diagnostic.get(0) == count end, 20)
+  local found = vim.diagnostic.get(0)
+  print(is_there and 'there' or 'missing', #found)
+  for _, it in ipairs(found) do print(it.lnum, it.severity, it.code or '', (it.message:gsub('\\n', '|'))) end
+end
+local function clients()
+  if vim.lsp.get_clients then return vim.lsp.get_clients({ bufnr = 0 }) end
+  return vim.lsp.buf_get_clients(0)
+end
+local function attached()
+  for _, it in pairs(clients()) do
+    if it.initialized then return true end
+  end
+  return false
+end
+local is_attached = vim.wait(60000, attached, 20)
+print(vim.bo.filetype, is_attached)
+wait_for(0)
+vim.api.nvim_buf_set_lines(0, 2, 3, true, { 'no' })
+wait_for(1)
+vim.api.nvim_buf_set_lines(0, 2, 3, true, { 'ok' })
+wait_for(0)
+print('')
+vim.cmd('silent write | qall!')
+"""
+DUE = ["raftbench true", "there 0", "there 1", "0 1 mismatch - no|+ ok", "there 0"]
+
+
+def shown(program, room):
+    """What the driver writes, and the script that is left."""
+    script, driver = room / "script.txt", room / "driver.lua"
+    script.write_text(SCRIPT)
+    driver.write_text(DRIVER)
+    words = ["nvim", "--headless", "--clean", "--cmd", f"set runtimepath+={TOP}/editors/vim,{TOP}/editors/nvim", "--cmd", f"let g:raftbench_program = '{program}'",
+             script, "-c", f"luafile {driver}"]
+    done = subprocess.run(words, capture_output=True, timeout=MOST_SECONDS, text=True, stdin=subprocess.DEVNULL)
+    lines = [line.rstrip("\r") for line in (done.stderr + done.stdout).split("\n")]
+    return [" ".join(line.split()) for line in lines if line.strip() and not line.startswith('"')], script.read_text()
+
+
+def look(program):
+    """Texts for what is not as it must be; none where there is no nvim."""
+    if not shutil.which("nvim"):
+        return
+    with tempfile.TemporaryDirectory() as room:
+        lines, left = shown(program, pathlib.Path(room))
+    if (lines := [line for line in lines if line.split()[0] in ("raftbench", "there", "missing", "0")]) != DUE:
+        yield f"shown: {lines}"
+    if left != SCRIPT:
+        yield f"left: {left!r}"
