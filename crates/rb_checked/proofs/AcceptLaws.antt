@@ -97,30 +97,10 @@ unless-ok : (test : Bool) (fault : EditFault) (made : Result PlainScript EditFau
 unless-ok true fault made new e = absurd cc
 unless-ok false fault made new e = (refl, e)
 
-pub accepted_valid : (s new : PlainScript) (os : List (List Line)) → IsScript s → length os ≡ length s.blocks → edited s Accept os ≡ Ok new → IsScript new
-unfolding edited
-accepted_valid s new os h count e =
-    let first = unless-ok (not (list_all is_expectation os)) BadExpectation (fitting (with_outputs s os)) new e in
-    let second = unless-ok (nat_lt MAX_SCRIPT (length (text (with_outputs s os)))) TooLong (Ok (with_outputs s os)) new first.1 in
-    let good : list_all is_expectation os ≡ true = not_false (list_all is_expectation os) first.0 in
-    let short : length (text (with_outputs s os)) ≤ MAX_SCRIPT = grind (arith, nat_tests) in
-    let made : with_outputs s os ≡ new = cc in
-    subst IsScript made (record {
-      blocks = outputs_valid s.blocks os h.blocks good;
-      tail = h.tail;
-      tail_lines = h.tail_lines;
-      few = omega (arith, h.few, outputs_count s.blocks os count);
-      short_text = short;
-    })
-
 -- what the edit answered is that script, and is valid
 pub made_of : (r : Result PlainScript EditFault) (s : PlainScript) (os : List (List Line)) → Makes r (edited s Accept os) → IfOk r (λ new. new ≡ with_outputs s os)
 made_of (Ok new) s os made = sym (accepted s new os made)
 made_of (Err e) s os made = tt
-
-pub valid_of : (r : Result PlainScript EditFault) (s : PlainScript) (os : List (List Line)) → IsScript s → length os ≡ length s.blocks → Makes r (edited s Accept os) → IfOk r (λ new. IsScript new)
-valid_of (Ok new) s os valid count made = accepted_valid s new os valid count made
-valid_of (Err e) s os valid count made = tt
 
 -- ---- reading back
 

@@ -47,18 +47,6 @@ pub line_done : (takes : Bool) (output ls : List Line) (part : Part) (at left : 
 line_done takes output ls part at zero none = refl
 line_done takes output ls part at (suc left) none = absurd (omega (arith, none))
 
--- what fails is not read
-pub fails_unread : (fault : ScriptFault) (read : Result PlainBlock ScriptFault) → (fault ≡ faults.OutOfMemory → ⊥) → Fails fault read → is_read read ≡ false
-fails_unread faults.TooLong read other fails = ap is_read fails
-fails_unread (faults.LineTooLong line) read other fails = ap is_read fails
-fails_unread (faults.BadLine line) read other fails = ap is_read fails
-fails_unread (faults.NoSeparator line) read other fails = ap is_read fails
-fails_unread (faults.NotClosed line) read other fails = ap is_read fails
-fails_unread faults.TooManyDirectives read other fails = ap is_read fails
-fails_unread faults.NotOneBlock read other fails = ap is_read fails
-fails_unread (faults.TooManyArguments line) read other fails = ap is_read fails
-fails_unread faults.OutOfMemory read other fails = absurd (other refl)
-
 -- ---- a directive's input is its block's
 
 inputs_are : (inputs : List Line) (there : HeadThere) → (with_inputs inputs there).inputs ≡ inputs
