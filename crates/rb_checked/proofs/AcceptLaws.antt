@@ -1,19 +1,14 @@
 -- What is accepted and what is left, one directive after another.
-use Rattle.std.proofs.Common.{◌≡◌, ◌∙◌, ℕ, zero, suc, ◌+◌, ◌≤◌, Bool, true, false, List, [], ◌∷◌, ◌++◌, drop, length, Option, Some, Result, Ok, Err, refl, ap, sym, subst, arith}
-use Rattle.std.specs.Prelude.{slice_get, ◌&&◌, not, nat_lt, if◌then◌else◌, IfOk}
-use Rattle.std.specs.List.{list_all}
-use Rattle.std.proofs.lemmas.Bool.Decides.{nat_tests}
+use Rattle.std.proofs.Common.{◌≡◌, ◌∙◌, ℕ, zero, suc, ◌+◌, Bool, true, false, List, [], ◌∷◌, ◌++◌, drop, length, Some, Result, Ok, Err, refl, ap, sym, subst, arith}
+use Rattle.std.specs.Prelude.{slice_get, ◌&&◌, not, if◌then◌else◌, IfOk}
 use Rattle.std.proofs.lemmas.Option.{slice_get_within}
 use Rattle.rb_script.specs.declared.edit.Edit.TheVariants.{Accept}
 use Rattle.rb_script.specs.declared.fault.EditFault.{EditFault}
-use Rattle.rb_script.specs.declared.fault.EditFault.TheVariants.{BadExpectation, TooLong}
-use Rattle.rb_script.specs.declared.limits.TheConstants.{MAX_SCRIPT}
 use Rattle.rb_script.specs.Lines.{Line}
 use Rattle.rb_script.specs.Script.{PlainBlock, PlainScript, text, expecting, all_expecting, with_outputs}
 use Rattle.rb_script.specs.Valid.{IsScript}
 use Rattle.rb_script.specs.Reads.{Reads}
-use Rattle.rb_script.specs.Edits.{edited, unless, fitting, is_expectation, Makes}
-use Rattle.rb_script.proofs.SharedLaws.{outputs_count, outputs_valid}
+use Rattle.rb_script.specs.Edits.{edited, Makes}
 use Rattle.rb_script.proofs.ScriptLaws.{reads_once}
 use Rattle.rb_script.proofs.TextLaws.{text_reads}
 use Rattle.rb_replay.specs.Report.{same_lines}
@@ -87,17 +82,7 @@ accepted_len errors ls (n ∷ heads) [] os h e = absurd (omega (arith, h))
 accepted_len errors ls (n ∷ heads) (b ∷ bs) [] h e = absurd (omega (arith, e))
 accepted_len errors ls (n ∷ heads) (b ∷ bs) (o ∷ os) h e = let rest = accepted_len errors ls heads bs os (omega (arith, h)) (omega (arith, e)) in omega (arith, rest)
 
--- ---- what an accepting edit makes is a script
-
-not_false : (t : Bool) → not t ≡ false → t ≡ true
-not_false true e = refl
-not_false false e = absurd cc
-
-unless-ok : (test : Bool) (fault : EditFault) (made : Result PlainScript EditFault) (new : PlainScript) → unless test fault made ≡ Ok new → (test ≡ false) × (made ≡ Ok new)
-unless-ok true fault made new e = absurd cc
-unless-ok false fault made new e = (refl, e)
-
--- what the edit answered is that script, and is valid
+-- what the edit answered is that script
 pub made_of : (r : Result PlainScript EditFault) (s : PlainScript) (os : List (List Line)) → Makes r (edited s Accept os) → IfOk r (λ new. new ≡ with_outputs s os)
 made_of (Ok new) s os made = sym (accepted s new os made)
 made_of (Err e) s os made = tt

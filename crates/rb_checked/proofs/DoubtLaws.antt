@@ -1,25 +1,22 @@
 -- Warnings, one line and one directive after another.
-use Rattle.std.proofs.Common.{◌≡◌, ◌∙◌, ℕ, zero, suc, ◌+◌, ◌-◌, ◌<◌, Bool, true, false, List, [], ◌∷◌, ◌++◌, drop, length, Option, Some, None, Result, Ok, Err, refl, ap, sym, arith, append_assoc}
+use Rattle.std.proofs.Common.{◌≡◌, ◌∙◌, ℕ, zero, suc, ◌+◌, ◌-◌, ◌<◌, Bool, true, false, List, [], ◌∷◌, ◌++◌, drop, length, Some, None, refl, ap, sym, arith}
 use Rattle.std.specs.Prelude.{◌&&◌, ◌||◌, ◌==◌, if◌then◌else◌, slice_get, slice_index_or}
 use Rattle.std.specs.List.{list_all, list_any}
 use Rattle.std.specs.Str.{bytes_eq}
 use Rattle.std.proofs.lemmas.List.Folds.{list_all-append}
-use Rattle.rb_script.specs.declared.fault.ScriptFault.{ScriptFault}
-use Rattle.rb_script.specs.declared.fault.ScriptFault.TheVariants as faults
 use Rattle.rb_script.specs.Lines.{Line}
 use Rattle.rb_script.specs.Marks.{is_lead, is_separator}
 use Rattle.rb_script.specs.Script.{PlainBlock}
 use Rattle.rb_script.specs.Heads.{HeadThere, head_at, with_inputs}
 use Rattle.rb_script.specs.Joined.{joined}
 use Rattle.rb_script.specs.Reading.{directive_of}
-use Rattle.rb_script.specs.Results.{Fails}
 use Rattle.rb_replay.specs.Report.{same_lines}
 use Rattle.rb_check.specs.declared.doubt.Doubt.TheVariants.{InExpectation, InInput, Unread}
 use Rattle.rb_check.proofs.PieceLaws.{drop-get}
 use Rattle.rb_checked.specs.declared.part.Part.{Part}
 use Rattle.rb_checked.specs.declared.part.Part.TheVariants.{Head, Input, Expected}
 use Rattle.rb_checked.specs.declared.warning.Warning.{Warning}
-use Rattle.rb_checked.specs.Doubts.{is_read, looks_like_directive, takes_input, is_called_rightly, next_part, doubt_of, one_warning, warnings_from, block_warnings, last_line, all_warnings}
+use Rattle.rb_checked.specs.Doubts.{looks_like_directive, takes_input, is_called_rightly, next_part, doubt_of, one_warning, warnings_from, block_warnings, last_line, all_warnings}
 
 -- one directive more
 pub warnings_step : (ls : List Line) (heads : List ℕ) (bs : List PlainBlock) (os : List (List Line)) (i line : ℕ) (b : PlainBlock) (o : List Line)

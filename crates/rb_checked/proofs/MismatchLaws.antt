@@ -1,5 +1,5 @@
 -- What is shown where only what differs is: the mismatches. And where nothing is.
-use Rattle.std.proofs.Common.{◌≡◌, ◌∙◌, ℕ, zero, suc, ◌+◌, ◌-◌, ◌≤◌, Bool, true, false, List, [], ◌∷◌, ◌++◌, length, Option, None, refl, ap, sym, arith}
+use Rattle.std.proofs.Common.{◌≡◌, ◌∙◌, ℕ, suc, ◌+◌, ◌-◌, ◌≤◌, Bool, true, false, List, [], ◌∷◌, ◌++◌, length, Option, None, refl, ap, arith}
 use Rattle.std.specs.Prelude.{◌&&◌, ◌||◌, not, slice_index, slice_index_or}
 use Rattle.std.specs.List.{flat_map, list_any}
 use Rattle.rb_script.specs.Lines.{Line}

@@ -1,5 +1,5 @@
 -- What is shown of directives, one after another.
-use Rattle.std.proofs.Common.{◌≡◌, ◌∙◌, ℕ, suc, ◌+◌, ◌-◌, ◌≤◌, Bool, true, false, List, [], ◌∷◌, ◌++◌, length, drop, Option, Some, refl, ap, sym, arith, append_assoc}
+use Rattle.std.proofs.Common.{◌≡◌, ◌∙◌, ℕ, suc, ◌+◌, ◌-◌, ◌≤◌, Bool, true, false, List, [], ◌∷◌, ◌++◌, length, drop, Some, refl, ap, sym, arith}
 use Rattle.std.specs.Prelude.{◌&&◌, ◌||◌, slice_get, slice_index, slice_index_or}
 use Rattle.std.specs.List.{list_any}
 use Rattle.rb_script.specs.Lines.{Line}
@@ -15,8 +15,8 @@ use Rattle.rb_replay.proofs.DifferingLaws.{AreAtMost}
 use Rattle.rb_check.specs.declared.colors.Colors.{Colors}
 use Rattle.rb_check.specs.Briefs.{brief_text}
 use Rattle.rb_check.proofs.PieceLaws.{drop-get}
-use Rattle.rb_checked.specs.Checked.{mismatch_shown, mismatch_at, directive_shown, all_shown, brief_at, of_first, first_head, head_line, IsFirst}
-use Rattle.rb_checked.specs.Errors.{is_error, is_mark, marked, is_unexpected, error_count}
+use Rattle.rb_checked.specs.Checked.{mismatch_shown, mismatch_at, directive_shown, all_shown, brief_at, of_first, head_line, IsFirst}
+use Rattle.rb_checked.specs.Errors.{is_error, is_mark, marked, error_count}
 
 -- one directive more
 pub shown-step : (all : Bool) (colors : Colors) (ls : List Line) (path heads : List ℕ) (bs : List PlainBlock) (os : List (List Line)) (i line : ℕ) (b : PlainBlock) (o : List Line)

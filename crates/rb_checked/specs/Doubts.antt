@@ -9,7 +9,6 @@ use Rattle.rb_script.specs.Marks.{is_lead, is_separator, continues, rule}
 use Rattle.rb_script.specs.Script.{PlainBlock}
 use Rattle.rb_script.specs.Reading.{directive_of, block_of}
 use Rattle.rb_words.specs.Words.{words}
-use Rattle.rb_directive.specs.declared.name.Name.{Name}
 use Rattle.rb_directive.specs.declared.name.Name.TheVariants.{ProposeConfChange}
 use Rattle.rb_directive.specs.Names.{name_text}
 use Rattle.rb_replay.specs.Report.{same_lines}

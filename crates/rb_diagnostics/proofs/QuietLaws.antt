@@ -1,6 +1,6 @@
 -- A script of which nothing is said.
-use Rattle.std.proofs.Common.{◌≡◌, ◌∙◌, ℕ, ◌+◌, Bool, true, false, List, [], ◌∷◌, ◌++◌, refl, ap, sym}
-use Rattle.std.specs.Prelude.{◌&&◌, ◌||◌, not, if◌then◌else◌, codes, Option, Some, None}
+use Rattle.std.proofs.Common.{◌≡◌, ◌∙◌, ℕ, ◌+◌, Bool, true, false, List, [], ◌∷◌, refl, ap, sym}
+use Rattle.std.specs.Prelude.{◌&&◌, ◌||◌, not, codes, Option, None}
 use Rattle.std.specs.List.{list_any}
 use Rattle.rb_script.specs.Lines.{Line, lines}
 use Rattle.rb_script.specs.Script.{PlainBlock}
@@ -10,7 +10,7 @@ use Rattle.rb_replay.specs.Report.{same_lines, differing}
 use Rattle.rb_checked.specs.Errors.{is_error, is_unexpected, says_error}
 use Rattle.rb_diagnostics.specs.Diagnostics.{PlainDiagnostic}
 use Rattle.rb_diagnostics.specs.Heads.{heads_of}
-use Rattle.rb_diagnostics.specs.Findings.{before, diagnostics_of, error_output, finding, findings}
+use Rattle.rb_diagnostics.specs.Findings.{before, diagnostics_of, finding, findings}
 use Rattle.rb_diagnostics.specs.Texts.{list_text, listed}
 use Rattle.rb_diagnostics.specs.Published.{diagnose}
 use Rattle.rb_diagnostics.specs.Laws.{IsQuietText}

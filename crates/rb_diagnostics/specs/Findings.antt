@@ -11,7 +11,6 @@ use Rattle.rb_check.specs.Refusals.{sentence, fault_line}
 use Rattle.rb_check.specs.Diffs.{parts}
 use Rattle.rb_check.specs.Folds.{folded_text}
 use Rattle.rb_checked.specs.Errors.{first_line, is_unexpected}
-use Rattle.rb_diagnostics.specs.declared.diagnostic.Kind.{Kind}
 use Rattle.rb_diagnostics.specs.declared.diagnostic.Kind.TheVariants.{Mismatch, ErrorOutput, NoScript}
 use Rattle.rb_diagnostics.specs.Heads.{heads_of}
 use Rattle.rb_diagnostics.specs.Diagnostics.{PlainDiagnostic}

@@ -1,5 +1,5 @@
 -- On which lines of a script the heads of its directives begin, by reading its blocks one after another. (docs/SCRIPT-FORMAT.md. Lines
--- count from 1. Heads.heads_are says that they are those of rb_script's HeadLines.)
+-- count from 1. HeadLaws.heads_are says that they are those of rb_script's HeadLines.)
 use Rattle.std.specs.Prelude.{ℕ, ◌+◌, List, [], ◌∷◌, length, Result, Ok, Err}
 use Rattle.rb_script.specs.declared.fault.ScriptFault.{ScriptFault}
 use Rattle.rb_script.specs.Lines.{Line, lines}

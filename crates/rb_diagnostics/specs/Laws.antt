@@ -1,20 +1,15 @@
 -- What holds of what is published. (This project's.)
-use Rattle.std.specs.Prelude.{◌≡◌, ◌⊎◌, ℕ, false, List, [], Option, codes}
+use Rattle.std.specs.Prelude.{◌≡◌, ◌⊎◌, ℕ, false, List, [], Option}
 use Rattle.std.specs.List.{list_any}
 use Rattle.serde_json.specs.Data.{Data}
 use Rattle.rb_script.specs.Script.{PlainScript}
 use Rattle.rb_script.specs.Reads.{Reads}
-use Rattle.rb_document.specs.declared.position.Encoding.{Encoding}
 use Rattle.rb_replay.specs.Run.{outputs}
 use Rattle.rb_replay.specs.Report.{mismatches}
-use Rattle.rb_rpc.specs.Messages.{frame}
 use Rattle.rb_rpc.specs.Said.{notification}
-use Rattle.rb_server.specs.Notices.{publication}
-use Rattle.rb_server.specs.Documents.{text_of}
 use Rattle.rb_server.specs.Replies.{PlainServer, On, told_of, turned_by}
 use Rattle.rb_server.specs.Laws.{Publishes}
 use Rattle.rb_checked.specs.Errors.{is_error}
-use Rattle.rb_diagnostics.specs.Findings.{diagnostics_of, of_script}
 use Rattle.rb_diagnostics.specs.Published.{diagnose}
 
 -- whatever was sent before: what goes out for a notification is what one fresh run of a document's text gives, as the text then stands

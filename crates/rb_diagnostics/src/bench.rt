@@ -1,6 +1,6 @@
 //! The language server of scripts.
 
-ghost use Rattle.std.specs.Prelude.{◌≡◌, IfOk, OnErr};
+ghost use Rattle.std.specs.Prelude.{IfOk, OnErr};
 ghost use Rattle.rb_server.specs.Serves.{BreaksOff, Served};
 ghost use Rattle.rb_diagnostics.specs.Published.{diagnose};
 

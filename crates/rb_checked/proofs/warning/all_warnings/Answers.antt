@@ -1,7 +1,6 @@
-use Rattle.std.proofs.Common.{◌≡◌, ◌∙◌, ℕ, ◌+◌, ◌++◌, List, drop, ap, sym, arith, append_assoc, append-nil}
+use Rattle.std.proofs.Common.{◌∙◌, ℕ, ◌+◌, ◌++◌, List, drop, ap, sym, arith, append_assoc, append-nil}
 use Rattle.std.proofs.lemmas.List.{drop_all}
 use Rattle.rb_replay.specs.Run.{outputs}
-use Rattle.rb_replay.proofs.RunLaws.{both}
 use Rattle.rb_checked.specs.declared.warning.Warning.{Warning}
 use Rattle.rb_checked.specs.Doubts.{block_warnings, last_line, all_warnings}
 use Rattle.rb_checked.proofs.DoubtLaws.{warnings_step, warnings_done}

@@ -1,4 +1,4 @@
-use Rattle.std.proofs.Common.{◌≡◌, ◌∙◌, ◌+◌, ◌≤◌, List, [], ◌++◌, length, drop, ap, sym, append-nil, arith}
+use Rattle.std.proofs.Common.{◌∙◌, ◌+◌, ◌≤◌, List, ◌++◌, length, drop, ap, sym, append-nil, arith}
 use Rattle.std.specs.Prelude.{Option}
 use Rattle.std.proofs.lemmas.List.{drop_all}
 use Rattle.rb_replay.specs.Run.{outputs}
