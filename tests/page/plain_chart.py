@@ -16,6 +16,7 @@ from xml.sax.saxutils import escape
 sys.dont_write_bytecode = True
 sys.path.insert(0, str(pathlib.Path(__file__).resolve().parents[2]))
 
+from plain.script import read_script  # noqa: E402
 from plain_steps import rows_of  # noqa: E402
 
 SLOT, ROW_TOP, ROW_BOTTOM, HEADING = 18, 25, 8, 34
@@ -178,9 +179,6 @@ class Drafter:
         self.chart.rows.append(self.row)
         self.sent = []
 
-    def read_head(self, text):
-        self.row.head.append(shown(text))
-
     def read_ready(self, id):
         self.ready, self.sent = id, []
 
@@ -255,11 +253,14 @@ class Drafter:
 def chart_of(data, name, until=None):
     """The places of all that a script's picture has; of the directives up to the one at a line where there is one."""
     drafter = Drafter(name if until is None else f"{name}, up to line {until}")
+    heads = (block.head for block in read_script(data).blocks)
     for row in rows_of(data, name):
         if row[0] == "step" and until is not None and row[1] > until:
             break
-        if row[0] not in ("raftbench", "lead", "input", "output", "expected", "mismatch"):
+        if row[0] not in ("raftbench", "text", "output", "expected", "mismatch"):
             drafter.read(*row)
+        if row[0] == "step":
+            drafter.row.head += map(shown, next(heads))
     drafter.end_row()
     return drafter.chart
 

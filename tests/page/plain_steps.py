@@ -156,8 +156,8 @@ class Kept:
     def rows(self, node):
         """What of a node is not as it was."""
         yield from self.number_rows(node)
-        yield from self.log_rows(node)
         yield from self.view_rows(node)
+        yield from self.log_rows(node)
 
     def number_rows(self, node):
         if numbers_of(node) != self.numbers:
@@ -181,11 +181,11 @@ class Kept:
 
     def view_rows(self, node):
         views = {id: view_cells(view) for id, view in node.views.items()}
-        for id in sorted(set(self.views) - set(views)):
-            yield ["no-view", node.id, id]
         for id in sorted(views):
             if views[id] != self.views.get(id):
                 yield ["view", node.id, id, *views[id]]
+        for id in sorted(set(self.views) - set(views)):
+            yield ["no-view", node.id, id]
         self.views = views
 
 
@@ -205,11 +205,9 @@ def rows_of(data, name):
     """The rows of a script's page; a Fault where it is refused."""
     script, cluster, kept, wrong = read_script(data), Watched(), {}, 0
     yield ["raftbench", FORMAT, name]
+    yield ["text", data]
     for block, line in zip(script.blocks, read_with_lines(data)[1]):
-        yield from (["lead", text] for text in block.lead)
         yield ["step", line]
-        yield from (["head", text] for text in block.head)
-        yield from (["input", text] for text in block.input)
         output = tuple(text.encode() for text in cluster.run(block.directive()))
         yield from (["output", text] for text in output)
         if output != block.expected:
@@ -218,7 +216,6 @@ def rows_of(data, name):
             yield from (["expected", text] for text in block.expected)
         yield from cluster.rows
         yield from state_rows(cluster, kept)
-    yield from (["lead", text] for text in script.tail)
     yield ["end", len(script.blocks), wrong]
 
 

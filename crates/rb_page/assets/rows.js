@@ -150,9 +150,61 @@ class Spans {
   }
 }
 
+// The lines of a script, cut into the parts of its directives. docs/SCRIPT-FORMAT.md has the rules; here the script is known to keep them.
+class Source {
+  constructor(text) {
+    this.lines = text.split("\n").map((line) => line.replace(/\r+$/, ""));
+    if (this.lines[this.lines.length - 1] === "") {
+      this.lines.pop();
+    }
+    // The first line behind what was read.
+    this.next = 0;
+  }
+
+  // The block whose head begins on this line, from 1 on.
+  block(line) {
+    const lead = this.lines.slice(this.next, line - 1);
+    let at = line;
+    while (/\\[ \t]*$/.test(this.lines[at - 1]) && at < this.lines.length) {
+      at += 1;
+    }
+    const head = this.lines.slice(line - 1, at);
+    const from = at;
+    while (at < this.lines.length && !/^[ \t]*----[ \t]*$/.test(this.lines[at])) {
+      at += 1;
+    }
+    this.next = this.behindExpectation(at + 1);
+    return { lead: lead.map(shown), head: head.map(shown), input: this.lines.slice(from, at).map(shown) };
+  }
+
+  // The line behind the expectation that begins here, and behind one blank line.
+  behindExpectation(start) {
+    const isRule = (at) => this.lines[at] === "----";
+    const isBlank = (at) => /^[ \t]*$/.test(this.lines[at]);
+    let at = start;
+    if (isRule(at)) {
+      at += 1;
+      while (at < this.lines.length && !(isRule(at) && isRule(at + 1))) {
+        at += 1;
+      }
+      at += 2;
+    } else {
+      while (at < this.lines.length && !isBlank(at)) {
+        at += 1;
+      }
+    }
+    return at < this.lines.length && isBlank(at) ? at + 1 : at;
+  }
+
+  rest() {
+    return this.lines.slice(this.next).map(shown);
+  }
+}
+
 class Reader {
   constructor() {
     this.name = "";
+    this.source = null;
     this.steps = [];
     this.messages = [];
     this.nodes = [];
@@ -160,7 +212,6 @@ class Reader {
     this.tail = [];
     this.isWhole = false;
     this.mail = new Mail();
-    this.lead = [];
     this.step = null;
     this.readyNode = 0;
     this.logNode = null;
@@ -225,22 +276,15 @@ const ROWS = {
     }
     this.name = shown(name);
   },
-  lead([text]) {
-    this.lead.push(shown(text));
+  text([bytes]) {
+    this.source = new Source(bytes);
   },
   step([line]) {
     const place = this.steps.length + 1;
-    this.step = { place, line, lead: this.lead, head: [], input: [], output: [], expected: null, events: [], changed: [] };
-    this.lead = [];
+    this.step = { place, line, ...this.source.block(line), output: [], expected: null, events: [], changed: [] };
     this.steps.push(this.step);
     this.readyNode = 0;
     this.sentByReady = 0;
-  },
-  head([text]) {
-    this.step.head.push(shown(text));
-  },
-  input([text]) {
-    this.step.input.push(shown(text));
   },
   output([text]) {
     this.step.output.push(shown(text));
@@ -316,7 +360,7 @@ const ROWS = {
     this.node(id).views.get(member).set(this.step.place, null);
   },
   end() {
-    this.tail = this.lead;
+    this.tail = this.source.rest();
     this.isWhole = true;
   },
 };
