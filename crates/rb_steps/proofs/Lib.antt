@@ -1,0 +1,4 @@
+pub mod KeepLaws
+pub mod LogLaws
+pub mod StateLaws
+pub mod StepLaws

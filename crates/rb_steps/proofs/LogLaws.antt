@@ -1,0 +1,233 @@
+-- Logs that are compared entry by entry.
+use Rattle.std.proofs.Common.{◌≡◌, ◌∙◌, ℕ, suc, ◌+◌, ◌-◌, ◌<◌, ◌≤◌, ◌⊎◌, inl, inr, Bool, true, false, List, [], ◌∷◌, ◌++◌, length, drop, Option, Some, None, Ok, Err, refl, ap, sym, subst, arith}
+use Rattle.std.specs.Prelude.{◌&&◌, ◌==◌, not, min, if◌then◌else◌, codes, slice_get, Decides}
+use Rattle.std.specs.Str.{bytes_eq}
+use Rattle.std.proofs.lemmas.Slice.Eq.{bytes_eq-Decides}
+use Rattle.std.proofs.lemmas.Bool.{and_parts, le-leb}
+use Rattle.std.proofs.lemmas.Bool.Decides.{Decides-eqb, leb_tells, nat_tests}
+use Rattle.std.proofs.lemmas.List.{drop_all}
+use Rattle.std.proofs.lemmas.Option.{slice_get_cases}
+use Rattle.rb_raftlog.specs.declared.entry.Body.{Body}
+use Rattle.rb_raftlog.specs.declared.entry.Body.TheVariants as bodies
+use Rattle.rb_raftlog.specs.declared.entry.Entry.{Entry}
+use Rattle.rb_raftlog.specs.declared.entry.Transition.{Transition}
+use Rattle.rb_raftlog.specs.declared.entry.Transition.TheVariants as transitions
+use Rattle.rb_raftlog.specs.declared.entry.Word.{Word}
+use Rattle.rb_raftlog.specs.declared.entry.WordKind.{WordKind}
+use Rattle.rb_raftlog.specs.declared.entry.WordKind.TheVariants as kinds
+use Rattle.rb_raftlog.specs.declared.raft_log.LogFault.{LogFault}
+use Rattle.rb_raftlog.specs.Log.{LogValue, last, entries_after, entry_at, found}
+use Rattle.rb_script.specs.Lines.{Line}
+use Rattle.rb_texts.specs.Entries.{transition_text, letter}
+use Rattle.rb_page.specs.ItemRows.{entry_row}
+use Rattle.rb_page.specs.Kept.{texts_of}
+use Rattle.rb_page.specs.Rows.{Row, next_text}
+use Rattle.rb_page.proofs.KeptLaws.{left_some}
+use Rattle.rb_steps.proofs.KeepLaws.{both, one_part}
+use Rattle.rb_steps.specs.Logs.{common, entry_rows, is_same_log, log_changes, log_from, same_word, same_words, same_body, same_entry, stays}
+
+-- ---- which entries are the same
+
+same_transition : (a b : Transition) → bytes_eq (transition_text a) (transition_text b) ≡ true → a ≡ b
+same_transition transitions.Auto transitions.Auto e = refl
+same_transition transitions.Auto transitions.Explicit e = absurd cc
+same_transition transitions.Auto transitions.Implicit e = absurd cc
+same_transition transitions.Explicit transitions.Auto e = absurd cc
+same_transition transitions.Explicit transitions.Explicit e = refl
+same_transition transitions.Explicit transitions.Implicit e = absurd cc
+same_transition transitions.Implicit transitions.Auto e = absurd cc
+same_transition transitions.Implicit transitions.Explicit e = absurd cc
+same_transition transitions.Implicit transitions.Implicit e = refl
+
+same_kind : (a b : WordKind) → bytes_eq (letter a) (letter b) ≡ true → a ≡ b
+same_kind kinds.Voter kinds.Voter e = refl
+same_kind kinds.Voter kinds.Learner e = absurd cc
+same_kind kinds.Voter kinds.Remove e = absurd cc
+same_kind kinds.Voter kinds.Update e = absurd cc
+same_kind kinds.Learner kinds.Voter e = absurd cc
+same_kind kinds.Learner kinds.Learner e = refl
+same_kind kinds.Learner kinds.Remove e = absurd cc
+same_kind kinds.Learner kinds.Update e = absurd cc
+same_kind kinds.Remove kinds.Voter e = absurd cc
+same_kind kinds.Remove kinds.Learner e = absurd cc
+same_kind kinds.Remove kinds.Remove e = refl
+same_kind kinds.Remove kinds.Update e = absurd cc
+same_kind kinds.Update kinds.Voter e = absurd cc
+same_kind kinds.Update kinds.Learner e = absurd cc
+same_kind kinds.Update kinds.Remove e = absurd cc
+same_kind kinds.Update kinds.Update e = refl
+
+same_kind-refl : (a : WordKind) → bytes_eq (letter a) (letter a) ≡ true
+same_kind-refl a = (bytes_eq-Decides (letter a) (letter a)).1 refl
+
+same_word-is : (a b : Word) → same_word a b ≡ true → a ≡ b
+same_word-is a b e =
+    let parts = and_parts (bytes_eq (letter a.kind) (letter b.kind)) (a.id == b.id) e in
+    both (λ (kind : WordKind) (id : ℕ). record { kind = kind; id = id }) (same_kind a.kind b.kind parts.0) ((Decides-eqb a.id b.id).0 parts.1)
+
+same_word-refl : (a : Word) → same_word a a ≡ true
+same_word-refl a = both (λ (x y : Bool). x && y) (same_kind-refl a.kind) ((Decides-eqb a.id a.id).1 refl)
+
+same_words-are : (xs ys : List Word) → same_words xs ys ≡ true → xs ≡ ys
+same_words-are [] [] e = refl
+same_words-are [] (y ∷ ys) e = absurd cc
+same_words-are (x ∷ xs) [] e = absurd cc
+same_words-are (x ∷ xs) (y ∷ ys) e =
+    let parts = and_parts (same_word x y) (same_words xs ys) e in
+    both (λ (w : Word) (ws : List Word). w ∷ ws) (same_word-is x y parts.0) (same_words-are xs ys parts.1)
+
+same_words-refl : (xs : List Word) → same_words xs xs ≡ true
+same_words-refl [] = refl
+same_words-refl (x ∷ xs) = both (λ (s t : Bool). s && t) (same_word-refl x) (same_words-refl xs)
+
+same_body-is : (a b : Body) → same_body a b ≡ true → a ≡ b
+same_body-is (bodies.Payload a) (bodies.Payload b) e = ap bodies.Payload ((bytes_eq-Decides a b).0 e)
+same_body-is (bodies.Payload a) (bodies.Change t ws) e = absurd cc
+same_body-is (bodies.Change t ws) (bodies.Payload b) e = absurd cc
+same_body-is (bodies.Change t ws) (bodies.Change u vs) e =
+    let parts = and_parts (bytes_eq (transition_text t) (transition_text u)) (same_words ws vs) e in
+    both bodies.Change (same_transition t u parts.0) (same_words-are ws vs parts.1)
+
+same_body-refl : (a : Body) → same_body a a ≡ true
+same_body-refl (bodies.Payload a) = (bytes_eq-Decides a a).1 refl
+same_body-refl (bodies.Change t ws) = both (λ (x y : Bool). x && y) ((bytes_eq-Decides (transition_text t) (transition_text t)).1 refl) (same_words-refl ws)
+
+same_entry-is : (a b : Entry) → same_entry a b ≡ true → a ≡ b
+same_entry-is a b e =
+    let parts = and_parts (a.term == b.term) (same_body a.body b.body) e in
+    both (λ (term : ℕ) (body : Body). record { term = term; body = body }) ((Decides-eqb a.term b.term).0 parts.0) (same_body-is a.body b.body parts.1)
+
+same_entry-refl : (a : Entry) → same_entry a a ≡ true
+same_entry-refl a = both (λ (x y : Bool). x && y) ((Decides-eqb a.term a.term).1 refl) (same_body-refl a.body)
+
+pub same_entry-Decides : (a b : Entry) → Decides (same_entry a b) (a ≡ b)
+same_entry-Decides a b = (same_entry-is a b, λ e. subst (λ (x : Entry). same_entry a x ≡ true) e (same_entry-refl a))
+
+-- ---- entry by entry
+
+-- the entries past an index are those after the first one of them
+pub after_first : (v : LogValue) (i : ℕ) (e : Entry) → v.base ≤ i → slice_get v.entries (i + 1 - v.base - 1) ≡ Some e → entries_after v i ≡ e ∷ entries_after v (i + 1)
+after_first v i e above got =
+    let at : i + 1 - v.base - 1 ≡ i - v.base = omega (arith, above) in
+    let next : i - v.base + 1 ≡ i + 1 - v.base = omega (arith, above) in
+    left_some v.entries (i - v.base) e (ap (λ (k : ℕ). slice_get v.entries k) (sym at) ∙ got) ∙ ap (λ (k : ℕ). e ∷ drop k v.entries) next
+
+pub after_last : (v : LogValue) (i : ℕ) → last v ≤ i → entries_after v i ≡ []
+after_last v i past = drop_all (i - v.base) v.entries (omega (arith, past))
+
+entry_past : (v : LogValue) (i : ℕ) → v.base < i → entry_at v i ≡ found (slice_get v.entries (i - v.base - 1))
+entry_past v i h = grind (arith, nat_tests)
+
+found_is : (o : Option Entry) (e : Entry) → found o ≡ Ok e → o ≡ Some e
+found_is None e h = absurd cc
+found_is (Some d) e h = let same : d ≡ e = cc in ap (λ x. Some x) same
+
+not_found : (o : Option Entry) (f : LogFault) → found o ≡ Err f → o ≡ None
+not_found None f h = refl
+not_found (Some d) f h = absurd cc
+
+pub past_all : {X : Type 0} → (xs : List X) (i : ℕ) → slice_get xs i ≡ None → length xs ≤ i
+past_all xs i h = elim (slice_get_cases xs i).1 [ inl w ↦ absurd (let none : slice_get xs i ≡ None = h in let some : slice_get xs i ≡ Some w.0 = w.2 in cc) | inr w ↦ w.0 ]
+
+pub entry_there : (v : LogValue) (i : ℕ) (e : Entry) → v.base < i → entry_at v i ≡ Ok e → slice_get v.entries (i - v.base - 1) ≡ Some e
+entry_there v i e h is = found_is (slice_get v.entries (i - v.base - 1)) e (sym (entry_past v i h) ∙ is)
+
+-- there is an entry at each index past the base, up to the last
+pub entry_held : (v : LogValue) (i : ℕ) (f : LogFault) → v.base < i → i ≤ last v → entry_at v i ≡ Err f → ⊥
+entry_held v i f above below is =
+    let past : length v.entries ≤ i - v.base - 1 = past_all v.entries (i - v.base - 1) (not_found _ f (sym (entry_past v i above) ∙ is)) in
+    omega arith
+
+-- ---- where the comparison begins, goes on and ends
+
+pub stays_from : (old new : LogValue) → old.base ≤ new.base → stays old new ≡ new.base + common (entries_after old new.base) (entries_after new new.base)
+stays_from old new le =
+    let none : new.base - new.base ≡ 0 = omega arith in
+    ap (λ (t : Bool). new.base + common (if t then entries_after old new.base else []) new.entries) (le-leb old.base new.base le)
+    ∙ ap (λ (k : ℕ). new.base + common (entries_after old new.base) (drop k new.entries)) (sym none)
+
+pub stays_on : (old new : LogValue) (whole i : ℕ) (x y : Entry) → old.base ≤ i → new.base ≤ i → slice_get old.entries (i + 1 - old.base - 1) ≡ Some x → slice_get new.entries (i + 1 - new.base - 1) ≡ Some y → same_entry x y ≡ true
+    → whole ≡ i + common (entries_after old i) (entries_after new i) → whole ≡ i + 1 + common (entries_after old (i + 1)) (entries_after new (i + 1))
+stays_on old new whole i x y above past got other same inv =
+    let here : common (entries_after old i) (entries_after new i) ≡ common (entries_after old (i + 1)) (entries_after new (i + 1)) + 1 =
+    both common (after_first old i x above got) (after_first new i y past other) ∙ (rw same refl) in
+    omega (arith, here, inv)
+
+pub stays_over : (old new : LogValue) (whole i : ℕ) (x y : Entry) → old.base ≤ i → new.base ≤ i → slice_get old.entries (i + 1 - old.base - 1) ≡ Some x → slice_get new.entries (i + 1 - new.base - 1) ≡ Some y → same_entry x y ≡ false
+    → whole ≡ i + common (entries_after old i) (entries_after new i) → i ≡ whole
+stays_over old new whole i x y above past got other is_other inv =
+    let here : common (entries_after old i) (entries_after new i) ≡ 0 = both common (after_first old i x above got) (after_first new i y past other) ∙ (rw is_other refl) in
+    omega (arith, here, inv)
+
+common_none : (xs : List Entry) → common xs [] ≡ 0
+common_none [] = refl
+common_none (x ∷ xs) = refl
+
+pub stays_end : (old new : LogValue) (whole i : ℕ) → (last old ≤ i) ⊎ (last new ≤ i) → whole ≡ i + common (entries_after old i) (entries_after new i) → i ≡ whole
+stays_end old new whole i (inl past) inv =
+    let here : common (entries_after old i) (entries_after new i) ≡ 0 = ap (λ (l : List Entry). common l (entries_after new i)) (after_last old i past) in
+    omega (arith, here, inv)
+stays_end old new whole i (inr past) inv =
+    let here : common (entries_after old i) (entries_after new i) ≡ 0 = ap (λ (l : List Entry). common (entries_after old i) l) (after_last new i past) ∙ common_none (entries_after old i) in
+    omega (arith, here, inv)
+
+-- one entry more is there, and one less is left
+pub entries_more : (v : LogValue) (i : ℕ) (e : Entry) (before after all : List Line) → v.base < i → slice_get v.entries (i - v.base - 1) ≡ Some e → after ≡ before ++ next_text (entry_row (codes "entry") i e) ∷ []
+    → before ++ texts_of (entry_rows i (entries_after v (i - 1))) ≡ all → after ++ texts_of (entry_rows (i + 1) (entries_after v (i + 1 - 1))) ≡ all
+entries_more v i e before after all above got adds inv =
+    let prior : i - 1 + 1 ≡ i = omega (arith, above) in
+    let next : i + 1 - 1 ≡ i = omega arith in
+    let there : slice_get v.entries (i - 1 + 1 - v.base - 1) ≡ Some e = ap (λ (k : ℕ). slice_get v.entries (k - v.base - 1)) prior ∙ got in
+    let split : entries_after v (i - 1) ≡ e ∷ entries_after v (i + 1 - 1) = after_first v (i - 1) e (omega (arith, above)) there ∙ ap (λ (k : ℕ). e ∷ entries_after v k) (prior ∙ sym next) in
+    one_part before after (next_text (entry_row (codes "entry") i e) ∷ []) (texts_of (entry_rows i (entries_after v (i - 1)))) (texts_of (entry_rows (i + 1) (entries_after v (i + 1 - 1)))) all
+    (ap (λ (es : List Entry). texts_of (entry_rows i es)) split) adds inv
+
+-- ---- tests
+
+pub is_false : (t : Bool) → not t ≡ true → t ≡ false
+is_false true e = absurd cc
+is_false false e = refl
+
+pub is_true : (t : Bool) → not t ≡ false → t ≡ true
+is_true true e = refl
+is_true false e = absurd cc
+
+pub min_le : (a b i : ℕ) → min a b ≤ i → (b ≤ i) ⊎ (a ≤ i)
+min_le a b i h = elim (leb_tells a i) [ inl w ↦ inr w.1 | inr w ↦ inl (omega (arith, h, w.1)) ]
+
+-- ---- a log that stays, and how many rows a log has
+
+common_own : (es : List Entry) → common es es ≡ length es
+common_own [] = refl
+common_own (e ∷ es) =
+    let one : common (e ∷ es) (e ∷ es) ≡ common es es + 1 = ap (λ (t : Bool). if t then common es es + 1 else 0) (same_entry-refl e) in
+    omega (arith, one, common_own es)
+
+stays_own : (v : LogValue) → stays v v ≡ last v
+stays_own v =
+    let none : v.base - v.base ≡ 0 = omega arith in
+    stays_from v v (omega arith) ∙ ap (λ (k : ℕ). v.base + common (drop k v.entries) (drop k v.entries)) none ∙ ap (λ (n : ℕ). v.base + n) (common_own v.entries)
+
+own_same : (v : LogValue) → is_same_log v v ≡ true
+own_same v =
+    let base : (v.base == v.base) ≡ true = (Decides-eqb v.base v.base).1 refl in
+    let term : (v.base_term == v.base_term) ≡ true = (Decides-eqb v.base_term v.base_term).1 refl in
+    let all : (stays v v == last v) ≡ true = (Decides-eqb (stays v v) (last v)).1 (stays_own v) in
+    ap (λ (t : Bool). t && v.base_term == v.base_term && stays v v == last v && stays v v == last v) base
+    ∙ ap (λ (t : Bool). true && t && stays v v == last v && stays v v == last v) term ∙ ap (λ (t : Bool). true && true && t && t) all
+
+pub log_still : (id : ℕ) (v : LogValue) → log_changes id v v ≡ []
+log_still id v = ap (λ (t : Bool). if t then [] else log_from id v (stays v v)) (own_same v)
+
+entries_count : (index : ℕ) (es : List Entry) → length (entry_rows index es) ≡ length es
+entries_count index [] = refl
+entries_count index (e ∷ es) = ap (λ (k : ℕ). suc k) (entries_count (index + 1) es)
+
+log_by : (t : Bool) (rs : List Row) → length (if t then [] else rs) ≤ length rs
+log_by true rs = omega arith
+log_by false rs = omega arith
+
+pub few_log : (id : ℕ) (old new : LogValue) → length (log_changes id old new) ≤ 1 + length (entries_after new (stays old new))
+few_log id old new =
+    let index = stays old new in
+    omega (arith, log_by (is_same_log old new) (log_from id new index), entries_count (index + 1) (entries_after new index))

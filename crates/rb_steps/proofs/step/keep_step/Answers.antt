@@ -1,0 +1,14 @@
+use Rattle.std.proofs.Common.{◌∙◌, ◌++◌, List, ap}
+use Rattle.rb_script.specs.Lines.{Line}
+use Rattle.rb_page.specs.Kept.{texts_of}
+use Rattle.rb_steps.specs.Steps.{script_rows}
+use Rattle.rb_steps.proofs.StepLaws.{step_kept}
+use Rattle.rb_steps.proofs.step.keep_step.Goals as goal
+
+pub returns-clause-texts : goal.returns-clause-texts
+returns-clause-texts g c =
+    step_kept c.args.line c.args.cluster.now c.in_ok-after.after c.args.block.now c.in_ok-after.output c.in_ok-rows.rows
+    c.args.texts.now c.keep_script.new.texts c.keep_texts.new.texts c.keep_changes.new.texts
+    c.in_ok-after.ensures.output c.in_ok-rows.ensures c.in_ok-after.ensures.cluster
+    (c.in_ok-keep_script.ensures ∙ ap (λ (ls : List Line). c.args.texts.now ++ texts_of (script_rows c.args.line ls c.in_ok-after.output)) c.expected.ensures)
+    c.in_ok-keep_texts.ensures c.in_ok-keep_changes.ensures

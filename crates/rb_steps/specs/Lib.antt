@@ -1,0 +1,5 @@
+pub mod Rows
+pub mod Logs
+pub mod States
+pub mod Steps
+pub mod Pages

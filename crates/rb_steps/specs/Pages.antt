@@ -1,0 +1,21 @@
+-- The text of a script's steps. (docs/PAGE.md.)
+use Rattle.std.specs.Prelude.{ℕ, codes, List, [], ◌∷◌, ◌++◌}
+use Rattle.rb_script.specs.Lines.{Line}
+use Rattle.rb_script.specs.Script.{PlainScript}
+use Rattle.rb_page.specs.declared.row.Place.TheVariants.{First}
+use Rattle.rb_page.specs.Kept.{joined}
+use Rattle.rb_page.specs.Rows.{Row, row, number, text, before, row_text}
+use Rattle.rb_steps.specs.declared.page.TheConstants.{FORMAT}
+use Rattle.rb_steps.specs.Steps.{steps_texts}
+
+-- the format of the rows, and the script's name
+abbrev pub first_row : List ℕ → Row
+first_row name = row (codes "raftbench") (number FORMAT ∷ text name ∷ [])
+
+-- the rows of these texts behind the first
+abbrev pub rows_joined : List ℕ → List Line → List ℕ
+rows_joined name texts = (before First ++ row_text (first_row name)) ++ (joined texts ++ codes "]\n")
+
+-- the text of a script's steps
+abbrev pub steps_text : List ℕ → List ℕ → List ℕ → PlainScript → List ℕ
+steps_text name bytes heads s = rows_joined name (steps_texts bytes heads s)

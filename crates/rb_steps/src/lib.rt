@@ -1,0 +1,22 @@
+//! What the run of a script is, step by step, as a page shows it.
+//!
+//! [`steps_of`] runs the directives of a session once more and keeps, as texts of rows (docs/PAGE.md), what stands in the script, what each
+//! directive printed, what it did whatever the level is, and what stands after it that didn't stand so before. So the rows grow with
+//! what happens, and not with nodes times directives. [`put_page`] writes them, and a page around them. Nothing is written before all
+//! memory is there.
+#![tactic(auto)]
+
+mod fresh;
+mod laws;
+mod log;
+mod node;
+mod page;
+mod script;
+mod step;
+mod steps;
+
+pub use laws::{
+    changes_have_few_rows, steps_are_inert, steps_are_rows, what_stands_still_has_no_row,
+};
+pub use page::{FORMAT, Frame, put_page, put_steps};
+pub use steps::steps_of;

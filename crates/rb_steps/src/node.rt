@@ -1,0 +1,212 @@
+//! How nodes stand, and what of that is not as it was.
+
+ghost use Rattle.std.specs.Prelude.{◌≡◌, ◌<◌, ◌∷◌, [], ◌++◌, IfOk, OnOk, MatchOption, None, Some, length, slice_get};
+ghost use Rattle.rb_texts.specs.States.{progress_state_text};
+ghost use Rattle.rb_page.specs.Kept.{texts_of};
+ghost use Rattle.rb_steps.specs.Rows.{new_rows};
+ghost use Rattle.rb_steps.specs.States.{added_rows, changed_rows, config_row, gone_of, gone_rows, no_view_row, node_row, node_rows, standing, state_rows, view_row, view_rows};
+
+use crate::fresh::keep_new;
+use crate::log::{keep_log, keep_log_from};
+use rb_node::Node;
+use rb_page::{Cell, flag, keep_row, role_name};
+use rb_raftlog::RaftLog;
+use rb_script::Lines;
+use rb_step::State;
+use rb_tracker::{Progress, ProgressState, Tracker};
+use std::alloc::{AllocError, Global};
+
+// What the state of a view is called.
+fn state_name(state: ProgressState) -> &'static [u8]
+    ensures { result.now ≡ progress_state_text state }
+{
+    match state {
+        ProgressState::Probe => b"probe",
+        ProgressState::Replicate => b"replicate",
+        ProgressState::Snapshot => b"snapshot",
+    }
+}
+
+// ---- what stands
+
+fn keep_node<L: RaftLog>(texts: &mut Lines, state: &State<L>) -> Result<(), AllocError>
+    ensures { OnOk result (texts.new ≡ texts.old ++ texts_of (node_row state.now ∷ [])) }
+{
+    let cells = [
+        Cell::Number(state.id),
+        Cell::Text(role_name(state.role)),
+        Cell::Number(state.term),
+        Cell::Number(state.vote),
+        Cell::Number(state.lead),
+        Cell::Number(state.commit),
+        Cell::Number(state.applied),
+        Cell::Number(state.log.durable()),
+        Cell::Number(state.content.len() as u64),
+        Cell::Text(state.content.end()),
+    ];
+    keep_row(texts, b"node", &cells)
+}
+
+fn keep_config<L: RaftLog>(texts: &mut Lines, state: &State<L>) -> Result<(), AllocError>
+    ensures { OnOk result (texts.new ≡ texts.old ++ texts_of (config_row state.now ∷ [])) }
+{
+    let cells = [Cell::Number(state.id), Cell::Config(state.tracker.config())];
+    keep_row(texts, b"config", &cells)
+}
+
+fn keep_view(texts: &mut Lines, id: u64, member: u64, view: &Progress) -> Result<(), AllocError>
+    ensures { OnOk result (texts.new ≡ texts.old ++ texts_of (view_row id (member, view.now) ∷ [])) }
+{
+    let cells = [
+        Cell::Number(id),
+        Cell::Number(member),
+        Cell::Text(state_name(view.state())),
+        Cell::Number(view.matched()),
+        Cell::Number(view.next()),
+        Cell::Number(view.window().len() as u64),
+        Cell::Number(flag(view.waiting())),
+        Cell::Number(view.pending()),
+        Cell::Number(flag(view.active())),
+    ];
+    keep_row(texts, b"view", &cells)
+}
+
+fn keep_views(texts: &mut Lines, id: u64, tracker: &Tracker) -> Result<(), AllocError>
+    ensures { OnOk result (texts.new ≡ texts.old ++ texts_of (view_rows id tracker.now.views)) }
+{
+    for i in 0..tracker.len() {
+        let (member, view) = tracker.view(i);
+        keep_view(texts, id, member, view)?;
+    }
+    Ok(())
+}
+
+// Adds the rows of all of a node but its log.
+fn keep_standing<L: RaftLog>(texts: &mut Lines, state: &State<L>) -> Result<(), AllocError>
+    ensures { OnOk result (texts.new ≡ texts.old ++ texts_of (standing state.now)) }
+{
+    keep_node(texts, state)?;
+    keep_config(texts, state)?;
+    keep_views(texts, state.id, &state.tracker)
+}
+
+// The rows of all of a node but its log.
+fn standing<L: RaftLog>(alloc: Global, state: &State<L>) -> Result<Lines, AllocError>
+    ensures { IfOk result (λ texts. texts ≡ texts_of (standing state.now)) }
+{
+    let mut texts = Lines::new(alloc);
+    keep_standing(&mut texts, state)?;
+    Ok(texts)
+}
+
+// ---- what is not as it was
+
+fn keep_no_view(texts: &mut Lines, id: u64, member: u64) -> Result<(), AllocError>
+    ensures { OnOk result (texts.new ≡ texts.old ++ texts_of (no_view_row id member ∷ [])) }
+{
+    keep_row(texts, b"no-view", &[Cell::Number(id), Cell::Number(member)])
+}
+
+// Adds a member, where there is no view of it any more.
+fn keep_if_gone(texts: &mut Lines, id: u64, member: u64, new: &Tracker) -> Result<(), AllocError>
+    ensures { OnOk result (texts.new ≡ texts.old ++ texts_of (gone_of id new.now.views member)) }
+{
+    if new.has_view(member) {
+        return Ok(());
+    }
+    keep_no_view(texts, id, member)
+}
+
+// Adds the members of which there is no view any more.
+fn keep_gone(texts: &mut Lines, id: u64, old: &Tracker, new: &Tracker) -> Result<(), AllocError>
+    ensures { OnOk result (texts.new ≡ texts.old ++ texts_of (gone_rows id old.now.views new.now.views)) }
+{
+    for i in 0..old.len() {
+        let (member, _) = old.view(i);
+        keep_if_gone(texts, id, member, new)?;
+    }
+    Ok(())
+}
+
+// Adds all of a node that wasn't there.
+fn keep_added<L: RaftLog>(texts: &mut Lines, new: &State<L>) -> Result<(), AllocError>
+    ensures { OnOk result (texts.new ≡ texts.old ++ texts_of (added_rows new.now)) }
+{
+    keep_standing(texts, new)?;
+    keep_log_from(texts, new.id, &new.log, new.log.first_index() - 1)
+}
+
+// Adds what of a node's numbers, configuration and views is not as it was.
+fn keep_restated<L: RaftLog>(
+    alloc: Global,
+    texts: &mut Lines,
+    old: &State<L>,
+    new: &State<L>,
+) -> Result<(), AllocError>
+    ensures { OnOk result (texts.new ≡ texts.old ++ texts_of (new_rows (standing old.now) (standing new.now))) }
+{
+    let olds = standing(alloc, old)?;
+    let news = standing(alloc, new)?;
+    keep_new(texts, &olds, &news)?;
+    Ok(())
+}
+
+// Adds what of a node is not as it was.
+fn keep_changed<L: RaftLog>(
+    alloc: Global,
+    texts: &mut Lines,
+    old: &State<L>,
+    new: &State<L>,
+) -> Result<(), AllocError>
+    ensures { OnOk result (texts.new ≡ texts.old ++ texts_of (changed_rows old.now new.now)) }
+{
+    keep_restated(alloc, texts, old, new)?;
+    keep_gone(texts, new.id, &old.tracker, &new.tracker)?;
+    keep_log(texts, new.id, &old.log, &new.log)
+}
+
+// The node at an index, where there is one.
+fn old_at<L: RaftLog>(olds: &[Node<L>], index: usize) -> Option<&Node<L>>
+    ensures { MatchOption result (slice_get olds.now index ≡ None) (λ node. slice_get olds.now index ≡ Some node.now) }
+{
+    olds.get(index)
+}
+
+// The node at an index.
+fn node_at<L: RaftLog>(nodes: &[Node<L>], index: usize) -> &Node<L>
+    requires { index < length nodes.now }
+    ensures { slice_get nodes.now index ≡ Some result.now }
+{
+    &nodes[index]
+}
+
+// Adds what of the node at an index is not as it was, or all of it where it wasn't there.
+fn keep_either<L: RaftLog>(
+    alloc: Global,
+    texts: &mut Lines,
+    olds: &[Node<L>],
+    index: usize,
+    new: &Node<L>,
+) -> Result<(), AllocError>
+    ensures { OnOk result (texts.new ≡ texts.old ++ texts_of (node_rows (slice_get olds.now index) new.now)) }
+{
+    match old_at(olds, index) {
+        Some(old) => keep_changed(alloc, texts, old.status(), new.status()),
+        None => keep_added(texts, new.status()),
+    }
+}
+
+/// Adds what of the nodes is not as it was, where these were before.
+pub(crate) fn keep_states<L: RaftLog>(
+    alloc: Global,
+    texts: &mut Lines,
+    olds: &[Node<L>],
+    news: &[Node<L>],
+) -> Result<(), AllocError>
+    ensures { OnOk result (texts.new ≡ texts.old ++ texts_of (state_rows olds.now news.now)) }
+{
+    for i in 0..news.len() {
+        keep_either(alloc, texts, olds, i, node_at(news, i))?;
+    }
+    Ok(())
+}

@@ -1,0 +1,49 @@
+//! A page.
+
+ghost use Rattle.std.specs.Prelude.{◌++◌, IsOk};
+ghost use Rattle.rb_script.specs.Writes.{Writes};
+ghost use Rattle.rb_steps.specs.Pages.{rows_joined};
+
+use rb_page::{Cell, Place, put_end, put_row, put_texts};
+use rb_script::{Lines, Sink, WriteFault};
+
+/// The format of the rows.
+pub const FORMAT: u64 = 1;
+
+/// What stands before the text of the steps in a page, and what stands behind it.
+#[derive(Clone, Copy)]
+pub struct Frame<'a> {
+    pub front: &'a [u8],
+    pub back: &'a [u8],
+}
+
+/// Writes the text of the steps that these rows are, of a script of this name. Takes no memory. On a failure what went out is a
+/// beginning of the text.
+pub fn put_steps<S: Sink>(sink: &mut S, name: &[u8], steps: &Lines) -> Result<(), WriteFault>
+    ensures wrote { Writes result (S.held sink.old) (S.held sink.new) (rows_joined name.now steps.now) }
+    ensures all { S.takes_all sink.old → IsOk result × S.takes_all sink.new }
+{
+    put_row(
+        sink,
+        Place::First,
+        b"raftbench",
+        &[Cell::Number(FORMAT), Cell::Text(name)],
+    )?;
+    put_texts(sink, steps)?;
+    put_end(sink)
+}
+
+/// Writes a page of them.
+pub fn put_page<S: Sink>(
+    sink: &mut S,
+    frame: Frame<'_>,
+    name: &[u8],
+    steps: &Lines,
+) -> Result<(), WriteFault>
+    ensures wrote { Writes result (S.held sink.old) (S.held sink.new) (frame.entry.front.now ++ (rows_joined name.now steps.now ++ frame.entry.back.now)) }
+    ensures all { S.takes_all sink.old → IsOk result × S.takes_all sink.new }
+{
+    sink.put(frame.front)?;
+    put_steps(sink, name, steps)?;
+    sink.put(frame.back)
+}

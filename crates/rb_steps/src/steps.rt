@@ -1,0 +1,88 @@
+//! All directives of a run.
+
+ghost use Rattle.std.specs.Prelude.{◌≡◌, ◌<◌, ◌≤◌, ◌∷◌, [], ◌++◌, IfOk, OnOk, Some, length, slice_get};
+ghost use Rattle.std.specs.List.{flat_map};
+ghost use Rattle.rb_script.specs.declared.limits.TheConstants.{MAX_DIRECTIVES};
+ghost use Rattle.rb_page.specs.Kept.{texts_of};
+ghost use Rattle.rb_steps.specs.Steps.{end_row, source_row, step_texts, steps, steps_texts};
+
+use crate::step::keep_step;
+use rb_cluster::Cluster;
+use rb_machine::Machine;
+use rb_page::{Cell, keep_row};
+use rb_raftlog::RaftLog;
+use rb_replay::Session;
+use rb_script::{Block, Lines};
+use std::alloc::{AllocError, Global};
+
+// The block of the directive at an index, which counts from 0.
+fn block_at<M: Machine>(session: &Session<M>, index: usize) -> &Block
+    requires few { length session.now.script.blocks ≤ MAX_DIRECTIVES }
+    requires within { index < length session.now.script.blocks }
+    ensures { slice_get session.now.script.blocks index ≡ Some result.now }
+{
+    session.block(index + 1).unwrap()
+}
+
+// The number at an index, which counts from 0.
+fn number_at(numbers: &[usize], index: usize) -> usize
+    requires { index < length numbers.now }
+    ensures { slice_get numbers.now index ≡ Some result }
+{
+    numbers[index]
+}
+
+// Adds the rows of the directives.
+fn keep_directives<L: RaftLog>(
+    alloc: Global,
+    texts: &mut Lines,
+    session: &Session<Cluster<L>>,
+    heads: &[usize],
+) -> Result<(), AllocError>
+    requires { length heads.now ≡ length session.now.script.blocks }
+    ensures { OnOk result (texts.new ≡ texts.old ++ flat_map step_texts (steps heads.now session.now.script)) }
+{
+    let mut cluster: Cluster<L> = Machine::empty(alloc)?;
+    for i in 0..session.len() {
+        let block = block_at(session, i);
+        let after = keep_step(alloc, texts, &cluster, block, number_at(heads, i))?;
+        cluster = after;
+    }
+    Ok(())
+}
+
+// Adds how many directives and mismatches there are.
+fn keep_end<M: Machine>(texts: &mut Lines, session: &Session<M>) -> Result<(), AllocError>
+    ensures { OnOk result (texts.new ≡ texts.old ++ texts_of (end_row session.now.script ∷ [])) }
+{
+    let cells = [
+        Cell::Number(session.len() as u64),
+        Cell::Number(session.mismatches().len() as u64),
+    ];
+    keep_row(texts, b"end", &cells)?;
+    Ok(())
+}
+
+// Adds the bytes of a script.
+fn keep_source(texts: &mut Lines, bytes: &[u8]) -> Result<(), AllocError>
+    ensures { OnOk result (texts.new ≡ texts.old ++ texts_of (source_row bytes.now ∷ [])) }
+{
+    keep_row(texts, b"text", &[Cell::Text(bytes)])
+}
+
+/// The rows of a session's script behind the first, each as a text, where these are its bytes and the lines on which its heads begin.
+pub fn steps_of<L: RaftLog>(
+    alloc: Global,
+    session: &Session<Cluster<L>>,
+    bytes: &[u8],
+    heads: &[usize],
+) -> Result<Lines, AllocError>
+    requires { length heads.now ≡ length session.now.script.blocks }
+    ensures { IfOk result (λ texts. texts ≡ steps_texts bytes.now heads.now session.now.script) }
+{
+    let mut texts = Lines::new(alloc);
+    keep_source(&mut texts, bytes)?;
+    keep_directives(alloc, &mut texts, session, heads)?;
+    keep_end(&mut texts, session)?;
+    Ok(texts)
+}
