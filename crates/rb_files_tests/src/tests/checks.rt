@@ -43,6 +43,7 @@ fn mismatch(
         &block.directive(),
         &expected,
         &output,
+        b"",
         colors,
         &mut table,
     )
@@ -76,7 +77,7 @@ fn shows_a_directive(rt: HostRuntime) {
     let output = lines(&rt, rt.alloc(), &[b"ok", b""]);
     let block = block(&rt, rt.alloc(), b"log-level info\n----\n");
     let mut out = Through(Vec::new(rt.alloc()));
-    put_directive(&mut out, PLACE, &block.directive(), &output).expect(&rt, "memory");
+    put_directive(&mut out, PLACE, &block.directive(), &output, b"").expect(&rt, "memory");
     assert_eq!(rt;
         out.0.as_slice(),
         b"a/b.txt:12: log-level info\n  ok\n  $\n".as_slice()
