@@ -37,9 +37,10 @@ def diagnostic(text, line, encoding, severity, code, message):
 
 
 def of_report(text, report, encoding):
-    """Those that a report of `check` shows: a heading with a diff below it, up to an empty line, or a heading that ends in an error."""
+    """Those that a report of `check` shows: a heading with a diff below it, up to an empty line, or a heading that ends in an error. Its
+    warnings, and the word that was probably meant, are for terminals alone."""
     found = []
-    lines = report.split("\n")[:-2]
+    lines = [it for it in report.split("\n")[:-2] if not re.match(r"script:\d+: warning: |did you mean ", it)]
     at = 0
     while at < len(lines):
         heading = HEADING.match(lines[at])
