@@ -2,7 +2,6 @@
 typed, and is gone when it is mended and the script saved.
 """
 import pathlib
-import shutil
 import subprocess
 import tempfile
 
@@ -54,9 +53,7 @@ def shown(program, room):
 
 
 def look(program):
-    """Texts for what is not as it must be; none where there is no nvim."""
-    if not shutil.which("nvim"):
-        return
+    """Texts for what is not as it must be."""
     with tempfile.TemporaryDirectory() as room:
         lines, left = shown(program, pathlib.Path(room))
     if (lines := [line for line in lines if line.split()[0] in ("raftbench", "there", "missing", "0")]) != DUE:
