@@ -6,11 +6,11 @@
 ghost use Rattle.std.specs.Prelude.{◌≡◌, ◌≤◌, IfOk, length};
 
 use crate::answers::{block_at, number_at};
-use crate::part::{Part, is_blank, is_rule};
+use crate::part::Part;
 use crate::text::next_line;
 use rb_machine::Machine;
 use rb_replay::Session;
-use rb_script::{Block, Lines, without_returns};
+use rb_script::{Block, Lines, is_blank, is_rule, without_returns};
 use std::alloc::{AllocError, Global};
 
 // What is made so far, and the bytes that are left, with the number of their first line.

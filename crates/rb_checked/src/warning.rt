@@ -16,14 +16,14 @@ use crate::answers::{block_at, number_at, output_at};
 use crate::errors::is_lead;
 use crate::layout::{Layout, layout_of};
 use crate::names::begins_with_name;
-use crate::part::{Part, is_separator};
+use crate::part::Part;
 use crate::put::is_same;
 use crate::text::is_same_text;
 use rb_check::Doubt;
 use rb_directive::Name;
 use rb_machine::Machine;
 use rb_replay::Session;
-use rb_script::{Block, Lines, ScriptFault};
+use rb_script::{Block, Lines, ScriptFault, is_separator};
 use std::alloc::{AllocError, Global};
 
 /// A line that looks like a slip.

@@ -2,7 +2,7 @@
 use Rattle.std.proofs.Common.{◌≡◌, ℕ, ◌<◌, ◌≤◌, false, min, List, [], ◌∷◌, Option, Some, None, Result, Ok, Err, refl, sym, ap, ◌∙◌, arith, nat_le, nat_lt, true}
 use Rattle.std.proofs.lemmas.Bool.{leb-false, ltb-false}
 use Rattle.rb_raftlog.specs.declared.raft_log.CompactFault.{CompactFault}
-use Rattle.rb_raftlog.specs.declared.raft_log.CompactFault.TheVariants.{AlreadyCompacted, PastApplied}
+use Rattle.rb_raftlog.specs.declared.raft_log.CompactFault.TheVariants.{AlreadyCompacted, PastApplied, OutOfMemory}
 use Rattle.rb_raftlog.specs.declared.raft_log.LogFault.{LogFault}
 use Rattle.rb_raftlog.specs.Log.{LogValue, compact_fault, compacted, term_at}
 use Rattle.rb_tracker.proofs.SetLaws.{if_both}
@@ -114,3 +114,6 @@ pub compacted_past : (old new : PlainNode) (index : ℕ) → IsCompactedTo old i
 compacted_past old new index is =
     with_log old new old.log is.0.1 is.1
     ∙ sym (unless_some (compact_fault old.log index (min old.applied old.log.durable)) PastApplied old index is.0.0)
+
+pub compacted_without_memory : (old new : PlainNode) (index : ℕ) → IsCompactedTo old index (Err OutOfMemory) new → new ≡ old
+compacted_without_memory old new index is = with_log old new old.log is.0.1 is.1

@@ -1,6 +1,6 @@
 //! What a node keeps, whatever is done with it.
 ghost use Rattle.std.specs.Prelude.{◌≡◌, ◌≤◌, ◌<◌, ◌⊎◌, ◌+◌, ◌++◌, ℕ, Bool, true, false, List, length, All, Contains, Result, Ok, Err};
-ghost use Rattle.rb_raftlog.specs.declared.raft_log.CompactFault.TheVariants.{AlreadyCompacted, PastApplied};
+ghost use Rattle.rb_raftlog.specs.declared.raft_log.CompactFault.TheVariants.{AlreadyCompacted, PastApplied, OutOfMemory};
 ghost use Rattle.rb_raftlog.specs.declared.snapshot.Snapshot.{Snapshot};
 ghost use Rattle.rb_raftlog.specs.Laws.{AreMatching, AreOfLog};
 ghost use Rattle.rb_raftlog.specs.Log.{LogValue, entry_at, term_at, is_term};
@@ -61,6 +61,7 @@ pub fn calls_are_these()
     ensures compacted { (old new : PlainNode) (index : ℕ) (done : Unit {0}) → IsCompactedTo old index (Ok done) new → new ≡ compacted_to old index }
     ensures already { (old new : PlainNode) (index : ℕ) → IsCompactedTo old index (Err AlreadyCompacted) new → new ≡ compacted_to old index }
     ensures past { (old new : PlainNode) (index : ℕ) → IsCompactedTo old index (Err PastApplied) new → new ≡ compacted_to old index }
+    ensures memory { (old new : PlainNode) (index : ℕ) → IsCompactedTo old index (Err OutOfMemory) new → new ≡ old }
 {}
 
 /// Events are only added, whatever is called: none is taken back or changed, and none comes before an earlier one.

@@ -170,10 +170,10 @@ abbrev pub compacted : LogValue → ℕ → Result ℕ LogFault → LogValue
 compacted v i (Ok term) = record v { base = i; base_term = term; entries = drop (i - v.base) v.entries }
 compacted v i (Err _) = v
 
--- what compacting comes to; for want of memory nothing is said of the log
+-- what compacting comes to
 abbrev pub IsCompacted : LogValue → ℕ → ℕ → Result (Unit {0}) CompactFault → LogValue → Type 0
 IsCompacted v i applied (Ok _) w = (compact_fault v i applied ≡ None) × (w ≡ compacted v i (term_at v i))
-IsCompacted v i applied (Err OutOfMemory) w = compact_fault v i applied ≡ None
+IsCompacted v i applied (Err OutOfMemory) w = (compact_fault v i applied ≡ None) × (w ≡ v)
 IsCompacted v i applied (Err AlreadyCompacted) w = (compact_fault v i applied ≡ Some AlreadyCompacted) × (w ≡ v)
 IsCompacted v i applied (Err PastApplied) w = (compact_fault v i applied ≡ Some PastApplied) × (w ≡ v)
 

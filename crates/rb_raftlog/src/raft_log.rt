@@ -9,7 +9,7 @@
 //! durable index. In what is said of costs, n is the number of entries, p the number of pages, about n / 64, and t how many entries
 //! aren't durable. A copy of an entry costs a pointer.
 
-ghost use Rattle.std.specs.Prelude.{◌≡◌, ◌+◌, ◌<◌, ◌≤◌, ◌↔◌, Ok, Err, length, IsTrue, IfOk, IfErr, OnOk};
+ghost use Rattle.std.specs.Prelude.{◌≡◌, ◌≢◌, ◌+◌, ◌<◌, ◌≤◌, ◌↔◌, Ok, Err, length, IsTrue, IfOk, IfErr, OnOk};
 ghost use Rattle.rb_raftlog.specs.Log.{LogValue, IsLog, IsCompacted, fresh, first, last, last_term, is_up_to_date, term_at, entry_at, entries_from, entries_after, has_change, hint, appended, answer, own, not_durable, made_durable, restored};
 
 use crate::entries::Entries;
@@ -157,7 +157,8 @@ pub trait RaftLog: Drop {
     /// others; a plain one moves the entries that stay. Neither takes memory.
     fn compact(&mut self, index: u64, applied: u64) -> Result<(), CompactFault>
         requires { applied ≤ (plain self.old).durable }
-        ensures { IsCompacted (plain self.old) index applied result (plain self.new) };
+        ensures value { IsCompacted (plain self.old) index applied result (plain self.new) }
+        ensures memory { result ≢ Err CompactFault.OutOfMemory };
 
     /// Puts a snapshot in the place of all entries, which are dropped. It takes no memory.
     fn restore(&mut self, snapshot: &Snapshot)

@@ -39,7 +39,7 @@ pub use laws::{
 };
 pub use limits::{MAX_ARGUMENTS, MAX_DIRECTIVES, MAX_LINE, MAX_SCRIPT, MAX_VALUES, limits_are};
 pub use lines::{Lines, without_returns};
-pub use marks::{is_space, without_front};
+pub use marks::{continues, is_blank, is_rule, is_separator, is_space, without_front};
 pub use script::Script;
 pub use sink::{Sink, Through, WriteFault};
 pub use span::Span;

@@ -1,5 +1,5 @@
 use Rattle.std.proofs.Common.{refl}
-use Rattle.rb_node_laws.proofs.CallLaws.{compacted_is, compacted_already, compacted_past}
+use Rattle.rb_node_laws.proofs.CallLaws.{compacted_is, compacted_already, compacted_past, compacted_without_memory}
 use Rattle.rb_node_laws.proofs.laws.calls_are_these.Goals as goal
 
 pub returns-clause-compacted : goal.returns-clause-compacted
@@ -10,6 +10,9 @@ returns-clause-already c = compacted_already
 
 pub returns-clause-past : goal.returns-clause-past
 returns-clause-past c = compacted_past
+
+pub returns-clause-memory : goal.returns-clause-memory
+returns-clause-memory c = compacted_without_memory
 
 pub returns-clause-step : goal.returns-clause-step
 returns-clause-step c = λ t m. refl
