@@ -2,3 +2,4 @@ pub mod KeepLaws
 pub mod LogLaws
 pub mod StateLaws
 pub mod StepLaws
+pub mod WrittenLaws

@@ -1,5 +1,7 @@
 -- The text of a script's steps. (docs/PAGE.md.)
 use Rattle.std.specs.Prelude.{ℕ, codes, List, [], ◌∷◌, ◌++◌}
+use Rattle.std.specs.Borrow.{Bor}
+use Rattle.std.specs.List.{flat_map}
 use Rattle.rb_script.specs.Lines.{Line}
 use Rattle.rb_script.specs.Script.{PlainScript}
 use Rattle.rb_page.specs.declared.row.Place.TheVariants.{First}
@@ -19,3 +21,13 @@ rows_joined name texts = (before First ++ row_text (first_row name)) ++ (joined 
 -- the text of a script's steps
 abbrev pub steps_text : List ℕ → List ℕ → List ℕ → PlainScript → List ℕ
 steps_text name bytes heads s = rows_joined name (steps_texts bytes heads s)
+
+-- ---- a page
+
+-- parts of a text, one after another
+abbrev pub parts_joined : List (Bor (List ℕ)) → List ℕ
+parts_joined parts = flat_map (λ (part : Bor (List ℕ)). part.now) parts
+
+-- the rows between what stands before them and what stands behind
+abbrev pub page_joined : List (Bor (List ℕ)) → List (Bor (List ℕ)) → List ℕ → List Line → List ℕ
+page_joined front back name texts = parts_joined front ++ (rows_joined name texts ++ parts_joined back)

@@ -2,7 +2,7 @@
 
 ghost use Rattle.std.specs.Prelude.{◌++◌, IsOk};
 ghost use Rattle.rb_script.specs.Writes.{Writes};
-ghost use Rattle.rb_steps.specs.Pages.{rows_joined};
+ghost use Rattle.rb_steps.specs.Pages.{page_joined, parts_joined, rows_joined};
 
 use rb_page::{Cell, Place, put_end, put_row, put_texts};
 use rb_script::{Lines, Sink, WriteFault};
@@ -10,11 +10,22 @@ use rb_script::{Lines, Sink, WriteFault};
 /// The format of the rows.
 pub const FORMAT: u64 = 1;
 
-/// What stands before the text of the steps in a page, and what stands behind it.
+/// What stands before the text of the steps in a page, and what stands behind it, each in parts.
 #[derive(Clone, Copy)]
 pub struct Frame<'a> {
-    pub front: &'a [u8],
-    pub back: &'a [u8],
+    pub front: &'a [&'a [u8]],
+    pub back: &'a [&'a [u8]],
+}
+
+// Writes parts of a text, one after another.
+fn put_parts<S: Sink>(sink: &mut S, parts: &[&[u8]]) -> Result<(), WriteFault>
+    ensures wrote { Writes result (S.held sink.old) (S.held sink.new) (parts_joined parts.now) }
+    ensures all { S.takes_all sink.old → IsOk result × S.takes_all sink.new }
+{
+    for part in parts {
+        sink.put(part)?;
+    }
+    Ok(())
 }
 
 /// Writes the text of the steps that these rows are, of a script of this name. Takes no memory. On a failure what went out is a
@@ -40,10 +51,10 @@ pub fn put_page<S: Sink>(
     name: &[u8],
     steps: &Lines,
 ) -> Result<(), WriteFault>
-    ensures wrote { Writes result (S.held sink.old) (S.held sink.new) (frame.entry.front.now ++ (rows_joined name.now steps.now ++ frame.entry.back.now)) }
+    ensures wrote { Writes result (S.held sink.old) (S.held sink.new) (page_joined frame.entry.front.now frame.entry.back.now name.now steps.now) }
     ensures all { S.takes_all sink.old → IsOk result × S.takes_all sink.new }
 {
-    sink.put(frame.front)?;
+    put_parts(sink, frame.front)?;
     put_steps(sink, name, steps)?;
-    sink.put(frame.back)
+    put_parts(sink, frame.back)
 }

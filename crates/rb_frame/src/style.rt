@@ -1,0 +1,631 @@
+//! The style of a page. Made of assets/page.css by `tests/page/assemble.py sources`.
+
+/// The style.
+#[rattlefmt::skip]
+pub(crate) const STYLE: &[u8] = b"\
+\n\
+:root {\n\
+\x20 color-scheme: light dark;\n\
+\x20 --paper: #ffffff;\n\
+\x20 --panel: #f7f8fa;\n\
+\x20 --ink: #1b1f24;\n\
+\x20 --faint: #5d6672;\n\
+\x20 --rule: #dfe3e8;\n\
+\x20 --chosen: #e9f0fe;\n\
+\x20 --accent: #2461d8;\n\
+\x20 --bad: #c0261c;\n\
+\x20 --bad-paper: #fdeeec;\n\
+\x20 --good: #1a7f43;\n\
+\x20 --good-paper: #e8f6ed;\n\
+\x20 --leader: #218a4b;\n\
+\x20 --candidate: #d08a12;\n\
+\x20 --precandidate: #b39a2e;\n\
+\x20 --follower: #a3abb6;\n\
+\x20 --vote: #a85a06;\n\
+\x20 --append: #2461d8;\n\
+\x20 --heartbeat: #69727e;\n\
+\x20 --snapshot: #8237bd;\n\
+\x20 --proposal: #0a7a75;\n\
+\x20 --mono: ui-monospace, \"SF Mono\", \"Cascadia Mono\", \"Segoe UI Mono\", \"DejaVu Sans Mono\", Menlo, Consolas, monospace;\n\
+\x20 --sans: system-ui, -apple-system, \"Segoe UI\", Roboto, \"Helvetica Neue\", \"DejaVu Sans\", Arial, sans-serif;\n\
+}\n\
+\n\
+@media (prefers-color-scheme: dark) {\n\
+\x20 :root {\n\
+\x20   --paper: #14171c;\n\
+\x20   --panel: #1b1f26;\n\
+\x20   --ink: #e4e7eb;\n\
+\x20   --faint: #98a2af;\n\
+\x20   --rule: #2e343d;\n\
+\x20   --chosen: #1d2b47;\n\
+\x20   --accent: #7ba7ff;\n\
+\x20   --bad: #ff8278;\n\
+\x20   --bad-paper: #3a1f1e;\n\
+\x20   --good: #63cf8b;\n\
+\x20   --good-paper: #17301f;\n\
+\x20   --leader: #3fae6b;\n\
+\x20   --candidate: #d99a2b;\n\
+\x20   --precandidate: #b8a244;\n\
+\x20   --follower: #656e7a;\n\
+\x20   --vote: #e0a050;\n\
+\x20   --append: #7ba7ff;\n\
+\x20   --heartbeat: #98a2af;\n\
+\x20   --snapshot: #c58df0;\n\
+\x20   --proposal: #4fc4bd;\n\
+\x20 }\n\
+}\n\
+\n\
+* {\n\
+\x20 box-sizing: border-box;\n\
+}\n\
+\n\
+html,\n\
+body {\n\
+\x20 height: 100%;\n\
+\x20 margin: 0;\n\
+}\n\
+\n\
+body {\n\
+\x20 display: flex;\n\
+\x20 flex-direction: column;\n\
+\x20 background: var(--paper);\n\
+\x20 color: var(--ink);\n\
+\x20 font: 13px/1.45 var(--sans);\n\
+}\n\
+\n\
+#top {\n\
+\x20 display: flex;\n\
+\x20 flex-wrap: wrap;\n\
+\x20 align-items: baseline;\n\
+\x20 gap: 2px 18px;\n\
+\x20 padding: 9px 16px;\n\
+\x20 border-bottom: 1px solid var(--rule);\n\
+}\n\
+\n\
+#top h1 {\n\
+\x20 margin: 0;\n\
+\x20 font-size: 15px;\n\
+\x20 overflow-wrap: anywhere;\n\
+}\n\
+\n\
+#top p {\n\
+\x20 margin: 0;\n\
+\x20 color: var(--faint);\n\
+}\n\
+\n\
+#counts.bad {\n\
+\x20 color: var(--bad);\n\
+\x20 font-weight: 600;\n\
+}\n\
+\n\
+#where {\n\
+\x20 font-variant-numeric: tabular-nums;\n\
+}\n\
+\n\
+#keys {\n\
+\x20 display: flex;\n\
+\x20 gap: 14px;\n\
+\x20 margin: 0 0 0 auto;\n\
+\x20 padding: 0;\n\
+\x20 list-style: none;\n\
+\x20 color: var(--faint);\n\
+}\n\
+\n\
+kbd {\n\
+\x20 display: inline-block;\n\
+\x20 min-width: 18px;\n\
+\x20 margin-right: 3px;\n\
+\x20 padding: 0 4px;\n\
+\x20 border: 1px solid var(--rule);\n\
+\x20 border-bottom-width: 2px;\n\
+\x20 border-radius: 4px;\n\
+\x20 background: var(--panel);\n\
+\x20 font: 11px/16px var(--sans);\n\
+\x20 text-align: center;\n\
+}\n\
+\n\
+#notice {\n\
+\x20 margin: 24px 16px;\n\
+}\n\
+\n\
+#panes {\n\
+\x20 display: grid;\n\
+\x20 flex: 1;\n\
+\x20 grid-template-columns: minmax(250px, 24%) minmax(0, 1fr) minmax(270px, 22%);\n\
+\x20 min-height: 0;\n\
+}\n\
+\n\
+#panes[hidden],\n\
+#notice[hidden] {\n\
+\x20 display: none;\n\
+}\n\
+\n\
+#panes > section {\n\
+\x20 min-height: 0;\n\
+\x20 min-width: 0;\n\
+}\n\
+\n\
+section:focus-visible,\n\
+#scroll:focus-visible {\n\
+\x20 outline: 2px solid var(--accent);\n\
+\x20 outline-offset: -2px;\n\
+}\n\
+\n\
+/* The script: lines of one height, wrapped by the page itself, so that it knows where each stands. */\n\
+\n\
+#script {\n\
+\x20 position: relative;\n\
+\x20 overflow: hidden auto;\n\
+\x20 border-right: 1px solid var(--rule);\n\
+\x20 font: 12px/18px var(--mono);\n\
+}\n\
+\n\
+#script .measure {\n\
+\x20 position: absolute;\n\
+\x20 visibility: hidden;\n\
+}\n\
+\n\
+#script .extent {\n\
+\x20 width: 1px;\n\
+}\n\
+\n\
+.block {\n\
+\x20 position: absolute;\n\
+\x20 left: 0;\n\
+\x20 right: 0;\n\
+\x20 padding: 3px 8px 3px 0;\n\
+\x20 border-left: 3px solid transparent;\n\
+\x20 cursor: pointer;\n\
+}\n\
+\n\
+.block.chosen {\n\
+\x20 border-left-color: var(--accent);\n\
+\x20 background: var(--chosen);\n\
+}\n\
+\n\
+.block .row {\n\
+\x20 display: flex;\n\
+\x20 height: 18px;\n\
+\x20 tab-size: 1;\n\
+\x20 white-space: pre;\n\
+}\n\
+\n\
+.block .number {\n\
+\x20 flex: 0 0 54px;\n\
+\x20 padding-right: 10px;\n\
+\x20 color: var(--faint);\n\
+\x20 text-align: right;\n\
+}\n\
+\n\
+.block .comment {\n\
+\x20 color: var(--faint);\n\
+\x20 font-style: italic;\n\
+}\n\
+\n\
+.block .head {\n\
+\x20 font-weight: 600;\n\
+}\n\
+\n\
+.block .output {\n\
+\x20 color: var(--faint);\n\
+}\n\
+\n\
+.block .wrong,\n\
+.block .removed {\n\
+\x20 color: var(--bad);\n\
+}\n\
+\n\
+.block .added {\n\
+\x20 color: var(--good);\n\
+}\n\
+\n\
+.block .removed {\n\
+\x20 background: var(--bad-paper);\n\
+}\n\
+\n\
+.block .added {\n\
+\x20 background: var(--good-paper);\n\
+}\n\
+\n\
+.block .text {\n\
+\x20 flex: 1;\n\
+\x20 overflow: hidden;\n\
+}\n\
+\n\
+/* The picture. */\n\
+\n\
+#picture {\n\
+\x20 display: flex;\n\
+\x20 flex-direction: column;\n\
+}\n\
+\n\
+#heads {\n\
+\x20 position: relative;\n\
+\x20 flex: 0 0 42px;\n\
+\x20 overflow: hidden;\n\
+\x20 border-bottom: 1px solid var(--rule);\n\
+\x20 background: var(--panel);\n\
+}\n\
+\n\
+#heads .column {\n\
+\x20 position: absolute;\n\
+\x20 top: 4px;\n\
+\x20 width: 96px;\n\
+\x20 margin-left: -48px;\n\
+\x20 text-align: center;\n\
+\x20 line-height: 17px;\n\
+}\n\
+\n\
+#heads .column b {\n\
+\x20 display: block;\n\
+}\n\
+\n\
+#heads .gutter {\n\
+\x20 position: absolute;\n\
+\x20 top: 12px;\n\
+\x20 left: 12px;\n\
+\x20 color: var(--faint);\n\
+}\n\
+\n\
+#scroll {\n\
+\x20 position: relative;\n\
+\x20 flex: 1;\n\
+\x20 overflow: auto;\n\
+}\n\
+\n\
+#drawing {\n\
+\x20 position: sticky;\n\
+\x20 top: 0;\n\
+\x20 left: 0;\n\
+\x20 display: block;\n\
+\x20 cursor: pointer;\n\
+}\n\
+\n\
+#extent {\n\
+\x20 position: absolute;\n\
+\x20 top: 0;\n\
+\x20 left: 0;\n\
+\x20 pointer-events: none;\n\
+}\n\
+\n\
+#legend {\n\
+\x20 display: flex;\n\
+\x20 flex-wrap: wrap;\n\
+\x20 gap: 2px 16px;\n\
+\x20 margin: 0;\n\
+\x20 padding: 5px 12px;\n\
+\x20 border-top: 1px solid var(--rule);\n\
+\x20 background: var(--panel);\n\
+\x20 color: var(--faint);\n\
+\x20 font-size: 11px;\n\
+\x20 list-style: none;\n\
+}\n\
+\n\
+#legend svg {\n\
+\x20 vertical-align: -2px;\n\
+\x20 margin-right: 5px;\n\
+}\n\
+\n\
+#drawing text,\n\
+#legend text {\n\
+\x20 font: 11px var(--sans);\n\
+\x20 fill: var(--ink);\n\
+}\n\
+\n\
+#drawing .row.chosen {\n\
+\x20 fill: var(--chosen);\n\
+}\n\
+\n\
+#drawing .edge {\n\
+\x20 stroke: var(--rule);\n\
+}\n\
+\n\
+#drawing .place {\n\
+\x20 font: 11px var(--mono);\n\
+\x20 fill: var(--faint);\n\
+}\n\
+\n\
+#drawing .head {\n\
+\x20 font: 600 11px var(--mono);\n\
+}\n\
+\n\
+#drawing .note {\n\
+\x20 fill: var(--faint);\n\
+}\n\
+\n\
+#drawing .bad {\n\
+\x20 fill: var(--bad);\n\
+}\n\
+\n\
+#drawing .ground {\n\
+\x20 fill: var(--paper);\n\
+}\n\
+\n\
+#drawing .ground.chosen {\n\
+\x20 fill: var(--chosen);\n\
+}\n\
+\n\
+#drawing .mark.quiet {\n\
+\x20 fill: var(--faint);\n\
+}\n\
+\n\
+#drawing .mark.won {\n\
+\x20 fill: var(--leader);\n\
+\x20 font-weight: 700;\n\
+}\n\
+\n\
+#drawing .mark.moved {\n\
+\x20 fill: var(--good);\n\
+\x20 font-weight: 600;\n\
+}\n\
+\n\
+#drawing .mark.turn {\n\
+\x20 font-weight: 600;\n\
+}\n\
+\n\
+#drawing .mark.change,\n\
+#drawing .mark.installed {\n\
+\x20 fill: var(--snapshot);\n\
+\x20 font-weight: 600;\n\
+}\n\
+\n\
+#drawing .mark.bad {\n\
+\x20 fill: var(--bad);\n\
+\x20 font-weight: 600;\n\
+}\n\
+\n\
+svg .band {\n\
+\x20 stroke: none;\n\
+}\n\
+\n\
+svg .band.leader {\n\
+\x20 fill: var(--leader);\n\
+}\n\
+\n\
+svg .band.candidate {\n\
+\x20 fill: var(--candidate);\n\
+}\n\
+\n\
+svg .band.precandidate {\n\
+\x20 fill: var(--precandidate);\n\
+}\n\
+\n\
+svg .band.follower {\n\
+\x20 fill: var(--follower);\n\
+}\n\
+\n\
+svg .arrow {\n\
+\x20 fill: none;\n\
+\x20 stroke-width: 1.5;\n\
+}\n\
+\n\
+svg .arrow.waiting {\n\
+\x20 stroke-dasharray: 2 3;\n\
+}\n\
+\n\
+svg .arrow.here {\n\
+\x20 stroke-width: 2.25;\n\
+}\n\
+\n\
+svg .vote {\n\
+\x20 --kind: var(--vote);\n\
+}\n\
+\n\
+svg .append {\n\
+\x20 --kind: var(--append);\n\
+}\n\
+\n\
+svg .heartbeat {\n\
+\x20 --kind: var(--heartbeat);\n\
+}\n\
+\n\
+svg .snapshot {\n\
+\x20 --kind: var(--snapshot);\n\
+}\n\
+\n\
+svg .proposal {\n\
+\x20 --kind: var(--proposal);\n\
+}\n\
+\n\
+svg .arrow,\n\
+svg .cross {\n\
+\x20 stroke: var(--kind);\n\
+}\n\
+\n\
+svg .cross {\n\
+\x20 fill: none;\n\
+\x20 stroke: var(--bad);\n\
+\x20 stroke-width: 2;\n\
+}\n\
+\n\
+svg .tip {\n\
+\x20 fill: var(--kind);\n\
+}\n\
+\n\
+#drawing .label {\n\
+\x20 fill: var(--kind);\n\
+}\n\
+\n\
+/* What stands after the chosen directive. */\n\
+\n\
+#state {\n\
+\x20 overflow: hidden auto;\n\
+\x20 padding: 10px 14px 24px;\n\
+\x20 border-left: 1px solid var(--rule);\n\
+\x20 background: var(--panel);\n\
+}\n\
+\n\
+#state h2 {\n\
+\x20 margin: 0 0 6px;\n\
+\x20 font-size: 13px;\n\
+}\n\
+\n\
+#state h2:not(:first-child) {\n\
+\x20 margin-top: 16px;\n\
+}\n\
+\n\
+#state .quiet {\n\
+\x20 color: var(--faint);\n\
+}\n\
+\n\
+.node {\n\
+\x20 margin-bottom: 8px;\n\
+\x20 padding: 7px 10px;\n\
+\x20 border: 1px solid var(--rule);\n\
+\x20 border-left: 4px solid var(--follower);\n\
+\x20 border-radius: 6px;\n\
+\x20 background: var(--paper);\n\
+}\n\
+\n\
+.node.leader {\n\
+\x20 border-left-color: var(--leader);\n\
+}\n\
+\n\
+.node.candidate {\n\
+\x20 border-left-color: var(--candidate);\n\
+}\n\
+\n\
+.node.precandidate {\n\
+\x20 border-left-color: var(--precandidate);\n\
+}\n\
+\n\
+.node header {\n\
+\x20 display: flex;\n\
+\x20 flex-wrap: wrap;\n\
+\x20 align-items: baseline;\n\
+\x20 gap: 0 8px;\n\
+}\n\
+\n\
+.node .role {\n\
+\x20 padding: 0 7px;\n\
+\x20 border-radius: 9px;\n\
+\x20 background: var(--follower);\n\
+\x20 color: var(--paper);\n\
+\x20 font-size: 11px;\n\
+\x20 font-weight: 600;\n\
+\x20 line-height: 17px;\n\
+}\n\
+\n\
+.node.leader .role {\n\
+\x20 background: var(--leader);\n\
+}\n\
+\n\
+.node.candidate .role {\n\
+\x20 background: var(--candidate);\n\
+}\n\
+\n\
+.node.precandidate .role {\n\
+\x20 background: var(--precandidate);\n\
+}\n\
+\n\
+.node .changed {\n\
+\x20 margin-left: auto;\n\
+\x20 color: var(--accent);\n\
+\x20 font-size: 11px;\n\
+}\n\
+\n\
+.node .facts,\n\
+.node .content {\n\
+\x20 color: var(--faint);\n\
+\x20 overflow-wrap: anywhere;\n\
+}\n\
+\n\
+.log {\n\
+\x20 display: flex;\n\
+\x20 flex-wrap: wrap;\n\
+\x20 gap: 3px;\n\
+\x20 margin: 5px 0;\n\
+\x20 font: 11px/16px var(--mono);\n\
+}\n\
+\n\
+.log span {\n\
+\x20 max-width: 100%;\n\
+\x20 padding: 0 5px;\n\
+\x20 border: 1px solid var(--faint);\n\
+\x20 border-radius: 3px;\n\
+\x20 overflow: hidden;\n\
+\x20 text-overflow: ellipsis;\n\
+\x20 white-space: pre;\n\
+}\n\
+\n\
+.log .base {\n\
+\x20 border-style: double;\n\
+\x20 border-width: 3px;\n\
+\x20 padding: 0 3px;\n\
+\x20 line-height: 12px;\n\
+}\n\
+\n\
+.log .committed {\n\
+\x20 border-color: var(--good);\n\
+\x20 background: var(--good-paper);\n\
+}\n\
+\n\
+.log .applied {\n\
+\x20 border-width: 1px 1px 1px 4px;\n\
+}\n\
+\n\
+.log .unsaved {\n\
+\x20 border-style: dashed;\n\
+}\n\
+\n\
+.log .more {\n\
+\x20 border-color: transparent;\n\
+\x20 color: var(--faint);\n\
+}\n\
+\n\
+.views {\n\
+\x20 width: 100%;\n\
+\x20 margin-top: 5px;\n\
+\x20 border-collapse: collapse;\n\
+\x20 font-size: 11px;\n\
+\x20 font-variant-numeric: tabular-nums;\n\
+}\n\
+\n\
+.views th {\n\
+\x20 color: var(--faint);\n\
+\x20 font-weight: 400;\n\
+}\n\
+\n\
+.views th,\n\
+.views td {\n\
+\x20 padding: 0 8px 0 0;\n\
+\x20 text-align: left;\n\
+}\n\
+\n\
+#state .list {\n\
+\x20 margin: 0;\n\
+\x20 padding: 0;\n\
+\x20 font: 11px/17px var(--mono);\n\
+\x20 list-style: none;\n\
+}\n\
+\n\
+#state .list li {\n\
+\x20 overflow-wrap: anywhere;\n\
+}\n\
+\n\
+#state details {\n\
+\x20 margin-bottom: 10px;\n\
+}\n\
+\n\
+#state summary {\n\
+\x20 cursor: pointer;\n\
+\x20 font-weight: 600;\n\
+}\n\
+\n\
+@media (max-width: 1000px) {\n\
+\x20 #panes {\n\
+\x20   grid-template-columns: minmax(240px, 36%) minmax(0, 1fr);\n\
+\x20   grid-template-rows: minmax(0, 3fr) minmax(0, 2fr);\n\
+\x20 }\n\
+\n\
+\x20 #state {\n\
+\x20   grid-column: 1 / -1;\n\
+\x20   border-left: none;\n\
+\x20   border-top: 1px solid var(--rule);\n\
+\x20 }\n\
+\n\
+\x20 #keys {\n\
+\x20   margin-left: 0;\n\
+\x20 }\n\
+}\n\
+";
