@@ -6,6 +6,7 @@ use crate::directives::directives;
 use crate::editing::serve_editor;
 use crate::look::look_at;
 use crate::misuse::Misuse;
+use crate::page::page;
 use crate::refusal::Refusal;
 use crate::spacing::spacing;
 use rb_args::{CheckChoice, Choice, Subcommand, chosen};
@@ -171,6 +172,7 @@ fn with_file<R: Files + Input + Print + AllocGlobal>(
         Subcommand::Rewrite => run(rt, file.as_str(), Mode::Rewrite, every),
         Subcommand::Session => session(rt, file.as_str(), every),
         Subcommand::Look => look_at(rt, file.as_str()),
+        Subcommand::Page => page(rt, file.as_str(), every),
         Subcommand::Check | Subcommand::Directives | Subcommand::Lsp => {
             Err(Refusal::Usage(Misuse::NoCommand))
         }
@@ -195,7 +197,7 @@ fn run<R: Files + Input + Print + AllocGlobal>(
 }
 
 // A file that can't be opened has failed as input, whatever the system says was wanting.
-fn opened<R: Files + AllocGlobal>(rt: &R, file: &str) -> Result<R::File, Refusal> {
+pub(crate) fn opened<R: Files + AllocGlobal>(rt: &R, file: &str) -> Result<R::File, Refusal> {
     match File::open(rt, file) {
         Ok(opened) => Ok(opened),
         Err(error) => match String::from_str(rt.alloc(), file) {

@@ -1,4 +1,4 @@
-//! `raftbench check PATH..`, `raftbench run|rewrite|session FILE`, `raftbench look FILE:LINE`, `raftbench directives [NAME]`, `raftbench lsp`: the
+//! `raftbench check PATH..`, `raftbench run|rewrite|session|page FILE`, `raftbench look FILE:LINE`, `raftbench directives [NAME]`, `raftbench lsp`: the
 //! words, the files and the streams of the program.
 #![tactic(auto)]
 
@@ -11,6 +11,7 @@ mod edge;
 mod editing;
 mod look;
 mod misuse;
+mod page;
 mod progress;
 mod refusal;
 mod report;

@@ -5,7 +5,7 @@ use Rattle.clap.specs.Words.{IsAmong, Kinds, Row, Text, all_of, first_of, kind_o
 use Rattle.clap.specs.declared.error.Error.{Error}
 use Rattle.clap.specs.declared.error.kind.ErrorKind.TheVariants as kind
 use Rattle.rb_args.specs.declared.choice.Subcommand.{Subcommand}
-use Rattle.rb_args.specs.declared.choice.Subcommand.TheVariants.{Run, Rewrite, Session, Check, Look, Directives, Lsp}
+use Rattle.rb_args.specs.declared.choice.Subcommand.TheVariants.{Run, Rewrite, Session, Check, Look, Page, Directives, Lsp}
 use Rattle.rb_args.specs.declared.choice.Choice.{Choice}
 use Rattle.rb_args.specs.declared.choice.CheckChoice.{CheckChoice}
 use Rattle.rb_args.specs.declared.choice.ChoiceFault.{ChoiceFault}
@@ -19,6 +19,7 @@ named_by name =
     else if bytes_eq name (codes "session") then Some Session
     else if bytes_eq name (codes "check") then Some Check
     else if bytes_eq name (codes "look") then Some Look
+    else if bytes_eq name (codes "page") then Some Page
     else if bytes_eq name (codes "directives") then Some Directives
     else if bytes_eq name (codes "lsp") then Some Lsp
     else None

@@ -71,9 +71,9 @@ with_files line = with_subcommand (with_subcommand (with_subcommand line (subcom
 abbrev pub directives_line : App
 directives_line = with_rule (new_app (codes "directives")) name_rule
 
--- .. look FILE:LINE
+-- .. look FILE:LINE, page FILE ..
 abbrev pub with_views : App → App
-with_views line = with_subcommand line (plain_line (codes "look")).top
+with_views line = with_subcommand (with_subcommand line (plain_line (codes "look")).top) (subcommand_line (codes "page")).top
 
 -- lsp
 abbrev pub server_line : App
@@ -83,6 +83,6 @@ server_line = new_app (codes "lsp")
 abbrev pub with_help : App → App
 with_help line = with_subcommand (with_subcommand line directives_line.top) server_line.top
 
--- raftbench [check|run|rewrite|session|look|directives|lsp ..]
+-- raftbench [check|run|rewrite|session|look|page|directives|lsp ..]
 abbrev pub command_line : App
 command_line = with_help (with_views (with_files (with_subcommand (with_version (new_app (codes "raftbench"))) check_line.top)))

@@ -15,6 +15,8 @@ pub enum Subcommand {
     Check,
     /// `look`: show the cluster as it is after a directive.
     Look,
+    /// `page`: write the page of a script.
+    Page,
     /// `directives`: show what directives there are, or one of them.
     Directives,
     /// `lsp`: answer an editor.

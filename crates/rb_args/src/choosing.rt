@@ -134,6 +134,8 @@ fn named_by(name: &str) -> Option<Subcommand>
         Some(Subcommand::Check)
     } else if name == "look" {
         Some(Subcommand::Look)
+    } else if name == "page" {
+        Some(Subcommand::Page)
     } else if name == "directives" {
         Some(Subcommand::Directives)
     } else if name == "lsp" {

@@ -63,17 +63,25 @@ fn with_files<'a>(command: Command<'a>, alloc: Global) -> Result<Command<'a>, Al
     )
 }
 
-// The subcommand that shows what stands in a script.
+// The subcommands that show what a script does.
 fn with_views<'a>(command: Command<'a>, alloc: Global) -> Result<Command<'a>, AllocError>
     ensures { IfOk result (λ made. app_of made ≡ with_views (app_of command.entry)) }
 {
-    with_view(
+    let command = with_view(
         command,
         alloc,
         "look",
         "Shows each node, its log and the messages on their way after a directive",
         "raftbench look <FILE:LINE>",
         "FILE:LINE is a script's file and the line of a directive in it",
+    )?;
+    with_file(
+        command,
+        alloc,
+        "page",
+        "Runs a script and writes a page that shows what it does, step by step",
+        "raftbench page [OPTIONS] <FILE>",
+        "FILE is a script's file; - is standard input",
     )
 }
 

@@ -1,4 +1,4 @@
-//! The words of the command line: `raftbench run|rewrite|session FILE [--every K]`, `raftbench look FILE:LINE`,
+//! The words of the command line: `raftbench run|rewrite|session|page FILE [--every K]`, `raftbench look FILE:LINE`,
 //! `raftbench directives [NAME]`, `raftbench lsp`, and
 //! `raftbench check PATH.. [--accept] [--accept-errors] [--force] [--filter WORD].. [-v] [--first] [--brief] [-q] [--every K] [--color WHEN]`.
 //!

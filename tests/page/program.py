@@ -1,0 +1,111 @@
+"""What `raftbench page` writes, byte for byte beside the page that is made of the plain bench's rows, and how it ends: as `run` does."""
+import os
+import pathlib
+import subprocess
+import tempfile
+import time
+
+from scripts import HOSTILE, LONG, LOST, MANY, TOP, TOUR, long_page, mismatched, page_of, same
+
+PROGRAM = pathlib.Path(os.environ.get("RAFTBENCH", TOP / "crates" / "raftbench" / "out" / "raftbench"))
+FAILED = b"raftbench: input or output failed\n"
+MOST_SECONDS = 120
+# Scripts that are refused.
+REFUSED = {
+    "BadLine": b"add-nodes =x\n----\n",
+    "NoSeparator": b"add-nodes 1\n\nraft-state\n----\n",
+    "LineTooLong": b"raft-state\n----\n" + b"x" * 65_537 + b"\n",
+    "TooLong": b"# a line\n" * 500_000,
+    "TooManyDirectives": b"raft-state\n----\n\n" * 20_001,
+}
+
+
+def found():
+    """The program, where it is built."""
+    return PROGRAM if PROGRAM.exists() else None
+
+
+def answer(words, given=b""):
+    """What the program writes to these words, what it says of itself, and its status."""
+    done = subprocess.run([PROGRAM, *words], input=given, capture_output=True, timeout=MOST_SECONDS)
+    return done.stdout, done.stderr, done.returncode
+
+
+def put(room, name, data):
+    path = pathlib.Path(room) / name
+    path.write_bytes(data)
+    return path
+
+
+def writes_the_plain_page(what, words, given, page, status):
+    output, errors, came = answer(["page", *words], given)
+    same(f"the page of {what}", output, page.encode())
+    same(f"how the page of {what} ends", (errors, came), (b"", status))
+
+
+def pages_are_those_of_the_plain_rows():
+    scripts = {path.name: (path.read_bytes(), 0) for path in TOUR}
+    scripts |= {"hostile.txt": (HOSTILE, 1), "mismatch.txt": (mismatched()[0], 1), "many.txt": (MANY, 1), "lost.txt": (LOST, 1), "empty.txt": (b"", 0)}
+    with tempfile.TemporaryDirectory() as room:
+        for name, (data, status) in scripts.items():
+            writes_the_plain_page(name, [put(room, name, data)], b"", page_of(data, name), status)
+
+
+def names_are_told_as_they_are():
+    data = TOUR[0].read_bytes()
+    with tempfile.TemporaryDirectory() as room:
+        for name in ("<!--<script>&'\"", "ключ \u202e.txt"):
+            writes_the_plain_page(name, [put(room, name, data)], b"", page_of(data, name), 0)
+    writes_the_plain_page("standard input", ["-"], data, page_of(data, "standard input"), 0)
+
+
+def every_changes_no_page():
+    data, page = HOSTILE, page_of(HOSTILE, "standard input")
+    for words in (["--every", "1", "-"], ["-", "--every", "64"], ["-", "--every=16"]):
+        writes_the_plain_page(" ".join(words), words, data, page, 1)
+
+
+def refusals_are_those_of_run():
+    with tempfile.TemporaryDirectory() as room:
+        cases = [[], ["--every", "4"], [room], [f"{room}/none"], ["-", "--every", "0"], ["-", "--every", "65"], ["-", "--every", "x"], [f"{room}/none", "--every", "0"]]
+        cases += [[put(room, name, data)] for name, data in REFUSED.items()]
+        for words in cases:
+            wanted = answer(["run", *words])
+            same(f"whether run refuses {words}", (wanted[0], wanted[2] > 1), (b"", True))
+            same(f"what is answered to {words}", answer(["page", *words]), wanted)
+
+
+def full_devices_are_told():
+    with open("/dev/full", "wb") as full:
+        done = subprocess.run([PROGRAM, "page", TOUR[0]], stdout=full, stderr=subprocess.PIPE, timeout=MOST_SECONDS)
+    same("what is said of a full device", (done.stderr, done.returncode), (FAILED, 4))
+
+
+def readers_that_go_away_are_told():
+    """Who reads some and goes away has a beginning of the page, of which a pipe holds a part alone."""
+    whole = page_of(HOSTILE, "standard input").encode()
+    for count in (0, 1, 4096, 30_000):
+        with subprocess.Popen([PROGRAM, "page", "-"], stdin=subprocess.PIPE, stdout=subprocess.PIPE, stderr=subprocess.PIPE) as running:
+            running.stdin.write(HOSTILE)
+            running.stdin.close()
+            came = running.stdout.read(count)
+            running.stdout.close()
+            same("what is said of a reader that has gone", (running.stderr.read(), running.wait(MOST_SECONDS)), (FAILED, 4))
+        same("what came", came, whole[:count])
+
+
+def twenty_thousand_directives_are_written():
+    page = long_page()
+    with tempfile.TemporaryDirectory() as room:
+        path = put(room, "long", LONG)
+        start = time.monotonic()
+        came = answer(["page", path])
+        seconds = time.monotonic() - start
+    same("the page of 20,000 directives", came, (page.encode(), b"", 0))
+    print(f"the page of 20,000 directives, {len(page):,} bytes, is written in {seconds:.2f} s")
+
+
+WRITTEN = [
+    pages_are_those_of_the_plain_rows, names_are_told_as_they_are, every_changes_no_page, refusals_are_those_of_run, full_devices_are_told,
+    readers_that_go_away_are_told, twenty_thousand_directives_are_written,
+]

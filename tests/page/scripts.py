@@ -1,0 +1,59 @@
+"""Scripts that tests of pages are made of: the tour, a mismatch, texts that would act, messages that are lost, 32 nodes, 20,000 directives."""
+import functools
+import pathlib
+import sys
+
+TOP = pathlib.Path(__file__).resolve().parents[2]
+sys.path.insert(0, str(TOP))
+
+from assemble import parts  # noqa: E402
+from plain.script import read_script  # noqa: E402
+from plain_steps import json_text, rows_of  # noqa: E402
+
+TOUR = sorted((TOP / "examples" / "tour").glob("*.txt"))
+PAYLOADS = [
+    b"</script><script>alert`1`</script>", b"<!--<script>", b"\"'><svg/onload>", b"&lt;b&gt;", b"${alert`2`}\\u003c", bytes(range(128, 256)),
+    "ключ\u202e日本語".encode(), b"\xf0\x9f\x98\x80" * 256, b"x" * 1024,
+]
+HOSTILE = b"".join([
+    b"# <img src=x onerror=alert(3)> </script><script>alert(4)</script>\n",
+    b"add-nodes 3 voters=(1,2,3) index=10 content=</script><script>alert`5`</script>\n----\n\ncampaign 1\n----\n\nstabilize\n----\n\n",
+    *(b"propose 1 " + payload + b"\n----\n\n" for payload in PAYLOADS),
+    b"stabilize\n----\n\nraft-log 2\n----\n----\n</script><script>alert(6)</script>\n\n<b>no</b>\n----\n----\n\n",
+])
+ALL = ",".join(map(str, range(1, 33))).encode()
+MANY = b"add-nodes 32 voters=(" + ALL + b") index=10\n----\n\ncampaign 1\n----\n\nstabilize\n----\n\npropose 1 hello\n----\n\nstabilize\n----\n\n"
+ROUND = b"propose 1 value\n----\nok\n\nstabilize\n----\nok\n\n"
+LONG = b"log-level none\n----\nok\n\nadd-nodes 3 voters=(1,2,3) index=10\n----\nok\n\ncampaign 1\n----\nok\n\nstabilize\n----\nok\n\n" + 9998 * ROUND
+LOST = b"".join([
+    b"add-nodes 3 voters=(1,2,3) index=10\n----\n\ncampaign 1\n----\n\nprocess-ready 1\n----\n\ndeliver-msgs drop=(2)\n----\n\n",
+    b"campaign 1\n----\n\nprocess-ready 1\n----\n\n",
+])
+
+
+class Failed(Exception):
+    """What a test finds wrong."""
+
+
+def same(what, came, wanted):
+    if came != wanted:
+        raise Failed(f"{what} is {came!r:.300}, and not {wanted!r:.300}")
+
+
+def mismatched():
+    """The tour's election with one line changed, and the place of its directive."""
+    data = TOUR[0].read_bytes()
+    same("how often the line stands", data.count(b"from 2: won"), 1)
+    changed = data.replace(b"from 2: won", b"from 2: other")
+    return changed, [place for place, block in enumerate(read_script(changed).blocks, 1) if b"from 2: other" in block.text()]
+
+
+def page_of(data, name):
+    before, after = parts()
+    return before + json_text(rows_of(data, name)) + after
+
+
+@functools.cache
+def long_page():
+    """The page of 20,000 directives, which takes the plain bench a minute."""
+    return page_of(LONG, "long")
