@@ -132,13 +132,16 @@ class Picture {
     this.drawSoon();
   }
 
-  // Brings a row into view.
+  // Brings a row into view, and one that is far away together with what stands around it.
   show(row) {
-    const below = row.top + row.height - (this.top + this.viewHeight);
-    if (row.top < this.top) {
+    const bottom = row.top + row.height;
+    const lowest = Math.min(bottom + 40 - this.viewHeight, row.top - 40);
+    if (bottom < this.top || row.top > this.top + this.viewHeight) {
+      this.scrollTo(Math.max(lowest, row.top - this.viewHeight / 3));
+    } else if (row.top < this.top) {
       this.scrollTo(row.top - 40);
-    } else if (below > 0) {
-      this.scrollTo(Math.min(this.top + below + 40, row.top - 40));
+    } else if (bottom > this.top + this.viewHeight) {
+      this.scrollTo(lowest);
     }
   }
 

@@ -54,7 +54,7 @@ class State {
     const { role, term, vote, lead, commit, applied, durable, length, end } = numbers;
     const changed = step.changed.includes(node.id) ? [element("span", "changed", "● changed")] : [];
     const facts = `term ${term}, ${vote ? `voted for ${vote}` : "no vote"}, ${lead ? `leader ${lead}` : "no leader"}`;
-    const content = length ? `, content ${length} bytes: ${length > end.length ? "…" : ""}${shown(end)}` : "";
+    const content = length ? `, content ${counted(length, "byte", "bytes")}: ${length > end.length ? "…" : ""}${shown(end)}` : "";
     return element(
       "article",
       `node ${role}`,

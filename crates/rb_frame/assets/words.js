@@ -30,14 +30,19 @@ const SAID = {
   MsgTimeoutNow: () => "",
 };
 
+// To whom a message is, where no arrow leads there.
+function aim(message) {
+  return message.fate === "waiting" || message.fate === "given up" ? `→${message.to} ` : "";
+}
+
 // Of a message, what matters: its type without Msg, and what it says.
 function messageLabel(message) {
-  return `${message.type.slice(3)} ${SAID[message.type](message.said)}`.trim();
+  return `${aim(message)}${message.type.slice(3)} ${SAID[message.type](message.said)}`.trim();
 }
 
 // The same where there is less room.
 function shortLabel(message) {
-  return SAID[message.type](message.said) || message.type.slice(3).replace("Heartbeat", "Beat");
+  return aim(message) + (SAID[message.type](message.said) || message.type.slice(3).replace("Heartbeat", "Beat"));
 }
 
 function messageText(message) {

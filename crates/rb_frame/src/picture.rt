@@ -138,13 +138,16 @@ class Picture {\n\
 \x20   this.drawSoon();\n\
 \x20 }\n\
 \n\
-\x20 // Brings a row into view.\n\
+\x20 // Brings a row into view, and one that is far away together with what stands around it.\n\
 \x20 show(row) {\n\
-\x20   const below = row.top + row.height - (this.top + this.viewHeight);\n\
-\x20   if (row.top < this.top) {\n\
+\x20   const bottom = row.top + row.height;\n\
+\x20   const lowest = Math.min(bottom + 40 - this.viewHeight, row.top - 40);\n\
+\x20   if (bottom < this.top || row.top > this.top + this.viewHeight) {\n\
+\x20     this.scrollTo(Math.max(lowest, row.top - this.viewHeight / 3));\n\
+\x20   } else if (row.top < this.top) {\n\
 \x20     this.scrollTo(row.top - 40);\n\
-\x20   } else if (below > 0) {\n\
-\x20     this.scrollTo(Math.min(this.top + below + 40, row.top - 40));\n\
+\x20   } else if (bottom > this.top + this.viewHeight) {\n\
+\x20     this.scrollTo(lowest);\n\
 \x20   }\n\
 \x20 }\n\
 \n\

@@ -153,16 +153,20 @@ class Script {\n\
 \x20   this.draw();\n\
 \x20 }\n\
 \n\
-\x20 // Brings the chosen directive into view.\n\
+\x20 // Brings the chosen directive into view, and one that is far away together with what stands around it.\n\
 \x20 show() {\n\
 \x20   const above = this.topOf(2 * this.chosen - 2);\n\
 \x20   const own = this.topOf(2 * this.chosen - 1);\n\
 \x20   const below = this.topOf(2 * this.chosen);\n\
+\x20   const top = this.pane.scrollTop;\n\
 \x20   const height = this.pane.clientHeight;\n\
-\x20   if (above < this.pane.scrollTop) {\n\
+\x20   const lowest = Math.min(below - height + 60, own - 20);\n\
+\x20   if (below < top || above > top + height) {\n\
+\x20     this.pane.scrollTop = Math.max(lowest, above - height / 3);\n\
+\x20   } else if (above < top) {\n\
 \x20     this.pane.scrollTop = above - 20;\n\
-\x20   } else if (below > this.pane.scrollTop + height) {\n\
-\x20     this.pane.scrollTop = Math.min(below - height + 60, own - 20);\n\
+\x20   } else if (below > top + height) {\n\
+\x20     this.pane.scrollTop = lowest;\n\
 \x20   }\n\
 \x20 }\n\
 \n\

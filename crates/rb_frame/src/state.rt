@@ -60,7 +60,7 @@ class State {\n\
 \x20   const { role, term, vote, lead, commit, applied, durable, length, end } = numbers;\n\
 \x20   const changed = step.changed.includes(node.id) ? [element(\"span\", \"changed\", \"\xe2\x97\x8f changed\")] : [];\n\
 \x20   const facts = `term ${term}, ${vote ? `voted for ${vote}` : \"no vote\"}, ${lead ? `leader ${lead}` : \"no leader\"}`;\n\
-\x20   const content = length ? `, content ${length} bytes: ${length > end.length ? \"\xe2\x80\xa6\" : \"\"}${shown(end)}` : \"\";\n\
+\x20   const content = length ? `, content ${counted(length, \"byte\", \"bytes\")}: ${length > end.length ? \"\xe2\x80\xa6\" : \"\"}${shown(end)}` : \"\";\n\
 \x20   return element(\n\
 \x20     \"article\",\n\
 \x20     `node ${role}`,\n\

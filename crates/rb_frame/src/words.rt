@@ -36,14 +36,19 @@ const SAID = {\n\
 \x20 MsgTimeoutNow: () => \"\",\n\
 };\n\
 \n\
+// To whom a message is, where no arrow leads there.\n\
+function aim(message) {\n\
+\x20 return message.fate === \"waiting\" || message.fate === \"given up\" ? `\xe2\x86\x92${message.to} ` : \"\";\n\
+}\n\
+\n\
 // Of a message, what matters: its type without Msg, and what it says.\n\
 function messageLabel(message) {\n\
-\x20 return `${message.type.slice(3)} ${SAID[message.type](message.said)}`.trim();\n\
+\x20 return `${aim(message)}${message.type.slice(3)} ${SAID[message.type](message.said)}`.trim();\n\
 }\n\
 \n\
 // The same where there is less room.\n\
 function shortLabel(message) {\n\
-\x20 return SAID[message.type](message.said) || message.type.slice(3).replace(\"Heartbeat\", \"Beat\");\n\
+\x20 return aim(message) + (SAID[message.type](message.said) || message.type.slice(3).replace(\"Heartbeat\", \"Beat\"));\n\
 }\n\
 \n\
 function messageText(message) {\n\
