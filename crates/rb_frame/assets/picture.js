@@ -270,7 +270,7 @@ class Picture {
     return widthOf(label) <= room ? label : fitted(shortLabel(message), room);
   }
 
-  // Text on a ground of its own, so that lines that cross it don't strike it through.
+  // Text on a ground of its own, through which lines that cross it show faintly, so that they can be followed and don't strike it out.
   words(all, look, x, y, isLeft, text, isChosen) {
     const width = widthOf(text) + 4;
     const ground = { class: isChosen ? "ground chosen" : "ground", x: n(isLeft ? x - width + 2 : x - 2), y: n(y - 11), width: n(width), height: 14 };

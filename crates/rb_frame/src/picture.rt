@@ -276,7 +276,7 @@ class Picture {\n\
 \x20   return widthOf(label) <= room ? label : fitted(shortLabel(message), room);\n\
 \x20 }\n\
 \n\
-\x20 // Text on a ground of its own, so that lines that cross it don't strike it through.\n\
+\x20 // Text on a ground of its own, through which lines that cross it show faintly, so that they can be followed and don't strike it out.\n\
 \x20 words(all, look, x, y, isLeft, text, isChosen) {\n\
 \x20   const width = widthOf(text) + 4;\n\
 \x20   const ground = { class: isChosen ? \"ground chosen\" : \"ground\", x: n(isLeft ? x - width + 2 : x - 2), y: n(y - 11), width: n(width), height: 14 };\n\

@@ -339,6 +339,7 @@ section:focus-visible,\n\
 \n\
 #drawing .ground {\n\
 \x20 fill: var(--paper);\n\
+\x20 fill-opacity: 0.78;\n\
 }\n\
 \n\
 #drawing .ground.chosen {\n\
