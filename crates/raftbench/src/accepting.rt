@@ -31,6 +31,7 @@ pub(crate) fn accept<R: Files + AllocGlobal, W: Write + Drop, E: Write + Drop>(
     match accepted(alloc, session, &text.bytes, errors) {
         Ok(made) => {
             if !made.left.is_empty() {
+                report.leave(ran.path, &made.left);
                 tell_left(alloc, session, &text.bytes, ran.path, errors, report);
             }
             keep(rt, ran, &made, text.seen, report);
@@ -50,6 +51,9 @@ fn tell_left<W: Write + Drop, E: Write + Drop>(
 )
     requires { Reads bytes.now session.now.script }
 {
+    if report.is_for_programs() {
+        return;
+    }
     let Some(sink) = report.sink() else {
         return;
     };

@@ -7,6 +7,7 @@ use crate::report::Report;
 use rb_check::{Colors, Failure};
 use rb_checked::Shown;
 use rb_files::{Found, Trouble, find};
+use rb_formats::Format;
 use std::io;
 use std::io::Write;
 use std::rt::Files;
@@ -24,6 +25,8 @@ pub(crate) struct Asked<'a> {
     pub(crate) is_forced: bool,
     pub(crate) is_quiet: bool,
     pub(crate) shown: Shown,
+    /// The format for programs, where one is asked for.
+    pub(crate) format: Option<Format>,
     pub(crate) colors: Colors,
     pub(crate) wants_progress: bool,
 }
@@ -35,7 +38,13 @@ pub(crate) fn check<R: Files + Print + Clock + AllocGlobal, E: Write + Drop>(
     errors: E,
 ) -> Result<u8, Refusal> {
     let mut progress = Progress::from_now(rt, asked.wants_progress);
-    let mut report = Report::new(rt.alloc(), io::writer(rt), errors, asked.is_quiet)?;
+    let mut report = Report::new(
+        rt.alloc(),
+        io::writer(rt),
+        errors,
+        asked.is_quiet,
+        asked.format,
+    )?;
     let found = find(rt, asked.paths, asked.filters);
     tell_lost(&found, &mut report);
     for (done, path) in found.scripts.iter().enumerate() {

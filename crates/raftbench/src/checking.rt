@@ -10,10 +10,11 @@ use rb_check::Failure;
 use rb_checked::{ShowFault, Shown, Told, View, Warning, is_quiet, put_checked, warnings};
 use rb_cluster::{Cluster, Meter};
 use rb_files::{Trouble, opened};
+use rb_formats::{Format, formatted};
 use rb_line::Incoming;
 use rb_raftlog::SplitLog;
 use rb_replay::{Session, StartFault};
-use rb_script::{MAX_SCRIPT, WriteFault};
+use rb_script::{MAX_SCRIPT, Sink, WriteFault};
 use std::alloc::{AllocError, Global};
 use std::fs::Metadata;
 use std::io::Write;
@@ -163,6 +164,10 @@ fn show<W: Write + Drop, E: Write + Drop>(
     if is_quiet(session, asked.shown) {
         return Ok(nothing);
     }
+    if let Some(format) = asked.format {
+        show_programs(alloc, session, bytes, format, path, report)?;
+        return Ok(nothing);
+    }
     let Some(sink) = report.sink() else {
         return Ok(nothing);
     };
@@ -177,4 +182,23 @@ fn show<W: Write + Drop, E: Write + Drop>(
         }
         Err(ShowFault::OutOfMemory) => Err(Trouble::alone(Failure::OutOfMemory)),
     }
+}
+
+// Shows programs what there is to show of the script of the bytes.
+fn show_programs<W: Write + Drop, E: Write + Drop>(
+    alloc: Global,
+    session: &CheckSession,
+    bytes: &[u8],
+    format: Format,
+    path: &str,
+    report: &mut Report<W, E>,
+) -> Result<(), AllocError>
+    requires { Reads bytes.now session.now.script }
+{
+    let text = formatted(alloc, format, session, bytes, path.as_bytes())?;
+    if let Some(sink) = report.sink() {
+        let written = sink.put(&text);
+        report.wrote(written);
+    }
+    Ok(())
 }

@@ -9,6 +9,7 @@ use crate::misuse::Misuse;
 use crate::page::page;
 use crate::refusal::Refusal;
 use crate::spacing::spacing;
+use crate::style::{Style, style_of};
 use rb_args::{CheckChoice, Choice, Subcommand, chosen};
 use rb_bench::{Mode, Status, read_up_to, run_over, serve, status_code};
 use rb_checked::Shown;
@@ -117,6 +118,12 @@ fn check_all<R: Files + Print + Env + Clock + AllocGlobal, E: Write + Drop>(
             None => Misuse::NoText,
         }));
     };
+    let Some(style) = style_of(choice.format.as_deref()) else {
+        return Err(Refusal::OwnUsage(match misused(alloc, choice.format.as_deref()) {
+            Some(text) => Misuse::Format(text),
+            None => Misuse::NoText,
+        }));
+    };
     let asked = Asked {
         paths: &choice.paths,
         filters: &choice.filters,
@@ -124,7 +131,8 @@ fn check_all<R: Files + Print + Env + Clock + AllocGlobal, E: Write + Drop>(
         accepts_errors: choice.accepts_errors,
         is_forced: choice.is_forced,
         is_quiet: choice.is_quiet,
-        shown: shown(choice),
+        shown: shown(choice, style),
+        format: style.format(),
         colors: colors(rt, wish, terminals.output),
         wants_progress: terminals.errors,
     };
@@ -139,9 +147,11 @@ fn is_usual(every: Option<&str>) -> bool {
     }
 }
 
-// How much of each script is shown; the least of what is asked for.
-fn shown(choice: &CheckChoice) -> Shown {
-    if choice.is_brief {
+// How much of each script is shown; the least of what is asked for. Programs are told what differs, and no less.
+fn shown(choice: &CheckChoice, style: Style) -> Shown {
+    if style != Style::Text {
+        Shown::Differing
+    } else if choice.is_brief {
         Shown::Brief
     } else if choice.is_first {
         Shown::First

@@ -16,6 +16,7 @@ mod progress;
 mod refusal;
 mod report;
 mod spacing;
+mod style;
 
 use edge::Terminals;
 use std::io::IsTerminal;

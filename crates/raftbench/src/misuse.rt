@@ -21,6 +21,8 @@ pub(crate) enum Misuse {
     Spacing,
     /// What stands behind `--color` is none of its words.
     Color(String),
+    /// What stands behind `--format` is none of its words.
+    Format(String),
     /// What stands behind `look` names no directive of a file.
     Place(String),
     /// No directive has the name; and the one that is near it.
@@ -40,6 +42,7 @@ impl Misuse {
             Misuse::Every(text) => eprintln!(rt; "--every {text}: a number from 1 to 64"),
             Misuse::Spacing => eprintln!(rt; "--every: a number from 1 to 64"),
             Misuse::Color(text) => eprintln!(rt; "--color {text}: auto, always or never"),
+            Misuse::Format(text) => eprintln!(rt; "--format {text}: text, json or github"),
             Misuse::Place(text) => eprintln!(rt;
                 "{text}: FILE:LINE, where a directive stands at the line or above it"
             ),

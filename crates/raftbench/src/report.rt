@@ -5,11 +5,13 @@
 
 use crate::refusal::Refusal;
 use rb_check::{
-    Failure, Outcome, Totals, put_accepted, put_brief, put_failure, put_refusal, put_totals,
-    put_unaccepted, put_warning, status_code,
+    Failure, Outcome, Totals, doubt_sentence, failure_sentence, fault_line, put_accepted,
+    put_brief, put_failure, put_refusal, put_totals, put_unaccepted, put_warning, sentence,
+    status_code,
 };
 use rb_checked::{Told, Warning};
 use rb_files::Trouble;
+use rb_formats::{Format, Kind, notice};
 use rb_number::put_number;
 use rb_script::{ScriptFault, Sink, Through, WriteFault};
 use std::alloc::{AllocError, Global};
@@ -40,8 +42,11 @@ struct Differing {
 /// What was shown, and what it came to.
 #[derive(Drop)]
 pub(crate) struct Report<W: Write + Drop, E: Write + Drop> {
+    alloc: Global,
     output: Through<BufWriter<W>>,
     errors: Through<BufWriter<E>>,
+    // the format for programs, where one is asked for
+    format: Option<Format>,
     totals: Totals,
     differing: Vec<Differing>,
     // Nothing goes to standard output: it has failed, or nothing is wanted there.
@@ -57,10 +62,13 @@ impl<W: Write + Drop, E: Write + Drop> Report<W, E> {
         output: W,
         errors: E,
         is_quiet: bool,
+        format: Option<Format>,
     ) -> Result<Report<W, E>, Refusal> {
         Ok(Report {
+            alloc,
             output: Through(BufWriter::new(alloc, output)?),
             errors: Through(BufWriter::new(alloc, errors)?),
+            format,
             totals: Totals::new(),
             differing: Vec::new(alloc),
             is_lost: is_quiet,
@@ -71,6 +79,11 @@ impl<W: Write + Drop, E: Write + Drop> Report<W, E> {
     /// The program's status.
     pub(crate) fn status_code(&self) -> u8 {
         status_code(self.totals.status())
+    }
+
+    /// Whether programs are told.
+    pub(crate) fn is_for_programs(&self) -> bool {
+        self.format.is_some()
     }
 
     /// Where the report of a script is written; None where nothing goes to standard output.
@@ -86,13 +99,44 @@ impl<W: Write + Drop, E: Write + Drop> Report<W, E> {
     pub(crate) fn wrote(&mut self, written: Result<(), WriteFault>) {
         let handed_on = self.output.0.flush();
         if (written.is_err() || handed_on.is_err()) && !self.is_lost {
-            self.is_lost = true;
-            if is_reader_gone(&handed_on) {
-                self.totals.add(Outcome::Failed(Failure::NotShown));
-            } else {
-                self.fail(b"raftbench", Trouble::alone(Failure::NotShown));
-            }
+            self.lose_output(&handed_on);
         }
+    }
+
+    // Nothing more goes to standard output.
+    fn lose_output(&mut self, handed_on: &io::Result<()>) {
+        self.is_lost = true;
+        self.totals.add(Outcome::Failed(Failure::NotShown));
+        if !is_reader_gone(handed_on) {
+            self.clear();
+            let _ = put_failure(&mut self.errors, b"raftbench", Failure::NotShown);
+            let _ = self.errors.0.flush();
+        }
+    }
+
+    // Tells programs something of a script beside its directives.
+    fn notify(&mut self, path: &[u8], line: Option<usize>, kind: Kind, message: &[u8]) {
+        let Some(format) = self.format else {
+            return;
+        };
+        if self.is_lost {
+            return;
+        }
+        match notice(self.alloc, format, path, line, kind, message) {
+            Ok(text) => {
+                let written = self.output.put(&text);
+                self.wrote(written);
+            }
+            Err(_) => self.starve(path),
+        }
+    }
+
+    // No memory was found for what was to be told.
+    fn starve(&mut self, path: &[u8]) {
+        self.totals.add(Outcome::Failed(Failure::OutOfMemory));
+        self.clear();
+        let _ = put_failure(&mut self.errors, path, Failure::OutOfMemory);
+        let _ = self.errors.0.flush();
     }
 
     /// A script that ran, and in which nothing was written.
@@ -142,24 +186,57 @@ impl<W: Write + Drop, E: Write + Drop> Report<W, E> {
         if self.keep(alloc, now).is_err() {
             self.fail(ran.path.as_bytes(), Trouble::alone(Failure::OutOfMemory));
         }
+        self.tell_accepted(ran.path, accepted);
+    }
+
+    fn tell_accepted(&mut self, path: &str, accepted: usize) {
+        if self.is_for_programs() {
+            let noun = if accepted == 1 { "output" } else { "outputs" };
+            match format!(in self.alloc; "accepted {accepted} {noun}") {
+                Ok(text) => self.notify(path.as_bytes(), None, Kind::Accepted, text.as_bytes()),
+                Err(_) => self.starve(path.as_bytes()),
+            }
+            return;
+        }
         if let Some(sink) = self.sink() {
-            let written = put_accepted(sink, ran.path.as_bytes(), accepted);
+            let written = put_accepted(sink, path.as_bytes(), accepted);
             self.wrote(written);
+        }
+    }
+
+    /// Tells programs of the new errors that are not accepted, of the heads on these lines.
+    pub(crate) fn leave(&mut self, path: &str, left: &[usize]) {
+        for line in left {
+            let message = b"this new error was not accepted; --accept-errors accepts it too";
+            self.notify(path.as_bytes(), Some(*line), Kind::Left, message);
         }
     }
 
     /// Lines of a script that look like a slip.
     pub(crate) fn warn(&mut self, path: &str, warnings: &[Warning]) {
         for warning in warnings {
-            if let Some(sink) = self.sink() {
-                let written = put_warning(sink, path.as_bytes(), warning.line, warning.doubt);
-                self.wrote(written);
-            }
+            self.warn_of(path.as_bytes(), *warning);
+        }
+    }
+
+    fn warn_of(&mut self, path: &[u8], warning: Warning) {
+        if self.is_for_programs() {
+            let message = doubt_sentence(warning.doubt);
+            return self.notify(path, Some(warning.line), Kind::Warning, message);
+        }
+        if let Some(sink) = self.sink() {
+            let written = put_warning(sink, path, warning.line, warning.doubt);
+            self.wrote(written);
         }
     }
 
     /// A script into which nothing is written, since it has such lines.
     pub(crate) fn refuse_to_accept(&mut self, path: &str) {
+        if self.is_for_programs() {
+            let message =
+                b"nothing was accepted, since it has warnings; --force accepts all the same";
+            return self.notify(path.as_bytes(), None, Kind::Left, message);
+        }
         if let Some(sink) = self.sink() {
             let written = put_unaccepted(sink, path.as_bytes());
             self.wrote(written);
@@ -168,7 +245,7 @@ impl<W: Write + Drop, E: Write + Drop> Report<W, E> {
 
     /// The scripts that differ, a line each, and an empty line; nothing, where none does.
     pub(crate) fn list_differing(&mut self) {
-        if self.is_lost || self.differing.is_empty() {
+        if self.is_lost || self.is_for_programs() || self.differing.is_empty() {
             return;
         }
         self.clear();
@@ -192,6 +269,14 @@ impl<W: Write + Drop, E: Write + Drop> Report<W, E> {
     /// Bytes that are no script.
     pub(crate) fn refused(&mut self, path: &str, fault: ScriptFault) {
         self.totals.add(Outcome::Refused(fault));
+        if self.is_for_programs() {
+            return self.notify(
+                path.as_bytes(),
+                fault_line(fault),
+                Kind::Refused,
+                sentence(fault),
+            );
+        }
         if let Some(sink) = self.sink() {
             let written = put_refusal(sink, path.as_bytes(), fault);
             self.wrote(written);
@@ -204,6 +289,7 @@ impl<W: Write + Drop, E: Write + Drop> Report<W, E> {
         self.clear();
         let _ = self.tell(path, trouble);
         let _ = self.errors.0.flush();
+        self.notify(path, None, Kind::Failed, failure_sentence(trouble.failure));
     }
 
     fn tell(&mut self, path: &[u8], trouble: Trouble) -> Result<(), WriteFault> {
@@ -264,6 +350,9 @@ impl<W: Write + Drop, E: Write + Drop> Report<W, E> {
     /// The last line.
     pub(crate) fn end(&mut self, milliseconds: u64) {
         let totals = self.totals;
+        if self.is_for_programs() {
+            return self.clear();
+        }
         if let Some(sink) = self.sink() {
             let written = put_totals(sink, &totals, milliseconds);
             self.wrote(written);

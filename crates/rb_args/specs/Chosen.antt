@@ -29,11 +29,12 @@ abbrev pub is_set : Option Text → Bool
 is_set (Some text) = bytes_eq text (codes "true")
 is_set None = false
 
--- the PATHs, the filters, the choice of colours and the flags of `check`, by the matches of the subcommand, where one was met
+-- the PATHs, the filters, the choices of colours and of a format, and the flags of `check`, by the matches of the subcommand, where one was met
 pub record IsCheckOf (rows : Option (List Row)) (check : CheckChoice) : Type 0 where
   pub paths : map string_bytes check.paths.items ≡ unwrap_or (option_and_then (all_of (codes "path")) rows) []
   pub filters : map string_bytes check.filters.items ≡ unwrap_or (option_and_then (all_of (codes "filter")) rows) []
   pub color : option_map string_bytes check.color ≡ option_and_then (first_of (codes "color")) rows
+  pub format : option_map string_bytes check.format ≡ option_and_then (first_of (codes "format")) rows
   pub accepts : check.accepts ≡ is_set (option_and_then (first_of (codes "accept")) rows)
   pub errors : check.accepts_errors ≡ is_set (option_and_then (first_of (codes "accept-errors")) rows)
   pub forced : check.is_forced ≡ is_set (option_and_then (first_of (codes "force")) rows)

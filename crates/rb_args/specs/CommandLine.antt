@@ -47,9 +47,13 @@ subcommand_line subcommand = with_rule (plain_line subcommand) every_rule
 abbrev pub with_amounts : App → App
 with_amounts line = with_rule (with_rule (with_rule (with_rule line (letter_rule 118 (codes "verbose"))) (flag_rule (codes "first"))) (flag_rule (codes "brief"))) (letter_rule 113 (codes "quiet"))
 
--- .. [--filter WORD].. [--verbose] [--first] [--brief] [--quiet] [--every K] [--color WHEN]
+-- .. [--every K] [--color WHEN] [--format FORMAT]
+abbrev pub with_choices : App → App
+with_choices line = with_rule (with_rule (with_rule line every_rule) (option_rule (codes "color"))) (option_rule (codes "format"))
+
+-- .. [--filter WORD].. [--verbose] [--first] [--brief] [--quiet] [--every K] [--color WHEN] [--format FORMAT]
 abbrev pub with_words : App → App
-with_words line = with_rule (with_rule (with_amounts (with_rule line (many_rule (codes "filter")))) every_rule) (option_rule (codes "color"))
+with_words line = with_choices (with_amounts (with_rule line (many_rule (codes "filter"))))
 
 -- .. [--accept] [--accept-errors] [--force]
 abbrev pub with_accepting : App → App

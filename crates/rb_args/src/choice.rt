@@ -47,6 +47,8 @@ pub struct CheckChoice {
     pub filters: Vec<String>,
     /// The text of its `--color`, as it was given.
     pub color: Option<String>,
+    /// The text of its `--format`, as it was given.
+    pub format: Option<String>,
     /// Whether `--accept` is given.
     pub accepts: bool,
     /// Whether `--accept-errors` is given.

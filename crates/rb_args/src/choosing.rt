@@ -66,6 +66,7 @@ fn no_choice(alloc: Global) -> Choice
         paths: Vec::new(alloc),
         filters: Vec::new(alloc),
         color: None,
+        format: None,
         accepts: false,
         accepts_errors: false,
         is_forced: false,
@@ -106,10 +107,12 @@ fn check_choice(alloc: Global, inner: &ArgMatches<'_>) -> Result<CheckChoice, Al
     let paths = texts_of(alloc, inner, "path")?;
     let filters = texts_of(alloc, inner, "filter")?;
     let color = text_of(alloc, inner, "color")?;
+    let format = text_of(alloc, inner, "format")?;
     Ok(CheckChoice {
         paths,
         filters,
         color,
+        format,
         accepts: is_given(inner, "accept"),
         accepts_errors: is_given(inner, "accept-errors"),
         is_forced: is_given(inner, "force"),

@@ -3,7 +3,7 @@
 ghost use Rattle.std.specs.Prelude.{◌≡◌, IfOk, codes, false};
 ghost use Rattle.clap.specs.Words.{app_of, new_app, rule_of, with_rule, with_subcommand};
 ghost use Rattle.clap.specs.declared.builder.command.Command.TheViews.{out-Command};
-ghost use Rattle.rb_args.specs.CommandLine.{command_line, subcommand_line, check_line, directives_line, plain_line, server_line, with_accepting, with_amounts, with_files, with_help, with_version, with_views, with_words, every_rule, flag_rule, letter_rule, many_rule, name_rule, option_rule, path_rule};
+ghost use Rattle.rb_args.specs.CommandLine.{command_line, subcommand_line, check_line, directives_line, plain_line, server_line, with_accepting, with_amounts, with_choices, with_files, with_help, with_version, with_views, with_words, every_rule, flag_rule, letter_rule, many_rule, name_rule, option_rule, path_rule};
 
 use clap::{Arg, ArgAction, Command};
 use std::alloc::{AllocError, Global};
@@ -227,14 +227,28 @@ fn with_words<'a>(command: Command<'a>, alloc: Global) -> Result<Command<'a>, Al
     ensures local { (out-Command command.entry).has_globals ≡ false → IfOk result (λ made. (out-Command made).has_globals ≡ false) }
 {
     let command = command.arg(filter_argument(alloc))?;
-    let command = with_amounts(command, alloc)?;
+    with_choices(with_amounts(command, alloc)?, alloc)
+}
+
+// The options of `check` that have a value.
+fn with_choices<'a>(command: Command<'a>, alloc: Global) -> Result<Command<'a>, AllocError>
+    ensures app { IfOk result (λ made. app_of made ≡ with_choices (app_of command.entry)) }
+    ensures local { (out-Command command.entry).has_globals ≡ false → IfOk result (λ made. (out-Command made).has_globals ≡ false) }
+{
     let command = with_option(command, alloc, "every", "K", EVERY_HELP)?;
-    with_option(
+    let command = with_option(
         command,
         alloc,
         "color",
         "WHEN",
         "Shows colours: auto (on a terminal), always or never [default: auto]",
+    )?;
+    with_option(
+        command,
+        alloc,
+        "format",
+        "FORMAT",
+        "Writes what differs as text, json or github (workflow commands) [default: text]",
     )
 }
 

@@ -1,9 +1,10 @@
 //! The words of the command line: `raftbench run|rewrite|session|page FILE [--every K]`, `raftbench look FILE:LINE`,
 //! `raftbench directives [NAME]`, `raftbench lsp`, and
-//! `raftbench check PATH.. [--accept] [--accept-errors] [--force] [--filter WORD].. [-v] [--first] [--brief] [-q] [--every K] [--color WHEN]`.
+//! `raftbench check PATH.. [--accept] [--accept-errors] [--force] [--filter WORD].. [-v] [--first] [--brief] [-q] [--every K] [--color WHEN]
+//! [--format FORMAT]`.
 //!
-//! [`chosen`] reads the words with `clap` and tells what they choose. What a file, a number of directives or a
-//! choice of colours must be is for the caller to look at: here they are texts, as they were given.
+//! [`chosen`] reads the words with `clap` and tells what they choose. What a file, a number of directives, a
+//! choice of colours or a format must be is for the caller to look at: here they are texts, as they were given.
 #![tactic(auto)]
 
 mod choice;

@@ -18,7 +18,8 @@ pub enum Doubt {
     Unread,
 }
 
-fn sentence(doubt: Doubt) -> &'static [u8]
+/// What is wrong with the line, in a sentence.
+pub fn doubt_sentence(doubt: Doubt) -> &'static [u8]
     ensures { result.now ≡ doubt_sentence doubt }
 {
     match doubt {
@@ -48,7 +49,7 @@ pub fn put_warning<S: Sink>(
             Piece::Bytes(b":"),
             Piece::Number(line as u64),
             Piece::Bytes(b": warning: "),
-            Piece::Bytes(sentence(doubt)),
+            Piece::Bytes(doubt_sentence(doubt)),
             Piece::Bytes(b"\n"),
         ],
     )

@@ -36,7 +36,8 @@ pub enum Failure {
     OutOfMemory,
 }
 
-fn sentence(failure: Failure) -> &'static [u8]
+/// Why, in a sentence.
+pub fn failure_sentence(failure: Failure) -> &'static [u8]
     ensures { result.now ≡ failure_sentence failure }
 {
     match failure {
@@ -65,7 +66,7 @@ pub fn put_failure<S: Sink>(sink: &mut S, path: &[u8], failure: Failure) -> Resu
         &[
             Piece::Bytes(path),
             Piece::Bytes(b": "),
-            Piece::Bytes(sentence(failure)),
+            Piece::Bytes(failure_sentence(failure)),
             Piece::Bytes(b"\n"),
         ],
     )

@@ -88,11 +88,8 @@ fn put_arguments<S: Sink>(sink: &mut S, directive: &DirectiveRef<'_>) -> Result<
     Ok(())
 }
 
-/// Writes the name and the arguments.
-pub(crate) fn put_head<S: Sink>(
-    sink: &mut S,
-    directive: &DirectiveRef<'_>,
-) -> Result<(), WriteFault>
+/// Writes the name and the arguments. On a failure what went out is a beginning of the text.
+pub fn put_head<S: Sink>(sink: &mut S, directive: &DirectiveRef<'_>) -> Result<(), WriteFault>
     ensures wrote { Writes result (S.held sink.old) (S.held sink.new) (head_text (plain directive.now)) }
     ensures all { S.takes_all sink.old → IsOk result × S.takes_all sink.new }
 {

@@ -34,8 +34,9 @@ pub use accepted::put_accepted;
 pub use brief::put_brief;
 pub use colors::Colors;
 pub use diff::put_diff;
-pub use doubt::{Doubt, put_unaccepted, put_warning};
-pub use failure::{Failure, put_failure};
+pub use doubt::{Doubt, doubt_sentence, put_unaccepted, put_warning};
+pub use failure::{Failure, failure_sentence, put_failure};
+pub use head::put_head;
 pub use laws::{
     colors_go_around, counts_are_sums, diffs_are, diffs_are_longest, diffs_tell_both_sides,
     lines_are_told_apart, same_lines_are_plain, sentences_are_distinct,

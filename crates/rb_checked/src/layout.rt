@@ -12,13 +12,19 @@ use std::alloc::{AllocError, Global};
 
 /// A script's lines, and those on which its heads begin.
 #[derive(Drop)]
-pub(crate) struct Layout {
-    pub(crate) text: Lines,
-    pub(crate) heads: Vec<usize>,
+pub struct Layout {
+    /// Its lines, without their ends.
+    pub text: Lines,
+    /// The lines on which its heads begin, which count from 1.
+    pub heads: Vec<usize>,
 }
 
 /// The lines of the bytes, which are a script, and those of its heads.
-pub(crate) fn layout_of(alloc: Global, bytes: &[u8]) -> Result<Layout, AllocError>
+///
+/// # Errors
+///
+/// Where memory was refused.
+pub fn layout_of(alloc: Global, bytes: &[u8]) -> Result<Layout, AllocError>
     ensures text { IfOk result (λ l. l.text ≡ lines bytes.now) }
     ensures heads { (s : PlainScript) → Reads bytes.now s → IfOk result (λ l. AreHeadLines 1 (lines bytes.now) s.blocks l.heads.items) }
 {

@@ -31,7 +31,8 @@ pub use laws::{
     matching_scripts_show_nothing, mismatches_are_shown, names_are_those_of_the_table,
     new_errors_are_left, shown_lines_are_of_heads,
 };
-pub use put::{is_quiet, put_checked, put_left_errors};
+pub use layout::{Layout, layout_of};
+pub use put::{is_quiet, is_same, put_checked, put_left_errors};
 pub use text::lines_of;
 pub use told::Told;
 pub use view::{Shown, View};

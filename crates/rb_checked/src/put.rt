@@ -28,7 +28,7 @@ use rb_script::{Block, Lines, Sink, WriteFault};
 use std::alloc::Global;
 
 /// Whether these are the same lines.
-pub(crate) fn is_same(lines: &Lines, other: &Lines) -> bool
+pub fn is_same(lines: &Lines, other: &Lines) -> bool
     ensures { result ≡ same_lines lines.now other.now }
 {
     lines.same(other)

@@ -16,3 +16,7 @@ numbered b = 92 ∷ 117 ∷ 48 ∷ 48 ∷ hex_digit (b / 16 % 16) ∷ hex_digit 
 -- a byte as it stands between quotes
 abbrev pub escaped : ℕ → List ℕ
 escaped b = if is_plain b then b ∷ [] else numbered b
+
+-- a byte as it stands between the quotes of a text in ASCII: past ASCII it is the character of its number, as in ISO 8859-1
+abbrev pub ascii : ℕ → List ℕ
+ascii b = if nat_lt b 128 then escaped b else numbered b

@@ -2,7 +2,7 @@
 
 ghost use Rattle.std.specs.Prelude.{◌≡◌, ◌<◌, ◌++◌, OnOk};
 ghost use Rattle.std.specs.List.{flat_map};
-ghost use Rattle.rb_json.specs.Escapes.{is_plain, hex_digit, numbered, escaped};
+ghost use Rattle.rb_json.specs.Escapes.{is_plain, hex_digit, numbered, escaped, ascii};
 
 use std::alloc::AllocError;
 
@@ -51,6 +51,29 @@ pub(crate) fn add_escaped(text: &mut Vec<u8>, bytes: &[u8]) -> Result<(), AllocE
 {
     for b in bytes {
         add_byte(text, *b)?;
+    }
+    Ok(())
+}
+
+fn add_ascii_byte(text: &mut Vec<u8>, b: u8) -> Result<(), AllocError>
+    ensures { OnOk result (text.new.items ≡ text.old.items ++ ascii b) }
+{
+    if b < 128 {
+        return add_byte(text, b);
+    }
+    text.extend_from_slice(&numbered(b))
+}
+
+/// Adds the bytes, each as it stands between the quotes of a text in ASCII: a byte past ASCII is the character of its number.
+///
+/// # Errors
+///
+/// Where memory was refused. Some of the bytes may have been added then.
+pub fn add_ascii(text: &mut Vec<u8>, bytes: &[u8]) -> Result<(), AllocError>
+    ensures { OnOk result (text.new.items ≡ text.old.items ++ flat_map ascii bytes.now) }
+{
+    for b in bytes {
+        add_ascii_byte(text, *b)?;
     }
     Ok(())
 }

@@ -22,5 +22,6 @@ complete -c raftbench -n '__fish_seen_subcommand_from check' -l brief -d 'Show o
 complete -c raftbench -n '__fish_seen_subcommand_from check' -s q -l quiet -d 'Show nothing'
 complete -c raftbench -n '__fish_seen_subcommand_from check' -l color -x -a 'auto always never' -d 'When to show colours'
 complete -c raftbench -n '__fish_seen_subcommand_from check page run rewrite session' -l every -x -a '1 4 16 64' -d 'Directives from one checkpoint to the next'
+complete -c raftbench -n '__fish_seen_subcommand_from check' -l format -x -a 'text json github' -d 'How what differs is written'
 complete -c raftbench -n '__fish_seen_subcommand_from directives' -a 'add-nodes campaign propose propose-conf-change process-ready deliver-msgs stabilize tick-election tick-heartbeat set-randomized-election-timeout'
 complete -c raftbench -n '__fish_seen_subcommand_from directives' -a 'transfer-leadership forget-leader report-unreachable send-snapshot compact log-level raft-log status raft-state'

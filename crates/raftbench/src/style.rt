@@ -1,0 +1,33 @@
+//! How what differs is written.
+
+use rb_formats::Format;
+
+/// What `--format` asks for.
+#[derive(Clone, Copy, Debug, PartialEq, Eq)]
+pub(crate) enum Style {
+    /// Text for people.
+    Text,
+    /// A format for programs.
+    Program(Format),
+}
+
+impl Style {
+    /// The format for programs, where it is one.
+    pub(crate) fn format(self) -> Option<Format> {
+        match self {
+            Style::Text => None,
+            Style::Program(format) => Some(format),
+        }
+    }
+}
+
+/// What the word of `--format` asks for; none is no style.
+pub(crate) fn style_of(word: Option<&str>) -> Option<Style> {
+    match word {
+        None => Some(Style::Text),
+        Some(word) if word == "text" => Some(Style::Text),
+        Some(word) if word == "json" => Some(Style::Program(Format::Json)),
+        Some(word) if word == "github" => Some(Style::Program(Format::Github)),
+        Some(_) => None,
+    }
+}
