@@ -2,11 +2,10 @@
 
 ghost use Rattle.rb_script.specs.Reads.{Reads};
 
-use crate::check::Asked;
 use crate::checking::{CheckSession, Text};
 use crate::report::{Ran, Report};
 use rb_check::Failure;
-use rb_checked::{AcceptFault, Accepted, ShowFault, accept as accepted, put_left_errors};
+use rb_checked::{AcceptFault, Accepted, ShowFault, Wanted, accept as accepted, put_left_errors};
 use rb_files::{Beside, Trouble, replace};
 use rb_script::WriteFault;
 use std::alloc::Global;
@@ -18,7 +17,7 @@ use std::rt::Files;
 /// Writes the outputs into the script's file: those that are accepted. The others are told.
 pub(crate) fn accept<R: Files + AllocGlobal, W: Write + Drop, E: Write + Drop>(
     rt: &R,
-    asked: Asked<'_>,
+    wanted: Wanted<'_>,
     ran: Ran<'_>,
     session: &CheckSession,
     text: Text,
@@ -27,12 +26,11 @@ pub(crate) fn accept<R: Files + AllocGlobal, W: Write + Drop, E: Write + Drop>(
     requires { Reads text.bytes.items session.now.script }
 {
     let alloc = rt.alloc();
-    let errors = asked.accepts_errors;
-    match accepted(alloc, session, &text.bytes, errors) {
+    match accepted(alloc, session, &text.bytes, wanted) {
         Ok(made) => {
             if !made.left.is_empty() {
-                report.leave(ran.path, &made.left);
-                tell_left(alloc, session, &text.bytes, ran.path, errors, report);
+                report.leave(ran.path, wanted.picked, &made.left);
+                tell_left(alloc, session, &text.bytes, ran.path, wanted, report);
             }
             keep(rt, ran, &made, text.seen, report);
         }
@@ -46,7 +44,7 @@ fn tell_left<W: Write + Drop, E: Write + Drop>(
     session: &CheckSession,
     bytes: &[u8],
     path: &str,
-    errors: bool,
+    wanted: Wanted<'_>,
     report: &mut Report<W, E>,
 )
     requires { Reads bytes.now session.now.script }
@@ -57,7 +55,7 @@ fn tell_left<W: Write + Drop, E: Write + Drop>(
     let Some(sink) = report.sink() else {
         return;
     };
-    match put_left_errors(alloc, sink, session, bytes, path.as_bytes(), errors) {
+    match put_left_errors(alloc, sink, session, bytes, path.as_bytes(), wanted) {
         Ok(()) => report.wrote(Ok(())),
         Err(ShowFault::Writing) => report.wrote(Err(WriteFault)),
         Err(ShowFault::OutOfMemory) => {

@@ -4,6 +4,7 @@ use crate::checking::check_script;
 use crate::progress::Progress;
 use crate::refusal::Refusal;
 use crate::report::Report;
+use crate::target::Target;
 use rb_check::{Colors, Failure};
 use rb_checked::Shown;
 use rb_files::{Found, Trouble, find};
@@ -16,7 +17,7 @@ use std::time::Clock;
 /// What is asked for.
 #[derive(Clone, Copy)]
 pub(crate) struct Asked<'a> {
-    pub(crate) paths: &'a [String],
+    pub(crate) targets: &'a [Target],
     pub(crate) filters: &'a [String],
     pub(crate) accepts: bool,
     /// Whether new errors are accepted too.
@@ -45,7 +46,7 @@ pub(crate) fn check<R: Files + Print + Clock + AllocGlobal, E: Write + Drop>(
         asked.is_quiet,
         asked.format,
     )?;
-    let found = find(rt, asked.paths, asked.filters);
+    let found = find(rt, asked.targets, asked.filters);
     tell_lost(&found, &mut report);
     for (done, path) in found.scripts.iter().enumerate() {
         if progress.is_due(rt) {

@@ -4,10 +4,13 @@ ghost use Rattle.rb_script.specs.Reads.{Reads};
 
 use crate::accepting::accept;
 use crate::check::Asked;
+use crate::picking::picked_heads;
 use crate::report::{Ran, Report};
 use rb_bench::{ReadFault, read_up_to};
 use rb_check::Failure;
-use rb_checked::{ShowFault, Shown, Told, View, Warning, is_quiet, put_checked, warnings};
+use rb_checked::{
+    Picked, ShowFault, Shown, Told, View, Wanted, Warning, is_quiet, put_checked, warnings,
+};
 use rb_cluster::{Cluster, Meter};
 use rb_files::{Trouble, opened};
 use rb_formats::{Format, formatted};
@@ -97,10 +100,23 @@ fn answer<R: Files + AllocGlobal, W: Write + Drop, E: Write + Drop>(
         mismatches: session.mismatches().len(),
         told,
     };
+    if !asked.accepts {
+        report.ran(alloc, ran);
+        return Ok(());
+    }
+    let heads = picked_heads(alloc, asked.targets, session, bytes, path, report)?;
     if !may_accept {
         report.ran(alloc, ran);
     } else if asked.is_forced || warnings.is_empty() {
-        accept(rt, asked, ran, session, text, report);
+        let picked = match &heads {
+            Some(heads) => Picked::Heads(heads),
+            None => Picked::All,
+        };
+        let wanted = Wanted {
+            picked,
+            errors: asked.accepts_errors,
+        };
+        accept(rt, wanted, ran, session, text, report);
     } else {
         report.ran(alloc, ran);
         report.refuse_to_accept(path);

@@ -10,6 +10,7 @@ use crate::page::page;
 use crate::refusal::Refusal;
 use crate::spacing::spacing;
 use crate::style::{Style, style_of};
+use crate::target::targets;
 use rb_args::{CheckChoice, Choice, Subcommand, chosen};
 use rb_bench::{Mode, Status, read_up_to, run_over, serve, status_code};
 use rb_checked::Shown;
@@ -124,10 +125,12 @@ fn check_all<R: Files + Print + Env + Clock + AllocGlobal, E: Write + Drop>(
             None => Misuse::NoText,
         }));
     };
+    let accepts = choice.accepts || choice.accepts_errors;
+    let targets = targets(rt, &choice.paths, accepts)?;
     let asked = Asked {
-        paths: &choice.paths,
+        targets: &targets,
         filters: &choice.filters,
-        accepts: choice.accepts || choice.accepts_errors,
+        accepts,
         accepts_errors: choice.accepts_errors,
         is_forced: choice.is_forced,
         is_quiet: choice.is_quiet,

@@ -5,12 +5,12 @@ ghost use Rattle.std.specs.Prelude.{◌≤◌, length};
 use crate::directives::handed_on;
 use crate::edge::script;
 use crate::misuse::Misuse;
+use crate::place::{path_and_line, place_at};
 use crate::refusal::Refusal;
 use rb_bench::Status;
 use rb_check::{Place, put_directive};
 use rb_cluster::{Cluster, Meter};
 use rb_look::look;
-use rb_number::number_of;
 use rb_raftlog::SplitLog;
 use rb_script::{Block, Lines, MAX_DIRECTIVES, Script, Through, head_lines};
 use std::alloc::{AllocError, Global};
@@ -42,21 +42,6 @@ pub(crate) fn look_at<R: Files + Print + AllocGlobal>(
         line: head,
     };
     show(rt, at, block, &seen)
-}
-
-// FILE, and the number behind its last colon.
-fn path_and_line(word: &str) -> Option<(&str, usize)> {
-    let (path, line) = word.rsplit_once(':')?;
-    Some((path, number_of(line.as_bytes())? as usize))
-}
-
-// The last of the heads at the line or above it: which directive it is, from 1 on, and its line.
-fn place_at(heads: &[usize], line: usize) -> Option<(usize, usize)> {
-    let place = heads.partition_point(|head| *head <= line);
-    if place == 0 {
-        return None;
-    }
-    Some((place, heads[place - 1]))
 }
 
 fn no_place(alloc: Global, word: &str) -> Refusal {

@@ -12,11 +12,14 @@ mod editing;
 mod look;
 mod misuse;
 mod page;
+mod picking;
+mod place;
 mod progress;
 mod refusal;
 mod report;
 mod spacing;
 mod style;
+mod target;
 
 use edge::Terminals;
 use std::io::IsTerminal;

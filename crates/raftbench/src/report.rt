@@ -9,7 +9,7 @@ use rb_check::{
     put_brief, put_failure, put_refusal, put_totals, put_unaccepted, put_warning, sentence,
     status_code,
 };
-use rb_checked::{Told, Warning};
+use rb_checked::{Picked, Told, Warning, is_picked};
 use rb_files::Trouble;
 use rb_formats::{Format, Kind, notice};
 use rb_number::put_number;
@@ -204,11 +204,25 @@ impl<W: Write + Drop, E: Write + Drop> Report<W, E> {
         }
     }
 
-    /// Tells programs of the new errors that are not accepted, of the heads on these lines.
-    pub(crate) fn leave(&mut self, path: &str, left: &[usize]) {
+    /// Tells programs of the new errors that are not accepted: of the heads on these lines those that are picked.
+    pub(crate) fn leave(&mut self, path: &str, picked: Picked<'_>, left: &[usize]) {
         for line in left {
-            let message = b"this new error was not accepted; --accept-errors accepts it too";
-            self.notify(path.as_bytes(), Some(*line), Kind::Left, message);
+            if is_picked(picked, *line) {
+                let message = b"this new error was not accepted; --accept-errors accepts it too";
+                self.notify(path.as_bytes(), Some(*line), Kind::Left, message);
+            }
+        }
+    }
+
+    /// A directive that was to be accepted, and whose output is the expected one.
+    pub(crate) fn tell_expected(&mut self, path: &str, line: usize) {
+        let message = b"there is nothing to accept: the output is the expected one";
+        if self.is_for_programs() {
+            return self.notify(path.as_bytes(), Some(line), Kind::Left, message);
+        }
+        if let Some(sink) = self.sink() {
+            let written = put_note(sink, path.as_bytes(), line, message);
+            self.wrote(written);
         }
     }
 
@@ -359,6 +373,20 @@ impl<W: Write + Drop, E: Write + Drop> Report<W, E> {
         }
         self.clear();
     }
+}
+
+fn put_note<S: Sink>(
+    sink: &mut S,
+    path: &[u8],
+    line: usize,
+    note: &[u8],
+) -> Result<(), WriteFault> {
+    sink.put(path)?;
+    sink.put(b":")?;
+    put_number(sink, line as u64)?;
+    sink.put(b": ")?;
+    sink.put(note)?;
+    sink.put(b"\n")
 }
 
 // Whether nobody reads any more: who has read enough need not be told.

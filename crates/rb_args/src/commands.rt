@@ -170,7 +170,7 @@ fn with_accepting<'a>(command: Command<'a>, alloc: Global) -> Result<Command<'a>
         command,
         alloc,
         "accept",
-        "Writes the outputs that came into the scripts, but new errors",
+        "Writes the outputs that came into the scripts, but new errors; of FILE:LINE that of one directive",
     )?;
     let command = with_flag(command, alloc, "accept-errors", "Accepts new errors too")?;
     with_flag(

@@ -1,6 +1,6 @@
 -- What is accepted and what is left, one directive after another.
 use Rattle.std.proofs.Common.{◌≡◌, ◌∙◌, ℕ, zero, suc, ◌+◌, Bool, true, false, List, [], ◌∷◌, ◌++◌, drop, length, Some, Result, Ok, Err, refl, ap, sym, subst, arith}
-use Rattle.std.specs.Prelude.{slice_get, ◌&&◌, not, if◌then◌else◌, IfOk}
+use Rattle.std.specs.Prelude.{slice_get, ◌&&◌, ◌||◌, not, if◌then◌else◌, IfOk}
 use Rattle.std.proofs.lemmas.Option.{slice_get_within}
 use Rattle.rb_script.specs.declared.edit.Edit.TheVariants.{Accept}
 use Rattle.rb_script.specs.declared.fault.EditFault.{EditFault}
@@ -13,46 +13,50 @@ use Rattle.rb_script.proofs.ScriptLaws.{reads_once}
 use Rattle.rb_script.proofs.TextLaws.{text_reads}
 use Rattle.rb_replay.specs.Report.{same_lines}
 use Rattle.rb_replay.proofs.ChangeLaws.{accepted}
+use Rattle.rb_replay.proofs.DifferingLaws.{same_lines-Decides}
 use Rattle.rb_check.proofs.PieceLaws.{drop-get}
+use Rattle.rb_checked.specs.declared.wanted.Picked.{Picked}
+use Rattle.rb_checked.specs.declared.wanted.Picked.TheVariants as picks
+use Rattle.rb_checked.specs.declared.wanted.Wanted.{Wanted}
 use Rattle.rb_checked.specs.Errors.{is_unexpected}
-use Rattle.rb_checked.specs.Accepting.{is_left, accepted_lines, accepted_of, one_left, left_heads, left_shown, all_left}
+use Rattle.rb_checked.specs.Accepting.{is_picked, is_left, accepted_lines, accepted_of, one_left, left_heads, left_shown, all_left}
 
 -- one directive more
-pub accepted_step : (errors : Bool) (ls : List Line) (heads : List ℕ) (bs : List PlainBlock) (os : List (List Line)) (i line : ℕ) (b : PlainBlock) (o : List Line)
+pub accepted_step : (wanted : Wanted) (ls : List Line) (heads : List ℕ) (bs : List PlainBlock) (os : List (List Line)) (i line : ℕ) (b : PlainBlock) (o : List Line)
     → slice_get heads i ≡ Some line → slice_get bs i ≡ Some b → slice_get os i ≡ Some o
-    → accepted_of errors ls (drop i heads) (drop i bs) (drop i os) ≡ accepted_lines errors ls line b o ∷ accepted_of errors ls (drop (i + 1) heads) (drop (i + 1) bs) (drop (i + 1) os)
-accepted_step errors ls heads bs os i line b o head block output =
-    ap (λ (ns : List ℕ). accepted_of errors ls ns (drop i bs) (drop i os)) (drop-get heads i line head)
-    ∙ ap (λ (cs : List PlainBlock). accepted_of errors ls (line ∷ drop (i + 1) heads) cs (drop i os)) (drop-get bs i b block)
-    ∙ ap (λ (outs : List (List Line)). accepted_of errors ls (line ∷ drop (i + 1) heads) (b ∷ drop (i + 1) bs) outs) (drop-get os i o output)
+    → accepted_of wanted ls (drop i heads) (drop i bs) (drop i os) ≡ accepted_lines wanted ls line b o ∷ accepted_of wanted ls (drop (i + 1) heads) (drop (i + 1) bs) (drop (i + 1) os)
+accepted_step wanted ls heads bs os i line b o head block output =
+    ap (λ (ns : List ℕ). accepted_of wanted ls ns (drop i bs) (drop i os)) (drop-get heads i line head)
+    ∙ ap (λ (cs : List PlainBlock). accepted_of wanted ls (line ∷ drop (i + 1) heads) cs (drop i os)) (drop-get bs i b block)
+    ∙ ap (λ (outs : List (List Line)). accepted_of wanted ls (line ∷ drop (i + 1) heads) (b ∷ drop (i + 1) bs) outs) (drop-get os i o output)
 
-pub accepted_done : (errors : Bool) (ls : List Line) (heads : List ℕ) (bs : List PlainBlock) (os : List (List Line)) → heads ≡ [] → accepted_of errors ls heads bs os ≡ []
-accepted_done errors ls [] bs os none = refl
-accepted_done errors ls (line ∷ heads) bs os none = absurd cc
+pub accepted_done : (wanted : Wanted) (ls : List Line) (heads : List ℕ) (bs : List PlainBlock) (os : List (List Line)) → heads ≡ [] → accepted_of wanted ls heads bs os ≡ []
+accepted_done wanted ls [] bs os none = refl
+accepted_done wanted ls (line ∷ heads) bs os none = absurd cc
 
-pub left_step : (errors : Bool) (ls : List Line) (heads : List ℕ) (bs : List PlainBlock) (os : List (List Line)) (i line : ℕ) (b : PlainBlock) (o : List Line)
+pub left_step : (wanted : Wanted) (ls : List Line) (heads : List ℕ) (bs : List PlainBlock) (os : List (List Line)) (i line : ℕ) (b : PlainBlock) (o : List Line)
     → slice_get heads i ≡ Some line → slice_get bs i ≡ Some b → slice_get os i ≡ Some o
-    → left_heads errors ls (drop i heads) (drop i bs) (drop i os) ≡ one_left errors ls line b o ++ left_heads errors ls (drop (i + 1) heads) (drop (i + 1) bs) (drop (i + 1) os)
-left_step errors ls heads bs os i line b o head block output =
-    ap (λ (ns : List ℕ). left_heads errors ls ns (drop i bs) (drop i os)) (drop-get heads i line head)
-    ∙ ap (λ (cs : List PlainBlock). left_heads errors ls (line ∷ drop (i + 1) heads) cs (drop i os)) (drop-get bs i b block)
-    ∙ ap (λ (outs : List (List Line)). left_heads errors ls (line ∷ drop (i + 1) heads) (b ∷ drop (i + 1) bs) outs) (drop-get os i o output)
+    → left_heads wanted ls (drop i heads) (drop i bs) (drop i os) ≡ one_left wanted ls line b o ++ left_heads wanted ls (drop (i + 1) heads) (drop (i + 1) bs) (drop (i + 1) os)
+left_step wanted ls heads bs os i line b o head block output =
+    ap (λ (ns : List ℕ). left_heads wanted ls ns (drop i bs) (drop i os)) (drop-get heads i line head)
+    ∙ ap (λ (cs : List PlainBlock). left_heads wanted ls (line ∷ drop (i + 1) heads) cs (drop i os)) (drop-get bs i b block)
+    ∙ ap (λ (outs : List (List Line)). left_heads wanted ls (line ∷ drop (i + 1) heads) (b ∷ drop (i + 1) bs) outs) (drop-get os i o output)
 
-pub left_done : (errors : Bool) (ls : List Line) (heads : List ℕ) (bs : List PlainBlock) (os : List (List Line)) → heads ≡ [] → left_heads errors ls heads bs os ≡ []
-left_done errors ls [] bs os none = refl
-left_done errors ls (line ∷ heads) bs os none = absurd cc
+pub left_done : (wanted : Wanted) (ls : List Line) (heads : List ℕ) (bs : List PlainBlock) (os : List (List Line)) → heads ≡ [] → left_heads wanted ls heads bs os ≡ []
+left_done wanted ls [] bs os none = refl
+left_done wanted ls (line ∷ heads) bs os none = absurd cc
 
-pub all_left_step : (errors : Bool) (ls : List Line) (path heads : List ℕ) (bs : List PlainBlock) (os : List (List Line)) (i line : ℕ) (b : PlainBlock) (o : List Line)
+pub all_left_step : (wanted : Wanted) (ls : List Line) (path heads : List ℕ) (bs : List PlainBlock) (os : List (List Line)) (i line : ℕ) (b : PlainBlock) (o : List Line)
     → slice_get heads i ≡ Some line → slice_get bs i ≡ Some b → slice_get os i ≡ Some o
-    → all_left errors ls path (drop i heads) (drop i bs) (drop i os) ≡ left_shown errors ls path line b o ++ all_left errors ls path (drop (i + 1) heads) (drop (i + 1) bs) (drop (i + 1) os)
-all_left_step errors ls path heads bs os i line b o head block output =
-    ap (λ (ns : List ℕ). all_left errors ls path ns (drop i bs) (drop i os)) (drop-get heads i line head)
-    ∙ ap (λ (cs : List PlainBlock). all_left errors ls path (line ∷ drop (i + 1) heads) cs (drop i os)) (drop-get bs i b block)
-    ∙ ap (λ (outs : List (List Line)). all_left errors ls path (line ∷ drop (i + 1) heads) (b ∷ drop (i + 1) bs) outs) (drop-get os i o output)
+    → all_left wanted ls path (drop i heads) (drop i bs) (drop i os) ≡ left_shown wanted ls path line b o ++ all_left wanted ls path (drop (i + 1) heads) (drop (i + 1) bs) (drop (i + 1) os)
+all_left_step wanted ls path heads bs os i line b o head block output =
+    ap (λ (ns : List ℕ). all_left wanted ls path ns (drop i bs) (drop i os)) (drop-get heads i line head)
+    ∙ ap (λ (cs : List PlainBlock). all_left wanted ls path (line ∷ drop (i + 1) heads) cs (drop i os)) (drop-get bs i b block)
+    ∙ ap (λ (outs : List (List Line)). all_left wanted ls path (line ∷ drop (i + 1) heads) (b ∷ drop (i + 1) bs) outs) (drop-get os i o output)
 
-pub all_left_done : (errors : Bool) (ls : List Line) (path heads : List ℕ) (bs : List PlainBlock) (os : List (List Line)) → heads ≡ [] → all_left errors ls path heads bs os ≡ []
-all_left_done errors ls path [] bs os none = refl
-all_left_done errors ls path (line ∷ heads) bs os none = absurd cc
+pub all_left_done : (wanted : Wanted) (ls : List Line) (path heads : List ℕ) (bs : List PlainBlock) (os : List (List Line)) → heads ≡ [] → all_left wanted ls path heads bs os ≡ []
+all_left_done wanted ls path [] bs os none = refl
+all_left_done wanted ls path (line ∷ heads) bs os none = absurd cc
 
 -- ---- the script with what is accepted
 
@@ -60,27 +64,27 @@ one_block : (t : Bool) (b : PlainBlock) (o : List Line) → expecting b (if t th
 one_block true b o = refl
 one_block false b o = refl
 
-pub accepted_at : (errors : Bool) (ls : List Line) (heads : List ℕ) (bs : List PlainBlock) (os : List (List Line)) (k line : ℕ) (b : PlainBlock) (o : List Line)
+pub accepted_at : (wanted : Wanted) (ls : List Line) (heads : List ℕ) (bs : List PlainBlock) (os : List (List Line)) (k line : ℕ) (b : PlainBlock) (o : List Line)
     → slice_get heads k ≡ Some line → slice_get bs k ≡ Some b → slice_get os k ≡ Some o
-    → slice_get (all_expecting bs (accepted_of errors ls heads bs os)) k ≡ Some (if is_left errors ls line b o then b else expecting b o)
+    → slice_get (all_expecting bs (accepted_of wanted ls heads bs os)) k ≡ Some (if is_left wanted ls line b o then b else expecting b o)
 unfolding all_expecting
-accepted_at errors ls [] bs os k line b o h hb ho = absurd (omega (arith, slice_get_within [] k line h))
-accepted_at errors ls (n ∷ heads) [] os k line b o h hb ho = absurd (omega (arith, slice_get_within [] k b hb))
-accepted_at errors ls (n ∷ heads) (c ∷ bs) [] k line b o h hb ho = absurd (omega (arith, slice_get_within [] k o ho))
-accepted_at errors ls (n ∷ heads) (c ∷ bs) (p ∷ os) zero line b o h hb ho =
+accepted_at wanted ls [] bs os k line b o h hb ho = absurd (omega (arith, slice_get_within [] k line h))
+accepted_at wanted ls (n ∷ heads) [] os k line b o h hb ho = absurd (omega (arith, slice_get_within [] k b hb))
+accepted_at wanted ls (n ∷ heads) (c ∷ bs) [] k line b o h hb ho = absurd (omega (arith, slice_get_within [] k o ho))
+accepted_at wanted ls (n ∷ heads) (c ∷ bs) (p ∷ os) zero line b o h hb ho =
     let head : n ≡ line = cc in
     let block : c ≡ b = cc in
     let output : p ≡ o = cc in
-    rw (head, block, output) (ap (λ (x : PlainBlock). Some x) (one_block (is_left errors ls line b o) b o))
-accepted_at errors ls (n ∷ heads) (c ∷ bs) (p ∷ os) (suc k) line b o h hb ho = accepted_at errors ls heads bs os k line b o h hb ho
+    rw (head, block, output) (ap (λ (x : PlainBlock). Some x) (one_block (is_left wanted ls line b o) b o))
+accepted_at wanted ls (n ∷ heads) (c ∷ bs) (p ∷ os) (suc k) line b o h hb ho = accepted_at wanted ls heads bs os k line b o h hb ho
 
 -- as many as there are directives
-pub accepted_len : (errors : Bool) (ls : List Line) (heads : List ℕ) (bs : List PlainBlock) (os : List (List Line)) → length heads ≡ length bs → length os ≡ length bs → length (accepted_of errors ls heads bs os) ≡ length bs
-accepted_len errors ls [] [] os h e = refl
-accepted_len errors ls [] (b ∷ bs) os h e = absurd (omega (arith, h))
-accepted_len errors ls (n ∷ heads) [] os h e = absurd (omega (arith, h))
-accepted_len errors ls (n ∷ heads) (b ∷ bs) [] h e = absurd (omega (arith, e))
-accepted_len errors ls (n ∷ heads) (b ∷ bs) (o ∷ os) h e = let rest = accepted_len errors ls heads bs os (omega (arith, h)) (omega (arith, e)) in omega (arith, rest)
+pub accepted_len : (wanted : Wanted) (ls : List Line) (heads : List ℕ) (bs : List PlainBlock) (os : List (List Line)) → length heads ≡ length bs → length os ≡ length bs → length (accepted_of wanted ls heads bs os) ≡ length bs
+accepted_len wanted ls [] [] os h e = refl
+accepted_len wanted ls [] (b ∷ bs) os h e = absurd (omega (arith, h))
+accepted_len wanted ls (n ∷ heads) [] os h e = absurd (omega (arith, h))
+accepted_len wanted ls (n ∷ heads) (b ∷ bs) [] h e = absurd (omega (arith, e))
+accepted_len wanted ls (n ∷ heads) (b ∷ bs) (o ∷ os) h e = let rest = accepted_len wanted ls heads bs os (omega (arith, h)) (omega (arith, e)) in omega (arith, rest)
 
 -- what the edit answered is that script
 pub made_of : (r : Result PlainScript EditFault) (s : PlainScript) (os : List (List Line)) → Makes r (edited s Accept os) → IfOk r (λ new. new ≡ with_outputs s os)
@@ -100,22 +104,48 @@ left_when true b c is = refl
 left_when false b c is = absurd cc
 
 -- a new error is left
-new_left : (u s : Bool) → u ≡ true → s ≡ false → (not false && (u && not s)) ≡ true
-new_left true false new differs = refl
-new_left true true new differs = absurd cc
-new_left false s new differs = absurd cc
+new_left : (p e u s : Bool) → e ≡ false → u ≡ true → s ≡ false → ((not p || (not e && u)) && not s) ≡ true
+new_left true false true false none new differs = refl
+new_left false false true false none new differs = refl
+new_left p e u true none new differs = absurd cc
+new_left p e false false none new differs = absurd cc
+new_left p true true false none new differs = absurd cc
 
-pub left_new : (ls : List Line) (heads : List ℕ) (bs : List PlainBlock) (os : List (List Line)) (k line : ℕ) (b : PlainBlock) (o : List Line)
+pub left_new : (wanted : Wanted) (ls : List Line) (heads : List ℕ) (bs : List PlainBlock) (os : List (List Line)) (k line : ℕ) (b : PlainBlock) (o : List Line) → wanted.errors ≡ false
     → slice_get heads k ≡ Some line → slice_get bs k ≡ Some b → slice_get os k ≡ Some o → is_unexpected ls line o ≡ true → same_lines b.expected o ≡ false
-    → slice_get (all_expecting bs (accepted_of false ls heads bs os)) k ≡ Some b
-left_new ls heads bs os k line b o h hb ho new differs =
-    accepted_at false ls heads bs os k line b o h hb ho
-    ∙ ap (λ (x : PlainBlock). Some x) (left_when (is_left false ls line b o) b (expecting b o) (new_left (is_unexpected ls line o) (same_lines b.expected o) new differs))
+    → slice_get (all_expecting bs (accepted_of wanted ls heads bs os)) k ≡ Some b
+left_new wanted ls heads bs os k line b o none h hb ho new differs =
+    accepted_at wanted ls heads bs os k line b o h hb ho
+    ∙ ap (λ (x : PlainBlock). Some x) (left_when (is_left wanted ls line b o) b (expecting b o) (new_left (is_picked wanted.picked line) wanted.errors (is_unexpected ls line o) (same_lines b.expected o) none new differs))
 
-pub all_accepted : (ls : List Line) (heads : List ℕ) (bs : List PlainBlock) (os : List (List Line)) → length heads ≡ length bs → length os ≡ length bs → accepted_of true ls heads bs os ≡ os
-all_accepted ls [] [] [] h e = refl
-all_accepted ls [] [] (o ∷ os) h e = absurd (omega (arith, e))
-all_accepted ls [] (b ∷ bs) os h e = absurd (omega (arith, h))
-all_accepted ls (n ∷ heads) [] os h e = absurd (omega (arith, h))
-all_accepted ls (n ∷ heads) (b ∷ bs) [] h e = absurd (omega (arith, e))
-all_accepted ls (n ∷ heads) (b ∷ bs) (o ∷ os) h e = ap (λ (xs : List (List Line)). o ∷ xs) (all_accepted ls heads bs os (omega (arith, h)) (omega (arith, e)))
+-- of a directive that isn't picked the block stays: it is left, or expects its output already
+unpicked : (p r s : Bool) (b : PlainBlock) (o : List Line) → p ≡ false → (s ≡ true → expecting b o ≡ b) → (if (not p || r) && not s then b else expecting b o) ≡ b
+unpicked true r s b o none same = absurd cc
+unpicked false r true b o none same = same refl
+unpicked false r false b o none same = refl
+
+same_stays : (b : PlainBlock) (o : List Line) → same_lines b.expected o ≡ true → expecting b o ≡ b
+same_stays b o yes = ap (λ (ls : List Line). expecting b ls) (sym ((same_lines-Decides b.expected o).0 yes))
+
+pub stays : (wanted : Wanted) (ls : List Line) (heads : List ℕ) (bs : List PlainBlock) (os : List (List Line)) (k line : ℕ) (b : PlainBlock) (o : List Line)
+    → slice_get heads k ≡ Some line → slice_get bs k ≡ Some b → slice_get os k ≡ Some o → is_picked wanted.picked line ≡ false
+    → slice_get (all_expecting bs (accepted_of wanted ls heads bs os)) k ≡ Some b
+stays wanted ls heads bs os k line b o h hb ho none =
+    accepted_at wanted ls heads bs os k line b o h hb ho
+    ∙ ap (λ (x : PlainBlock). Some x) (unpicked (is_picked wanted.picked line) (not wanted.errors && is_unexpected ls line o) (same_lines b.expected o) b o none (same_stays b o))
+
+-- where each directive is picked and errors are taken, the output is
+one_taken : (p : Picked) (e u s : Bool) (line : ℕ) (x o : List Line) → p ≡ picks.All → e ≡ true → (if (not (is_picked p line) || (not e && u)) && not s then x else o) ≡ o
+one_taken picks.All true u s line x o all taken = refl
+one_taken picks.All false u s line x o all taken = absurd cc
+one_taken (picks.Heads heads) e u s line x o all taken = absurd cc
+
+pub all_accepted : (wanted : Wanted) (ls : List Line) (heads : List ℕ) (bs : List PlainBlock) (os : List (List Line)) → wanted.errors ≡ true → wanted.picked ≡ picks.All → length heads ≡ length bs → length os ≡ length bs → accepted_of wanted ls heads bs os ≡ os
+all_accepted wanted ls [] [] [] taken all h e = refl
+all_accepted wanted ls [] [] (o ∷ os) taken all h e = absurd (omega (arith, e))
+all_accepted wanted ls [] (b ∷ bs) os taken all h e = absurd (omega (arith, h))
+all_accepted wanted ls (n ∷ heads) [] os taken all h e = absurd (omega (arith, h))
+all_accepted wanted ls (n ∷ heads) (b ∷ bs) [] taken all h e = absurd (omega (arith, e))
+all_accepted wanted ls (n ∷ heads) (b ∷ bs) (o ∷ os) taken all h e =
+    ap (λ (x : List Line). x ∷ accepted_of wanted ls heads bs os) (one_taken wanted.picked wanted.errors (is_unexpected ls n o) (same_lines b.expected o) n b.expected o all taken)
+    ∙ ap (λ (xs : List (List Line)). o ∷ xs) (all_accepted wanted ls heads bs os taken all (omega (arith, h)) (omega (arith, e)))

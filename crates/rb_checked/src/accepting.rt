@@ -1,39 +1,50 @@
 //! What a script expects once its outputs are accepted, and the outputs that are left.
 //!
-//! An output is accepted unless it is a new error: one that the directive doesn't expect already, and that no comment says is expected.
+//! An output is accepted where its directive is picked, unless it is a new error: one that the directive doesn't expect already, and that
+//! no comment says is expected.
 
-ghost use Rattle.std.specs.Prelude.{◌≡◌, ◌∷◌, ◌++◌, [], IfOk, IsOk, length};
+ghost use Rattle.std.specs.Prelude.{◌≡◌, ◌&&◌, ◌∷◌, ◌++◌, [], not, IfOk, IsOk, length};
 ghost use Rattle.rb_script.specs.Writes.{Writes};
 ghost use Rattle.rb_replay.specs.Run.{outputs};
+ghost use Rattle.rb_checked.specs.Errors.{is_unexpected};
 ghost use Rattle.rb_checked.specs.Accepting.{is_left, accepted_lines, accepted_of, left_heads, one_left, left_shown, all_left};
 
 use crate::answers::{block_at, number_at, output_at};
 use crate::errors::{first_line, is_unexpected};
 use crate::put::is_same;
+use crate::wanted::{Wanted, is_picked};
 use rb_check::{Place, put_left};
 use rb_machine::Machine;
 use rb_replay::Session;
 use rb_script::{Block, Lines, Sink, WriteFault};
 use std::alloc::{AllocError, Global};
 
-// Whether the output is not accepted.
-fn is_left(errors: bool, text: &Lines, line: usize, block: &Block, output: &Lines) -> bool
-    ensures { result ≡ is_left errors text.now line block.now output.now }
+// Whether the output is an error that is to be left.
+fn is_refused(errors: bool, text: &Lines, line: usize, output: &Lines) -> bool
+    ensures { result ≡ (not errors && is_unexpected text.now line output.now) }
 {
-    !errors && is_unexpected(text, line, output) && !is_same(block.expected(), output)
+    !errors && is_unexpected(text, line, output)
+}
+
+// Whether the output is not accepted.
+fn is_left(wanted: Wanted<'_>, text: &Lines, line: usize, block: &Block, output: &Lines) -> bool
+    ensures { result ≡ is_left wanted.entry text.now line block.now output.now }
+{
+    (!is_picked(wanted.picked, line) || is_refused(wanted.errors, text, line, output))
+        && !is_same(block.expected(), output)
 }
 
 // What the directive expects then.
 fn accepted_lines(
-    errors: bool,
+    wanted: Wanted<'_>,
     text: &Lines,
     line: usize,
     block: &Block,
     output: &Lines,
 ) -> Result<Lines, AllocError>
-    ensures { IfOk result (λ made. made ≡ accepted_lines errors text.now line block.now output.now) }
+    ensures { IfOk result (λ made. made ≡ accepted_lines wanted.entry text.now line block.now output.now) }
 {
-    if is_left(errors, text, line, block, output) {
+    if is_left(wanted, text, line, block, output) {
         return block.expected().try_copy();
     }
     output.try_copy()
@@ -42,15 +53,15 @@ fn accepted_lines(
 // The same, after others.
 fn push_accepted(
     all: &mut Vec<Lines>,
-    errors: bool,
+    wanted: Wanted<'_>,
     text: &Lines,
     line: usize,
     block: &Block,
     output: &Lines,
 ) -> Result<(), AllocError>
-    ensures { IfOk result (λ _. all.new.items ≡ all.old.items ++ accepted_lines errors text.now line block.now output.now ∷ []) }
+    ensures { IfOk result (λ _. all.new.items ≡ all.old.items ++ accepted_lines wanted.entry text.now line block.now output.now ∷ []) }
 {
-    let lines = accepted_lines(errors, text, line, block, output)?;
+    let lines = accepted_lines(wanted, text, line, block, output)?;
     all.push(lines)?;
     Ok(())
 }
@@ -61,17 +72,17 @@ pub(crate) fn accepted_of<M: Machine>(
     session: &Session<M>,
     heads: &[usize],
     text: &Lines,
-    errors: bool,
+    wanted: Wanted<'_>,
 ) -> Result<Vec<Lines>, AllocError>
     requires { length heads.now ≡ length session.now.script.blocks }
-    ensures { IfOk result (λ all. all.items ≡ accepted_of errors text.now heads.now session.now.script.blocks (outputs session.now.script)) }
+    ensures { IfOk result (λ all. all.items ≡ accepted_of wanted.entry text.now heads.now session.now.script.blocks (outputs session.now.script)) }
 {
     let mut all = Vec::new(alloc);
     for i in 0..session.len() {
         let block = block_at(session, i);
         let output = output_at(session, i);
         let line = number_at(heads, i);
-        push_accepted(&mut all, errors, text, line, block, output)?;
+        push_accepted(&mut all, wanted, text, line, block, output)?;
     }
     Ok(all)
 }
@@ -79,15 +90,15 @@ pub(crate) fn accepted_of<M: Machine>(
 // The line of the head, where its output is not accepted, after others.
 fn push_left(
     left: &mut Vec<usize>,
-    errors: bool,
+    wanted: Wanted<'_>,
     text: &Lines,
     line: usize,
     block: &Block,
     output: &Lines,
 ) -> Result<(), AllocError>
-    ensures { IfOk result (λ _. left.new.items ≡ left.old.items ++ one_left errors text.now line block.now output.now) }
+    ensures { IfOk result (λ _. left.new.items ≡ left.old.items ++ one_left wanted.entry text.now line block.now output.now) }
 {
-    if is_left(errors, text, line, block, output) {
+    if is_left(wanted, text, line, block, output) {
         left.push(line)?;
     }
     Ok(())
@@ -99,17 +110,17 @@ pub(crate) fn left_heads<M: Machine>(
     session: &Session<M>,
     heads: &[usize],
     text: &Lines,
-    errors: bool,
+    wanted: Wanted<'_>,
 ) -> Result<Vec<usize>, AllocError>
     requires { length heads.now ≡ length session.now.script.blocks }
-    ensures { IfOk result (λ left. left.items ≡ left_heads errors text.now heads.now session.now.script.blocks (outputs session.now.script)) }
+    ensures { IfOk result (λ left. left.items ≡ left_heads wanted.entry text.now heads.now session.now.script.blocks (outputs session.now.script)) }
 {
     let mut left = Vec::new(alloc);
     for i in 0..session.len() {
         let block = block_at(session, i);
         let output = output_at(session, i);
         let line = number_at(heads, i);
-        push_left(&mut left, errors, text, line, block, output)?;
+        push_left(&mut left, wanted, text, line, block, output)?;
     }
     Ok(left)
 }
@@ -117,16 +128,17 @@ pub(crate) fn left_heads<M: Machine>(
 // Writes what is said of a directive, where its output is not accepted.
 fn put_if_left<S: Sink>(
     sink: &mut S,
-    errors: bool,
+    wanted: Wanted<'_>,
     text: &Lines,
     place: Place<'_>,
     block: &Block,
     output: &Lines,
 ) -> Result<(), WriteFault>
-    ensures wrote { Writes result (S.held sink.old) (S.held sink.new) (left_shown errors text.now place.entry.path.now place.entry.line block.now output.now) }
+    ensures wrote { Writes result (S.held sink.old) (S.held sink.new) (left_shown wanted.entry text.now place.entry.path.now place.entry.line block.now output.now) }
     ensures all { S.takes_all sink.old → IsOk result × S.takes_all sink.new }
 {
-    if !is_left(errors, text, place.line, block, output) {
+    let line = place.line;
+    if !(is_picked(wanted.picked, line) && is_left(wanted, text, line, block, output)) {
         return Ok(());
     }
     put_left(sink, place, &block.directive(), first_line(output))
@@ -139,17 +151,17 @@ pub(crate) fn put_all_left<M: Machine, S: Sink>(
     heads: &[usize],
     text: &Lines,
     path: &[u8],
-    errors: bool,
+    wanted: Wanted<'_>,
 ) -> Result<(), WriteFault>
     requires { length heads.now ≡ length session.now.script.blocks }
-    ensures wrote { Writes result (S.held sink.old) (S.held sink.new) (all_left errors text.now path.now heads.now session.now.script.blocks (outputs session.now.script)) }
+    ensures wrote { Writes result (S.held sink.old) (S.held sink.new) (all_left wanted.entry text.now path.now heads.now session.now.script.blocks (outputs session.now.script)) }
     ensures all { S.takes_all sink.old → IsOk result × S.takes_all sink.new }
 {
     for i in 0..session.len() {
         let block = block_at(session, i);
         let output = output_at(session, i);
         let line = number_at(heads, i);
-        put_if_left(sink, errors, text, Place { path, line }, block, output)?;
+        put_if_left(sink, wanted, text, Place { path, line }, block, output)?;
     }
     Ok(())
 }

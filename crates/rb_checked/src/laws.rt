@@ -13,7 +13,9 @@ ghost use Rattle.rb_checked.specs.declared.view.Shown.{Shown};
 ghost use Rattle.rb_checked.specs.Checked.{checked_text, mismatch_at, NoneIsNamed};
 ghost use Rattle.rb_checked.specs.Shows.{IsQuiet, told_of};
 ghost use Rattle.rb_checked.specs.Errors.{is_unexpected};
-ghost use Rattle.rb_checked.specs.Accepting.{is_left, accepted};
+ghost use Rattle.rb_checked.specs.declared.wanted.Picked.TheVariants.{All};
+ghost use Rattle.rb_checked.specs.declared.wanted.Wanted.{Wanted};
+ghost use Rattle.rb_checked.specs.Accepting.{is_picked, is_left, accepted};
 ghost use Rattle.rb_checked.specs.Doubts.{all_warnings, is_called_rightly};
 ghost use Rattle.rb_checked.specs.declared.names.TheConstants.{NAMES};
 ghost use Rattle.rb_directive.specs.declared.table.Row.{Row};
@@ -37,17 +39,22 @@ pub fn shown_lines_are_of_heads()
 
 /// A script with what is accepted expects at each place what came there, where that was accepted, and is as it was at all others.
 pub fn accepted_scripts_are()
-    ensures { (errors : Bool) (ls : List Line) (heads : List ℕ) (s : PlainScript) (k line : ℕ) (b : PlainBlock) (output : List Line) → slice_get heads k ≡ Some line → slice_get s.blocks k ≡ Some b → slice_get (outputs s) k ≡ Some output → slice_get (accepted errors ls heads s).blocks k ≡ Some (if is_left errors ls line b output then b else expecting b output) }
+    ensures { (wanted : Wanted) (ls : List Line) (heads : List ℕ) (s : PlainScript) (k line : ℕ) (b : PlainBlock) (output : List Line) → slice_get heads k ≡ Some line → slice_get s.blocks k ≡ Some b → slice_get (outputs s) k ≡ Some output → slice_get (accepted wanted ls heads s).blocks k ≡ Some (if is_left wanted ls line b output then b else expecting b output) }
+{}
+
+/// A directive that isn't picked stays as it was.
+pub fn others_stay()
+    ensures { (wanted : Wanted) (ls : List Line) (heads : List ℕ) (s : PlainScript) (k line : ℕ) (b : PlainBlock) (output : List Line) → slice_get heads k ≡ Some line → slice_get s.blocks k ≡ Some b → slice_get (outputs s) k ≡ Some output → is_picked wanted.picked line ≡ false → slice_get (accepted wanted ls heads s).blocks k ≡ Some b }
 {}
 
 /// Without being asked for, no new error is accepted: its directive expects what it did.
 pub fn new_errors_are_left()
-    ensures { (ls : List Line) (heads : List ℕ) (s : PlainScript) (k line : ℕ) (b : PlainBlock) (output : List Line) → slice_get heads k ≡ Some line → slice_get s.blocks k ≡ Some b → slice_get (outputs s) k ≡ Some output → is_unexpected ls line output ≡ true → same_lines b.expected output ≡ false → slice_get (accepted false ls heads s).blocks k ≡ Some b }
+    ensures { (wanted : Wanted) (ls : List Line) (heads : List ℕ) (s : PlainScript) (k line : ℕ) (b : PlainBlock) (output : List Line) → wanted.errors ≡ false → slice_get heads k ≡ Some line → slice_get s.blocks k ≡ Some b → slice_get (outputs s) k ≡ Some output → is_unexpected ls line output ≡ true → same_lines b.expected output ≡ false → slice_get (accepted wanted ls heads s).blocks k ≡ Some b }
 {}
 
-/// Where they are asked for, each directive expects its output.
+/// Where they are asked for, of each directive, each expects its output.
 pub fn errors_are_accepted_on_request()
-    ensures { (ls : List Line) (heads : List ℕ) (s : PlainScript) → length heads ≡ length s.blocks → accepted true ls heads s ≡ with_outputs s (outputs s) }
+    ensures { (wanted : Wanted) (ls : List Line) (heads : List ℕ) (s : PlainScript) → wanted.errors ≡ true → wanted.picked ≡ All → length heads ≡ length s.blocks → accepted wanted ls heads s ≡ with_outputs s (outputs s) }
 {}
 
 /// A line that is called a directive looks like one.

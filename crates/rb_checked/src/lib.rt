@@ -20,6 +20,7 @@ mod splice;
 mod text;
 mod told;
 mod view;
+mod wanted;
 mod warning;
 mod written;
 
@@ -29,12 +30,13 @@ pub use fault::ShowFault;
 pub use laws::{
     accepted_scripts_are, called_lines_look_like_directives, errors_are_accepted_on_request,
     matching_scripts_show_nothing, mismatches_are_shown, names_are_those_of_the_table,
-    new_errors_are_left, shown_lines_are_of_heads,
+    new_errors_are_left, others_stay, shown_lines_are_of_heads,
 };
 pub use layout::{Layout, layout_of};
 pub use put::{is_quiet, is_same, put_checked, put_left_errors};
 pub use text::lines_of;
 pub use told::Told;
 pub use view::{Shown, View};
+pub use wanted::{Picked, Wanted, is_picked};
 pub use warning::{Warning, warnings};
 pub use written::{AcceptFault, Accepted, accept};

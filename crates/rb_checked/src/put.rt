@@ -21,6 +21,7 @@ use crate::hint::hint_of;
 use crate::layout::{Layout, layout_of};
 use crate::told::Told;
 use crate::view::{Shown, View};
+use crate::wanted::Wanted;
 use rb_check::{Colors, Place, Table, put_brief, put_directive, put_mismatch, put_note};
 use rb_machine::Machine;
 use rb_replay::Session;
@@ -295,33 +296,33 @@ fn put_left_of<M: Machine, S: Sink>(
     session: &Session<M>,
     layout: &Layout,
     path: &[u8],
-    errors: bool,
+    wanted: Wanted<'_>,
 ) -> Result<(), WriteFault>
     requires { length layout.now.heads.items ≡ length session.now.script.blocks }
-    ensures wrote { Writes result (S.held sink.old) (S.held sink.new) (all_left errors layout.now.text path.now layout.now.heads.items session.now.script.blocks (outputs session.now.script)) }
+    ensures wrote { Writes result (S.held sink.old) (S.held sink.new) (all_left wanted.entry layout.now.text path.now layout.now.heads.items session.now.script.blocks (outputs session.now.script)) }
     ensures all { S.takes_all sink.old → IsOk result × S.takes_all sink.new }
 {
     let heads = layout.heads.as_slice();
-    put_all_left(sink, session, heads, &layout.text, path, errors)
+    put_all_left(sink, session, heads, &layout.text, path, wanted)
 }
 
-/// Writes which outputs of the script of the bytes are not accepted. On a failure of the writer what went out is a beginning of the text.
+/// Writes which outputs of the script of the bytes are picked and not accepted. On a failure of the writer what went out is a beginning of the text.
 pub fn put_left_errors<M: Machine, S: Sink>(
     alloc: Global,
     sink: &mut S,
     session: &Session<M>,
     bytes: &[u8],
     path: &[u8],
-    errors: bool,
+    wanted: Wanted<'_>,
 ) -> Result<(), ShowFault>
     requires { Reads bytes.now session.now.script }
-    ensures wrote { (heads : List ℕ) → AreHeadLines 1 (lines bytes.now) session.now.script.blocks heads → Shows result (S.held sink.old) (S.held sink.new) (all_left errors (lines bytes.now) path.now heads session.now.script.blocks (outputs session.now.script)) }
+    ensures wrote { (heads : List ℕ) → AreHeadLines 1 (lines bytes.now) session.now.script.blocks heads → Shows result (S.held sink.old) (S.held sink.new) (all_left wanted.entry (lines bytes.now) path.now heads session.now.script.blocks (outputs session.now.script)) }
     ensures all { S.takes_all sink.old → (result ≢ Err ShowFault.Writing) × S.takes_all sink.new }
 {
     let Ok(layout) = layout_of(alloc, bytes) else {
         return Err(ShowFault::OutOfMemory);
     };
-    match put_left_of(sink, session, &layout, path, errors) {
+    match put_left_of(sink, session, &layout, path, wanted) {
         Ok(()) => Ok(()),
         Err(_) => Err(ShowFault::Writing),
     }

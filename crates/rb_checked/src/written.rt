@@ -14,6 +14,7 @@ use crate::accepting::{accepted_of, left_heads};
 use crate::layout::{Layout, layout_of};
 use crate::splice::spliced;
 use crate::text::is_same_text;
+use crate::wanted::Wanted;
 use rb_machine::Machine;
 use rb_replay::Session;
 use rb_script::{Edit, EditFault, Lines, MAX_LINE, Script, ScriptFault, Through};
@@ -127,14 +128,14 @@ fn accepted_text<M: Machine>(
     session: &Session<M>,
     bytes: &[u8],
     layout: &Layout,
-    errors: bool,
+    wanted: Wanted<'_>,
 ) -> Result<Vec<u8>, AcceptFault>
     requires reads { Reads bytes.now session.now.script }
     requires count { length layout.now.heads.items ≡ length session.now.script.blocks }
-    ensures { IfOk result (λ made. Reads made.items (accepted errors layout.now.text layout.now.heads.items session.now.script)) }
+    ensures { IfOk result (λ made. Reads made.items (accepted wanted.entry layout.now.text layout.now.heads.items session.now.script)) }
 {
     let heads = layout.heads.as_slice();
-    let expected = accepted_of(alloc, session, heads, &layout.text, errors)?;
+    let expected = accepted_of(alloc, session, heads, &layout.text, wanted)?;
     let own = spliced(alloc, session, bytes, heads, &expected)?;
     match expecting(alloc, bytes, &expected) {
         Ok(script) => Ok(chosen(alloc, own, &script)?),
@@ -144,19 +145,19 @@ fn accepted_text<M: Machine>(
     }
 }
 
-/// Accepts the outputs of the session's script, whose bytes these are: all but new errors, or these too. The text is the script's own
+/// Accepts outputs of the session's script, whose bytes these are: of the directives that are picked all but new errors, or these too. The text is the script's own
 /// bytes, but for the lines of the expectations that change; where that would not read as the script, it is the canonical text.
 pub fn accept<M: Machine>(
     alloc: Global,
     session: &Session<M>,
     bytes: &[u8],
-    errors: bool,
+    wanted: Wanted<'_>,
 ) -> Result<Accepted, AcceptFault>
     requires { Reads bytes.now session.now.script }
     // The text reads as the script with what is accepted.
-    ensures reads { (heads : List ℕ) → AreHeadLines 1 (lines bytes.now) session.now.script.blocks heads → IfOk result (λ made. Reads made.text.items (accepted errors (lines bytes.now) heads session.now.script)) }
+    ensures reads { (heads : List ℕ) → AreHeadLines 1 (lines bytes.now) session.now.script.blocks heads → IfOk result (λ made. Reads made.text.items (accepted wanted.entry (lines bytes.now) heads session.now.script)) }
     // The others are told.
-    ensures left { (heads : List ℕ) → AreHeadLines 1 (lines bytes.now) session.now.script.blocks heads → IfOk result (λ made. made.left.items ≡ left_heads errors (lines bytes.now) heads session.now.script.blocks (outputs session.now.script)) }
+    ensures left { (heads : List ℕ) → AreHeadLines 1 (lines bytes.now) session.now.script.blocks heads → IfOk result (λ made. made.left.items ≡ left_heads wanted.entry (lines bytes.now) heads session.now.script.blocks (outputs session.now.script)) }
 {
     let layout = layout_of(alloc, bytes)?;
     let left = left_heads(
@@ -164,8 +165,8 @@ pub fn accept<M: Machine>(
         session,
         layout.heads.as_slice(),
         &layout.text,
-        errors,
+        wanted,
     )?;
-    let text = accepted_text(alloc, session, bytes, &layout, errors)?;
+    let text = accepted_text(alloc, session, bytes, &layout, wanted)?;
     Ok(Accepted { text, left })
 }

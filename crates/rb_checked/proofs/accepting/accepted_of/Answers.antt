@@ -10,7 +10,7 @@ pub loop-i-preserved : goal.loop-i-preserved
 loop-i-preserved g c =
     let i : ℕ = c.loop-i.i in
     let s = c.args.session.now.script in
-    let e = c.args.errors in
+    let e = c.args.wanted in
     let b = c.block_at-block.result.now in
     let o = c.output_at-output.result.now in
     let line : ℕ = c.number_at-line.result in
@@ -26,5 +26,5 @@ returns g c =
     let i : ℕ = c.loop-i.i in
     let s = c.args.session.now.script in
     let none = drop_all i c.args.heads.now (omega (arith, c.loop-i-test.false, c.len-i-end.ensures.len, c.requires)) in
-    let last = accepted_done c.args.errors c.args.text.now (drop i c.args.heads.now) (drop i s.blocks) (drop i (outputs s)) none in
+    let last = accepted_done c.args.wanted c.args.text.now (drop i c.args.heads.now) (drop i s.blocks) (drop i (outputs s)) none in
     sym (append-nil c.loop-i.all.items) ∙ sym (ap (λ (xs : List (List Line)). c.loop-i.all.items ++ xs) last) ∙ c.loop-i.invariant

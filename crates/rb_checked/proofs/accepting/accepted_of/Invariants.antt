@@ -6,5 +6,5 @@ use Rattle.rb_checked.proofs.accepting.accepted_of.Given as goal
 
 abbrev pub invariant-loop-i : goal.invariant-loop-i
 invariant-loop-i g l =
-    l.all.items ++ accepted_of l.errors l.text (drop l.i l.heads) (drop l.i l.session.script.blocks) (drop l.i (outputs l.session.script))
-    ≡ accepted_of l.errors l.text l.heads l.session.script.blocks (outputs l.session.script)
+    l.all.items ++ accepted_of l.wanted l.text (drop l.i l.heads) (drop l.i l.session.script.blocks) (drop l.i (outputs l.session.script))
+    ≡ accepted_of l.wanted l.text l.heads l.session.script.blocks (outputs l.session.script)

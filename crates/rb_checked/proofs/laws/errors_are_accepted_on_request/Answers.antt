@@ -7,4 +7,4 @@ use Rattle.rb_checked.proofs.ShownLaws.{outputs_len}
 use Rattle.rb_checked.proofs.laws.errors_are_accepted_on_request.Goals as goal
 
 pub returns : goal.returns
-returns c = λ ls heads s count. ap (λ (os : List (List Line)). with_outputs s os) (all_accepted ls heads s.blocks (outputs s) count (outputs_len s))
+returns c = λ wanted ls heads s taken all count. ap (λ (os : List (List Line)). with_outputs s os) (all_accepted wanted ls heads s.blocks (outputs s) taken all count (outputs_len s))

@@ -14,8 +14,8 @@ returns-in-Ok-put_left_of-clause-wrote g c = λ heads are.
     let old = g.S.Sink.held c.args.sink.now in
     let new = g.S.Sink.held c.put_left_of.new.sink in
     let same : c.in-Ok.layout.heads.items ≡ heads = heads_once ls s.blocks c.in-Ok.layout.heads.items heads (c.in-Ok.ensures.heads s c.requires) are in
-    subst (λ (hs : List ℕ). Appends old new (all_left c.args.errors ls c.args.path.now hs s.blocks (outputs s))) same
-    (subst (λ (text : List Line). Appends old new (all_left c.args.errors text c.args.path.now c.in-Ok.layout.heads.items s.blocks (outputs s))) c.in-Ok.ensures.text c.in-Ok-put_left_of.ensures.wrote)
+    subst (λ (hs : List ℕ). Appends old new (all_left c.args.wanted ls c.args.path.now hs s.blocks (outputs s))) same
+    (subst (λ (text : List Line). Appends old new (all_left c.args.wanted text c.args.path.now c.in-Ok.layout.heads.items s.blocks (outputs s))) c.in-Ok.ensures.text c.in-Ok-put_left_of.ensures.wrote)
 
 pub returns-clause-wrote : goal.returns-clause-wrote
 returns-clause-wrote g c = λ heads are.
@@ -24,5 +24,5 @@ returns-clause-wrote g c = λ heads are.
     let old = g.S.Sink.held c.args.sink.now in
     let new = g.S.Sink.held c.put_left_of.new.sink in
     let same : c.in-Ok.layout.heads.items ≡ heads = heads_once ls s.blocks c.in-Ok.layout.heads.items heads (c.in-Ok.ensures.heads s c.requires) are in
-    subst (λ (hs : List ℕ). AppendsFront old new (all_left c.args.errors ls c.args.path.now hs s.blocks (outputs s))) same
-    (subst (λ (text : List Line). AppendsFront old new (all_left c.args.errors text c.args.path.now c.in-Ok.layout.heads.items s.blocks (outputs s))) c.in-Ok.ensures.text c.in-Err.ensures.wrote)
+    subst (λ (hs : List ℕ). AppendsFront old new (all_left c.args.wanted ls c.args.path.now hs s.blocks (outputs s))) same
+    (subst (λ (text : List Line). AppendsFront old new (all_left c.args.wanted text c.args.path.now c.in-Ok.layout.heads.items s.blocks (outputs s))) c.in-Ok.ensures.text c.in-Err.ensures.wrote)

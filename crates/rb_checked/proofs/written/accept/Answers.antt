@@ -12,8 +12,8 @@ returns-clause-reads g c = λ heads are.
     let ls = lines c.args.bytes.now in
     let own : List ℕ = c.in_ok-layout.layout.heads.items in
     let same : own ≡ heads = heads_once ls s.blocks own heads (c.in_ok-layout.ensures.heads s c.requires) are in
-    subst (λ (hs : List ℕ). Reads c.in_ok-text.text.items (accepted c.args.errors ls hs s)) same
-    (subst (λ (text : List Line). Reads c.in_ok-text.text.items (accepted c.args.errors text own s)) c.in_ok-layout.ensures.text c.in_ok-text.ensures)
+    subst (λ (hs : List ℕ). Reads c.in_ok-text.text.items (accepted c.args.wanted ls hs s)) same
+    (subst (λ (text : List Line). Reads c.in_ok-text.text.items (accepted c.args.wanted text own s)) c.in_ok-layout.ensures.text c.in_ok-text.ensures)
 
 pub returns-clause-left : goal.returns-clause-left
 returns-clause-left g c = λ heads are.
@@ -22,5 +22,5 @@ returns-clause-left g c = λ heads are.
     let own : List ℕ = c.in_ok-layout.layout.heads.items in
     let same : own ≡ heads = heads_once ls s.blocks own heads (c.in_ok-layout.ensures.heads s c.requires) are in
     c.in_ok-left.ensures
-    ∙ ap (λ (hs : List ℕ). left_heads c.args.errors c.in_ok-layout.layout.text hs s.blocks (outputs s)) (c.as_slice.ensures.value ∙ same)
-    ∙ ap (λ (text : List Line). left_heads c.args.errors text heads s.blocks (outputs s)) c.in_ok-layout.ensures.text
+    ∙ ap (λ (hs : List ℕ). left_heads c.args.wanted c.in_ok-layout.layout.text hs s.blocks (outputs s)) (c.as_slice.ensures.value ∙ same)
+    ∙ ap (λ (text : List Line). left_heads c.args.wanted text heads s.blocks (outputs s)) c.in_ok-layout.ensures.text

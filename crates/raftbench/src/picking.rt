@@ -1,0 +1,88 @@
+//! Which directives of a script are to be accepted, where lines are named.
+
+ghost use Rattle.rb_script.specs.Reads.{Reads};
+
+use crate::checking::CheckSession;
+use crate::place::place_at;
+use crate::report::Report;
+use crate::target::Target;
+use rb_check::Failure;
+use rb_files::Trouble;
+use rb_script::head_lines;
+use std::alloc::{AllocError, Global};
+use std::io;
+use std::io::Write;
+
+/// The lines of the heads of the script's directives that are named, in the order in which they are; none where all of it is. A directive
+/// whose output is the expected one already is told.
+pub(crate) fn picked_heads<W: Write + Drop, E: Write + Drop>(
+    alloc: Global,
+    targets: &[Target],
+    session: &CheckSession,
+    bytes: &[u8],
+    path: &str,
+    report: &mut Report<W, E>,
+) -> Result<Option<Vec<usize>>, Trouble>
+    requires { Reads bytes.now session.now.script }
+{
+    let lines = match named_lines(alloc, targets, path)? {
+        Some(lines) => lines,
+        None => return Ok(None),
+    };
+    let Ok(heads) = head_lines(alloc, bytes) else {
+        return Err(Trouble::alone(Failure::OutOfMemory));
+    };
+    Ok(Some(heads_at(alloc, &lines, &heads, session, path, report)?))
+}
+
+// The lines that are named of the script; none where all of it is.
+fn named_lines(
+    alloc: Global,
+    targets: &[Target],
+    path: &str,
+) -> Result<Option<Vec<usize>>, AllocError> {
+    let mut lines = Vec::new(alloc);
+    for target in targets {
+        if target.path.as_str() == path {
+            match target.line {
+                Some(line) => lines.push(line)?,
+                None => return Ok(None),
+            }
+        }
+    }
+    if lines.is_empty() {
+        return Ok(None);
+    }
+    Ok(Some(lines))
+}
+
+// The last of the heads at each of the lines or above it.
+fn heads_at<W: Write + Drop, E: Write + Drop>(
+    alloc: Global,
+    lines: &[usize],
+    heads: &[usize],
+    session: &CheckSession,
+    path: &str,
+    report: &mut Report<W, E>,
+) -> Result<Vec<usize>, Trouble> {
+    let mut picked = Vec::new(alloc);
+    for line in lines {
+        let Some((place, head)) = place_at(heads, *line) else {
+            return Err(no_directive());
+        };
+        if !session.mismatches().contains(&place) {
+            report.tell_expected(path, head);
+        }
+        push(&mut picked, head)?;
+    }
+    Ok(picked)
+}
+
+fn push(picked: &mut Vec<usize>, head: usize) -> Result<(), AllocError> {
+    picked.push(head)?;
+    Ok(())
+}
+
+fn no_directive() -> Trouble {
+    Trouble::of_writing(io::Error::other("no directive stands at the line or above it"))
+}
