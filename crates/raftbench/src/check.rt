@@ -4,6 +4,7 @@ use crate::checking::check_script;
 use crate::progress::Progress;
 use crate::refusal::Refusal;
 use crate::report::Report;
+use crate::review::Review;
 use crate::target::Target;
 use rb_check::{Colors, Failure};
 use rb_checked::Shown;
@@ -24,6 +25,8 @@ pub(crate) struct Asked<'a> {
     pub(crate) accepts_errors: bool,
     /// Whether outputs of a script that has warnings are.
     pub(crate) is_forced: bool,
+    /// Whether each output that differs is asked about.
+    pub(crate) reviews: bool,
     pub(crate) is_quiet: bool,
     pub(crate) shown: Shown,
     /// The format for programs, where one is asked for.
@@ -33,7 +36,7 @@ pub(crate) struct Asked<'a> {
 }
 
 /// Checks the scripts of the paths, and gives the program's status.
-pub(crate) fn check<R: Files + Print + Clock + AllocGlobal, E: Write + Drop>(
+pub(crate) fn check<R: Files + Input + Print + Clock + AllocGlobal, E: Write + Drop>(
     rt: &R,
     asked: Asked<'_>,
     errors: E,
@@ -48,11 +51,15 @@ pub(crate) fn check<R: Files + Print + Clock + AllocGlobal, E: Write + Drop>(
     )?;
     let found = find(rt, asked.targets, asked.filters);
     tell_lost(&found, &mut report);
+    let mut review = Review::Each;
     for (done, path) in found.scripts.iter().enumerate() {
         if progress.is_due(rt) {
             report.show_progress(done, found.scripts.len());
         }
-        check_script(rt, asked, path.as_str(), &mut report);
+        check_script(rt, asked, path.as_str(), &mut review, &mut report);
+        if review == Review::Over {
+            break;
+        }
     }
     if found.scripts.is_empty() {
         report.fail(b"raftbench", Trouble::alone(Failure::NoScripts));

@@ -6,6 +6,7 @@ use crate::accepting::accept;
 use crate::check::Asked;
 use crate::picking::picked_heads;
 use crate::report::{Ran, Report};
+use crate::review::{Review, reviewed};
 use rb_bench::{ReadFault, read_up_to};
 use rb_check::Failure;
 use rb_checked::{
@@ -33,14 +34,15 @@ pub(crate) struct Text {
 }
 
 /// Checks the script at the path: shows what differs, and accepts it where that is asked for.
-pub(crate) fn check_script<R: Files + AllocGlobal, W: Write + Drop, E: Write + Drop>(
+pub(crate) fn check_script<R: Files + Input + AllocGlobal, W: Write + Drop, E: Write + Drop>(
     rt: &R,
     asked: Asked<'_>,
     path: &str,
+    review: &mut Review,
     report: &mut Report<W, E>,
 ) {
     match read(rt, path) {
-        Ok(text) => run(rt, asked, path, text, report),
+        Ok(text) => run(rt, asked, path, text, review, report),
         Err(trouble) => report.fail(path.as_bytes(), trouble),
     }
 }
@@ -55,11 +57,12 @@ fn read<R: Files + AllocGlobal>(rt: &R, path: &str) -> Result<Text, Trouble> {
     }
 }
 
-fn run<R: Files + AllocGlobal, W: Write + Drop, E: Write + Drop>(
+fn run<R: Files + Input + AllocGlobal, W: Write + Drop, E: Write + Drop>(
     rt: &R,
     asked: Asked<'_>,
     path: &str,
     text: Text,
+    review: &mut Review,
     report: &mut Report<W, E>,
 ) {
     let mut meter = Meter::new();
@@ -69,19 +72,20 @@ fn run<R: Files + AllocGlobal, W: Write + Drop, E: Write + Drop>(
         Err(StartFault::Script(fault)) => return report.refused(path, fault),
         Err(_) => return report.fail(path.as_bytes(), Trouble::alone(Failure::OutOfMemory)),
     };
-    match answer(rt, asked, path, text, &session, report) {
+    match answer(rt, asked, path, text, &session, review, report) {
         Ok(()) => {}
         Err(trouble) => report.fail(path.as_bytes(), trouble),
     }
 }
 
 // Shows what there is to show, and accepts what is to be accepted.
-fn answer<R: Files + AllocGlobal, W: Write + Drop, E: Write + Drop>(
+fn answer<R: Files + Input + AllocGlobal, W: Write + Drop, E: Write + Drop>(
     rt: &R,
     asked: Asked<'_>,
     path: &str,
     text: Text,
     session: &CheckSession,
+    review: &mut Review,
     report: &mut Report<W, E>,
 ) -> Result<(), Trouble>
     requires { Reads text.bytes.items session.now.script }
@@ -108,18 +112,45 @@ fn answer<R: Files + AllocGlobal, W: Write + Drop, E: Write + Drop>(
     if !may_accept {
         report.ran(alloc, ran);
     } else if asked.is_forced || warnings.is_empty() {
-        let picked = match &heads {
-            Some(heads) => Picked::Heads(heads),
-            None => Picked::All,
+        accept_picked(rt, asked, ran, heads, session, text, review, report)?;
+    } else {
+        report.ran(alloc, ran);
+        report.refuse_to_accept(path);
+    }
+    Ok(())
+}
+
+// Accepts outputs of the directives whose heads begin on these lines, or of all: those that are said yes to, where that is asked.
+fn accept_picked<R: Files + Input + AllocGlobal, W: Write + Drop, E: Write + Drop>(
+    rt: &R,
+    asked: Asked<'_>,
+    ran: Ran<'_>,
+    heads: Option<Vec<usize>>,
+    session: &CheckSession,
+    text: Text,
+    review: &mut Review,
+    report: &mut Report<W, E>,
+) -> Result<(), Trouble>
+    requires { Reads text.bytes.items session.now.script }
+{
+    let picked = match &heads {
+        Some(heads) => Picked::Heads(heads),
+        None => Picked::All,
+    };
+    if asked.reviews {
+        let bytes = text.bytes.as_slice();
+        let said = reviewed(rt, asked, session, bytes, ran.path, picked, review, report)?;
+        let wanted = Wanted {
+            picked: Picked::Heads(&said),
+            errors: true,
         };
+        accept(rt, wanted, ran, session, text, report);
+    } else {
         let wanted = Wanted {
             picked,
             errors: asked.accepts_errors,
         };
         accept(rt, wanted, ran, session, text, report);
-    } else {
-        report.ran(alloc, ran);
-        report.refuse_to_accept(path);
     }
     Ok(())
 }

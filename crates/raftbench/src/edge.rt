@@ -1,7 +1,7 @@
 //! The words, the files and the streams.
 
 use crate::check::{Asked, check};
-use crate::colors::{colors, wish_of};
+use crate::colors::{Wish, colors, wish_of};
 use crate::directives::directives;
 use crate::editing::serve_editor;
 use crate::look::look_at;
@@ -27,6 +27,7 @@ use std::{env, io};
 /// Which of the streams are terminals.
 #[derive(Clone, Copy, Debug)]
 pub(crate) struct Terminals {
+    pub(crate) input: bool,
     pub(crate) output: bool,
     pub(crate) errors: bool,
 }
@@ -99,7 +100,7 @@ fn misused(alloc: Global, word: Option<&str>) -> Option<String> {
 }
 
 // Checks scripts and folders of scripts.
-fn check_all<R: Files + Print + Env + Clock + AllocGlobal, E: Write + Drop>(
+fn check_all<R: Files + Input + Print + Env + Clock + AllocGlobal, E: Write + Drop>(
     rt: &R,
     choice: &CheckChoice,
     every: Option<&str>,
@@ -113,19 +114,10 @@ fn check_all<R: Files + Print + Env + Clock + AllocGlobal, E: Write + Drop>(
             None => Misuse::Spacing,
         }));
     }
-    let Some(wish) = wish_of(choice.color.as_deref()) else {
-        return Err(Refusal::OwnUsage(match misused(alloc, choice.color.as_deref()) {
-            Some(text) => Misuse::Color(text),
-            None => Misuse::NoText,
-        }));
-    };
-    let Some(style) = style_of(choice.format.as_deref()) else {
-        return Err(Refusal::OwnUsage(match misused(alloc, choice.format.as_deref()) {
-            Some(text) => Misuse::Format(text),
-            None => Misuse::NoText,
-        }));
-    };
-    let accepts = choice.accepts || choice.accepts_errors;
+    let wish = wish_asked(alloc, choice)?;
+    let style = style_asked(alloc, choice)?;
+    check_review(choice, style, terminals)?;
+    let accepts = choice.accepts || choice.accepts_errors || choice.reviews;
     let targets = targets(rt, &choice.paths, accepts)?;
     let asked = Asked {
         targets: &targets,
@@ -133,13 +125,47 @@ fn check_all<R: Files + Print + Env + Clock + AllocGlobal, E: Write + Drop>(
         accepts,
         accepts_errors: choice.accepts_errors,
         is_forced: choice.is_forced,
+        reviews: choice.reviews,
         is_quiet: choice.is_quiet,
         shown: shown(choice, style),
         format: style.format(),
         colors: colors(rt, wish, terminals.output),
-        wants_progress: terminals.errors,
+        wants_progress: terminals.errors && !choice.reviews,
     };
     check(rt, asked, errors)
+}
+
+fn wish_asked(alloc: Global, choice: &CheckChoice) -> Result<Wish, Refusal> {
+    match wish_of(choice.color.as_deref()) {
+        Some(wish) => Ok(wish),
+        None => match misused(alloc, choice.color.as_deref()) {
+            Some(text) => Err(Refusal::OwnUsage(Misuse::Color(text))),
+            None => Err(Refusal::OutOfMemory),
+        },
+    }
+}
+
+fn style_asked(alloc: Global, choice: &CheckChoice) -> Result<Style, Refusal> {
+    match style_of(choice.format.as_deref()) {
+        Some(style) => Ok(style),
+        None => match misused(alloc, choice.format.as_deref()) {
+            Some(text) => Err(Refusal::OwnUsage(Misuse::Format(text))),
+            None => Err(Refusal::OutOfMemory),
+        },
+    }
+}
+
+// Whether there is somebody to ask, who sees what is asked about.
+fn check_review(choice: &CheckChoice, style: Style, terminals: Terminals) -> Result<(), Refusal> {
+    if !choice.reviews {
+        Ok(())
+    } else if choice.is_quiet || style != Style::Text {
+        Err(Refusal::OwnUsage(Misuse::Unseen))
+    } else if terminals.input && terminals.output {
+        Ok(())
+    } else {
+        Err(Refusal::OwnUsage(Misuse::NoTerminal))
+    }
 }
 
 // Whether the text of `--every` is a number that a session takes.
@@ -150,11 +176,12 @@ fn is_usual(every: Option<&str>) -> bool {
     }
 }
 
-// How much of each script is shown; the least of what is asked for. Programs are told what differs, and no less.
+// How much of each script is shown; the least of what is asked for. Programs are told what differs, and no less;
+// where each mismatch is shown to be asked about, a line stands before those of a script.
 fn shown(choice: &CheckChoice, style: Style) -> Shown {
     if style != Style::Text {
         Shown::Differing
-    } else if choice.is_brief {
+    } else if choice.is_brief || choice.reviews {
         Shown::Brief
     } else if choice.is_first {
         Shown::First

@@ -17,6 +17,7 @@ mod place;
 mod progress;
 mod refusal;
 mod report;
+mod review;
 mod spacing;
 mod style;
 mod target;
@@ -28,6 +29,7 @@ use std::process::ExitCode;
 fn main(rt: HostRuntime) -> ExitCode {
     let errors = rt.stderr();
     let terminals = Terminals {
+        input: rt.stdin().is_terminal(),
         output: rt.stdout().is_terminal(),
         errors: errors.is_terminal(),
     };

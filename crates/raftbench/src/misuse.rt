@@ -23,6 +23,10 @@ pub(crate) enum Misuse {
     Color(String),
     /// What stands behind `--format` is none of its words.
     Format(String),
+    /// Where `--review` is to ask is no terminal.
+    NoTerminal,
+    /// What `--review` asks about isn't to be shown.
+    Unseen,
     /// What stands behind `look` names no directive of a file.
     Place(String),
     /// No directive has the name; and the one that is near it.
@@ -43,6 +47,12 @@ impl Misuse {
             Misuse::Spacing => eprintln!(rt; "--every: a number from 1 to 64"),
             Misuse::Color(text) => eprintln!(rt; "--color {text}: auto, always or never"),
             Misuse::Format(text) => eprintln!(rt; "--format {text}: text, json or github"),
+            Misuse::NoTerminal => eprintln!(rt;
+                "--review: it asks on a terminal, and standard input or output is none"
+            ),
+            Misuse::Unseen => eprintln!(rt;
+                "--review: it shows what it asks about, so it goes with neither --quiet nor --format"
+            ),
             Misuse::Place(text) => eprintln!(rt;
                 "{text}: FILE:LINE, where a directive stands at the line or above it"
             ),

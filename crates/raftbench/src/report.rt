@@ -214,6 +214,15 @@ impl<W: Write + Drop, E: Write + Drop> Report<W, E> {
         }
     }
 
+    /// Says something on standard output, and whether it went out.
+    pub(crate) fn say(&mut self, text: &[u8]) -> bool {
+        if let Some(sink) = self.sink() {
+            let written = sink.put(text);
+            self.wrote(written);
+        }
+        !self.is_lost
+    }
+
     /// A directive that was to be accepted, and whose output is the expected one.
     pub(crate) fn tell_expected(&mut self, path: &str, line: usize) {
         let message = b"there is nothing to accept: the output is the expected one";

@@ -38,6 +38,7 @@ pub record IsCheckOf (rows : Option (List Row)) (check : CheckChoice) : Type 0 w
   pub accepts : check.accepts ≡ is_set (option_and_then (first_of (codes "accept")) rows)
   pub errors : check.accepts_errors ≡ is_set (option_and_then (first_of (codes "accept-errors")) rows)
   pub forced : check.is_forced ≡ is_set (option_and_then (first_of (codes "force")) rows)
+  pub reviews : check.reviews ≡ is_set (option_and_then (first_of (codes "review")) rows)
   pub first : check.is_first ≡ is_set (option_and_then (first_of (codes "first")) rows)
   pub brief : check.is_brief ≡ is_set (option_and_then (first_of (codes "brief")) rows)
   pub verbose : check.is_verbose ≡ is_set (option_and_then (first_of (codes "verbose")) rows)

@@ -55,9 +55,9 @@ with_choices line = with_rule (with_rule (with_rule line every_rule) (option_rul
 abbrev pub with_words : App → App
 with_words line = with_choices (with_amounts (with_rule line (many_rule (codes "filter"))))
 
--- .. [--accept] [--accept-errors] [--force]
+-- .. [--accept] [--accept-errors] [--force] [--review]
 abbrev pub with_accepting : App → App
-with_accepting line = with_rule (with_rule (with_rule line (flag_rule (codes "accept"))) (flag_rule (codes "accept-errors"))) (flag_rule (codes "force"))
+with_accepting line = with_rule (with_rule (with_rule (with_rule line (flag_rule (codes "accept"))) (flag_rule (codes "accept-errors"))) (flag_rule (codes "force"))) (flag_rule (codes "review"))
 
 -- check PATH.. [--accept] ..
 abbrev pub check_line : App

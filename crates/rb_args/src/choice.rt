@@ -55,6 +55,8 @@ pub struct CheckChoice {
     pub accepts_errors: bool,
     /// Whether `--force` is given.
     pub is_forced: bool,
+    /// Whether `--review` is given.
+    pub reviews: bool,
     /// Whether `--verbose` is given.
     pub is_verbose: bool,
     /// Whether `--first` is given.

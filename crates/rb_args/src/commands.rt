@@ -173,11 +173,17 @@ fn with_accepting<'a>(command: Command<'a>, alloc: Global) -> Result<Command<'a>
         "Writes the outputs that came into the scripts, but new errors; of FILE:LINE that of one directive",
     )?;
     let command = with_flag(command, alloc, "accept-errors", "Accepts new errors too")?;
-    with_flag(
+    let command = with_flag(
         command,
         alloc,
         "force",
         "Accepts outputs of a script that has warnings too",
+    )?;
+    with_flag(
+        command,
+        alloc,
+        "review",
+        "Asks about each output that differs, on a terminal, and accepts those that you say",
     )
 }
 

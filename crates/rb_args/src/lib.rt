@@ -1,6 +1,6 @@
 //! The words of the command line: `raftbench run|rewrite|session|page FILE [--every K]`, `raftbench look FILE:LINE`,
 //! `raftbench directives [NAME]`, `raftbench lsp`, and
-//! `raftbench check PATH.. [--accept] [--accept-errors] [--force] [--filter WORD].. [-v] [--first] [--brief] [-q] [--every K] [--color WHEN]
+//! `raftbench check PATH.. [--accept] [--accept-errors] [--force] [--review] [--filter WORD].. [-v] [--first] [--brief] [-q] [--every K] [--color WHEN]
 //! [--format FORMAT]`.
 //!
 //! [`chosen`] reads the words with `clap` and tells what they choose. What a file, a number of directives, a

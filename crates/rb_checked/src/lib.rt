@@ -33,7 +33,7 @@ pub use laws::{
     new_errors_are_left, others_stay, shown_lines_are_of_heads,
 };
 pub use layout::{Layout, layout_of};
-pub use put::{is_quiet, is_same, put_checked, put_left_errors};
+pub use put::{is_quiet, is_same, put_checked, put_left_errors, put_one_mismatch};
 pub use text::lines_of;
 pub use told::Told;
 pub use view::{Shown, View};

@@ -291,6 +291,51 @@ pub fn put_checked<M: Machine, S: Sink>(
     }
 }
 
+fn put_mismatch_in<M: Machine, S: Sink>(
+    sink: &mut S,
+    session: &Session<M>,
+    layout: &Layout,
+    view: View<'_>,
+    index: usize,
+    table: &mut Table,
+) -> Result<(), WriteFault>
+    requires count { length layout.now.heads.items ≡ length session.now.script.blocks }
+    requires within { index < length session.now.script.blocks }
+    ensures wrote { Writes result (S.held sink.old) (S.held sink.new) (mismatch_at view.entry.colors view.entry.path.now layout.now.heads.items session.now.script (index + 1)) }
+    ensures all { S.takes_all sink.old → IsOk result × S.takes_all sink.new }
+{
+    let _count = session.len();
+    let heads = layout.heads.as_slice();
+    put_mismatch_at(sink, session, heads, view, index, table)
+}
+
+/// Writes the directive at an index, which counts from 0, of the script of the bytes as a mismatch: how much is shown of others changes
+/// nothing. On a failure of the writer what went out is a beginning of the text.
+pub fn put_one_mismatch<M: Machine, S: Sink>(
+    alloc: Global,
+    sink: &mut S,
+    session: &Session<M>,
+    bytes: &[u8],
+    view: View<'_>,
+    index: usize,
+) -> Result<(), ShowFault>
+    requires reads { Reads bytes.now session.now.script }
+    requires within { index < length session.now.script.blocks }
+    ensures wrote { (heads : List ℕ) → AreHeadLines 1 (lines bytes.now) session.now.script.blocks heads → Shows result (S.held sink.old) (S.held sink.new) (mismatch_at view.entry.colors view.entry.path.now heads session.now.script (index + 1)) }
+    ensures all { S.takes_all sink.old → (result ≢ Err ShowFault.Writing) × S.takes_all sink.new }
+{
+    let Ok(layout) = layout_of(alloc, bytes) else {
+        return Err(ShowFault::OutOfMemory);
+    };
+    let Ok(mut table) = Table::new(alloc) else {
+        return Err(ShowFault::OutOfMemory);
+    };
+    match put_mismatch_in(sink, session, &layout, view, index, &mut table) {
+        Ok(()) => Ok(()),
+        Err(_) => Err(ShowFault::Writing),
+    }
+}
+
 fn put_left_of<M: Machine, S: Sink>(
     sink: &mut S,
     session: &Session<M>,

@@ -15,6 +15,7 @@ complete -c raftbench -n '__fish_seen_subcommand_from check look page run rewrit
 complete -c raftbench -n '__fish_seen_subcommand_from check' -l accept -d 'Write the outputs that came into the scripts, but new errors'
 complete -c raftbench -n '__fish_seen_subcommand_from check' -l accept-errors -d 'Accept new errors too'
 complete -c raftbench -n '__fish_seen_subcommand_from check' -l force -d 'Accept outputs of a script that has warnings too'
+complete -c raftbench -n '__fish_seen_subcommand_from check' -l review -d 'Ask about each output that differs'
 complete -c raftbench -n '__fish_seen_subcommand_from check' -l filter -x -d 'Only scripts with this in their path, or with ! those without it'
 complete -c raftbench -n '__fish_seen_subcommand_from check' -s v -l verbose -d 'Show each directive with its output'
 complete -c raftbench -n '__fish_seen_subcommand_from check' -l first -d 'Show the first mismatch of each script alone'

@@ -1,0 +1,194 @@
+//! Asking about each output that differs.
+
+ghost use Rattle.std.specs.Prelude.{◌<◌, length};
+ghost use Rattle.rb_script.specs.Reads.{Reads};
+
+use crate::check::Asked;
+use crate::checking::CheckSession;
+use crate::report::Report;
+use rb_check::Failure;
+use rb_checked::{
+    Layout, Picked, ShowFault, Shown, View, is_picked, is_unexpected, layout_of, put_one_mismatch,
+};
+use rb_files::Trouble;
+use rb_script::WriteFault;
+use std::alloc::{AllocError, Global};
+use std::io::Write;
+
+const QUESTION: &[u8] = b"accept this output? [y,n,a,q,?] ";
+
+const HELP: &[u8] =
+    b"y  accepts this output\nn  leaves what is expected\na  accepts this one and all that follow in this script, but new errors; with --accept-errors these too\nq  leaves this one and all that follow, and ends\n?  shows this\n";
+
+/// What is still to be asked.
+#[derive(Clone, Copy, Debug, PartialEq, Eq)]
+pub(crate) enum Review {
+    /// Each mismatch.
+    Each,
+    /// No more of this script: what follows in it is accepted.
+    Rest,
+    /// Nothing more: what follows is left.
+    Over,
+}
+
+// What was answered.
+#[derive(Clone, Copy, Debug, PartialEq, Eq)]
+enum Answer {
+    Yes,
+    No,
+    All,
+    Quit,
+}
+
+fn answer_of(line: &str) -> Option<Answer> {
+    match line.trim() {
+        word if word == "y" => Some(Answer::Yes),
+        word if word == "n" => Some(Answer::No),
+        word if word == "a" => Some(Answer::All),
+        word if word == "q" => Some(Answer::Quit),
+        _ => None,
+    }
+}
+
+/// The lines of the heads of the directives whose outputs are to be accepted, by what is answered.
+pub(crate) fn reviewed<R: Input + AllocGlobal, W: Write + Drop, E: Write + Drop>(
+    rt: &R,
+    asked: Asked<'_>,
+    session: &CheckSession,
+    bytes: &[u8],
+    path: &str,
+    picked: Picked<'_>,
+    review: &mut Review,
+    report: &mut Report<W, E>,
+) -> Result<Vec<usize>, Trouble>
+    requires { Reads bytes.now session.now.script }
+{
+    let layout = layout_of(rt.alloc(), bytes)?;
+    let mut said = Vec::new(rt.alloc());
+    for index in 0..session.len() {
+        let Some(head) = differing_head(session, &layout, picked, index) else {
+            continue;
+        };
+        if *review == Review::Each {
+            show(rt.alloc(), asked, session, bytes, path, index, report)?;
+            *review = answered(rt, &mut said, head, report)?;
+        } else if *review == Review::Rest && takes(asked, session, &layout, index, head) {
+            push(&mut said, head)?;
+        }
+    }
+    if *review == Review::Rest {
+        *review = Review::Each;
+    }
+    Ok(said)
+}
+
+// The line of the head of the directive at the index, where its output differs and it is picked.
+fn differing_head(
+    session: &CheckSession,
+    layout: &Layout,
+    picked: Picked<'_>,
+    index: usize,
+) -> Option<usize> {
+    let head = *layout.heads.get(index)?;
+    let place = index.checked_add(1)?;
+    if session.mismatches().contains(&place) && is_picked(picked, head) {
+        Some(head)
+    } else {
+        None
+    }
+}
+
+// Whether an output is accepted that isn't shown.
+fn takes(
+    asked: Asked<'_>,
+    session: &CheckSession,
+    layout: &Layout,
+    index: usize,
+    head: usize,
+) -> bool {
+    let Some(place) = index.checked_add(1) else {
+        return false;
+    };
+    match session.output(place) {
+        Some(output) => asked.accepts_errors || !is_unexpected(&layout.text, head, output),
+        None => false,
+    }
+}
+
+fn push(said: &mut Vec<usize>, head: usize) -> Result<(), AllocError> {
+    said.push(head)?;
+    Ok(())
+}
+
+fn show<W: Write + Drop, E: Write + Drop>(
+    alloc: Global,
+    asked: Asked<'_>,
+    session: &CheckSession,
+    bytes: &[u8],
+    path: &str,
+    index: usize,
+    report: &mut Report<W, E>,
+) -> Result<(), Trouble>
+    requires reads { Reads bytes.now session.now.script }
+    requires within { index < length session.now.script.blocks }
+{
+    let view = View {
+        path: path.as_bytes(),
+        colors: asked.colors,
+        shown: Shown::Differing,
+    };
+    let Some(sink) = report.sink() else {
+        return Ok(());
+    };
+    match put_one_mismatch(alloc, sink, session, bytes, view, index) {
+        Ok(()) => report.wrote(Ok(())),
+        Err(ShowFault::Writing) => report.wrote(Err(WriteFault)),
+        Err(ShowFault::OutOfMemory) => return Err(Trouble::alone(Failure::OutOfMemory)),
+    }
+    Ok(())
+}
+
+// Asks about what was shown, and keeps the line of its head where it is accepted. What is still to be asked follows.
+fn answered<R: Input + AllocGlobal, W: Write + Drop, E: Write + Drop>(
+    rt: &R,
+    said: &mut Vec<usize>,
+    head: usize,
+    report: &mut Report<W, E>,
+) -> Result<Review, AllocError> {
+    match answer(rt, report) {
+        Answer::Yes => {
+            push(said, head)?;
+            Ok(Review::Each)
+        }
+        Answer::No => Ok(Review::Each),
+        Answer::All => {
+            push(said, head)?;
+            Ok(Review::Rest)
+        }
+        Answer::Quit => Ok(Review::Over),
+    }
+}
+
+// Asks until one of the answers comes. The end of the input, and a terminal that takes nothing more, end the review.
+fn answer<R: Input + AllocGlobal, W: Write + Drop, E: Write + Drop>(
+    rt: &R,
+    report: &mut Report<W, E>,
+) -> Answer {
+    for _ in 0..u64::MAX {
+        if !report.say(QUESTION) {
+            break;
+        }
+        let mut line = String::new(rt.alloc());
+        match rt.read_line(&mut line) {
+            Ok(count) if count > 0 => {}
+            _ => break,
+        }
+        match answer_of(line.as_str()) {
+            Some(answer) => return answer,
+            None => {
+                report.say(HELP);
+            }
+        }
+    }
+    Answer::Quit
+}
