@@ -18,7 +18,7 @@ use rb_formats::{Format, formatted};
 use rb_line::Incoming;
 use rb_raftlog::SplitLog;
 use rb_replay::{Session, StartFault};
-use rb_script::{MAX_SCRIPT, Sink, WriteFault};
+use rb_script::{MAX_SCRIPT, WriteFault};
 use std::alloc::{AllocError, Global};
 use std::fs::Metadata;
 use std::io::Write;
@@ -134,14 +134,14 @@ fn accept_picked<R: Files + Input + AllocGlobal, W: Write + Drop, E: Write + Dro
     requires { Reads text.bytes.items session.now.script }
 {
     let picked = match &heads {
-        Some(heads) => Picked::Heads(heads),
+        Some(heads) => Picked::Heads(heads.as_slice()),
         None => Picked::All,
     };
     if asked.reviews {
         let bytes = text.bytes.as_slice();
         let said = reviewed(rt, asked, session, bytes, ran.path, picked, review, report)?;
         let wanted = Wanted {
-            picked: Picked::Heads(&said),
+            picked: Picked::Heads(said.as_slice()),
             errors: true,
         };
         accept(rt, wanted, ran, session, text, report);
@@ -243,9 +243,6 @@ fn show_programs<W: Write + Drop, E: Write + Drop>(
     requires { Reads bytes.now session.now.script }
 {
     let text = formatted(alloc, format, session, bytes, path.as_bytes())?;
-    if let Some(sink) = report.sink() {
-        let written = sink.put(&text);
-        report.wrote(written);
-    }
+    report.put(&text);
     Ok(())
 }

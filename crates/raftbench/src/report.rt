@@ -119,15 +119,17 @@ impl<W: Write + Drop, E: Write + Drop> Report<W, E> {
         let Some(format) = self.format else {
             return;
         };
-        if self.is_lost {
-            return;
-        }
         match notice(self.alloc, format, path, line, kind, message) {
-            Ok(text) => {
-                let written = self.output.put(&text);
-                self.wrote(written);
-            }
+            Ok(text) => self.put(&text),
             Err(_) => self.starve(path),
+        }
+    }
+
+    /// Writes the text on standard output.
+    pub(crate) fn put(&mut self, text: &[u8]) {
+        if let Some(sink) = self.sink() {
+            let written = sink.put(text);
+            self.wrote(written);
         }
     }
 
@@ -216,10 +218,7 @@ impl<W: Write + Drop, E: Write + Drop> Report<W, E> {
 
     /// Says something on standard output, and whether it went out.
     pub(crate) fn say(&mut self, text: &[u8]) -> bool {
-        if let Some(sink) = self.sink() {
-            let written = sink.put(text);
-            self.wrote(written);
-        }
+        self.put(text);
         !self.is_lost
     }
 

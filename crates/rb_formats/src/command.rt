@@ -78,7 +78,7 @@ pub(crate) fn add_difference(
             Piece::Bytes(b",title="),
             Piece::Property(head),
             Piece::Bytes(b"::"),
-            Piece::Message(&diff),
+            Piece::Message(diff.as_slice()),
             Piece::Bytes(b"(- expected, + output)\n"),
         ],
     )

@@ -2,7 +2,7 @@
 
 ghost use Rattle.std.specs.Prelude.{◌≡◌, ◌++◌, OnOk, IfOk};
 ghost use Rattle.rb_formats.specs.Commands.{command_text};
-ghost use Rattle.rb_formats.specs.Formats.{command_of, notice_text};
+ghost use Rattle.rb_formats.specs.Formats.{notice_text};
 ghost use Rattle.rb_formats.specs.Objects.{notice_object};
 
 use crate::format::Format;

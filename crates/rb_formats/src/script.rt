@@ -5,9 +5,8 @@ ghost use Rattle.rb_script.specs.Lines.{lines};
 ghost use Rattle.rb_script.specs.Reads.{Reads};
 ghost use Rattle.rb_script.specs.HeadLines.{AreHeadLines};
 ghost use Rattle.rb_script.specs.Tokens.{plain};
-ghost use Rattle.rb_replay.specs.Run.{outputs};
 ghost use Rattle.rb_check.specs.Heads.{head_text};
-ghost use Rattle.rb_formats.specs.Formats.{differing_text, directive_text, directives_text, error_text, script_text};
+ghost use Rattle.rb_formats.specs.Formats.{differing_text, directive_text, error_text, script_text};
 
 use crate::command::{add_command, add_difference};
 use crate::format::Format;
