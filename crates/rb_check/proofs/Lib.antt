@@ -1,4 +1,5 @@
 pub mod PieceLaws
+pub mod StepLaws
 pub mod HeadLaws
 pub mod ShownLaws
 pub mod CommonLaws

@@ -7,6 +7,7 @@ pub mod Folds
 pub mod Heads
 pub mod Hints
 pub mod Headings
+pub mod Steps
 pub mod Notices
 pub mod Briefs
 pub mod Refusals

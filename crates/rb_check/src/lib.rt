@@ -27,6 +27,7 @@ mod refusal;
 mod side;
 mod sides;
 mod status;
+mod steps;
 mod table;
 mod totals;
 
@@ -49,5 +50,6 @@ pub use place::Place;
 pub use refusal::{fault_line, put_refusal, sentence};
 pub use side::Side;
 pub use status::{Status, status_code};
+pub use steps::put_run;
 pub use table::{MAX_CELLS, Table};
 pub use totals::{Totals, put_totals};

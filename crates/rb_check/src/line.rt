@@ -34,8 +34,8 @@ fn needs_mark(line: &[u8]) -> bool
     }
 }
 
-// What is shown at the end of the line.
-fn end_mark(line: &[u8]) -> &'static [u8]
+/// What is shown at the end of the line.
+pub(crate) fn end_mark(line: &[u8]) -> &'static [u8]
     ensures { result.now ≡ end_mark line.now }
 {
     if needs_mark(line) { b"$" } else { b"" }

@@ -8,7 +8,8 @@ use Rattle.rb_replay.specs.Run.{outputs}
 use Rattle.rb_replay.specs.Report.{same_lines, mismatches}
 use Rattle.rb_check.specs.declared.colors.Colors.{Colors}
 use Rattle.rb_check.specs.Heads.{head_text}
-use Rattle.rb_check.specs.Headings.{mismatch_text, directive_text, note_text}
+use Rattle.rb_check.specs.Headings.{mismatch_text, note_text}
+use Rattle.rb_check.specs.Steps.{run_text}
 use Rattle.rb_check.specs.Briefs.{brief_text}
 use Rattle.rb_hint.specs.Suggestions.{suggested}
 use Rattle.rb_checked.specs.declared.view.Shown.{Shown}
@@ -27,10 +28,10 @@ hint_of b output = if is_error output then unwrap_or (suggested (directive_of b)
 abbrev pub mismatch_shown : Colors → List ℕ → ℕ → PlainBlock → List Line → List ℕ
 mismatch_shown colors path line b output = mismatch_text colors path line (head_of b) b.expected output (hint_of b output)
 
--- a block that expects its output: an error that isn't said to be expected is named, and where all are shown the output is shown
+-- a block that expects its output: an error that isn't said to be expected is named, and where all are shown the output is shown step by step
 abbrev pub match_shown : Bool → List Line → List ℕ → ℕ → PlainBlock → List Line → List ℕ
 match_shown all ls path line b output =
-    if all then directive_text path line (head_of b) output (hint_of b output)
+    if all then run_text path line (head_of b) output (hint_of b output)
     else (if is_unexpected ls line output then note_text path line (head_of b) (first_line output) (hint_of b output) else [])
 
 -- one directive, whose head begins on the line, of the lines of a script

@@ -22,7 +22,7 @@ use crate::layout::{Layout, layout_of};
 use crate::told::Told;
 use crate::view::{Shown, View};
 use crate::wanted::Wanted;
-use rb_check::{Colors, Place, Table, put_brief, put_directive, put_mismatch, put_note};
+use rb_check::{Colors, Place, Table, put_brief, put_mismatch, put_note, put_run};
 use rb_machine::Machine;
 use rb_replay::Session;
 use rb_script::{Block, Lines, Sink, WriteFault};
@@ -49,7 +49,7 @@ fn put_match<S: Sink>(
 {
     if all {
         let hint = hint_of(block, output);
-        return put_directive(sink, place, &block.directive(), output, hint);
+        return put_run(sink, place, &block.directive(), output, hint);
     }
     if !is_unexpected(text, place.line, output) {
         return Ok(());

@@ -1,0 +1,110 @@
+//! A directive's output, step by step.
+//!
+//! In an output a node's events follow the delivery that they come of: so they are shown further in, below it. A round of `stabilize` lets each
+//! node with something ready send, and then delivers: so an empty line parts what is delivered from what is ready after it.
+
+ghost use Rattle.std.specs.Prelude.{◌≡◌, false, IsOk};
+ghost use Rattle.rb_script.specs.Tokens.{plain};
+ghost use Rattle.rb_script.specs.Writes.{Writes};
+ghost use Rattle.rb_check.specs.Heads.{head_text};
+ghost use Rattle.rb_check.specs.Steps.{is_delivery, is_event, is_ready, before_step, step_text, is_delivered, steps_text, run_text};
+
+use crate::hint::put_hint;
+use crate::line::end_mark;
+use crate::piece::{Piece, put_pieces};
+use crate::place::{Place, put_heading};
+use rb_script::{DirectiveRef, Lines, Sink, WriteFault};
+
+fn is_delivery(line: &[u8]) -> bool
+    ensures { result ≡ is_delivery line.now }
+{
+    line.len() >= 8 && &line[..8] == b"deliver ".as_slice()
+}
+
+fn is_event(line: &[u8]) -> bool
+    ensures { result ≡ is_event line.now }
+{
+    match line {
+        [] => false,
+        [first, ..] => b'A' <= *first && *first <= b'Z',
+    }
+}
+
+fn is_ready(line: &[u8]) -> bool
+    ensures { result ≡ is_ready line.now }
+{
+    match line {
+        [] => false,
+        [first, ..] => b'0' <= *first && *first <= b'9',
+    }
+}
+
+// What stands before a line, where a delivery and its events are the last above it or not.
+fn before_step(delivered: bool, line: &[u8]) -> &'static [u8]
+    ensures { result.now ≡ before_step delivered line.now }
+{
+    if !delivered {
+        b""
+    } else if is_event(line) {
+        b"  "
+    } else if is_ready(line) {
+        b"\n"
+    } else {
+        b""
+    }
+}
+
+fn put_step<S: Sink>(sink: &mut S, delivered: bool, line: &[u8]) -> Result<(), WriteFault>
+    ensures wrote { Writes result (S.held sink.old) (S.held sink.new) (step_text delivered line.now) }
+    ensures all { S.takes_all sink.old → IsOk result × S.takes_all sink.new }
+{
+    put_pieces(
+        sink,
+        &[
+            Piece::Bytes(before_step(delivered, line)),
+            Piece::Bytes(b"  "),
+            Piece::Bytes(line),
+            Piece::Bytes(end_mark(line)),
+            Piece::Bytes(b"\n"),
+        ],
+    )
+}
+
+// Whether a delivery and its events are the last above the next line.
+fn is_delivered(delivered: bool, line: &[u8]) -> bool
+    ensures { result ≡ is_delivered delivered line.now }
+{
+    is_delivery(line) || (delivered && is_event(line))
+}
+
+fn put_steps<S: Sink>(sink: &mut S, lines: &Lines) -> Result<(), WriteFault>
+    ensures wrote { Writes result (S.held sink.old) (S.held sink.new) (steps_text false lines.now) }
+    ensures all { S.takes_all sink.old → IsOk result × S.takes_all sink.new }
+{
+    let mut delivered = false;
+    for i in 0..lines.len() {
+        let line = lines.line(i);
+        put_step(sink, delivered, line)?;
+        delivered = is_delivered(delivered, line);
+    }
+    Ok(())
+}
+
+/// Writes a directive with its output, each line after two blanks: a delivery's events after two more, and an empty line before what is
+/// ready after a delivery; and the word that was probably meant, where that isn't empty. On a failure what went out is a beginning of the
+/// text.
+pub fn put_run<S: Sink>(
+    sink: &mut S,
+    place: Place<'_>,
+    directive: &DirectiveRef<'_>,
+    output: &Lines,
+    hint: &[u8],
+) -> Result<(), WriteFault>
+    ensures wrote { Writes result (S.held sink.old) (S.held sink.new) (run_text place.entry.path.now place.entry.line (head_text (plain directive.now)) output.now hint.now) }
+    ensures all { S.takes_all sink.old → IsOk result × S.takes_all sink.new }
+{
+    put_heading(sink, place, directive)?;
+    sink.put(b"\n")?;
+    put_steps(sink, output)?;
+    put_hint(sink, hint)
+}
