@@ -1,6 +1,6 @@
 //! The words, the files and the streams.
 
-use crate::check::{Asked, check};
+use crate::clusters::Clusters;
 use crate::colors::{Wish, colors, wish_of};
 use crate::directives::directives;
 use crate::editing::serve_editor;
@@ -10,13 +10,13 @@ use crate::page::page;
 use crate::refusal::Refusal;
 use crate::spacing::spacing;
 use crate::style::{Style, style_of};
-use crate::target::targets;
 use rb_args::{CheckChoice, Choice, Subcommand, chosen};
-use rb_bench::{Mode, Status, read_up_to, run_over, serve, status_code};
+use rb_bench::{Mode, Status, run_over, serve, status_code};
 use rb_checked::Shown;
-use rb_line::Incoming;
+use rb_line::{Incoming, read_up_to};
 use rb_replay::is_spacing;
 use rb_script::{MAX_SCRIPT, Through};
+use rb_suite::{Asked, check, targets};
 use std::alloc::Global;
 use std::fs::File;
 use std::io::{BufWriter, Write};
@@ -132,7 +132,7 @@ fn check_all<R: Files + Input + Print + Env + Clock + AllocGlobal, E: Write + Dr
         colors: colors(rt, wish, terminals.output),
         wants_progress: terminals.errors && !choice.reviews,
     };
-    check(rt, asked, errors)
+    Ok(check(rt, &mut Clusters, asked, errors)?)
 }
 
 fn wish_asked(alloc: Global, choice: &CheckChoice) -> Result<Wish, Refusal> {

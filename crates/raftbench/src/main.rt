@@ -2,9 +2,7 @@
 //! words, the files and the streams of the program.
 #![tactic(auto)]
 
-mod accepting;
-mod check;
-mod checking;
+mod clusters;
 mod colors;
 mod directives;
 mod edge;
@@ -12,15 +10,9 @@ mod editing;
 mod look;
 mod misuse;
 mod page;
-mod picking;
-mod place;
-mod progress;
 mod refusal;
-mod report;
-mod review;
 mod spacing;
 mod style;
-mod target;
 
 use edge::Terminals;
 use std::io::IsTerminal;

@@ -2,7 +2,8 @@
 
 use crate::misuse::Misuse;
 use rb_args::ChoiceFault;
-use rb_bench::{BenchFault, ReadFault, Status, script_fault_line, script_fault_name};
+use rb_bench::{BenchFault, Status, script_fault_line, script_fault_name};
+use rb_line::ReadFault;
 use rb_script::ScriptFault;
 use std::alloc::AllocError;
 use std::io;

@@ -1,7 +1,6 @@
 pub mod NameLaws
 pub mod RunLaws
 pub mod StepLaws
-pub mod ReadLaws
 pub mod PieceLaws
 pub mod MakeLaws
 pub mod TurnLaws

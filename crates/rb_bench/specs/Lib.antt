@@ -2,7 +2,6 @@ pub mod Faults
 pub mod Statuses
 pub mod Handed
 pub mod Names
-pub mod Reading
 pub mod Runs
 pub mod Responses
 pub mod Talk

@@ -13,9 +13,9 @@ use Rattle.rb_bench.specs.declared.status.Status.{Status}
 use Rattle.rb_bench.specs.declared.status.Status.TheVariants as statuses
 use Rattle.rb_bench.specs.declared.fault.BenchFault.{BenchFault}
 use Rattle.rb_bench.specs.declared.fault.BenchFault.TheVariants as faults
-use Rattle.rb_bench.specs.declared.reading.ReadFault.{ReadFault}
+use Rattle.rb_line.specs.declared.reading.ReadFault.{ReadFault}
 use Rattle.rb_bench.specs.Faults.{of_reading}
-use Rattle.rb_bench.specs.Reading.{StopsWithin}
+use Rattle.rb_line.specs.Reading.{StopsWithin}
 
 -- what is written for a script
 abbrev pub text_for : Mode → PlainScript → List ℕ

@@ -4,7 +4,7 @@ ghost use Rattle.std.specs.Prelude.{◌≡◌};
 ghost use Rattle.rb_bench.specs.declared.fault.BenchFault.TheVariants.{Io};
 ghost use Rattle.rb_bench.specs.Faults.{of_reading, of_starting};
 
-use crate::reading::ReadFault;
+use rb_line::ReadFault;
 use rb_replay::StartFault;
 use rb_script::{ScriptFault, WriteFault};
 use thiserror::Error;

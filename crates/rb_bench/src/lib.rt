@@ -12,7 +12,6 @@ mod laws;
 mod limits;
 mod names;
 mod outlet;
-mod reading;
 mod reply;
 mod respond;
 mod running;
@@ -29,7 +28,6 @@ pub use laws::{
 pub use limits::{MAX_READS, USUAL_SPACING, limits_are};
 pub use names::{edit_fault_name, script_fault_line, script_fault_name};
 pub use outlet::Outlet;
-pub use reading::{ReadFault, read_up_to};
 pub use running::{Mode, run_bytes, run_over};
 pub use session::serve;
 pub use status::{Status, status_code};

@@ -11,10 +11,9 @@ ghost use Rattle.rb_bench.specs.Runs.{Answers, RunsOver, IsWritten, text_for, st
 
 use crate::fault::BenchFault;
 use crate::outlet::Outlet;
-use crate::reading::read_up_to;
 use crate::starting::{BenchSession, run_once};
 use crate::status::Status;
-use rb_line::Source;
+use rb_line::{Source, read_up_to};
 use rb_replay::is_spacing;
 use rb_script::{MAX_SCRIPT, Sink, WriteFault};
 use std::alloc::Global;

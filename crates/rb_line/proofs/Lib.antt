@@ -3,3 +3,4 @@ pub mod CutLaws
 pub mod GivenLaws
 pub mod TakenLaws
 pub mod AskedLaws
+pub mod ReadLaws

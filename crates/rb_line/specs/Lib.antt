@@ -5,3 +5,4 @@ pub mod Left
 pub mod Given
 pub mod Taken
 pub mod Asked
+pub mod Reading

@@ -2,9 +2,8 @@
 //! compares it with the program's. The status is 1 where there is none.
 #![tactic(auto)]
 
-use rb_bench::read_up_to;
 use rb_cluster::{Cluster, Meter};
-use rb_line::Incoming;
+use rb_line::{Incoming, read_up_to};
 use rb_machine::Machine;
 use rb_raftlog::PlainLog;
 use rb_replay::Session;

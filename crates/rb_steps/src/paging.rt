@@ -13,8 +13,8 @@ ghost use Rattle.rb_steps.specs.Written.{Tells, TellsOver};
 
 use crate::page::{Frame, put_page};
 use crate::script_steps::read_steps;
-use rb_bench::{BenchFault, Outlet, Status, read_up_to};
-use rb_line::Source;
+use rb_bench::{BenchFault, Outlet, Status};
+use rb_line::{Source, read_up_to};
 use rb_replay::is_spacing;
 use rb_script::{Lines, MAX_SCRIPT, WriteFault};
 use std::alloc::Global;

@@ -3,9 +3,9 @@
 ghost use Rattle.std.specs.Prelude.{◌≡◌, ◌++◌, ◌+◌, ◌≤◌, ◌<◌, ℕ, List, length, take, IfOk, IfErr, IfSome, OnOk, vec_len};
 ghost use Rattle.std.specs.Io.KnownBytes.{Consumes, IsAtEnd};
 ghost use Rattle.rb_line.specs.Asked.{Asks, AsksFor, Fails};
-ghost use Rattle.rb_bench.specs.Reading.{Loses, StopsWithin};
+ghost use Rattle.rb_line.specs.Reading.{Loses, StopsWithin};
 
-use rb_line::Source;
+use crate::source::Source;
 use std::alloc::Global;
 
 /// Why a source's bytes were not read.

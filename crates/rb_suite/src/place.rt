@@ -3,13 +3,13 @@
 use rb_number::number_of;
 
 /// FILE, and the number behind the word's last colon.
-pub(crate) fn path_and_line(word: &str) -> Option<(&str, usize)> {
+pub fn path_and_line(word: &str) -> Option<(&str, usize)> {
     let (path, line) = word.rsplit_once(':')?;
     Some((path, number_of(line.as_bytes())? as usize))
 }
 
 /// The last of the heads at the line or above it: which directive it is, from 1 on, and its line.
-pub(crate) fn place_at(heads: &[usize], line: usize) -> Option<(usize, usize)> {
+pub fn place_at(heads: &[usize], line: usize) -> Option<(usize, usize)> {
     let place = heads.partition_point(|head| *head <= line);
     if place == 0 {
         return None;

@@ -2,11 +2,13 @@
 
 ghost use Rattle.rb_script.specs.Reads.{Reads};
 
-use crate::checking::{CheckSession, Text};
+use crate::checking::Text;
 use crate::report::{Ran, Report};
 use rb_check::Failure;
 use rb_checked::{AcceptFault, Accepted, ShowFault, Wanted, accept as accepted, put_left_errors};
 use rb_files::{Beside, Trouble, replace};
+use rb_machine::Machine;
+use rb_replay::Session;
 use rb_script::WriteFault;
 use std::alloc::Global;
 use std::fs::Metadata;
@@ -15,11 +17,11 @@ use std::io::Write;
 use std::rt::Files;
 
 /// Writes the outputs into the script's file: those that are accepted. The others are told.
-pub(crate) fn accept<R: Files + AllocGlobal, W: Write + Drop, E: Write + Drop>(
+pub(crate) fn accept<M: Machine, R: Files + AllocGlobal, W: Write + Drop, E: Write + Drop>(
     rt: &R,
     wanted: Wanted<'_>,
     ran: Ran<'_>,
-    session: &CheckSession,
+    session: &Session<M>,
     text: Text,
     report: &mut Report<W, E>,
 )
@@ -39,9 +41,9 @@ pub(crate) fn accept<R: Files + AllocGlobal, W: Write + Drop, E: Write + Drop>(
 }
 
 // Says which outputs are not accepted.
-fn tell_left<W: Write + Drop, E: Write + Drop>(
+fn tell_left<M: Machine, W: Write + Drop, E: Write + Drop>(
     alloc: Global,
-    session: &CheckSession,
+    session: &Session<M>,
     bytes: &[u8],
     path: &str,
     wanted: Wanted<'_>,

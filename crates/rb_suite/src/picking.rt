@@ -2,12 +2,13 @@
 
 ghost use Rattle.rb_script.specs.Reads.{Reads};
 
-use crate::checking::CheckSession;
 use crate::place::place_at;
 use crate::report::Report;
 use crate::target::Target;
 use rb_check::Failure;
 use rb_files::Trouble;
+use rb_machine::Machine;
+use rb_replay::Session;
 use rb_script::head_lines;
 use std::alloc::{AllocError, Global};
 use std::io;
@@ -15,10 +16,10 @@ use std::io::Write;
 
 /// The lines of the heads of the script's directives that are named, in the order in which they are; none where all of it is. A directive
 /// whose output is the expected one already is told.
-pub(crate) fn picked_heads<W: Write + Drop, E: Write + Drop>(
+pub(crate) fn picked_heads<M: Machine, W: Write + Drop, E: Write + Drop>(
     alloc: Global,
     targets: &[Target],
-    session: &CheckSession,
+    session: &Session<M>,
     bytes: &[u8],
     path: &str,
     report: &mut Report<W, E>,
@@ -57,11 +58,11 @@ fn named_lines(
 }
 
 // The last of the heads at each of the lines or above it.
-fn heads_at<W: Write + Drop, E: Write + Drop>(
+fn heads_at<M: Machine, W: Write + Drop, E: Write + Drop>(
     alloc: Global,
     lines: &[usize],
     heads: &[usize],
-    session: &CheckSession,
+    session: &Session<M>,
     path: &str,
     report: &mut Report<W, E>,
 ) -> Result<Vec<usize>, Trouble> {

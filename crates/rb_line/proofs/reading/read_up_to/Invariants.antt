@@ -2,7 +2,7 @@
 use Rattle.std.proofs.Common.{ℕ, ◌≤◌, ◌-◌, vec_len}
 use Rattle.std.specs.Io.KnownBytes.{Consumes}
 use Rattle.rb_line.specs.Asked.{Asks, Fails}
-use Rattle.rb_bench.proofs.reading.read_up_to.Given as goal
+use Rattle.rb_line.proofs.reading.read_up_to.Given as goal
 
 abbrev pub invariant-loop-source : goal.invariant-loop-source
 invariant-loop-source g l = record {

@@ -3,8 +3,8 @@ use Rattle.std.proofs.lemmas.Result.{err_from_is_err_and}
 use Rattle.std.specs.Io.KnownBytes.{Consumes}
 use Rattle.std.proofs.KnownBytes.{Consumes-nil, Consumes-trans}
 use Rattle.rb_line.proofs.AskedLaws.{asked_more, asked_reading, fails_then}
-use Rattle.rb_bench.proofs.ReadLaws.{stops}
-use Rattle.rb_bench.proofs.reading.read_up_to.Goals as goal
+use Rattle.rb_line.proofs.ReadLaws.{stops}
+use Rattle.rb_line.proofs.reading.read_up_to.Goals as goal
 
 pub returns-in_err-read_some-clause-failed : goal.returns-in_err-read_some-clause-failed
 returns-in_err-read_some-clause-failed g c =

@@ -3,14 +3,15 @@
 ghost use Rattle.std.specs.Prelude.{◌<◌, length};
 ghost use Rattle.rb_script.specs.Reads.{Reads};
 
-use crate::check::Asked;
-use crate::checking::CheckSession;
+use crate::asked::Asked;
 use crate::report::Report;
 use rb_check::Failure;
 use rb_checked::{
     Layout, Picked, ShowFault, Shown, View, is_picked, is_unexpected, layout_of, put_one_mismatch,
 };
 use rb_files::Trouble;
+use rb_machine::Machine;
+use rb_replay::Session;
 use rb_script::WriteFault;
 use std::alloc::{AllocError, Global};
 use std::io::Write;
@@ -51,10 +52,10 @@ fn answer_of(line: &str) -> Option<Answer> {
 }
 
 /// The lines of the heads of the directives whose outputs are to be accepted, by what is answered.
-pub(crate) fn reviewed<R: Input + AllocGlobal, W: Write + Drop, E: Write + Drop>(
+pub(crate) fn reviewed<M: Machine, R: Input + AllocGlobal, W: Write + Drop, E: Write + Drop>(
     rt: &R,
     asked: Asked<'_>,
-    session: &CheckSession,
+    session: &Session<M>,
     bytes: &[u8],
     path: &str,
     picked: Picked<'_>,
@@ -83,8 +84,8 @@ pub(crate) fn reviewed<R: Input + AllocGlobal, W: Write + Drop, E: Write + Drop>
 }
 
 // The line of the head of the directive at the index, where its output differs and it is picked.
-fn differing_head(
-    session: &CheckSession,
+fn differing_head<M: Machine>(
+    session: &Session<M>,
     layout: &Layout,
     picked: Picked<'_>,
     index: usize,
@@ -99,9 +100,9 @@ fn differing_head(
 }
 
 // Whether an output is accepted that isn't shown.
-fn takes(
+fn takes<M: Machine>(
     asked: Asked<'_>,
-    session: &CheckSession,
+    session: &Session<M>,
     layout: &Layout,
     index: usize,
     head: usize,
@@ -120,10 +121,10 @@ fn push(said: &mut Vec<usize>, head: usize) -> Result<(), AllocError> {
     Ok(())
 }
 
-fn show<W: Write + Drop, E: Write + Drop>(
+fn show<M: Machine, W: Write + Drop, E: Write + Drop>(
     alloc: Global,
     asked: Asked<'_>,
-    session: &CheckSession,
+    session: &Session<M>,
     bytes: &[u8],
     path: &str,
     index: usize,

@@ -1,46 +1,26 @@
 //! `raftbench check`: scripts, and folders of scripts.
 
+use crate::asked::Asked;
 use crate::checking::check_script;
 use crate::progress::Progress;
-use crate::refusal::Refusal;
 use crate::report::Report;
 use crate::review::Review;
-use crate::target::Target;
-use rb_check::{Colors, Failure};
+use crate::runner::Runner;
+use rb_check::Failure;
 use rb_checked::Shown;
 use rb_files::{Found, Trouble, find};
-use rb_formats::Format;
 use std::io;
 use std::io::Write;
 use std::rt::Files;
 use std::time::Clock;
 
-/// What is asked for.
-#[derive(Clone, Copy)]
-pub(crate) struct Asked<'a> {
-    pub(crate) targets: &'a [Target],
-    pub(crate) filters: &'a [String],
-    pub(crate) accepts: bool,
-    /// Whether new errors are accepted too.
-    pub(crate) accepts_errors: bool,
-    /// Whether outputs of a script that has warnings are.
-    pub(crate) is_forced: bool,
-    /// Whether each output that differs is asked about.
-    pub(crate) reviews: bool,
-    pub(crate) is_quiet: bool,
-    pub(crate) shown: Shown,
-    /// The format for programs, where one is asked for.
-    pub(crate) format: Option<Format>,
-    pub(crate) colors: Colors,
-    pub(crate) wants_progress: bool,
-}
-
 /// Checks the scripts of the paths, and gives the program's status.
-pub(crate) fn check<R: Files + Input + Print + Clock + AllocGlobal, E: Write + Drop>(
+pub fn check<T: Runner, R: Files + Input + Print + Clock + AllocGlobal, E: Write + Drop>(
     rt: &R,
+    runner: &mut T,
     asked: Asked<'_>,
     errors: E,
-) -> Result<u8, Refusal> {
+) -> io::Result<u8> {
     let mut progress = Progress::from_now(rt, asked.wants_progress);
     let mut report = Report::new(
         rt.alloc(),
@@ -56,7 +36,7 @@ pub(crate) fn check<R: Files + Input + Print + Clock + AllocGlobal, E: Write + D
         if progress.is_due(rt) {
             report.show_progress(done, found.scripts.len());
         }
-        check_script(rt, asked, path.as_str(), &mut review, &mut report);
+        check_script(rt, runner, asked, path.as_str(), &mut review, &mut report);
         if review == Review::Over {
             break;
         }

@@ -3,28 +3,25 @@
 ghost use Rattle.rb_script.specs.Reads.{Reads};
 
 use crate::accepting::accept;
-use crate::check::Asked;
+use crate::asked::Asked;
 use crate::picking::picked_heads;
 use crate::report::{Ran, Report};
 use crate::review::{Review, reviewed};
-use rb_bench::{ReadFault, read_up_to};
+use crate::runner::Runner;
 use rb_check::Failure;
 use rb_checked::{
     Picked, ShowFault, Shown, Told, View, Wanted, Warning, is_quiet, put_checked, warnings,
 };
-use rb_cluster::{Cluster, Meter};
 use rb_files::{Trouble, opened};
 use rb_formats::{Format, formatted};
-use rb_line::Incoming;
-use rb_raftlog::SplitLog;
+use rb_line::{Incoming, ReadFault, read_up_to};
+use rb_machine::Machine;
 use rb_replay::{Session, StartFault};
 use rb_script::{MAX_SCRIPT, WriteFault};
 use std::alloc::{AllocError, Global};
 use std::fs::Metadata;
 use std::io::Write;
 use std::rt::Files;
-
-pub(crate) type CheckSession = Session<Cluster<SplitLog>>;
 
 // The first bytes of a file, and what the system said of it when it was opened.
 #[derive(Drop)]
@@ -34,15 +31,21 @@ pub(crate) struct Text {
 }
 
 /// Checks the script at the path: shows what differs, and accepts it where that is asked for.
-pub(crate) fn check_script<R: Files + Input + AllocGlobal, W: Write + Drop, E: Write + Drop>(
+pub(crate) fn check_script<
+    T: Runner,
+    R: Files + Input + AllocGlobal,
+    W: Write + Drop,
+    E: Write + Drop,
+>(
     rt: &R,
+    runner: &mut T,
     asked: Asked<'_>,
     path: &str,
     review: &mut Review,
     report: &mut Report<W, E>,
 ) {
     match read(rt, path) {
-        Ok(text) => run(rt, asked, path, text, review, report),
+        Ok(text) => run(rt, runner, asked, path, text, review, report),
         Err(trouble) => report.fail(path.as_bytes(), trouble),
     }
 }
@@ -57,17 +60,16 @@ fn read<R: Files + AllocGlobal>(rt: &R, path: &str) -> Result<Text, Trouble> {
     }
 }
 
-fn run<R: Files + Input + AllocGlobal, W: Write + Drop, E: Write + Drop>(
+fn run<T: Runner, R: Files + Input + AllocGlobal, W: Write + Drop, E: Write + Drop>(
     rt: &R,
+    runner: &mut T,
     asked: Asked<'_>,
     path: &str,
     text: Text,
     review: &mut Review,
     report: &mut Report<W, E>,
 ) {
-    let mut meter = Meter::new();
-    // No directive runs again, so as few clusters are kept as there may be.
-    let session = match CheckSession::run_once(rt.alloc(), &text.bytes, &mut meter) {
+    let session = match runner.run(rt.alloc(), &text.bytes) {
         Ok(session) => session,
         Err(StartFault::Script(fault)) => return report.refused(path, fault),
         Err(_) => return report.fail(path.as_bytes(), Trouble::alone(Failure::OutOfMemory)),
@@ -79,12 +81,12 @@ fn run<R: Files + Input + AllocGlobal, W: Write + Drop, E: Write + Drop>(
 }
 
 // Shows what there is to show, and accepts what is to be accepted.
-fn answer<R: Files + Input + AllocGlobal, W: Write + Drop, E: Write + Drop>(
+fn answer<M: Machine, R: Files + Input + AllocGlobal, W: Write + Drop, E: Write + Drop>(
     rt: &R,
     asked: Asked<'_>,
     path: &str,
     text: Text,
-    session: &CheckSession,
+    session: &Session<M>,
     review: &mut Review,
     report: &mut Report<W, E>,
 ) -> Result<(), Trouble>
@@ -121,12 +123,12 @@ fn answer<R: Files + Input + AllocGlobal, W: Write + Drop, E: Write + Drop>(
 }
 
 // Accepts outputs of the directives whose heads begin on these lines, or of all: those that are said yes to, where that is asked.
-fn accept_picked<R: Files + Input + AllocGlobal, W: Write + Drop, E: Write + Drop>(
+fn accept_picked<M: Machine, R: Files + Input + AllocGlobal, W: Write + Drop, E: Write + Drop>(
     rt: &R,
     asked: Asked<'_>,
     ran: Ran<'_>,
     heads: Option<Vec<usize>>,
-    session: &CheckSession,
+    session: &Session<M>,
     text: Text,
     review: &mut Review,
     report: &mut Report<W, E>,
@@ -156,9 +158,9 @@ fn accept_picked<R: Files + Input + AllocGlobal, W: Write + Drop, E: Write + Dro
 }
 
 // The lines that look like a slip. Where each output is the expected one and there is no input, there are none.
-fn warnings_of(
+fn warnings_of<M: Machine>(
     alloc: Global,
-    session: &CheckSession,
+    session: &Session<M>,
     bytes: &[u8],
 ) -> Result<Vec<Warning>, AllocError>
     requires { Reads bytes.now session.now.script }
@@ -169,7 +171,7 @@ fn warnings_of(
     warnings(alloc, session, bytes)
 }
 
-fn has_input(session: &CheckSession) -> bool {
+fn has_input<M: Machine>(session: &Session<M>) -> bool {
     for place in 1..=session.len() {
         if let Some(block) = session.block(place) {
             if block.directive().inputs() > 0 {
@@ -189,9 +191,9 @@ fn shows_warnings(shown: Shown) -> bool {
 }
 
 // Shows what there is to show of the script of the bytes. Where nothing can be shown any more, nothing is looked for.
-fn show<W: Write + Drop, E: Write + Drop>(
+fn show<M: Machine, W: Write + Drop, E: Write + Drop>(
     alloc: Global,
-    session: &CheckSession,
+    session: &Session<M>,
     bytes: &[u8],
     asked: Asked<'_>,
     path: &str,
@@ -232,9 +234,9 @@ fn show<W: Write + Drop, E: Write + Drop>(
 }
 
 // Shows programs what there is to show of the script of the bytes.
-fn show_programs<W: Write + Drop, E: Write + Drop>(
+fn show_programs<M: Machine, W: Write + Drop, E: Write + Drop>(
     alloc: Global,
-    session: &CheckSession,
+    session: &Session<M>,
     bytes: &[u8],
     format: Format,
     path: &str,

@@ -63,7 +63,7 @@ impl<W: Write + Drop, E: Write + Drop> Report<W, E> {
         errors: E,
         is_quiet: bool,
         format: Option<Format>,
-    ) -> Result<Report<W, E>, Refusal> {
+    ) -> io::Result<Report<W, E>> {
         Ok(Report {
             alloc,
             output: Through(BufWriter::new(alloc, output)?),

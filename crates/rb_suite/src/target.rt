@@ -10,9 +10,9 @@ use std::rt::Files;
 
 /// A path, and the line of a directive where one is named with it.
 #[derive(Drop)]
-pub(crate) struct Target {
-    pub(crate) path: String,
-    pub(crate) line: Option<usize>,
+pub struct Target {
+    pub path: String,
+    pub line: Option<usize>,
 }
 
 impl AsStr for Target {
@@ -25,7 +25,7 @@ impl AsStr for Target {
 
 /// What the words name. Where outputs are accepted, a word that ends in a colon and a number names a directive of a file, unless it is
 /// itself the name of something.
-pub(crate) fn targets<R: Files + AllocGlobal>(
+pub fn targets<R: Files + AllocGlobal>(
     rt: &R,
     words: &[String],
     accepts: bool,

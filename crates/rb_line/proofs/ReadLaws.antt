@@ -1,8 +1,8 @@
 -- Reading that stops.
 use Rattle.std.proofs.Common.{ℕ, ◌+◌, ◌<◌, ◌≤◌, List, ◌++◌, ap, length, length-append, arith}
-use Rattle.rb_bench.specs.declared.reading.ReadFault.{ReadFault}
-use Rattle.rb_bench.specs.declared.reading.ReadFault.TheVariants.{Io, OutOfMemory}
-use Rattle.rb_bench.specs.Reading.{Loses, StopsWithin}
+use Rattle.rb_line.specs.declared.reading.ReadFault.{ReadFault}
+use Rattle.rb_line.specs.declared.reading.ReadFault.TheVariants.{Io, OutOfMemory}
+use Rattle.rb_line.specs.Reading.{Loses, StopsWithin}
 
 -- what was read is lost with what the failed call lost
 pub stops : (fault : ReadFault) (most : ℕ) (read lost : List ℕ) → length read < most → Loses fault lost → length read + length lost ≤ most → StopsWithin fault most (read ++ lost)

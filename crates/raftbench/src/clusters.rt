@@ -1,0 +1,23 @@
+//! What the scripts of a check run on.
+
+use rb_cluster::{Cluster, Meter};
+use rb_raftlog::SplitLog;
+use rb_replay::{Session, StartFault};
+use rb_suite::Runner;
+use std::alloc::Global;
+
+/// Clusters of nodes with split logs. No directive runs again, so as few are kept as there may be.
+pub(crate) struct Clusters;
+
+impl Runner for Clusters {
+    type Machine = Cluster<SplitLog>;
+
+    fn run(
+        &mut self,
+        alloc: Global,
+        bytes: &[u8],
+    ) -> Result<Session<Cluster<SplitLog>>, StartFault> {
+        let mut meter = Meter::new();
+        Session::run_once(alloc, bytes, &mut meter)
+    }
+}

@@ -1,0 +1,26 @@
+//! What is asked of a check.
+
+use crate::target::Target;
+use rb_check::Colors;
+use rb_checked::Shown;
+use rb_formats::Format;
+
+/// What is asked for.
+#[derive(Clone, Copy)]
+pub struct Asked<'a> {
+    pub targets: &'a [Target],
+    pub filters: &'a [String],
+    pub accepts: bool,
+    /// Whether new errors are accepted too.
+    pub accepts_errors: bool,
+    /// Whether outputs of a script that has warnings are.
+    pub is_forced: bool,
+    /// Whether each output that differs is asked about.
+    pub reviews: bool,
+    pub is_quiet: bool,
+    pub shown: Shown,
+    /// The format for programs, where one is asked for.
+    pub format: Option<Format>,
+    pub colors: Colors,
+    pub wants_progress: bool,
+}
