@@ -1,4 +1,3 @@
-pub mod HeadLaws
 pub mod FindingLaws
 pub mod WritingLaws
 pub mod QuietLaws

@@ -9,7 +9,7 @@ use Rattle.rb_replay.specs.Run.{outputs}
 use Rattle.rb_replay.specs.Report.{same_lines, differing}
 use Rattle.rb_checked.specs.Errors.{is_error, is_unexpected, says_error}
 use Rattle.rb_diagnostics.specs.Diagnostics.{PlainDiagnostic}
-use Rattle.rb_diagnostics.specs.Heads.{heads_of}
+use Rattle.rb_offers.specs.Heads.{heads_of}
 use Rattle.rb_diagnostics.specs.Findings.{before, diagnostics_of, finding, findings}
 use Rattle.rb_diagnostics.specs.Texts.{list_text, listed}
 use Rattle.rb_diagnostics.specs.Published.{diagnose}

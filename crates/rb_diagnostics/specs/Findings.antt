@@ -12,7 +12,7 @@ use Rattle.rb_check.specs.Diffs.{parts}
 use Rattle.rb_check.specs.Folds.{folded_text}
 use Rattle.rb_checked.specs.Errors.{first_line, is_unexpected}
 use Rattle.rb_diagnostics.specs.declared.diagnostic.Kind.TheVariants.{Mismatch, ErrorOutput, NoScript}
-use Rattle.rb_diagnostics.specs.Heads.{heads_of}
+use Rattle.rb_offers.specs.Heads.{heads_of}
 use Rattle.rb_diagnostics.specs.Diagnostics.{PlainDiagnostic}
 
 -- a text without its last byte, which is the end of its last line

@@ -1,5 +1,4 @@
 pub mod Diagnostics
-pub mod Heads
 pub mod Findings
 pub mod Texts
 pub mod Published

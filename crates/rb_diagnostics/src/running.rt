@@ -4,7 +4,7 @@ ghost use Rattle.std.specs.Prelude.{◌≡◌, ◌≤◌, ◌^◌, ◌++◌, [],
 ghost use Rattle.rb_script.specs.Lines.{lines};
 ghost use Rattle.rb_script.specs.Reads.{Reads};
 ghost use Rattle.rb_replay.specs.Run.{outputs};
-ghost use Rattle.rb_diagnostics.specs.Heads.{heads_of};
+ghost use Rattle.rb_offers.specs.Heads.{heads_of};
 ghost use Rattle.rb_diagnostics.specs.Findings.{before, diagnostics_of, findings, of_script, or_first, refused};
 
 use crate::diagnostic::{Diagnostic, Kind};

@@ -3,3 +3,4 @@ pub mod PositionLaws
 pub mod ChangeLaws
 pub mod TableLaws
 pub mod EditLaws
+pub mod DifferLaws

@@ -1,3 +1,4 @@
 pub mod Places
 pub mod Changes
 pub mod Tables
+pub mod Edits

@@ -1,8 +1,9 @@
 //! What differs between two texts, as one edit.
 
-ghost use Rattle.std.specs.Prelude.{◌≡◌, ◌+◌, ◌-◌, ◌<◌, ◌≤◌, true, length, take, drop, get_or};
+ghost use Rattle.std.specs.Prelude.{◌≡◌, ◌+◌, ◌-◌, ◌<◌, ◌≤◌, true, length, get_or};
 ghost use Rattle.rb_document.specs.declared.limits.TheConstants.{MAX_TEXT};
 ghost use Rattle.rb_document.specs.Changes.{changed};
+ghost use Rattle.rb_document.specs.Edits.{common, common_end, new_between, place_before, place_behind, range_between};
 ghost use Rattle.rb_document.specs.Places.{begins, is_place, is_within, stands_between};
 
 use crate::position::{Encoding, Range, feeds, position_of};
@@ -18,7 +19,9 @@ pub struct TextEdit<'a> {
 /// end of its range stands within a character, nor between CR and LF.
 pub fn edit_between<'n>(encoding: Encoding, old: &[u8], new: &'n [u8]) -> TextEdit<'n>
     requires { length old.now ≤ MAX_TEXT }
-    ensures { begins old.now ≡ true → changed encoding result.range result.new.now old.now ≡ new.now }
+    ensures range { result.range ≡ range_between encoding old.now new.now }
+    ensures new { result.new.now ≡ new_between old.now new.now }
+    ensures made { begins old.now ≡ true → changed encoding result.range result.new.now old.now ≡ new.now }
 {
     let front = place_before(common(old, new), old);
     let stop = place_behind(old.len() - common_end(old, new, front), old);
@@ -34,7 +37,7 @@ pub fn edit_between<'n>(encoding: Encoding, old: &[u8], new: &'n [u8]) -> TextEd
 // How many bytes are the same at the beginnings.
 fn common(old: &[u8], new: &[u8]) -> usize
     ensures within { (result ≤ length old.now) × (result ≤ length new.now) }
-    ensures same { take result old.now ≡ take result new.now }
+    ensures value { result ≡ common old.now new.now }
 {
     let most = old.len().min(new.len());
     for i in 0..most {
@@ -49,7 +52,7 @@ fn common(old: &[u8], new: &[u8]) -> usize
 fn common_end(old: &[u8], new: &[u8], front: usize) -> usize
     requires { (front ≤ length old.now) × (front ≤ length new.now) }
     ensures within { (front + result ≤ length old.now) × (front + result ≤ length new.now) }
-    ensures same { drop (length old.now - result) old.now ≡ drop (length new.now - result) new.now }
+    ensures value { result ≡ common_end front old.now new.now }
 {
     let most = (old.len() - front).min(new.len() - front);
     for i in 0..most {
@@ -95,8 +98,8 @@ fn begins(rest: &[u8]) -> bool
     }
 }
 
-// Whether a byte stands within a character.
-fn is_within(b: u8) -> bool
+/// Whether a byte stands within a character, and begins none.
+pub fn is_within(b: u8) -> bool
     ensures { result ≡ is_within b }
 {
     b >= 128 && b < 192
@@ -106,7 +109,7 @@ fn is_within(b: u8) -> bool
 fn place_before(at: usize, text: &[u8]) -> usize
     requires { at ≤ length text.now }
     ensures before { result ≤ at }
-    ensures place { begins text.now ≡ true → is_place result text.now ≡ true }
+    ensures value { result ≡ place_before at text.now }
 {
     let mut place = at;
     while place > 0 && !is_place(place, text) {
@@ -119,7 +122,7 @@ fn place_before(at: usize, text: &[u8]) -> usize
 fn place_behind(at: usize, text: &[u8]) -> usize
     requires { at ≤ length text.now }
     ensures behind { (at ≤ result) × (result ≤ length text.now) }
-    ensures place { is_place result text.now ≡ true }
+    ensures value { result ≡ place_behind at text.now }
 {
     let mut place = at;
     while place < text.len() && !is_place(place, text) {

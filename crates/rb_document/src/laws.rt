@@ -1,6 +1,7 @@
 //! Laws of positions and changes, for whoever reads the contracts. No call does anything.
 
 ghost use Rattle.rb_document.specs.Changes.{PlacesReturn, ReplacesPart};
+ghost use Rattle.rb_document.specs.Edits.{EditsMake};
 
 /// A place that is neither within a character nor between CR and LF has a position, and the position leads back to it.
 pub fn places_return()
@@ -10,4 +11,9 @@ pub fn places_return()
 /// What an editor puts in the place of a part of a text stands between what stood before the part and what stood behind it.
 pub fn replaces_part()
     ensures { ReplacesPart }
+{}
+
+/// One edit of what differs between two texts makes the new one of the old one, where that begins with a character.
+pub fn edits_make_the_new_text()
+    ensures { EditsMake }
 {}

@@ -13,8 +13,8 @@ mod line_table;
 mod position;
 
 pub use document::{ChangeFault, Document};
-pub use edit::{TextEdit, edit_between};
-pub use laws::{places_return, replaces_part};
+pub use edit::{TextEdit, edit_between, is_within};
+pub use laws::{edits_make_the_new_text, places_return, replaces_part};
 pub use limits::MAX_TEXT;
 pub use line_table::LineTable;
 pub use position::{Encoding, Position, Range, offset, position_of};

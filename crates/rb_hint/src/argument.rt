@@ -3,10 +3,9 @@
 ghost use Rattle.std.specs.Prelude.{◌≡◌, ◌<◌, length, map, option_map};
 ghost use Rattle.rb_script.specs.Directive.{plain_argument};
 ghost use Rattle.rb_script.specs.Tokens.{plain};
-ghost use Rattle.rb_hint.specs.Choices.{choices_of};
 ghost use Rattle.rb_hint.specs.Suggestions.{is_among, of_values, of_argument, of_arguments};
 
-use crate::choices::{FLAGS, LEVELS, TRANSITIONS, TYPES, is_flag};
+use crate::choices::{LEVELS, choices_of};
 use crate::nearest::{Known, nearest_in};
 use rb_script::DirectiveRef;
 
@@ -35,31 +34,13 @@ fn of_values(directive: &DirectiveRef<'_>, argument: usize, choices: &[Known]) -
     None
 }
 
-// Of an option with this key.
-fn of_option(directive: &DirectiveRef<'_>, argument: usize, key: &[u8]) -> Option<Known>
-    requires { argument < length (plain directive.now).args }
-    ensures { option_map (λ w. w.now) result ≡ of_values (choices_of key.now) (plain_argument (plain directive.now) argument).values }
-{
-    if key == b"log-level".as_slice() {
-        of_values(directive, argument, &LEVELS)
-    } else if is_flag(key) {
-        of_values(directive, argument, &FLAGS)
-    } else if key == b"transition".as_slice() {
-        of_values(directive, argument, &TRANSITIONS)
-    } else if key == b"type".as_slice() {
-        of_values(directive, argument, &TYPES)
-    } else {
-        of_values(directive, argument, &[])
-    }
-}
-
 fn of_argument(directive: &DirectiveRef<'_>, argument: usize) -> Option<Known>
     requires { argument < length (plain directive.now).args }
     ensures { option_map (λ w. w.now) result ≡ of_argument (plain_argument (plain directive.now) argument) }
 {
     let key = directive.key(argument);
     if directive.has_equals(argument) {
-        return of_option(directive, argument, key);
+        return of_values(directive, argument, choices_of(key));
     }
     nearest_in(key, &LEVELS)
 }

@@ -1,16 +1,18 @@
 //! The values of which an argument takes one.
 
-ghost use Rattle.std.specs.Prelude.{◌≡◌};
-ghost use Rattle.rb_hint.specs.Choices.{is_flag};
+ghost use Rattle.std.specs.Prelude.{◌≡◌, map};
+ghost use Rattle.rb_hint.specs.Choices.{choices_of, is_flag};
 
-pub(crate) const LEVELS: [&[u8]; 6] = [b"debug", b"info", b"warn", b"error", b"fatal", b"none"];
+use crate::nearest::Known;
 
-pub(crate) const FLAGS: [&[u8]; 2] = [b"true", b"false"];
+pub(crate) static LEVELS: [&[u8]; 6] = [b"debug", b"info", b"warn", b"error", b"fatal", b"none"];
 
-pub(crate) const TRANSITIONS: [&[u8]; 3] = [b"auto", b"explicit", b"implicit"];
+static FLAGS: [&[u8]; 2] = [b"true", b"false"];
+
+static TRANSITIONS: [&[u8]; 3] = [b"auto", b"explicit", b"implicit"];
 
 #[rattlefmt::skip]
-pub(crate) const TYPES: [&[u8]; 13] = [
+static TYPES: [&[u8]; 13] = [
     b"MsgVote",
     b"MsgPreVote",
     b"MsgVoteResp",
@@ -26,12 +28,29 @@ pub(crate) const TYPES: [&[u8]; 13] = [
     b"MsgUnreachable",
 ];
 
-/// Whether the option with this key is `true` or `false`.
-pub(crate) fn is_flag(key: &[u8]) -> bool
+// Whether the option with this key is `true` or `false`.
+fn is_flag(key: &[u8]) -> bool
     ensures { result ≡ is_flag key.now }
 {
     key == b"prevote".as_slice()
         || key == b"checkquorum".as_slice()
         || key == b"step-down-on-removal".as_slice()
         || key == b"v1".as_slice()
+}
+
+/// The values of the option with this key, where it takes some alone; none, where it takes others too.
+pub fn choices_of(key: &[u8]) -> &'static [Known]
+    ensures { map (λ c. c.now) result.now ≡ choices_of key.now }
+{
+    if key == b"log-level".as_slice() {
+        &LEVELS
+    } else if is_flag(key) {
+        &FLAGS
+    } else if key == b"transition".as_slice() {
+        &TRANSITIONS
+    } else if key == b"type".as_slice() {
+        &TYPES
+    } else {
+        &[]
+    }
 }

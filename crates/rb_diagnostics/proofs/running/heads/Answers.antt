@@ -1,4 +1,4 @@
-use Rattle.rb_diagnostics.proofs.HeadLaws.{heads_are}
+use Rattle.rb_offers.proofs.HeadLaws.{heads_are}
 use Rattle.rb_diagnostics.proofs.running.heads.Goals as goal
 
 pub returns-in-Ok-clause-heads : goal.returns-in-Ok-clause-heads

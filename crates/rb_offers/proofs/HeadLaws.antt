@@ -7,7 +7,7 @@ use Rattle.rb_script.specs.Blocks.{block_at, from_head, lead_of, line_number}
 use Rattle.rb_script.specs.HeadLines.{AreHeadLines}
 use Rattle.rb_script.proofs.ResultLaws.{done, ok_is}
 use Rattle.rb_script.proofs.BlockLaws.{cut_lead, block_complete}
-use Rattle.rb_diagnostics.specs.Heads.{behind_block, heads_at, heads_of}
+use Rattle.rb_offers.specs.Heads.{behind_block, heads_at, heads_of}
 
 -- a head's line, counted from the end
 record CountsFrom (end : ℕ) (ls : List Line) (before : List PlainBlock) (b : PlainBlock) (n : ℕ) : Type 0 where

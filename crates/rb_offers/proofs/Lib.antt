@@ -1,0 +1,5 @@
+pub mod HeadLaws
+pub mod BlockLaws
+pub mod ListLaws
+pub mod OfferLaws
+pub mod FormatLaws

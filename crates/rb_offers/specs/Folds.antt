@@ -1,0 +1,28 @@
+-- What can be folded in a text. (LSP 3.17, "FoldingRange". Its lines are an editor's, which end at LF, CR LF and CR, and count from 0.)
+use Rattle.std.specs.Prelude.{ℕ, ◌-◌, ◌==◌, nat_le, if◌then◌else◌, List, [], ◌++◌, codes, decimal}
+use Rattle.rb_document.specs.declared.position.Encoding.TheVariants.{Utf8}
+use Rattle.rb_document.specs.declared.position.Position.{Position}
+use Rattle.rb_document.specs.Tables.{start_of}
+use Rattle.rb_offers.specs.declared.block_lines.BlockLines.{BlockLines}
+use Rattle.rb_offers.specs.BlockLines.{blocks_of}
+use Rattle.rb_offers.specs.Texts.{list_text}
+
+-- the editor's line that ends at a position: the one before it, where it begins a line
+abbrev pub ended_line : Position → ℕ
+ended_line p = if p.character == 0 then p.line - 1 else p.line
+
+-- the fold of a script's lines from one on and before another
+unfoldable pub fold_text : List ℕ → ℕ → ℕ → List ℕ
+fold_text text from end =
+    codes "{\"startLine\":" ++ (decimal (start_of Utf8 from text).line ++ (codes ",\"endLine\":" ++ (decimal (ended_line (start_of Utf8 end text)) ++ codes "}")))
+
+-- that of a block's expectation, behind a comma, where it has more than one line
+unfoldable pub expectation_fold : List ℕ → BlockLines → List ℕ
+expectation_fold text b = if nat_le (b.end - b.below) 1 then [] else codes "," ++ fold_text text b.below b.end
+
+-- those of a block: its own, and that of its expectation
+unfoldable pub block_folds : List ℕ → BlockLines → List ℕ
+block_folds text b = fold_text text b.from b.end ++ expectation_fold text b
+
+unfoldable pub folds : List ℕ → List ℕ
+folds text = list_text (block_folds text) (blocks_of text)

@@ -1,0 +1,48 @@
+-- What holds of what an editor is offered. (This project's.)
+use Rattle.std.specs.Prelude.{◌≡◌, ℕ, true, List, [], ◌∷◌, ◌++◌, codes, filter, length, map}
+use Rattle.rb_script.specs.Lines.{lines}
+use Rattle.rb_script.specs.Script.{PlainScript, text as canonical_text}
+use Rattle.rb_script.specs.Reads.{Reads}
+use Rattle.rb_directive.specs.declared.table.Row.{Row}
+use Rattle.rb_directive.specs.declared.table.OptionRow.{OptionRow}
+use Rattle.rb_directive.specs.Names.{argument_text, name_text}
+use Rattle.rb_directive.specs.Table.{directives, options as table_options}
+use Rattle.rb_manual.specs.Manual.{pages}
+use Rattle.rb_hint.specs.Choices.{choices_of}
+use Rattle.rb_hint.specs.Nearest.{keys_of}
+use Rattle.rb_document.specs.declared.position.Encoding.{Encoding}
+use Rattle.rb_document.specs.Places.{begins}
+use Rattle.rb_document.specs.Changes.{changed}
+use Rattle.rb_document.specs.Edits.{range_between, new_between}
+use Rattle.rb_offers.specs.BlockLines.{AreApart, blocks_of}
+use Rattle.rb_offers.specs.Formatting.{edits, formatting}
+use Rattle.rb_offers.specs.Offers.{PlainOffer, begins_with, named, options, takes, values}
+
+-- the blocks of a text stand in its lines, one behind the other
+abbrev pub BlocksStandApart : Type 0
+BlocksStandApart = (text : List ℕ) → AreApart 0 (length (lines text)) (blocks_of text)
+
+-- What is sent is the edit that makes the canonical text, where the text begins with a character; and the canonical text is the same script.
+pub record Formats (encoding : Encoding) (text : List ℕ) (s : PlainScript) : Type 0 where
+  pub sent : formatting encoding text ≡ edits encoding text (canonical_text s)
+  pub made : begins text ≡ true → changed encoding (range_between encoding text (canonical_text s)) (new_between text (canonical_text s)) text ≡ canonical_text s
+  pub reads_back : Reads (canonical_text s) s
+
+abbrev pub FormattingMakes : Type 0
+FormattingMakes = (encoding : Encoding) (text : List ℕ) (s : PlainScript) → Reads text s → Formats encoding text s
+
+abbrev pub words : List PlainOffer → List (List ℕ)
+words os = map (λ (o : PlainOffer). o.word) os
+
+-- the names that are offered are those of the table that begin so
+abbrev pub NamesAreOfTheTable : Type 0
+NamesAreOfTheTable = (prefix : List ℕ) → words (named prefix pages) ≡ filter (begins_with prefix) (map (λ (row : Row). name_text row.name) directives)
+
+-- so are the keys: those of the directive's options, and `log-level`, which each directive takes
+abbrev pub KeysAreOfTheTable : Type 0
+KeysAreOfTheTable = (name prefix : List ℕ)
+    → words (options name prefix) ≡ filter (begins_with prefix) (keys_of name (map (λ (row : OptionRow). (name_text row.name, argument_text row.option)) table_options) ++ codes "log-level" ∷ [])
+
+-- and the values: those of which an option takes some alone
+abbrev pub ValuesAreOfTheOption : Type 0
+ValuesAreOfTheOption = (name key prefix : List ℕ) → takes name key ≡ true → words (values name key prefix) ≡ filter (begins_with prefix) (choices_of key)

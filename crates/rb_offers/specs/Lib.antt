@@ -1,0 +1,11 @@
+pub mod Heads
+pub mod Texts
+pub mod BlockLines
+pub mod Folds
+pub mod Symbols
+pub mod Formatting
+pub mod Above
+pub mod Unfinished
+pub mod Offers
+pub mod Completion
+pub mod Laws

@@ -1,0 +1,18 @@
+-- What results are put together of, as an editor is sent them. (LSP 3.17, "Position" and "Range"; RFC 8259, section 5.)
+use Rattle.std.specs.Prelude.{ℕ, List, [], ◌∷◌, ◌++◌, codes, decimal}
+use Rattle.rb_document.specs.declared.position.Position.{Position}
+
+unfoldable pub position_text : Position → List ℕ
+position_text p = codes "{\"line\":" ++ (decimal p.line ++ (codes ",\"character\":" ++ (decimal p.character ++ codes "}")))
+
+unfoldable pub range_text : Position → Position → List ℕ
+range_text start end = codes "{\"start\":" ++ (position_text start ++ (codes ",\"end\":" ++ (position_text end ++ codes "}")))
+
+-- some, each by its text, of which the first stands behind `lead`, and the others behind commas
+unfoldable pub listed : {X : Type 0} → (X → List ℕ) → List ℕ → List X → List ℕ
+listed text lead [] = codes "]"
+listed text lead (x ∷ xs) = lead ++ (text x ++ listed text (codes ",") xs)
+
+-- a list of them
+unfoldable pub list_text : {X : Type 0} → (X → List ℕ) → List X → List ℕ
+list_text text xs = codes "[" ++ listed text [] xs

@@ -1,0 +1,151 @@
+//! On which lines of a text the blocks of its script stand.
+
+ghost use Rattle.std.specs.Prelude.{◌≡◌, ◌≤◌, ◌<◌, ◌^◌, ◌-◌, length, drop, slice_get, IfOk, IfSome, Some};
+ghost use Rattle.rb_script.specs.HeadLines.{AreHeadLines};
+ghost use Rattle.rb_script.specs.Lines.{lines};
+ghost use Rattle.rb_script.specs.Reads.{Reads, begins_rule};
+ghost use Rattle.rb_offers.specs.BlockLines.{StandsIn, all_lines, behind_head, block_lines, blocks_of, mark_lines, script_of};
+ghost use Rattle.rb_offers.specs.Heads.{heads_of};
+
+use rb_checked::lines_of;
+use rb_script::{Block, Lines, Script, ScriptFault, continues, head_lines, is_rule};
+use std::alloc::{AllocError, Global};
+
+/// The lines of a block, by their numbers in the text, which count from 0.
+#[derive(Clone, Copy)]
+pub struct BlockLines {
+    /// The first line of its head.
+    pub from: usize,
+    /// The line behind its head.
+    pub body: usize,
+    /// The line below its separator.
+    pub below: usize,
+    /// The line behind its expectation.
+    pub end: usize,
+}
+
+/// How many lines show the double form of an expectation: one above it, and two behind it.
+const DOUBLE_LINES: usize = 3;
+
+// The line behind the head that begins on a line.
+fn behind_head(text: &Lines, from: usize) -> usize
+    requires { from ≤ length text.now }
+    ensures value { result ≡ behind_head text.now from }
+    ensures within { result ≤ length text.now }
+    ensures counted { length text.now < 2 ^ 64 }
+{
+    let count = text.len();
+    for i in from..count {
+        if !continues(text.line(i)) {
+            return i + 1;
+        }
+    }
+    count
+}
+
+// Whether these lines begin with one that is `----`.
+fn begins_rule(text: &Lines, below: usize) -> bool
+    ensures { result ≡ begins_rule (drop below text.now) }
+{
+    below < text.len() && is_rule(text.line(below))
+}
+
+// How many lines show the form of the expectation that begins on a line.
+fn mark_lines(text: &Lines, below: usize) -> usize
+    ensures { result ≡ mark_lines text.now below }
+{
+    if begins_rule(text, below) {
+        DOUBLE_LINES
+    } else {
+        0
+    }
+}
+
+// The lines of a block whose head begins on a line, which counts from 1.
+fn block_lines(text: &Lines, head: usize, block: &Block) -> BlockLines
+    requires { StandsIn text.now head block.now }
+    ensures { result ≡ block_lines text.now head block.now }
+{
+    let from = head - 1;
+    let body = behind_head(text, from);
+    let below = body + block.directive().inputs() + 1;
+    let end = below + block.expected().len() + mark_lines(text, below);
+    BlockLines {
+        from,
+        body,
+        below,
+        end,
+    }
+}
+
+// The block at a place, which counts from 1.
+fn block_at(script: &Script, place: usize) -> &Block
+    requires { (1 ≤ place) × (place ≤ length script.now.blocks) }
+    ensures { slice_get script.now.blocks (place - 1) ≡ Some result.now }
+{
+    script.block(place).unwrap()
+}
+
+// The lines of each block of a script, whose heads begin on these lines.
+fn all_lines(
+    alloc: Global,
+    text: &Lines,
+    script: &Script,
+    heads: &[usize],
+) -> Result<Vec<BlockLines>, AllocError>
+    requires { AreHeadLines 1 text.now script.now.blocks heads.now }
+    ensures { IfOk result (λ all. all.items ≡ all_lines text.now heads.now script.now.blocks) }
+{
+    let mut all = Vec::new(alloc);
+    for i in 0..heads.len() {
+        let block = block_at(script, i + 1);
+        all.push(block_lines(text, heads[i], block))?;
+    }
+    Ok(all)
+}
+
+/// The script that the bytes are, where they are one.
+pub(crate) fn script_of(alloc: Global, bytes: &[u8]) -> Result<Option<Script>, AllocError>
+    ensures value { IfOk result (λ found. found ≡ script_of bytes.now) }
+    ensures reads { IfOk result (λ found. IfSome found (λ s. Reads bytes.now s)) }
+{
+    match Script::read(alloc, bytes) {
+        Ok(script) => Ok(Some(script)),
+        Err(ScriptFault::OutOfMemory) => Err(AllocError),
+        Err(_) => Ok(None),
+    }
+}
+
+// The lines on which the heads of the script begin, which the bytes are.
+fn heads(alloc: Global, _script: &Script, bytes: &[u8]) -> Result<Vec<usize>, AllocError>
+    requires { Reads bytes.now _script.now }
+    ensures heads { IfOk result (λ heads. heads.items ≡ heads_of bytes.now _script.now) }
+    ensures stand { IfOk result (λ heads. AreHeadLines 1 (lines bytes.now) _script.now.blocks heads.items) }
+{
+    match head_lines(alloc, bytes) {
+        Ok(heads) => Ok(heads),
+        // Where they are a script it can be nothing else.
+        Err(_) => Err(AllocError),
+    }
+}
+
+// The lines of the blocks of the script, which the bytes are.
+fn of_script(alloc: Global, script: &Script, bytes: &[u8]) -> Result<Vec<BlockLines>, AllocError>
+    requires { Reads bytes.now script.now }
+    ensures { IfOk result (λ all. all.items ≡ all_lines (lines bytes.now) (heads_of bytes.now script.now) script.now.blocks) }
+{
+    let heads = heads(alloc, script, bytes)?;
+    let text = lines_of(alloc, bytes)?;
+    all_lines(alloc, &text, script, heads.as_slice())
+}
+
+/// The lines of each block of a text, where it is a script; else none.
+#[tactic(auto, unfolding(crate::specs::BlockLines::blocks_of))]
+pub(crate) fn blocks_of(alloc: Global, bytes: &[u8]) -> Result<Vec<BlockLines>, AllocError>
+    ensures { IfOk result (λ all. all.items ≡ blocks_of bytes.now) }
+{
+    match script_of(alloc, bytes)? {
+        Some(script) => of_script(alloc, &script, bytes),
+        None => Ok(Vec::new(alloc)),
+    }
+}

@@ -1,0 +1,139 @@
+//! What a text can go on with at a position.
+
+ghost use Rattle.std.specs.Prelude.{◌≡◌, ◌≤◌, ◌++◌, [], OnOk, length};
+ghost use Rattle.rb_document.specs.declared.limits.TheConstants.{MAX_TEXT};
+ghost use Rattle.rb_offers.specs.Completion.{completion, item_text, kind_number, mark, of_head};
+ghost use Rattle.rb_offers.specs.Texts.{listed};
+
+use crate::above::head_to;
+use crate::offer::{Kind, Offer, offers};
+use crate::unfinished::{name_of, wanted};
+use crate::writing::add_range;
+use rb_document::{Encoding, Position, offset, position_of};
+use rb_json::{Piece, add_pieces};
+use std::alloc::{AllocError, Global};
+
+// What the protocol calls a word.
+fn kind_number(kind: Kind) -> u64
+    ensures { result ≡ kind_number kind }
+{
+    match kind {
+        Kind::Directive => 3,
+        Kind::Key => 10,
+        Kind::Value => 12,
+    }
+}
+
+// What stands behind a word.
+fn mark(kind: Kind) -> &'static [u8]
+    ensures { result.now ≡ mark kind }
+{
+    match kind {
+        Kind::Directive | Kind::Value => b"",
+        Kind::Key => b"=",
+    }
+}
+
+// A word, in the place of what stands between two positions.
+#[tactic(auto, unfolding(crate::specs::Completion::item_text))]
+fn add_item(
+    out: &mut Vec<u8>,
+    start: Position,
+    end: Position,
+    offer: &Offer,
+) -> Result<(), AllocError>
+    ensures { OnOk result (out.new.items ≡ out.old.items ++ item_text start end offer.now) }
+{
+    add_pieces(
+        out,
+        &[
+            Piece::Bytes(b"{\"label\":\""),
+            Piece::Escaped(offer.word),
+            Piece::Bytes(mark(offer.kind)),
+            Piece::Bytes(b"\",\"kind\":"),
+            Piece::Number(kind_number(offer.kind)),
+            Piece::Bytes(b",\"documentation\":\""),
+            Piece::Escaped(offer.documentation),
+            Piece::Bytes(b"\",\"textEdit\":{\"range\":"),
+        ],
+    )?;
+    add_range(out, start, end)?;
+    add_pieces(
+        out,
+        &[
+            Piece::Bytes(b",\"newText\":\""),
+            Piece::Escaped(offer.word),
+            Piece::Bytes(mark(offer.kind)),
+            Piece::Bytes(b"\"}}"),
+        ],
+    )
+}
+
+// Some, of which the first stands behind nothing, and the others behind commas.
+fn add_all(
+    out: &mut Vec<u8>,
+    start: Position,
+    end: Position,
+    list: &[Offer],
+) -> Result<(), AllocError>
+    ensures { OnOk result (out.new.items ≡ out.old.items ++ listed (item_text start end) [] list.now) }
+{
+    let mut lead: &[u8] = b"";
+    for offer in list {
+        out.extend_from_slice(lead)?;
+        add_item(out, start, end, offer)?;
+        lead = b",";
+    }
+    out.extend_from_slice(b"]")?;
+    Ok(())
+}
+
+// The words that a head can go on with, which ends at a place.
+#[tactic(auto, unfolding(crate::specs::Completion::of_head, crate::specs::Texts::list_text))]
+fn add_offers(
+    alloc: Global,
+    out: &mut Vec<u8>,
+    encoding: Encoding,
+    text: &[u8],
+    at: usize,
+    head: &[u8],
+) -> Result<(), AllocError>
+    requires within { at ≤ length text.now }
+    requires bounded { length text.now ≤ MAX_TEXT }
+    ensures { OnOk result (out.new.items ≡ out.old.items ++ of_head encoding text.now at head.now) }
+{
+    let wanted = wanted(head);
+    let list = offers(alloc, name_of(head), &wanted)?;
+    let start = at.saturating_sub(wanted.prefix.len());
+    out.extend_from_slice(b"[")?;
+    add_all(
+        out,
+        position_of(encoding, start, text),
+        position_of(encoding, at, text),
+        list.as_slice(),
+    )
+}
+
+/// Adds the words that a text can go on with at a position, as the result of `textDocument/completion`: names of directives, keys of their
+/// options, and values of which an option takes some alone. Outside a head there are none. The text need be no script.
+///
+/// # Errors
+///
+/// Where memory was refused. A part of the result may have been added then.
+#[tactic(auto, unfolding(crate::specs::Completion::completion))]
+pub fn add_completion(
+    alloc: Global,
+    out: &mut Vec<u8>,
+    encoding: Encoding,
+    text: &[u8],
+    position: Position,
+) -> Result<(), AllocError>
+    requires { length text.now ≤ MAX_TEXT }
+    ensures { OnOk result (out.new.items ≡ out.old.items ++ completion encoding text.now position) }
+{
+    let at = offset(encoding, position, text);
+    match head_to(alloc, at, text)? {
+        Some(head) => add_offers(alloc, out, encoding, text, at, head.as_slice()),
+        None => Ok(out.extend_from_slice(b"[]")?),
+    }
+}

@@ -1,0 +1,86 @@
+//! The canonical text of a script, as one edit of what differs.
+
+ghost use Rattle.std.specs.Prelude.{◌≡◌, ◌≤◌, ◌++◌, IfOk, OnOk, length};
+ghost use Rattle.rb_document.specs.declared.limits.TheConstants.{MAX_TEXT};
+ghost use Rattle.rb_script.specs.Script.{text as canonical_text};
+ghost use Rattle.rb_offers.specs.Formatting.{edit_text, edits, formatting};
+
+use crate::block_lines::script_of;
+use crate::writing::add_range;
+use rb_document::{Encoding, edit_between};
+use rb_json::{Piece, add_pieces};
+use rb_script::{Script, Through};
+use std::alloc::{AllocError, Global};
+
+// The canonical text of a script.
+fn canonical_text(alloc: Global, script: &Script) -> Result<Vec<u8>, AllocError>
+    ensures { IfOk result (λ text. text.items ≡ canonical_text script.now) }
+{
+    let mut sink = Through(Vec::new(alloc));
+    match script.write_to(&mut sink) {
+        Ok(()) => Ok(sink.0),
+        // A list in memory refuses nothing else.
+        Err(_) => Err(AllocError),
+    }
+}
+
+// The edit of what differs between two texts, in a list.
+#[tactic(auto, unfolding(crate::specs::Formatting::edit_text))]
+fn add_edit(out: &mut Vec<u8>, encoding: Encoding, old: &[u8], new: &[u8]) -> Result<(), AllocError>
+    requires { length old.now ≤ MAX_TEXT }
+    ensures { OnOk result (out.new.items ≡ out.old.items ++ edit_text encoding old.now new.now) }
+{
+    let edit = edit_between(encoding, old, new);
+    out.extend_from_slice(b"[{\"range\":")?;
+    add_range(out, edit.range.start, edit.range.end)?;
+    add_pieces(
+        out,
+        &[
+            Piece::Bytes(b",\"newText\":\""),
+            Piece::Escaped(edit.new),
+            Piece::Bytes(b"\"}]"),
+        ],
+    )
+}
+
+// The edits that make one text of another: none, where they are the same.
+fn add_edits(
+    out: &mut Vec<u8>,
+    encoding: Encoding,
+    old: &[u8],
+    new: &[u8],
+) -> Result<(), AllocError>
+    requires { length old.now ≤ MAX_TEXT }
+    ensures { OnOk result (out.new.items ≡ out.old.items ++ edits encoding old.now new.now) }
+{
+    if old == new {
+        out.extend_from_slice(b"[]")?;
+        return Ok(());
+    }
+    add_edit(out, encoding, old, new)
+}
+
+/// Adds the edits that make a text the canonical text of its script, as the result of `textDocument/formatting`: one of what differs, or none
+/// where nothing does. A text that is no script has none.
+///
+/// # Errors
+///
+/// Where memory was refused. A part of the result may have been added then.
+#[tactic(auto, unfolding(crate::specs::Formatting::formatting))]
+pub fn add_formatting(
+    alloc: Global,
+    out: &mut Vec<u8>,
+    encoding: Encoding,
+    text: &[u8],
+) -> Result<(), AllocError>
+    requires { length text.now ≤ MAX_TEXT }
+    ensures { OnOk result (out.new.items ≡ out.old.items ++ formatting encoding text.now) }
+{
+    match script_of(alloc, text)? {
+        Some(script) => {
+            let canonical = canonical_text(alloc, &script)?;
+            add_edits(out, encoding, text, canonical.as_slice())
+        }
+        None => Ok(out.extend_from_slice(b"[]")?),
+    }
+}

@@ -1,0 +1,29 @@
+//! Laws of what an editor is offered, for whoever reads the contracts. No call does anything.
+
+ghost use Rattle.rb_offers.specs.Laws.{BlocksStandApart, FormattingMakes, KeysAreOfTheTable, NamesAreOfTheTable, ValuesAreOfTheOption};
+
+/// The blocks of a text stand in its lines, one behind the other, and each has a head, a separator below it, and perhaps an expectation: so
+/// no fold goes beyond the text, and where two have a line in common one is within the other.
+pub fn blocks_stand_apart()
+    ensures { BlocksStandApart }
+{}
+
+/// What goes out for formatting is an edit that makes the canonical text of the script, which reads back as the same script.
+pub fn formatting_makes_the_canonical_text()
+    ensures { FormattingMakes }
+{}
+
+/// The names of directives that are offered are those of the table that begin so, in its order.
+pub fn names_are_those_of_the_table()
+    ensures { NamesAreOfTheTable }
+{}
+
+/// The keys that are offered are those of the directive's options in the table that begin so, in its order, and `log-level`.
+pub fn keys_are_those_of_the_table()
+    ensures { KeysAreOfTheTable }
+{}
+
+/// The values that are offered are those of the option that begin so.
+pub fn values_are_those_of_the_option()
+    ensures { ValuesAreOfTheOption }
+{}

@@ -1,0 +1,28 @@
+//! What an editor offers of a script by its text alone, which nobody runs: what can be folded, an outline, the canonical text, and words to go
+//! on with.
+//!
+//! [`add_folds`], [`add_symbols`], [`add_formatting`] and [`add_completion`] put the result of a request behind a text, as JSON. Each is a
+//! function of the document's text, of a position where it is asked for one, and of what columns count in.
+#![tactic(auto)]
+
+mod above;
+mod block_lines;
+mod class;
+mod completion;
+mod folds;
+mod formatting;
+mod laws;
+mod offer;
+mod part;
+mod symbols;
+mod unfinished;
+mod writing;
+
+pub use completion::add_completion;
+pub use folds::add_folds;
+pub use formatting::add_formatting;
+pub use laws::{
+    blocks_stand_apart, formatting_makes_the_canonical_text, keys_are_those_of_the_table,
+    names_are_those_of_the_table, values_are_those_of_the_option,
+};
+pub use symbols::{MAX_NAME, add_symbols};

@@ -1,0 +1,194 @@
+//! The words that a head can go on with: names of directives, keys of options, and values, with what the manual says of them.
+
+ghost use Rattle.std.specs.Prelude.{◌≡◌, ◌++◌, [], IfOk, OnOk, map};
+ghost use Rattle.std.specs.Str.{bytes_eq};
+ghost use Rattle.rb_hint.specs.Choices.{choices_of};
+ghost use Rattle.rb_manual.specs.Manual.{keys, pages};
+ghost use Rattle.rb_offers.specs.Offers.{begins_with, chosen, has_key, is_key, keyed, line_in, line_of, named, offers, options, takes};
+
+use crate::unfinished::{Wanted, Wish};
+use rb_hint::{Known, choices_of};
+use rb_manual::{KEYS, PAGES};
+use std::alloc::{AllocError, Global};
+use std::marker::Model;
+
+/// What a word is.
+#[derive(Clone, Copy, Debug, PartialEq, Eq)]
+pub enum Kind {
+    /// The name of a directive.
+    Directive,
+    /// The key of an option, which `=` follows.
+    Key,
+    /// A value of an option.
+    Value,
+}
+
+/// A word that a head can go on with.
+#[derive(Drop)]
+pub(crate) struct Offer {
+    pub(crate) kind: Kind,
+    pub(crate) word: Known,
+    /// What the manual says of the directive.
+    pub(crate) documentation: Known,
+}
+
+impl Model for Offer {
+    ghost use Rattle.rb_offers.specs.Offers.{PlainOffer};
+
+    ghost Value = { PlainOffer };
+
+    ghost view = { λ o. record { kind = o.kind; word = o.word.now; documentation = o.documentation.now } };
+}
+
+// Whether a word begins with a prefix.
+fn begins_with(prefix: &[u8], word: &[u8]) -> bool
+    ensures { result ≡ begins_with prefix.now word.now }
+{
+    word.starts_with(prefix)
+}
+
+// The names among these pages that begin so.
+fn named(
+    alloc: Global,
+    prefix: &[u8],
+    pages: &[(Known, Known, Known)],
+) -> Result<Vec<Offer>, AllocError>
+    ensures { IfOk result (λ list. list.items ≡ named prefix.now (map (λ p. (p.0.now, p.1.now, p.2.now)) pages.now)) }
+{
+    let mut list = Vec::new(alloc);
+    for page in pages {
+        if begins_with(prefix, page.0) {
+            list.push(Offer {
+                kind: Kind::Directive,
+                word: page.0,
+                documentation: page.1,
+            })?;
+        }
+    }
+    Ok(list)
+}
+
+// The line of the manual on the directive with this name, among these pages.
+fn line_in(name: &[u8], pages: &[(Known, Known, Known)]) -> Known
+    ensures { result.now ≡ line_in name.now (map (λ p. (p.0.now, p.1.now, p.2.now)) pages.now) }
+{
+    for page in pages {
+        if page.0 == name {
+            return page.1;
+        }
+    }
+    b""
+}
+
+// The line of the manual on the directive with this name.
+#[tactic(auto, unfolding(rb_manual::specs::Manual::pages))]
+fn line_of(name: &[u8]) -> Known
+    ensures { result.now ≡ line_of name.now }
+{
+    line_in(name, &PAGES)
+}
+
+// Whether the directive with this name has an option with this key among these.
+fn has_key(name: &[u8], key: &[u8], keys: &[(Known, Known)]) -> bool
+    ensures { result ≡ has_key name.now key.now (map (λ k. (k.0.now, k.1.now)) keys.now) }
+{
+    for row in keys {
+        if row.0 == name && row.1 == key {
+            return true;
+        }
+    }
+    false
+}
+
+// Whether the directive with this name takes an option with this key.
+#[tactic(auto, unfolding(rb_manual::specs::Manual::keys))]
+fn takes(name: &[u8], key: &[u8]) -> bool
+    ensures { result ≡ takes name.now key.now }
+{
+    key == b"log-level".as_slice() || has_key(name, key, &KEYS)
+}
+
+// The keys among these that the directive with this name has, and that begin so.
+fn keyed(
+    alloc: Global,
+    name: &[u8],
+    prefix: &[u8],
+    documentation: Known,
+    keys: &[(Known, Known)],
+) -> Result<Vec<Offer>, AllocError>
+    ensures { IfOk result (λ list. list.items ≡ keyed name.now prefix.now documentation.now (map (λ k. (k.0.now, k.1.now)) keys.now)) }
+{
+    let mut list = Vec::new(alloc);
+    for row in keys {
+        if row.0 == name && begins_with(prefix, row.1) {
+            list.push(Offer {
+                kind: Kind::Key,
+                word: row.1,
+                documentation,
+            })?;
+        }
+    }
+    Ok(list)
+}
+
+// The keys of the options that the directive with this name takes, and that begin so.
+#[tactic(auto, unfolding(rb_manual::specs::Manual::keys))]
+fn options(alloc: Global, name: &[u8], prefix: &[u8]) -> Result<Vec<Offer>, AllocError>
+    ensures { IfOk result (λ list. list.items ≡ options name.now prefix.now) }
+{
+    let documentation = line_of(name);
+    let mut list = keyed(alloc, name, prefix, documentation, &KEYS)?;
+    let every: Known = b"log-level";
+    if begins_with(prefix, every) {
+        list.push(Offer {
+            kind: Kind::Key,
+            word: every,
+            documentation,
+        })?;
+    }
+    Ok(list)
+}
+
+// The values among these that begin so.
+fn chosen(
+    alloc: Global,
+    prefix: &[u8],
+    documentation: Known,
+    choices: &[Known],
+) -> Result<Vec<Offer>, AllocError>
+    ensures { IfOk result (λ list. list.items ≡ chosen prefix.now documentation.now (map (λ c. c.now) choices.now)) }
+{
+    let mut list = Vec::new(alloc);
+    for choice in choices {
+        if begins_with(prefix, choice) {
+            list.push(Offer {
+                kind: Kind::Value,
+                word: *choice,
+                documentation,
+            })?;
+        }
+    }
+    Ok(list)
+}
+
+/// The words that a head with this name can go on with, where this is what it ends in.
+#[tactic(auto, unfolding(rb_manual::specs::Manual::pages, crate::specs::Offers::offers))]
+pub(crate) fn offers(
+    alloc: Global,
+    name: &[u8],
+    wanted: &Wanted<'_>,
+) -> Result<Vec<Offer>, AllocError>
+    ensures { IfOk result (λ list. list.items ≡ offers name.now wanted.now) }
+{
+    match wanted.wish {
+        Wish::Name => named(alloc, wanted.prefix, &PAGES),
+        Wish::Argument => options(alloc, name, wanted.prefix),
+        Wish::Value if takes(name, wanted.key) => chosen(
+            alloc,
+            wanted.prefix,
+            line_of(name),
+            choices_of(wanted.key),
+        ),
+        _ => Ok(Vec::new(alloc)),
+    }
+}

@@ -1,0 +1,124 @@
+//! The outline of a text: a symbol for each directive.
+
+ghost use Rattle.std.specs.Prelude.{◌≡◌, ◌≤◌, ◌++◌, [], OnOk, length, slice_index_or};
+ghost use Rattle.rb_document.specs.declared.limits.TheConstants.{MAX_TEXT};
+ghost use Rattle.rb_document.specs.Tables.{IsTable};
+ghost use Rattle.rb_script.specs.Lines.{lines};
+ghost use Rattle.rb_offers.specs.Symbols.{first_characters, name_of, symbol_text, symbols};
+ghost use Rattle.rb_offers.specs.Texts.{listed};
+
+use crate::block_lines::{BlockLines, blocks_of};
+use crate::writing::add_range;
+use rb_checked::lines_of;
+use rb_document::{Encoding, LineTable, is_within};
+use rb_json::{Piece, add_pieces};
+use rb_script::{Lines, without_front};
+use std::alloc::{AllocError, Global};
+
+/// How many characters of a head's first line the name of a symbol has at most.
+pub const MAX_NAME: usize = 80;
+
+// The first characters of some bytes, in UTF-8.
+fn first_characters(most: usize, bytes: &[u8]) -> &[u8]
+    ensures { result.now ≡ first_characters most bytes.now }
+{
+    let mut left = most;
+    for (at, b) in bytes.iter().enumerate() {
+        if !is_within(*b) {
+            if left == 0 {
+                return &bytes[..at];
+            }
+            left -= 1;
+        }
+    }
+    bytes
+}
+
+// A line by its number, which counts from 0.
+fn line_at(text: &Lines, n: usize) -> &[u8]
+    ensures { result.now ≡ slice_index_or text.now n [] }
+{
+    if n < text.len() { text.line(n) } else { b"" }
+}
+
+// What the directive is called whose head begins on a line.
+fn name_of(text: &Lines, from: usize) -> &[u8]
+    ensures { result.now ≡ name_of text.now from }
+{
+    first_characters(MAX_NAME, without_front(line_at(text, from)))
+}
+
+// The symbol of a block.
+#[tactic(auto, unfolding(crate::specs::Symbols::symbol_text))]
+fn add_symbol(
+    out: &mut Vec<u8>,
+    encoding: Encoding,
+    text: &[u8],
+    text_lines: &Lines,
+    table: &LineTable,
+    block: BlockLines,
+) -> Result<(), AllocError>
+    requires table { IsTable encoding text.now table.now }
+    requires lines { text_lines.now ≡ lines text.now }
+    ensures { OnOk result (out.new.items ≡ out.old.items ++ symbol_text encoding text.now block) }
+{
+    let start = table.start_of(block.from);
+    add_pieces(
+        out,
+        &[
+            Piece::Bytes(b"{\"name\":\""),
+            Piece::Escaped(name_of(text_lines, block.from)),
+            Piece::Bytes(b"\",\"kind\":24,\"range\":"),
+        ],
+    )?;
+    add_range(out, start, table.start_of(block.end))?;
+    out.extend_from_slice(b",\"selectionRange\":")?;
+    add_range(out, start, table.start_of(block.body))?;
+    out.extend_from_slice(b"}")?;
+    Ok(())
+}
+
+// Those of some blocks, of which the first stands behind nothing, and the others behind commas.
+fn add_all(
+    out: &mut Vec<u8>,
+    encoding: Encoding,
+    text: &[u8],
+    text_lines: &Lines,
+    table: &LineTable,
+    blocks: &[BlockLines],
+) -> Result<(), AllocError>
+    requires table { IsTable encoding text.now table.now }
+    requires lines { text_lines.now ≡ lines text.now }
+    ensures { OnOk result (out.new.items ≡ out.old.items ++ listed (symbol_text encoding text.now) [] blocks.now) }
+{
+    let mut lead: &[u8] = b"";
+    for block in blocks {
+        out.extend_from_slice(lead)?;
+        add_symbol(out, encoding, text, text_lines, table, *block)?;
+        lead = b",";
+    }
+    out.extend_from_slice(b"]")?;
+    Ok(())
+}
+
+/// Adds the symbols of a text, as the result of `textDocument/documentSymbol`. A text that is no script has none.
+///
+/// # Errors
+///
+/// Where memory was refused. A part of the result may have been added then.
+#[tactic(auto, unfolding(crate::specs::Symbols::symbols, crate::specs::Texts::list_text))]
+pub fn add_symbols(
+    alloc: Global,
+    out: &mut Vec<u8>,
+    encoding: Encoding,
+    text: &[u8],
+) -> Result<(), AllocError>
+    requires { length text.now ≤ MAX_TEXT }
+    ensures { OnOk result (out.new.items ≡ out.old.items ++ symbols encoding text.now) }
+{
+    let blocks = blocks_of(alloc, text)?;
+    let text_lines = lines_of(alloc, text)?;
+    let table = LineTable::new(alloc, encoding, text)?;
+    out.extend_from_slice(b"[")?;
+    add_all(out, encoding, text, &text_lines, &table, blocks.as_slice())
+}

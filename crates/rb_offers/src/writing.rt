@@ -1,0 +1,37 @@
+//! What results are put together of: positions and ranges, as an editor is sent them.
+
+ghost use Rattle.std.specs.Prelude.{◌≡◌, ◌++◌, OnOk};
+ghost use Rattle.rb_offers.specs.Texts.{position_text, range_text};
+
+use rb_document::Position;
+use rb_json::{Piece, add_pieces};
+use std::alloc::AllocError;
+
+#[tactic(auto, unfolding(crate::specs::Texts::position_text))]
+fn add_position(out: &mut Vec<u8>, position: Position) -> Result<(), AllocError>
+    ensures { OnOk result (out.new.items ≡ out.old.items ++ position_text position) }
+{
+    add_pieces(
+        out,
+        &[
+            Piece::Bytes(b"{\"line\":"),
+            Piece::Number(position.line),
+            Piece::Bytes(b",\"character\":"),
+            Piece::Number(position.character),
+            Piece::Bytes(b"}"),
+        ],
+    )
+}
+
+/// Adds the range between two positions.
+#[tactic(auto, unfolding(crate::specs::Texts::range_text))]
+pub(crate) fn add_range(out: &mut Vec<u8>, start: Position, end: Position) -> Result<(), AllocError>
+    ensures { OnOk result (out.new.items ≡ out.old.items ++ range_text start end) }
+{
+    out.extend_from_slice(b"{\"start\":")?;
+    add_position(out, start)?;
+    out.extend_from_slice(b",\"end\":")?;
+    add_position(out, end)?;
+    out.extend_from_slice(b"}")?;
+    Ok(())
+}
