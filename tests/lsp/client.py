@@ -70,13 +70,21 @@ class Client:
         body = self.server.stdout.read(length)
         return json.loads(body)
 
+    def ask(self, number, method, **params):
+        """The result of a request, or what is wrong with it."""
+        self.send(request(number, method, **params))
+        answer = self.receive()
+        return answer["result"] if "result" in answer else answer["error"]
+
     def begin(self, *encodings):
-        """Says that columns may count in these, besides UTF-16, and gives the name of what the server took."""
+        """Says that columns may count in these, besides UTF-16, and gives the name of what the server took. What else it can do stands in
+        `capabilities`."""
         general = {"general": {"positionEncodings": list(encodings)}} if encodings else {}
         self.send(request(0, "initialize", processId=None, rootUri=None, capabilities=general))
         answer = self.receive()
         self.send(notification("initialized"))
-        return answer["result"]["capabilities"]["positionEncoding"]
+        self.capabilities = answer["result"]["capabilities"]
+        return self.capabilities["positionEncoding"]
 
     def end(self):
         """Ends it as an editor does, and gives the status."""
