@@ -1,10 +1,10 @@
 -- Where the blocks of a text stand in its lines.
-use Rattle.std.proofs.Common.{◌≡◌, ℕ, ◌+◌, ◌-◌, ◌<◌, ◌≤◌, true, false, List, [], ◌∷◌, ◌++◌, length, take, drop, get_or, Some, None, Result, Ok, Err, refl, ap, sym, subst, ◌∙◌, arith, append_assoc, append-nil, length-append, length-drop, inl, inr, ◌⊎◌}
-use Rattle.std.specs.Prelude.{if◌then◌else◌}
-use Rattle.std.proofs.lemmas.List.{drop_at, drop-drop, drop_more, take-append-drop, length-take-le}
+use Rattle.std.proofs.Common.{◌≡◌, ℕ, suc, ◌+◌, ◌-◌, ◌<◌, ◌≤◌, true, false, List, [], ◌∷◌, ◌++◌, length, take, drop, get_or, Some, None, Result, Ok, Err, refl, ap, sym, subst, ◌∙◌, arith, append_assoc, append-nil, length-append, length-drop, inl, inr, ◌⊎◌}
+use Rattle.std.specs.Prelude.{if◌then◌else◌, slice_get}
+use Rattle.std.proofs.lemmas.List.{drop_all, drop_at, drop-drop, drop_more, take-append-drop, length-take-le}
 use Rattle.rb_script.specs.declared.fault.ScriptFault.{ScriptFault}
 use Rattle.rb_script.specs.Lines.{Line, lines}
-use Rattle.rb_script.specs.Marks.{is_rule, rule}
+use Rattle.rb_script.specs.Marks.{continues, is_rule, rule}
 use Rattle.rb_script.specs.Script.{PlainBlock, PlainScript}
 use Rattle.rb_script.specs.Reads.{IsContinued, ReadsPlain, ReadsDouble, ReadsBlock, ReadsSome, Reads, begins_rule}
 use Rattle.rb_script.specs.Blocks.{block_at, from_head, lead_of, line_number}
@@ -14,6 +14,7 @@ use Rattle.rb_script.specs.HeadLines.{IsHeadLine, AreHeadLines}
 use Rattle.rb_script.proofs.RunLaws.{head_run}
 use Rattle.rb_script.proofs.BlockLaws.{cut_lead, block_complete}
 use Rattle.rb_script.proofs.ScriptLaws.{read_sound, read_complete}
+use Rattle.rb_check.proofs.PieceLaws.{drop-get}
 use Rattle.rb_offers.specs.declared.block_lines.BlockLines.{BlockLines}
 use Rattle.rb_offers.specs.declared.block_lines.TheConstants.{DOUBLE_LINES}
 use Rattle.rb_offers.specs.Heads.{behind_block, heads_at, heads_of}
@@ -185,3 +186,32 @@ one_block ls ns bs i b in_ns in_bs is =
 pub no_block : (ls : List Line) (ns : List ℕ) (bs : List PlainBlock) → ns ≡ [] → all_lines ls ns bs ≡ []
 no_block ls [] bs none = refl
 no_block ls (n ∷ ns) bs none = absurd cc
+
+-- ---- loops over lines
+
+-- a line of a head that asks for the next, and one that doesn't
+pub head_goes_on : (ls : List Line) (i : ℕ) (line : Line) → slice_get ls i ≡ Some line → continues line ≡ true → behind_head ls i ≡ behind_head ls (i + 1)
+unfolding head_of
+head_goes_on ls i line is more =
+    let one : head_of (line ∷ drop (i + 1) ls) ≡ line ∷ head_of (drop (i + 1) ls) = rw more refl in
+    let len : length (head_of (drop i ls)) ≡ suc (length (head_of (drop (i + 1) ls))) = ap (λ (l : List Line). length (head_of l)) (drop-get ls i line is) ∙ ap length one in
+    omega (arith, len)
+
+pub head_stops : (ls : List Line) (i : ℕ) (line : Line) → slice_get ls i ≡ Some line → continues line ≡ false → behind_head ls i ≡ i + 1
+unfolding head_of
+head_stops ls i line is none =
+    let one : head_of (line ∷ drop (i + 1) ls) ≡ line ∷ [] = rw none refl in
+    let len : length (head_of (drop i ls)) ≡ 1 = ap (λ (l : List Line). length (head_of l)) (drop-get ls i line is) ∙ ap length one in
+    omega (arith, len)
+
+pub head_ends : (ls : List Line) (i : ℕ) → length ls ≤ i → behind_head ls i ≡ i
+unfolding head_of
+head_ends ls i past =
+    let len : length (head_of (drop i ls)) ≡ 0 = ap (λ (l : List Line). length (head_of l)) (drop_all i ls past) in
+    omega (arith, len)
+
+pub rule_at : (ls : List Line) (i : ℕ) (line : Line) → slice_get ls i ≡ Some line → begins_rule (drop i ls) ≡ is_rule line
+rule_at ls i line is = ap begins_rule (drop-get ls i line is)
+
+pub rule_past : (ls : List Line) (i : ℕ) → length ls ≤ i → begins_rule (drop i ls) ≡ false
+rule_past ls i past = ap begins_rule (drop_all i ls past)

@@ -3,3 +3,4 @@ pub mod BlockLaws
 pub mod ListLaws
 pub mod OfferLaws
 pub mod FormatLaws
+pub mod AboveLaws

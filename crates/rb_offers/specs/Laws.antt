@@ -1,7 +1,7 @@
 -- What holds of what an editor is offered. (This project's.)
-use Rattle.std.specs.Prelude.{◌≡◌, ℕ, true, List, [], ◌∷◌, ◌++◌, codes, filter, length, map}
-use Rattle.rb_script.specs.Lines.{lines}
-use Rattle.rb_script.specs.Script.{PlainScript, text as canonical_text}
+use Rattle.std.specs.Prelude.{◌≡◌, ℕ, ◌-◌, true, List, [], ◌∷◌, ◌++◌, codes, filter, length, map, take}
+use Rattle.rb_script.specs.Lines.{Line, lines}
+use Rattle.rb_script.specs.Script.{PlainBlock, PlainScript, text as canonical_text}
 use Rattle.rb_script.specs.Reads.{Reads}
 use Rattle.rb_directive.specs.declared.table.Row.{Row}
 use Rattle.rb_directive.specs.declared.table.OptionRow.{OptionRow}
@@ -14,7 +14,9 @@ use Rattle.rb_document.specs.declared.position.Encoding.{Encoding}
 use Rattle.rb_document.specs.Places.{begins}
 use Rattle.rb_document.specs.Changes.{changed}
 use Rattle.rb_document.specs.Edits.{range_between, new_between}
-use Rattle.rb_offers.specs.BlockLines.{AreApart, blocks_of}
+use Rattle.rb_offers.specs.declared.part.Part.TheVariants.{Lead}
+use Rattle.rb_offers.specs.Above.{behind_lines}
+use Rattle.rb_offers.specs.BlockLines.{AreApart, StandsIn, blocks_of}
 use Rattle.rb_offers.specs.Formatting.{edits, formatting}
 use Rattle.rb_offers.specs.Offers.{PlainOffer, begins_with, named, options, takes, values}
 
@@ -46,3 +48,7 @@ KeysAreOfTheTable = (name prefix : List ℕ)
 -- and the values: those of which an option takes some alone
 abbrev pub ValuesAreOfTheOption : Type 0
 ValuesAreOfTheOption = (name key prefix : List ℕ) → takes name key ≡ true → words (values name key prefix) ≡ filter (begins_with prefix) (choices_of key)
+
+-- Above the head of each block of a script stand whole blocks and lead lines: so on its line a head can be written, and names are offered.
+abbrev pub HeadsAreKnown : Type 0
+HeadsAreKnown = (ls : List Line) (n : ℕ) (b : PlainBlock) → StandsIn ls n b → behind_lines Lead [] (take (n - 1) ls) ≡ (Lead, [])

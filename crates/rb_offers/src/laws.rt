@@ -1,6 +1,6 @@
 //! Laws of what an editor is offered, for whoever reads the contracts. No call does anything.
 
-ghost use Rattle.rb_offers.specs.Laws.{BlocksStandApart, FormattingMakes, KeysAreOfTheTable, NamesAreOfTheTable, ValuesAreOfTheOption};
+ghost use Rattle.rb_offers.specs.Laws.{BlocksStandApart, FormattingMakes, HeadsAreKnown, KeysAreOfTheTable, NamesAreOfTheTable, ValuesAreOfTheOption};
 
 /// The blocks of a text stand in its lines, one behind the other, and each has a head, a separator below it, and perhaps an expectation: so
 /// no fold goes beyond the text, and where two have a line in common one is within the other.
@@ -26,4 +26,9 @@ pub fn keys_are_those_of_the_table()
 /// The values that are offered are those of the option that begin so.
 pub fn values_are_those_of_the_option()
     ensures { ValuesAreOfTheOption }
+{}
+
+/// On the line of each head of a script it is known that a head can be written there.
+pub fn heads_are_known()
+    ensures { HeadsAreKnown }
 {}

@@ -22,7 +22,7 @@ pub use completion::add_completion;
 pub use folds::add_folds;
 pub use formatting::add_formatting;
 pub use laws::{
-    blocks_stand_apart, formatting_makes_the_canonical_text, keys_are_those_of_the_table,
-    names_are_those_of_the_table, values_are_those_of_the_option,
+    blocks_stand_apart, formatting_makes_the_canonical_text, heads_are_known,
+    keys_are_those_of_the_table, names_are_those_of_the_table, values_are_those_of_the_option,
 };
 pub use symbols::{MAX_NAME, add_symbols};
