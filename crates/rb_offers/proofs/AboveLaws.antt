@@ -11,6 +11,7 @@ use Rattle.rb_offers.specs.declared.part.Part.{Part}
 use Rattle.rb_offers.specs.declared.part.Part.TheVariants.{Lead, Head, Input, First, Plain, Double, Closing}
 use Rattle.rb_offers.specs.Above.{begins_head, behind_lines, kept, next}
 use Rattle.rb_offers.specs.BlockLines.{StandsIn}
+use Rattle.rb_offers.proofs.BlockLaws.{regrouped}
 
 test_cases : {A : Type 0} (t : Bool) → (t ≡ true → A) → (t ≡ false → A) → A
 test_cases true same other = same refl
@@ -154,10 +155,6 @@ expectation_closes after e rest readable (inr d) some =
         closed = double_form e [] readable ∙ no_lines Lead [];
       }
     ]
-
-regrouped : (a b c e rest : List Line) (line : Line) → (a ++ (b ++ (c ++ line ∷ e))) ++ rest ≡ a ++ (b ++ (c ++ line ∷ (e ++ rest)))
-regrouped a b c e rest line =
-    append_assoc a (b ++ (c ++ line ∷ e)) rest ∙ ap (λ (l : List Line). a ++ l) (append_assoc b (c ++ line ∷ e) rest ∙ ap (λ (l : List Line). b ++ l) (append_assoc c (line ∷ e) rest))
 
 block_closes : (ls rest : List Line) (b : PlainBlock) → ReadsBlock ls b rest → 0 < length rest → Closes Lead ls rest
 block_closes ls rest b r some =

@@ -54,7 +54,7 @@ expectation_front after e rest (inr d) =
       | inr b ↦ ((rule ∷ e) ++ (rule ∷ rule ∷ []), shown rest b.1 ∙ sym (append_assoc (rule ∷ e) (rule ∷ rule ∷ []) rest))
     ]
 
-regrouped : (a b c e rest : List Line) (line : Line) → (a ++ (b ++ (c ++ line ∷ e))) ++ rest ≡ a ++ (b ++ (c ++ line ∷ (e ++ rest)))
+pub regrouped : (a b c e rest : List Line) (line : Line) → (a ++ (b ++ (c ++ line ∷ e))) ++ rest ≡ a ++ (b ++ (c ++ line ∷ (e ++ rest)))
 regrouped a b c e rest line =
     append_assoc a (b ++ (c ++ line ∷ e)) rest ∙ ap (λ (l : List Line). a ++ l) (append_assoc b (c ++ line ∷ e) rest ∙ ap (λ (l : List Line). b ++ l) (append_assoc c (line ∷ e) rest))
 
