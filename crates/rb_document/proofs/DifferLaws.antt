@@ -1,7 +1,7 @@
 -- What is the same at the beginnings and at the ends of two texts, and the places around what differs.
-use Rattle.std.proofs.Common.{◌≡◌, ℕ, zero, suc, ◌+◌, ◌-◌, ◌<◌, ◌≤◌, ◌==◌, Bool, true, false, List, [], ◌∷◌, ◌++◌, length, take, drop, reverse, get_or, refl, sym, ap, ◌∙◌, arith, length-drop, length-reverse, eq-eqb}
-use Rattle.std.specs.Prelude.{if◌then◌else◌, cond}
-use Rattle.std.proofs.lemmas.List.{take-append-drop, take_at, drop-drop, drop_all, drop_more, get_or-reverse, get_or-drop, reverse-append, reverse-reverse}
+use Rattle.std.proofs.Common.{◌≡◌, ℕ, zero, suc, ◌+◌, ◌-◌, ◌<◌, ◌≤◌, ◌==◌, Bool, true, false, List, [], ◌∷◌, ◌++◌, length, take, drop, reverse, get_or, refl, sym, ap, ◌∙◌, arith, length-drop, min, eq-eqb, inl, inr}
+use Rattle.std.proofs.lemmas.List.{length-reverse, take-append-drop, take_at, drop-drop, drop_all, drop_more, get_or-reverse, get_or-drop, reverse-append, reverse-reverse}
+use Rattle.std.proofs.lemmas.Bool.{cases_lt}
 use Rattle.rb_document.specs.declared.position.Encoding.{Encoding}
 use Rattle.rb_document.specs.Places.{begins, is_place}
 use Rattle.rb_document.specs.Changes.{changed}
@@ -49,11 +49,14 @@ common_more old new i in_old in_new same =
     ∙ ap (λ (l : List ℕ). common (get_or old i 0 ∷ drop (i + 1) old) l) (drop_more new i 0 in_new)
     ∙ one_same (get_or old i 0) (get_or new i 0) (drop (i + 1) old) (drop (i + 1) new) (eq-eqb (get_or old i 0) (get_or new i 0) same)
 
-pub common_stop : (old new : List ℕ) (i : ℕ) → i < length old → i < length new → (get_or old i 0 == get_or new i 0) ≡ false → common (drop i old) (drop i new) ≡ 0
+apart : (a b : ℕ) → (a ≡ b → ⊥) → (a == b) ≡ false
+apart a b other = test_cases (a == b) (λ same. let is : a ≡ b = grind (arith, same) in absurd (other is)) (λ no. no)
+
+pub common_stop : (old new : List ℕ) (i : ℕ) → i < length old → i < length new → (get_or old i 0 ≡ get_or new i 0 → ⊥) → common (drop i old) (drop i new) ≡ 0
 common_stop old new i in_old in_new other =
     ap (λ (l : List ℕ). common l (drop i new)) (drop_more old i 0 in_old)
     ∙ ap (λ (l : List ℕ). common (get_or old i 0 ∷ drop (i + 1) old) l) (drop_more new i 0 in_new)
-    ∙ none_same (get_or old i 0) (get_or new i 0) (drop (i + 1) old) (drop (i + 1) new) other
+    ∙ none_same (get_or old i 0) (get_or new i 0) (drop (i + 1) old) (drop (i + 1) new) (apart (get_or old i 0) (get_or new i 0) other)
 
 no_old : (new : List ℕ) → common [] new ≡ 0
 unfolding common
@@ -64,11 +67,12 @@ unfolding common
 no_new [] = refl
 no_new (a ∷ old) = refl
 
-pub common_end_old : (old new : List ℕ) (i : ℕ) → length old ≤ i → common (drop i old) (drop i new) ≡ 0
-common_end_old old new i past = ap (λ (l : List ℕ). common l (drop i new)) (drop_all i old past) ∙ no_old (drop i new)
-
-pub common_end_new : (old new : List ℕ) (i : ℕ) → length new ≤ i → common (drop i old) (drop i new) ≡ 0
-common_end_new old new i past = ap (λ (l : List ℕ). common (drop i old) l) (drop_all i new past) ∙ no_new (drop i old)
+pub common_all : (old new : List ℕ) (i : ℕ) → min (length old) (length new) ≤ i → common (drop i old) (drop i new) ≡ 0
+common_all old new i past =
+    elim (cases_lt i (length old)) [
+      | inl more ↦ ap (λ (l : List ℕ). common (drop i old) l) (drop_all i new (omega (arith, past, more))) ∙ no_new (drop i old)
+      | inr all ↦ ap (λ (l : List ℕ). common l (drop i new)) (drop_all i old all) ∙ no_old (drop i new)
+    ]
 
 -- a byte by its place from the end
 pub end_read : (xs : List ℕ) (front i : ℕ) → front + i < length xs → get_or (reverse (drop front xs)) i 0 ≡ get_or xs (length xs - 1 - i) 0
@@ -77,6 +81,28 @@ end_read xs front i within =
     get_or-reverse (drop front xs) i 0 short
     ∙ get_or-drop front xs (length (drop front xs) - 1 - i) 0
     ∙ ap (λ (k : ℕ). get_or xs k 0) (omega (arith, length-drop front xs))
+
+-- the bytes before the ends, from the end on
+abbrev back : ℕ → List ℕ → List ℕ
+back front xs = reverse (drop front xs)
+
+back_len : (front : ℕ) (xs : List ℕ) → length (back front xs) ≡ length xs - front
+back_len front xs = length-reverse (drop front xs) ∙ length-drop front xs
+
+pub end_more : (old new : List ℕ) (front i : ℕ) → front + i < length old → front + i < length new → get_or old (length old - 1 - i) 0 ≡ get_or new (length new - 1 - i) 0
+    → common (drop i (reverse (drop front old))) (drop i (reverse (drop front new))) ≡ suc (common (drop (i + 1) (reverse (drop front old))) (drop (i + 1) (reverse (drop front new))))
+end_more old new front i in_old in_new same =
+    common_more (back front old) (back front new) i (omega (arith, back_len front old, in_old)) (omega (arith, back_len front new, in_new))
+    (end_read old front i in_old ∙ same ∙ sym (end_read new front i in_new))
+
+pub end_stop : (old new : List ℕ) (front i : ℕ) → front + i < length old → front + i < length new → (get_or old (length old - 1 - i) 0 ≡ get_or new (length new - 1 - i) 0 → ⊥)
+    → common (drop i (reverse (drop front old))) (drop i (reverse (drop front new))) ≡ 0
+end_stop old new front i in_old in_new other =
+    common_stop (back front old) (back front new) i (omega (arith, back_len front old, in_old)) (omega (arith, back_len front new, in_new))
+    (λ same. other (sym (end_read old front i in_old) ∙ same ∙ end_read new front i in_new))
+
+pub end_all : (old new : List ℕ) (front i : ℕ) → min (length old - front) (length new - front) ≤ i → common (drop i (reverse (drop front old))) (drop i (reverse (drop front new))) ≡ 0
+end_all old new front i past = common_all (back front old) (back front new) i (omega (arith, back_len front old, back_len front new, past))
 
 -- ---- the ends
 
@@ -162,7 +188,7 @@ behind_more at text within none =
 
 pub behind_all : (at : ℕ) (text : List ℕ) → length text ≤ at → place_behind at text ≡ at
 unfolding place_among
-behind_all at text past = ap (λ (n : ℕ). place_among n at text) (omega arith)
+behind_all at text past = let no_more : length text - at ≡ 0 = omega (arith, past) in ap (λ (n : ℕ). place_among n at text) no_more
 
 among_within : (n at : ℕ) (text : List ℕ) → (at ≤ place_among n at text) × (place_among n at text ≤ at + n)
 unfolding place_among

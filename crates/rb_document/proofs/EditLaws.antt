@@ -1,12 +1,11 @@
 -- What differs between two texts, and the places around it.
-use Rattle.std.proofs.Common.{◌≡◌, ℕ, zero, suc, ◌+◌, ◌-◌, ◌<◌, ◌≤◌, Bool, true, false, ◌&&◌, not, ◌==◌, List, [], ◌∷◌, ◌++◌, length, take, drop, max, get_or, refl, sym, ap, ◌∙◌, arith, append_assoc, length-drop}
+use Rattle.std.proofs.Common.{◌≡◌, ℕ, zero, suc, ◌+◌, ◌-◌, ◌<◌, ◌≤◌, Bool, true, false, ◌&&◌, not, ◌==◌, List, [], ◌∷◌, ◌++◌, length, take, drop, max, get_or, refl, sym, ap, ◌∙◌, arith, append_assoc}
 use Rattle.std.specs.List.{slice_range}
 use Rattle.std.proofs.lemmas.List.{take-append-drop, take-take, drop-drop, drop_all}
 use Rattle.rb_document.specs.declared.position.Encoding.{Encoding}
 use Rattle.rb_document.specs.declared.position.Position.{Position}
-use Rattle.rb_document.specs.declared.position.Range.{Range}
 use Rattle.rb_document.specs.Places.{begins, feeds, is_place, is_place_behind, position_of}
-use Rattle.rb_document.specs.Changes.{spliced, changed}
+use Rattle.rb_document.specs.Changes.{changed}
 use Rattle.rb_document.proofs.PositionLaws.{place_returns}
 
 -- ---- places by what stands beside them

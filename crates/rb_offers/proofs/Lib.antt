@@ -4,3 +4,4 @@ pub mod ListLaws
 pub mod OfferLaws
 pub mod FormatLaws
 pub mod AboveLaws
+pub mod OrderLaws

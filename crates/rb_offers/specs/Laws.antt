@@ -1,5 +1,5 @@
 -- What holds of what an editor is offered. (This project's.)
-use Rattle.std.specs.Prelude.{◌≡◌, ℕ, ◌-◌, true, List, [], ◌∷◌, ◌++◌, codes, filter, length, map, take}
+use Rattle.std.specs.Prelude.{◌≡◌, ℕ, ◌-◌, ◌≤◌, true, List, [], ◌∷◌, ◌++◌, codes, filter, length, map, take}
 use Rattle.rb_script.specs.Lines.{Line, lines}
 use Rattle.rb_script.specs.Script.{PlainBlock, PlainScript, text as canonical_text}
 use Rattle.rb_script.specs.Reads.{Reads}
@@ -12,6 +12,7 @@ use Rattle.rb_hint.specs.Choices.{choices_of}
 use Rattle.rb_hint.specs.Nearest.{keys_of}
 use Rattle.rb_document.specs.declared.position.Encoding.{Encoding}
 use Rattle.rb_document.specs.Places.{begins}
+use Rattle.rb_document.specs.Tables.{start_of}
 use Rattle.rb_document.specs.Changes.{changed}
 use Rattle.rb_document.specs.Edits.{range_between, new_between}
 use Rattle.rb_offers.specs.declared.part.Part.TheVariants.{Lead}
@@ -23,6 +24,10 @@ use Rattle.rb_offers.specs.Offers.{PlainOffer, begins_with, named, options, take
 -- the blocks of a text stand in its lines, one behind the other
 abbrev pub BlocksStandApart : Type 0
 BlocksStandApart = (text : List ℕ) → AreApart 0 (length (lines text)) (blocks_of text)
+
+-- a later line of the text stands on no earlier line of an editor
+abbrev pub LinesStayInOrder : Type 0
+LinesStayInOrder = (encoding : Encoding) (text : List ℕ) (m n : ℕ) → m ≤ n → (start_of encoding m text).line ≤ (start_of encoding n text).line
 
 -- What is sent is the edit that makes the canonical text, where the text begins with a character; and the canonical text is the same script.
 pub record Formats (encoding : Encoding) (text : List ℕ) (s : PlainScript) : Type 0 where

@@ -1,11 +1,16 @@
 //! Laws of what an editor is offered, for whoever reads the contracts. No call does anything.
 
-ghost use Rattle.rb_offers.specs.Laws.{BlocksStandApart, FormattingMakes, HeadsAreKnown, KeysAreOfTheTable, NamesAreOfTheTable, ValuesAreOfTheOption};
+ghost use Rattle.rb_offers.specs.Laws.{BlocksStandApart, FormattingMakes, HeadsAreKnown, KeysAreOfTheTable, LinesStayInOrder, NamesAreOfTheTable, ValuesAreOfTheOption};
 
 /// The blocks of a text stand in its lines, one behind the other, and each has a head, a separator below it, and perhaps an expectation: so
 /// no fold goes beyond the text, and where two have a line in common one is within the other.
 pub fn blocks_stand_apart()
     ensures { BlocksStandApart }
+{}
+
+/// A later line of a text stands on no earlier line of an editor: so folds keep the order of the lines, and lie within each other as these do.
+pub fn lines_stay_in_order()
+    ensures { LinesStayInOrder }
 {}
 
 /// What goes out for formatting is an edit that makes the canonical text of the script, which reads back as the same script.
