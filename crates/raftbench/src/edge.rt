@@ -10,13 +10,14 @@ use crate::page::page;
 use crate::refusal::Refusal;
 use crate::spacing::spacing;
 use crate::style::{Style, style_of};
+use crate::target::targets;
 use rb_args::{CheckChoice, Choice, Subcommand, chosen};
 use rb_bench::{Mode, Status, run_over, serve, status_code};
 use rb_checked::Shown;
 use rb_line::{Incoming, read_up_to};
 use rb_replay::is_spacing;
 use rb_script::{MAX_SCRIPT, Through};
-use rb_suite::{Asked, check, targets};
+use rb_suite::{Asked, check};
 use std::alloc::Global;
 use std::fs::File;
 use std::io::{BufWriter, Write};
@@ -132,7 +133,8 @@ fn check_all<R: Files + Input + Print + Env + Clock + AllocGlobal, E: Write + Dr
         colors: colors(rt, wish, terminals.output),
         wants_progress: terminals.errors && !choice.reviews,
     };
-    Ok(check(rt, &mut Clusters, asked, errors)?)
+    let status = check(rt, &mut Clusters, asked, errors)?;
+    Ok(rb_check::status_code(status))
 }
 
 fn wish_asked(alloc: Global, choice: &CheckChoice) -> Result<Wish, Refusal> {

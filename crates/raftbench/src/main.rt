@@ -13,6 +13,7 @@ mod page;
 mod refusal;
 mod spacing;
 mod style;
+mod target;
 
 use edge::Terminals;
 use std::io::IsTerminal;

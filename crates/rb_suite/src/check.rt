@@ -1,12 +1,14 @@
 //! `raftbench check`: scripts, and folders of scripts.
 
+ghost use Rattle.std.specs.Prelude.{◌≢◌, IfOk};
+
 use crate::asked::Asked;
 use crate::checking::check_script;
 use crate::progress::Progress;
 use crate::report::Report;
 use crate::review::Review;
 use crate::runner::Runner;
-use rb_check::Failure;
+use rb_check::{Failure, Status};
 use rb_checked::Shown;
 use rb_files::{Found, Trouble, find};
 use std::io;
@@ -15,12 +17,19 @@ use std::rt::Files;
 use std::time::Clock;
 
 /// Checks the scripts of the paths, and gives the program's status.
+///
+/// # Errors
+///
+/// Where no memory was found to begin with. What fails later is told, and is in the status.
 pub fn check<T: Runner, R: Files + Input + Print + Clock + AllocGlobal, E: Write + Drop>(
     rt: &R,
     runner: &mut T,
     asked: Asked<'_>,
     errors: E,
-) -> io::Result<u8> {
+) -> io::Result<Status>
+    // What was asked for was right.
+    ensures { IfOk result (λ status. status ≢ Status.BadUsage) }
+{
     let mut progress = Progress::from_now(rt, asked.wants_progress);
     let mut report = Report::new(
         rt.alloc(),
@@ -49,7 +58,7 @@ pub fn check<T: Runner, R: Files + Input + Print + Clock + AllocGlobal, E: Write
         }
         report.end(milliseconds(&progress, rt));
     }
-    Ok(report.status_code())
+    Ok(report.status())
 }
 
 fn tell_lost<W: Write + Drop, E: Write + Drop>(found: &Found, report: &mut Report<W, E>) {

@@ -1,7 +1,6 @@
 //! A check of scripts and folders of scripts: they are found, run one after another, shown and accepted.
 //!
-//! [`check`] does what is [`Asked`] over the files, the terminal and the clock of a runtime, and a [`Runner`] runs the scripts. [`targets`]
-//! tells what the words of a command line name. What is found out about scripts goes to standard output, failures and how far the work
+//! [`check`] does what is [`Asked`] over the files, the terminal and the clock of a runtime, and a [`Runner`] runs the scripts. What is found out about scripts goes to standard output, failures and how far the work
 //! is to a stream of errors. What stands in a report is of rb_check and rb_checked, what is written into a script of rb_checked.
 #![tactic(auto)]
 
@@ -19,6 +18,6 @@ mod target;
 
 pub use asked::Asked;
 pub use check::check;
-pub use place::{path_and_line, place_at};
+pub use place::place_at;
 pub use runner::Runner;
-pub use target::{Target, targets};
+pub use target::Target;

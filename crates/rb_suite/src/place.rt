@@ -1,15 +1,11 @@
-//! FILE:LINE: a directive of a script.
+//! Which directive of a script a line names.
 
-use rb_number::number_of;
-
-/// FILE, and the number behind the word's last colon.
-pub fn path_and_line(word: &str) -> Option<(&str, usize)> {
-    let (path, line) = word.rsplit_once(':')?;
-    Some((path, number_of(line.as_bytes())? as usize))
-}
+ghost use Rattle.std.specs.Prelude.{◌≡◌, ◌≤◌, ◌-◌, IfSome, Some, slice_get};
 
 /// The last of the heads at the line or above it: which directive it is, from 1 on, and its line.
-pub fn place_at(heads: &[usize], line: usize) -> Option<(usize, usize)> {
+pub fn place_at(heads: &[usize], line: usize) -> Option<(usize, usize)>
+    ensures { IfSome result (λ found. (1 ≤ found.0) × (slice_get heads.now (found.0 - 1) ≡ Some found.1)) }
+{
     let place = heads.partition_point(|head| *head <= line);
     if place == 0 {
         return None;

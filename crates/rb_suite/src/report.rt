@@ -3,11 +3,11 @@
 //! What is found out about scripts goes to standard output, failures and how far the work is to standard error. Where standard output fails,
 //! that is told once, and the work goes on without it.
 
-use crate::refusal::Refusal;
+ghost use Rattle.std.specs.Prelude.{◌≢◌};
+
 use rb_check::{
-    Failure, Outcome, Totals, doubt_sentence, failure_sentence, fault_line, put_accepted,
+    Failure, Outcome, Status, Totals, doubt_sentence, failure_sentence, fault_line, put_accepted,
     put_brief, put_failure, put_refusal, put_totals, put_unaccepted, put_warning, sentence,
-    status_code,
 };
 use rb_checked::{Picked, Told, Warning, is_picked};
 use rb_files::Trouble;
@@ -77,8 +77,10 @@ impl<W: Write + Drop, E: Write + Drop> Report<W, E> {
     }
 
     /// The program's status.
-    pub(crate) fn status_code(&self) -> u8 {
-        status_code(self.totals.status())
+    pub(crate) fn status(&self) -> Status
+        ensures { result ≢ Status.BadUsage }
+    {
+        self.totals.status()
     }
 
     /// Whether programs are told.
