@@ -3,7 +3,7 @@ use Rattle.std.proofs.Common.{◌≡◌, ℕ, zero, suc, ◌+◌, ◌-◌, ◌�
 use Rattle.std.specs.Prelude.{Result, Ok, Some, IfSome, insert, remove, slice_set, nat_lt, nat_le, not}
 use Rattle.std.specs.List.{list_all}
 use Rattle.std.proofs.lemmas.Bool.Decides.{nat_tests}
-use Rattle.std.proofs.lemmas.List.{take_at, drop_at, length-take-le, length-drop, length-append, set_split, take-set, drop-set-lt, length-set}
+use Rattle.std.proofs.lemmas.List.{take_at, drop_at, length-take-le, length-drop, length-append, set_split, take-set, drop-set-lt, length-set, take-map, drop-map}
 use Rattle.std.proofs.Math.Seq.{take-add}
 use Rattle.rb_script.specs.declared.limits.TheConstants.{MAX_DIRECTIVES, MAX_SCRIPT}
 use Rattle.rb_script.specs.declared.edit.Edit.{Edit}
@@ -20,7 +20,7 @@ use Rattle.rb_replay.specs.declared.cut.Effect.TheVariants as effects
 use Rattle.rb_replay.specs.Run.{directives, outputs}
 use Rattle.rb_replay.specs.Report.{differing, mismatches}
 use Rattle.rb_replay.specs.Holding.{Holding, IsFresh}
-use Rattle.rb_replay.specs.Reuse.{change_by, effect_of, change, change_of, change_for, IsChange}
+use Rattle.rb_replay.specs.Reuse.{Change, change_by, effect_of, change, change_of, change_for, IsChange, StayWhole, IsOneBlock}
 use Rattle.rb_replay.specs.Cuts.{no_cut, IsMended}
 use Rattle.rb_replay.proofs.RunLaws.{both, outputs-same, length-outputs}
 use Rattle.rb_replay.proofs.DifferingLaws.{differing-accepted}
@@ -75,33 +75,52 @@ accepted s new os e = fitting-ok (with_outputs s os) new (unless-ok (not (list_a
 
 -- ---- edits that change directives
 
-spliced-change : (h : Holding) (new : PlainScript) (f : ℕ) (put : List PlainBlock) (r t : ℕ) → IsFresh h → take f h.script.blocks ++ (put ++ drop r h.script.blocks) ≡ new.blocks → f ≤ r → r ≤ f + 1 → r ≤ length h.script.blocks → length put ≤ 1 → t ≡ f + length put → IsChange (change h new f r t)
+-- what stays whole has the same directives
+whole-front : (n : ℕ) (xs ys : List PlainBlock) → take n xs ≡ take n ys → take n (map directive_of xs) ≡ take n (map directive_of ys)
+whole-front n xs ys same = take-map directive_of n xs ∙ ap (map directive_of) same ∙ sym (take-map directive_of n ys)
+
+whole-rest : (n m : ℕ) (xs ys : List PlainBlock) → drop n xs ≡ drop m ys → drop n (map directive_of xs) ≡ drop m (map directive_of ys)
+whole-rest n m xs ys same = drop-map directive_of n xs ∙ ap (map directive_of) same ∙ sym (drop-map directive_of m ys)
+
+-- the change of an edit
+record IsEditChange (c : Change) : Type 0 where
+  is : IsChange c
+  one : IsOneBlock c
+
+spliced-change : (h : Holding) (new : PlainScript) (f : ℕ) (put : List PlainBlock) (r t : ℕ) → IsFresh h → take f h.script.blocks ++ (put ++ drop r h.script.blocks) ≡ new.blocks → f ≤ r → r ≤ f + 1 → r ≤ length h.script.blocks → length put ≤ 1 → t ≡ f + length put → IsEditChange (change h new f r t)
 spliced-change h new f put r t fresh made fr rf rs few t_is =
     let bs : List PlainBlock = h.script.blocks in
     let long : length (take f h.script.blocks) ≡ f = length-take-le f h.script.blocks (omega arith) in
     let joined : length (take f h.script.blocks ++ put) ≡ t = length-append (take f h.script.blocks) put ∙ omega arith in
     let whole : length (take f h.script.blocks ++ (put ++ drop r h.script.blocks)) ≡ f + (length put + (length h.script.blocks - r)) = length-append (take f h.script.blocks) (put ++ drop r h.script.blocks) ∙ both (λ (a b : ℕ). a + b) long (length-append put (drop r h.script.blocks) ∙ ap (λ (a : ℕ). length put + a) (length-drop r h.script.blocks)) in
     let size : length new.blocks ≡ f + (length put + (length h.script.blocks - r)) = ap length (sym made) ∙ whole in
+    let front : take f new.blocks ≡ take f h.script.blocks = ap (take f) (sym made) ∙ take_at (take f h.script.blocks) (put ++ drop r h.script.blocks) f long in
+    let rest : drop t new.blocks ≡ drop r h.script.blocks = ap (drop t) (sym made) ∙ ap (drop t) (sym (append_assoc (take f h.script.blocks) put (drop r h.script.blocks))) ∙ drop_at (take f h.script.blocks ++ put) (drop r h.script.blocks) t joined in
     record {
-      same_front = ap (take f) (sym made) ∙ take_at (take f h.script.blocks) (put ++ drop r h.script.blocks) f long;
-      same_rest = ap (drop t) (sym made) ∙ ap (drop t) (sym (append_assoc (take f h.script.blocks) put (drop r h.script.blocks))) ∙ drop_at (take f h.script.blocks ++ put) (drop r h.script.blocks) t joined;
-      old_from = fr;
-      old_to = rf;
-      new_from = omega arith;
-      new_to = omega arith;
-      old_within = rs;
-      new_within = omega arith;
-      lengths = omega arith;
-      spaced = fresh.spaced;
-      kept = fresh.near;
+      is = record {
+        same_front = whole-front f new.blocks h.script.blocks front;
+        same_rest = whole-rest t r new.blocks h.script.blocks rest;
+        old_from = fr;
+        new_from = omega arith;
+        old_within = rs;
+        new_within = omega arith;
+        lengths = omega arith;
+        spaced = fresh.spaced;
+        kept = fresh.near;
+      };
+      one = record {
+        whole = record { same_front = front; same_rest = rest };
+        old_to = rf;
+        new_to = omega arith;
+      };
     }
 
-insert-change : (h : Holding) (new : PlainScript) (k : ℕ) (b : PlainBlock) → IsFresh h → edited h.script (Insert k b) (outputs h.script) ≡ Ok new → IsChange (change h new (k - 1) (k - 1) k)
+insert-change : (h : Holding) (new : PlainScript) (k : ℕ) (b : PlainBlock) → IsFresh h → edited h.script (Insert k b) (outputs h.script) ≡ Ok new → IsEditChange (change h new (k - 1) (k - 1) k)
 insert-change h new k b fresh e =
     let made = inserted h.script new k b (outputs h.script) e in
     spliced-change h new (k - 1) (b ∷ []) (k - 1) k fresh (ap (λ (s : PlainScript). s.blocks) made.2) (omega arith) (omega arith) (omega (arith, made.1)) (omega arith) (omega (arith, made.0))
 
-replace-change : (h : Holding) (new : PlainScript) (k : ℕ) (b : PlainBlock) → IsFresh h → edited h.script (Replace k b) (outputs h.script) ≡ Ok new → IsChange (change h new (k - 1) k k)
+replace-change : (h : Holding) (new : PlainScript) (k : ℕ) (b : PlainBlock) → IsFresh h → edited h.script (Replace k b) (outputs h.script) ≡ Ok new → IsEditChange (change h new (k - 1) k k)
 replace-change h new k b fresh e =
     let made = replaced h.script new k b (outputs h.script) e in
     let next : suc (k - 1) ≡ k = omega (arith, made.0) in
@@ -110,7 +129,7 @@ replace-change h new k b fresh e =
     (ap (λ (n : ℕ). take (k - 1) h.script.blocks ++ b ∷ drop n h.script.blocks) (sym next) ∙ sym split ∙ ap (λ (s : PlainScript). s.blocks) made.2)
     (omega (arith, made.0)) (omega (arith, made.0)) made.1 (omega arith) (omega (arith, made.0))
 
-remove-change : (h : Holding) (new : PlainScript) (k : ℕ) → IsFresh h → edited h.script (Remove k) (outputs h.script) ≡ Ok new → IsChange (change h new (k - 1) k (k - 1))
+remove-change : (h : Holding) (new : PlainScript) (k : ℕ) → IsFresh h → edited h.script (Remove k) (outputs h.script) ≡ Ok new → IsEditChange (change h new (k - 1) k (k - 1))
 remove-change h new k fresh e =
     let made = removed h.script new k (outputs h.script) e in
     let next : suc (k - 1) ≡ k = omega (arith, made.0) in
@@ -119,11 +138,18 @@ remove-change h new k fresh e =
     (omega arith) (omega arith) made.1 (omega arith) (omega arith)
 
 pub edit-change : (h : Holding) (edit : Edit) (new : PlainScript) → IsFresh h → edited h.script edit (outputs h.script) ≡ Ok new → IfSome (change_of h new edit) IsChange
-edit-change h (Insert k b) new fresh e = insert-change h new k b fresh e
-edit-change h (Replace k b) new fresh e = replace-change h new k b fresh e
-edit-change h (Remove k) new fresh e = remove-change h new k fresh e
+edit-change h (Insert k b) new fresh e = (insert-change h new k b fresh e).is
+edit-change h (Replace k b) new fresh e = (replace-change h new k b fresh e).is
+edit-change h (Remove k) new fresh e = (remove-change h new k fresh e).is
 edit-change h (Expect k lines) new fresh e = tt
 edit-change h Accept new fresh e = tt
+
+pub edit-one : (h : Holding) (edit : Edit) (new : PlainScript) → IsFresh h → edited h.script edit (outputs h.script) ≡ Ok new → IfSome (change_of h new edit) IsOneBlock
+edit-one h (Insert k b) new fresh e = (insert-change h new k b fresh e).one
+edit-one h (Replace k b) new fresh e = (replace-change h new k b fresh e).one
+edit-one h (Remove k) new fresh e = (remove-change h new k fresh e).one
+edit-one h (Expect k lines) new fresh e = tt
+edit-one h Accept new fresh e = tt
 
 -- the change, by what the code calls it
 pub change-is : (h : Holding) (new : PlainScript) (edit : Edit) (cut : Cut) → effect_of edit ≡ effects.Splice cut → change_of h new edit ≡ Some (change_by h new cut)
@@ -131,6 +157,9 @@ change-is h new edit cut e = ap (change_for h new) e
 
 pub cut-change : (h : Holding) (edit : Edit) (new : PlainScript) (cut : Cut) → IsFresh h → edited h.script edit (outputs h.script) ≡ Ok new → effect_of edit ≡ effects.Splice cut → IsChange (change_by h new cut)
 cut-change h edit new cut fresh e is = rw (change-is h new edit cut is) at (edit-change h edit new fresh e)
+
+pub cut-whole : (h : Holding) (edit : Edit) (new : PlainScript) (cut : Cut) → IsFresh h → edited h.script edit (outputs h.script) ≡ Ok new → effect_of edit ≡ effects.Splice cut → StayWhole (change_by h new cut)
+cut-whole h edit new cut fresh e is = let one : IsOneBlock (change_by h new cut) = rw (change-is h new edit cut is) at (edit-one h edit new fresh e) in one.whole
 
 -- ---- edits of expectations
 

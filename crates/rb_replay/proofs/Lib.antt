@@ -14,3 +14,5 @@ pub mod WriteLaws
 pub mod AfterLaws
 pub mod MemberLaws
 pub mod RewriteLaws
+pub mod TestLaws
+pub mod TurnLaws

@@ -5,17 +5,16 @@ use Rattle.std.proofs.lemmas.Bool.{le-leb}
 use Rattle.std.proofs.lemmas.Bool.Decides.{nat_tests, leb_tells}
 use Rattle.std.proofs.lemmas.List.{take-append-drop, map-append, take-map, drop-map, take-take, drop_all, append-nil, length-append, length-take-le}
 use Rattle.rb_script.specs.Lines.{Line}
-use Rattle.rb_script.specs.Reading.{directive_of}
 use Rattle.rb_machine.specs.Cluster.{Cluster}
 use Rattle.rb_replay.specs.declared.cut.Cut.{Cut}
 use Rattle.rb_replay.specs.declared.seam.Seam.{Seam}
 use Rattle.rb_replay.specs.Run.{directives, state, outputs}
 use Rattle.rb_replay.specs.Points.{IsRising, AreNear, AreKept, last_up_to}
-use Rattle.rb_replay.specs.Reuse.{Change, start, stop, old_point, new_point, Meets, IsFirstMeeting, IsChange, fresh_points, points_before}
+use Rattle.rb_replay.specs.Reuse.{Change, start, stop, old_point, new_point, Meets, IsFirstMeeting, IsChange, StayWhole, fresh_points, points_before}
 use Rattle.rb_replay.specs.Cuts.{front_bound, old_stop, run_points, IsSeam, IsMended}
 use Rattle.rb_replay.proofs.RunLaws.{both, outputs-front, states-front, length-outputs}
 use Rattle.rb_replay.proofs.DifferingLaws.{AreAtMost}
-use Rattle.rb_replay.proofs.ReuseLaws.{blocks-on, outputs-after, states-after, start-le, kept-within, stop-within}
+use Rattle.rb_replay.proofs.ReuseLaws.{parts-on, outputs-after, states-after, start-le, kept-within, stop-within}
 
 -- kept points are rising
 pub near-rising : (K n before : ℕ) (ps : List ℕ) → AreNear K n before ps → IsRising (before + 1) ps
@@ -119,21 +118,21 @@ on_err_always (Err e) p = p
 
 -- ---- a front of the front
 
-blocks-front : (c : Change) (i : ℕ) → IsChange c → i ≤ c.front → take i c.new.blocks ≡ take i c.old.blocks
-blocks-front c i is le = sym (take-take i c.front c.new.blocks le) ∙ ap (take i) is.same_front ∙ take-take i c.front c.old.blocks le
+front-part : {T : Type 0} (c : Change) (i : ℕ) (xs ys : List T) → take c.front xs ≡ take c.front ys → i ≤ c.front → take i xs ≡ take i ys
+front-part {T} c i xs ys same le = sym (take-take i c.front xs le) ∙ ap (take i) same ∙ take-take i c.front ys le
 
 front-of : (c : Change) (i : ℕ) → IsChange c → i ≤ c.front → take i (directives c.new) ≡ take i (directives c.old)
-front-of c i is le = take-map directive_of i c.new.blocks ∙ ap (map directive_of) (blocks-front c i is le) ∙ sym (take-map directive_of i c.old.blocks)
+front-of c i is le = front-part c i (directives c.new) (directives c.old) is.same_front le
 
 pub states-before : (c : Change) (i : ℕ) → IsChange c → i ≤ c.front → state c.old i ≡ state c.new i
 states-before c i is le = sym (states-front c.new c.old i (front-of c i is le))
 
 -- ---- the old run, from where it is used again
 
--- from there on, blocks and outputs are the old ones
-blocks-end : (c : Change) (o : Option ℕ) → IsChange c → IsFirstMeeting c o → drop (stop c o) c.new.blocks ≡ drop (old_stop c o) c.old.blocks
-blocks-end c None is first = drop_all (length c.new.blocks) c.new.blocks (omega arith) ∙ sym (drop_all (length c.old.blocks) c.old.blocks (omega arith))
-blocks-end c (Some s) is first = blocks-on c s is first.0.in_rest
+-- from there on, blocks that stay and outputs are the old ones
+blocks-end : (c : Change) (o : Option ℕ) → StayWhole c → IsFirstMeeting c o → drop (stop c o) c.new.blocks ≡ drop (old_stop c o) c.old.blocks
+blocks-end c None whole first = drop_all (length c.new.blocks) c.new.blocks (omega arith) ∙ sym (drop_all (length c.old.blocks) c.old.blocks (omega arith))
+blocks-end c (Some s) whole first = parts-on c s c.new.blocks c.old.blocks whole.same_rest first.0.in_rest
 
 outputs-end : (c : Change) (o : Option ℕ) → IsChange c → IsFirstMeeting c o → drop (stop c o) (outputs c.new) ≡ drop (old_stop c o) (outputs c.old)
 outputs-end c None is first = drop_all (length c.new.blocks) (outputs c.new) (omega (arith, length-outputs c.new)) ∙ sym (drop_all (length c.old.blocks) (outputs c.old) (omega (arith, length-outputs c.old)))
@@ -175,14 +174,14 @@ run-length c o os is first on =
     let whole : length (take (stop c o) (outputs c.new)) ≡ stop c o = length-take-le (stop c o) (outputs c.new) (omega (arith, length-outputs c.new)) in
     omega (arith, ap length on, length-append (take (start c) (outputs c.new)) os)
 
-pub mended-ready : (c : Change) (cut : Cut) (o : Option ℕ) (os : List (List Line)) → cut.old_rest ≡ c.old_rest → cut.new_rest ≡ c.new_rest → IsChange c → IsFirstMeeting c o → take (start c) (outputs c.new) ++ os ≡ take (stop c o) (outputs c.new) → IsMended c.old c.new cut (start c) os (old_stop c o)
-mended-ready c cut o os olds news is first on =
+pub mended-ready : (c : Change) (cut : Cut) (o : Option ℕ) (os : List (List Line)) → cut.old_rest ≡ c.old_rest → cut.new_rest ≡ c.new_rest → IsChange c → StayWhole c → IsFirstMeeting c o → take (start c) (outputs c.new) ++ os ≡ take (stop c o) (outputs c.new) → IsMended c.old c.new cut (start c) os (old_stop c o)
+mended-ready c cut o os olds news is whole first on =
     let long : start c + length os ≡ stop c o = run-length c o os is first on in
     record {
-      same_front = blocks-front c (start c) is (start-le c);
+      same_front = front-part c (start c) c.new.blocks c.old.blocks whole.same_front (start-le c);
       same_answers = outputs-front c.new c.old (start c) (front-of c (start c) is (start-le c));
       answers_on = on ∙ ap (λ (n : ℕ). take n (outputs c.new)) (sym long);
-      same_rest = ap (λ (n : ℕ). drop n c.new.blocks) long ∙ blocks-end c o is first;
+      same_rest = ap (λ (n : ℕ). drop n c.new.blocks) long ∙ blocks-end c o whole first;
       same_end = ap (λ (n : ℕ). drop n (outputs c.new)) long ∙ outputs-end c o is first;
       moved = rw (olds, news) (long ∙ moved-stop c o is first);
       in_rest = rw olds (rest-first c o is first);

@@ -1,30 +1,29 @@
--- Laws of what an edit uses again.
+-- Laws of what a change uses again.
 use Rattle.std.proofs.Common.{◌≡◌, ℕ, zero, suc, ◌+◌, ◌-◌, ◌*◌, ◌<◌, ◌≤◌, max, List, [], ◌∷◌, length, drop, map, ap, sym, ◌∙◌, arith, Option, Some, None, ◌⊎◌, inl, inr, get_or, nat_le, true, subst, refl}
 use Rattle.std.proofs.lemmas.Bool.{le-leb}
 use Rattle.std.specs.Prelude.{Contains}
 use Rattle.std.proofs.lemmas.Bool.{cases_lt}
-use Rattle.std.proofs.lemmas.List.{drop-drop, drop-map}
-use Rattle.rb_script.specs.Reading.{directive_of}
+use Rattle.std.proofs.lemmas.List.{drop-drop}
 use Rattle.rb_machine.specs.Cluster.{Cluster}
 use Rattle.rb_replay.specs.Run.{directives, state, outputs}
 use Rattle.rb_replay.specs.Points.{last_up_to, AreNear, AreKept}
-use Rattle.rb_replay.specs.Reuse.{Change, start, old_point, new_point, Meets, IsFirstMeeting, stop, IsCost, IsChange}
+use Rattle.rb_replay.specs.Reuse.{Change, start, old_point, new_point, Meets, IsFirstMeeting, stop, IsCost, IsChange, IsOneBlock}
 use Rattle.rb_replay.proofs.RunLaws.{states-on, outputs-on}
 use Rattle.rb_replay.proofs.PointLaws.{last_up_to-le, last_up_to-near, near-within, near-next, Contains-cons, Contains-head}
 
--- from the rest's beginning on, the blocks are those of the old point, and so are the directives
-pub blocks-on : (c : Change) (s : ℕ) → IsChange c → c.new_rest ≤ s → drop s c.new.blocks ≡ drop (old_point c s) c.old.blocks
-blocks-on c s is from =
+-- from the rest's beginning on, a list goes on as the other one does
+pub parts-on : {T : Type 0} (c : Change) (s : ℕ) (xs ys : List T) → drop c.new_rest xs ≡ drop c.old_rest ys → c.new_rest ≤ s → drop s xs ≡ drop (old_point c s) ys
+parts-on {T} c s xs ys same from =
     let at : s ≡ c.new_rest + (s - c.new_rest) = omega arith in
     let to : old_point c s ≡ c.old_rest + (s - c.new_rest) = omega arith in
-    ap (λ (i : ℕ). drop i c.new.blocks) at
-    ∙ sym (drop-drop (s - c.new_rest) c.new_rest c.new.blocks)
-    ∙ ap (drop (s - c.new_rest)) is.same_rest
-    ∙ drop-drop (s - c.new_rest) c.old_rest c.old.blocks
-    ∙ ap (λ (i : ℕ). drop i c.old.blocks) (sym to)
+    ap (λ (i : ℕ). drop i xs) at
+    ∙ sym (drop-drop (s - c.new_rest) c.new_rest xs)
+    ∙ ap (drop (s - c.new_rest)) same
+    ∙ drop-drop (s - c.new_rest) c.old_rest ys
+    ∙ ap (λ (i : ℕ). drop i ys) (sym to)
 
 rest-on : (c : Change) (s : ℕ) → IsChange c → c.new_rest ≤ s → drop s (directives c.new) ≡ drop (old_point c s) (directives c.old)
-rest-on c s is from = drop-map directive_of s c.new.blocks ∙ ap (map directive_of) (blocks-on c s is from) ∙ sym (drop-map directive_of (old_point c s) c.old.blocks)
+rest-on c s is from = parts-on c s (directives c.new) (directives c.old) is.same_rest from
 
 -- where the clusters meet, they are equal from there on
 pub states-after : (c : Change) (s t : ℕ) → IsChange c → c.new_rest ≤ s → s ≤ t → state c.new s ≡ state c.old (old_point c s) → state c.new t ≡ state c.old (old_point c t)
@@ -79,7 +78,7 @@ cost-le c executed is cost =
     let from : c.front < start c + c.spacing = start-near c is in
     omega (arith, cost.is_cost)
 
--- Where the clusters agree as the rest begins, no more is executed than twice the spacing, less one.
+-- Where the clusters agree as the rest begins, little more is executed than what stands between front and rest.
 meets-at : (c : Change) (p : ℕ) → IsChange c → state c.new c.new_rest ≡ state c.old c.old_rest → c.old_rest ≤ p → Contains c.points p → Meets c (new_point c p)
 meets-at c p is same le has =
     let back : old_point c (new_point c p) ≡ p = omega arith in
@@ -104,8 +103,8 @@ next-kept K n r (x ∷ ps) one le kept =
       | inr above ↦ inl (x, Contains-head x ps, above, omega (arith, kept.0))
     ]
 
-pub cost-small : (c : Change) (executed : ℕ) → IsChange c → IsCost c executed → state c.new c.new_rest ≡ state c.old c.old_rest → executed + 1 ≤ 2 * c.spacing
-cost-small c executed is cost same =
+pub cost-near : (c : Change) (executed : ℕ) → IsChange c → IsCost c executed → state c.new c.new_rest ≡ state c.old c.old_rest → executed + c.front + 2 ≤ 2 * c.spacing + c.new_rest
+cost-near c executed is cost same =
     let from : c.front < start c + c.spacing = start-near c is in
     let to : stop c cost.meeting < c.new_rest + c.spacing = stops-soon c is same cost.meeting cost.is_first (next-kept c.spacing (length c.old.blocks) c.old_rest c.points is.spaced is.old_within is.kept) in
     omega (arith, cost.is_cost)
@@ -118,6 +117,10 @@ cost-small c executed is cost same =
           | inl lt ↦ absurd (first.1 (new_point c f.0) lt (meets-at c f.0 is same f.2 f.1))
           | inr ge ↦ omega (arith, f.3, f.2)
         ]
+
+-- and of one block no more than twice the spacing, less one
+pub cost-small : (c : Change) (executed : ℕ) → IsChange c → IsOneBlock c → IsCost c executed → state c.new c.new_rest ≡ state c.old c.old_rest → executed + 1 ≤ 2 * c.spacing
+cost-small c executed is one cost same = let near : executed + c.front + 2 ≤ 2 * c.spacing + c.new_rest = cost-near c executed is cost same in omega (arith, one.new_to)
 
 -- Where nothing was met up to `at`, running does not stop there.
 pub cost-at_least : (c : Change) (at n : ℕ) → ((t : ℕ) → t < at → Meets c t → ⊥) → at ≤ length c.new.blocks → IsCost c n → at - start c ≤ n

@@ -4,6 +4,7 @@ pub mod Points
 pub mod Holding
 pub mod Reuse
 pub mod After
+pub mod Turns
 pub mod Start
 pub mod Course
 pub mod Cuts

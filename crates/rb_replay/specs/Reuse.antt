@@ -1,4 +1,4 @@
--- What an edit uses again of the run before it. (This project's.)
+-- What an edit, or another script, uses again of the run before it. (This project's.)
 use Rattle.std.specs.Prelude.{◌≡◌, ℕ, ◌+◌, ◌-◌, ◌*◌, ◌/◌, ◌<◌, ◌≤◌, ◌⊎◌, min, nat_le, nat_lt, List, ◌++◌, length, take, drop, filter, map, Contains, Option, Some, None}
 use Rattle.rb_script.specs.Script.{PlainScript}
 use Rattle.rb_script.specs.declared.edit.Edit.{Edit}
@@ -7,11 +7,11 @@ use Rattle.rb_replay.specs.declared.cut.Cut.{Cut}
 use Rattle.rb_replay.specs.declared.cut.Effect.{Effect}
 use Rattle.rb_replay.specs.declared.cut.Effect.TheVariants.{Splice}
 use Rattle.rb_replay.specs.declared.cut.Effect.TheVariants as effects
-use Rattle.rb_replay.specs.Run.{state}
+use Rattle.rb_replay.specs.Run.{directives, state}
 use Rattle.rb_replay.specs.Points.{last_up_to, every, thin, AreKept}
 use Rattle.rb_replay.specs.Holding.{Holding}
 
--- Two scripts and what they share: the first `front` blocks, and those after old point `old_rest`, which
+-- Two scripts and what they share: the first `front` directives, and those after old point `old_rest`, which
 -- stand after new point `new_rest`. Clusters of the old script are kept at `points`, `spacing` directives
 -- apart.
 pub record Change : Type 0 where
@@ -101,19 +101,28 @@ IsPointBefore c meeting p =
     ⊎ ((j : ℕ) × (1 ≤ j) × (p ≡ start c + j * c.spacing) × (p ≤ stop c meeting))
     ⊎ IsOldPoint c meeting p
 
--- what the change of an edit is like
+-- what a change is like: front and rest have the same directives, which is all that a run reads of blocks
 pub record IsChange (c : Change) : Type 0 where
-  pub same_front : take c.front c.new.blocks ≡ take c.front c.old.blocks
-  pub same_rest : drop c.new_rest c.new.blocks ≡ drop c.old_rest c.old.blocks
+  pub same_front : take c.front (directives c.new) ≡ take c.front (directives c.old)
+  pub same_rest : drop c.new_rest (directives c.new) ≡ drop c.old_rest (directives c.old)
   pub old_from : c.front ≤ c.old_rest
-  pub old_to : c.old_rest ≤ c.front + 1
   pub new_from : c.front ≤ c.new_rest
-  pub new_to : c.new_rest ≤ c.front + 1
   pub old_within : c.old_rest ≤ length c.old.blocks
   pub new_within : c.new_rest ≤ length c.new.blocks
   pub lengths : length c.new.blocks + c.old_rest ≡ length c.old.blocks + c.new_rest
   pub spaced : 1 ≤ c.spacing
   pub kept : AreKept c.spacing (length c.old.blocks) c.points
+
+-- and where front and rest have the same blocks, with what is expected of them
+pub record StayWhole (c : Change) : Type 0 where
+  pub same_front : take c.front c.new.blocks ≡ take c.front c.old.blocks
+  pub same_rest : drop c.new_rest c.new.blocks ≡ drop c.old_rest c.old.blocks
+
+-- the change of one edit: at most one block goes, at most one comes, and the others stay
+pub record IsOneBlock (c : Change) : Type 0 where
+  pub whole : StayWhole c
+  pub old_to : c.old_rest ≤ c.front + 1
+  pub new_to : c.new_rest ≤ c.front + 1
 
 -- how many directives are executed
 pub record IsCost (c : Change) (executed : ℕ) : Type 0 where

@@ -1,4 +1,4 @@
-//! What an edit changes.
+//! What an edit, or another script, changes.
 
 ghost use Rattle.std.specs.Prelude.{◌≡◌};
 ghost use Rattle.rb_replay.specs.Reuse.{effect_of};
@@ -11,6 +11,15 @@ pub(crate) struct Cut {
     pub(crate) front: usize,
     pub(crate) old_rest: usize,
     pub(crate) new_rest: usize,
+}
+
+/// What front and rest of two scripts have in common.
+#[derive(Clone, Copy)]
+pub(crate) enum Common {
+    /// Their blocks, with what is expected of them.
+    Blocks,
+    /// Their directives. Other lines may be expected of any of them.
+    Directives,
 }
 
 /// What an edit changes of a run.

@@ -1,6 +1,6 @@
 //! Edits of a session.
 
-use crate::cut::{Cut, Effect, effect_of};
+use crate::cut::{Common, Cut, Effect, effect_of};
 use crate::ready::{make_room, take_over};
 use crate::session::{Changed, Session};
 use rb_machine::{Count, Machine};
@@ -14,7 +14,7 @@ impl<M: Machine> Session<M> {
     ghost use Rattle.rb_script.specs.Edits.{edited, EditFails};
     ghost use Rattle.rb_replay.specs.Run.{outputs};
     ghost use Rattle.rb_replay.specs.Holding.{Holding, IsFresh};
-    ghost use Rattle.rb_replay.specs.Reuse.{change_by, IsChange, IsCost, Reuses, IsCostFor};
+    ghost use Rattle.rb_replay.specs.Reuse.{change_by, IsChange, StayWhole, IsCost, Reuses, IsCostFor};
     ghost use Rattle.rb_replay.specs.After.{IsAnswer};
 
     /// Makes one edit, and runs what it changes. A refused edit changes nothing. Refusals come in the
@@ -41,15 +41,22 @@ impl<M: Machine> Session<M> {
     {
         let new = self.script.edited(edit, &self.outputs)?;
         match effect_of(edit) {
-            Effect::Splice(cut) => Ok(self.replay(new, cut, meter)?),
+            Effect::Splice(cut) => Ok(self.replay(new, cut, Common::Blocks, meter)?),
             Effect::Expect(place) => Ok(self.expect(new, place)?),
             Effect::Accept => Ok(self.accept(new)),
         }
     }
 
     /// Puts the new script in, and runs what has to be run.
-    fn replay(&mut self, new: Script, cut: Cut, meter: &mut M::Meter) -> Result<Changed, AllocError>
+    pub(crate) fn replay(
+        &mut self,
+        new: Script,
+        cut: Cut,
+        common: Common,
+        meter: &mut M::Meter,
+    ) -> Result<Changed, AllocError>
         requires change { IsChange (change_by self.old new cut) }
+        requires whole { common ≡ Common.Blocks → StayWhole (change_by self.old new cut) }
         requires few { length new.blocks ≤ MAX_DIRECTIVES }
         requires meter { M.Meter.count_of meter.old ≤ 2 ^ 62 }
         ensures script { OnOk result (self.new.script ≡ new) }
@@ -63,7 +70,7 @@ impl<M: Machine> Session<M> {
         ensures least { M.Meter.count_of meter.old ≤ M.Meter.count_of meter.new }
         ensures most { M.Meter.count_of meter.new ≤ M.Meter.count_of meter.old + length new.blocks }
     {
-        let ready = self.prepare(&new, cut, meter)?;
+        let ready = self.prepare(&new, cut, common, meter)?;
         make_room(&ready.course, &mut self.outputs, &mut self.kept)?;
         // From here on nothing can fail.
         let executed = (ready.course.at - ready.course.from) as u64;

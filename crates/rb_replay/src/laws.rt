@@ -1,4 +1,4 @@
-//! Laws of what is held and used again, over all scripts and edits.
+//! Laws of what is held and used again, over all scripts, edits and turns.
 
 ghost use Rattle.std.specs.Prelude.{◌≡◌, ℕ, ◌+◌, ◌-◌, ◌*◌, ◌/◌, ◌<◌, ◌≤◌, ◌↔◌, List, [], Option, Ok, Contains, IfSome, length, slice_index};
 ghost use Rattle.rb_script.specs.declared.edit.Edit.{Edit};
@@ -7,12 +7,16 @@ ghost use Rattle.rb_script.specs.Script.{PlainScript};
 ghost use Rattle.rb_script.specs.Reads.{Reads};
 ghost use Rattle.rb_script.specs.Valid.{IsScript};
 ghost use Rattle.rb_script.specs.Edits.{edited};
-ghost use Rattle.rb_replay.specs.Run.{state, outputs};
+ghost use Rattle.rb_script.specs.Directive.{PlainDirective};
+ghost use Rattle.rb_replay.specs.declared.cut.Cut.{Cut};
+ghost use Rattle.rb_replay.specs.declared.session.Changed.{Changed};
+ghost use Rattle.rb_replay.specs.Run.{directives, state, outputs};
 ghost use Rattle.rb_replay.specs.Report.{mismatches, rewritten};
 ghost use Rattle.rb_replay.specs.Points.{AreKept, IsRising};
 ghost use Rattle.rb_replay.specs.Holding.{Holding, IsFresh};
-ghost use Rattle.rb_replay.specs.Reuse.{Change, change_of, IsChange, IsCost, IsFirstMeeting, points_before, IsPointBefore};
+ghost use Rattle.rb_replay.specs.Reuse.{Change, change_by, change_of, IsChange, IsOneBlock, IsCost, IsFirstMeeting, points_before, IsPointBefore};
 ghost use Rattle.rb_replay.specs.After.{Answered, Leads, after};
+ghost use Rattle.rb_replay.specs.Turns.{IsLongestCut, IsTurned, IsTurnCost, shown};
 
 /// Whatever edits a session is given, and whichever of them it accepts, it answers as one run of the
 /// script with the accepted ones made.
@@ -30,9 +34,29 @@ pub fn rewritten_scripts_match()
     ensures once { (s new t : PlainScript) → edited s edits.Accept (outputs s) ≡ Ok new → IsScript new → Reads (rewritten s) t → (t ≡ new) × (mismatches t ≡ []) }
 {}
 
-/// What an accepted edit changes of a session's script is a change, so that the laws below hold of it.
+/// A session that was turned into a script shows what one shows that was started with it: nothing is left of the scripts before.
+pub fn turned_sessions_show_a_fresh_start()
+    ensures { (old turned started : Holding) (script : PlainScript) (changed : Changed) → IsTurned old script changed turned → IsFresh started → started.script ≡ script → shown turned ≡ shown started }
+{}
+
+/// What an accepted edit changes of a session's script is a change, so that the laws below hold of it. At most one block goes,
+/// at most one comes, and all others stay.
 pub fn edits_are_changes()
-    ensures { (h : Holding) (edit : Edit) (new : PlainScript) → IsFresh h → edited h.script edit (outputs h.script) ≡ Ok new → IfSome (change_of h new edit) IsChange }
+    ensures change { (h : Holding) (edit : Edit) (new : PlainScript) → IsFresh h → edited h.script edit (outputs h.script) ≡ Ok new → IfSome (change_of h new edit) IsChange }
+    ensures one { (h : Holding) (edit : Edit) (new : PlainScript) → IsFresh h → edited h.script edit (outputs h.script) ≡ Ok new → IfSome (change_of h new edit) IsOneBlock }
+{}
+
+/// What differs between a session's script and another is a change too, and there is one such change: one longest rest, and one
+/// longest front before it. So a turn has at most one cost.
+pub fn turns_are_changes()
+    ensures change { (h : Holding) (new : PlainScript) (cut : Cut) → IsFresh h → IsLongestCut (directives h.script) (directives new) cut → IsChange (change_by h new cut) }
+    ensures once { (old new : List PlainDirective) (a b : Cut) → IsLongestCut old new a → IsLongestCut old new b → a ≡ b }
+    ensures cost { (h : Holding) (new : PlainScript) (m n : ℕ) → IsTurnCost h new m → IsTurnCost h new n → m ≡ n }
+{}
+
+/// Turning a session into a script of the same directives executes nothing, whatever they are expected to give.
+pub fn expectations_cost_nothing()
+    ensures { (h : Holding) (new : PlainScript) (n : ℕ) → IsFresh h → directives new ≡ directives h.script → IsTurnCost h new n → n ≡ 0 }
 {}
 
 /// There is at most one cost of a change.
@@ -40,14 +64,16 @@ pub fn cost_is_one()
     ensures { (c : Change) (m n : ℕ) → IsCost c m → IsCost c n → m ≡ n }
 {}
 
-/// An edit executes less than the directives after the common front, and the spacing.
+/// A change executes less than the directives after the common front, and the spacing.
 pub fn cost_is_bounded()
     ensures { (c : Change) (n : ℕ) → IsChange c → IsCost c n → n + c.front + 1 ≤ length c.new.blocks + c.spacing }
 {}
 
-/// Where the clusters agree as the rest begins, it executes less than twice the spacing.
+/// Where the clusters agree as the rest begins, one of an edit executes less than twice the spacing, and any less than that and
+/// what stands between front and rest.
 pub fn cost_is_small()
-    ensures { (c : Change) (n : ℕ) → IsChange c → IsCost c n → state c.new c.new_rest ≡ state c.old c.old_rest → n + 1 ≤ 2 * c.spacing }
+    ensures one { (c : Change) (n : ℕ) → IsChange c → IsOneBlock c → IsCost c n → state c.new c.new_rest ≡ state c.old c.old_rest → n + 1 ≤ 2 * c.spacing }
+    ensures any { (c : Change) (n : ℕ) → IsChange c → IsCost c n → state c.new c.new_rest ≡ state c.old c.old_rest → n + c.front + 2 ≤ 2 * c.spacing + c.new_rest }
 {}
 
 /// The points before thinning are ascending, and are those up to the start, those on the way from it up

@@ -1,6 +1,7 @@
-//! Making ready all that an edit changes, before anything is changed.
+//! Making ready all that is to change, before anything is changed.
 
-use crate::cut::Cut;
+use crate::course::Course;
+use crate::cut::{Common, Cut};
 use crate::differing::list_differing;
 use crate::points::{count_below, joined};
 use crate::ready::Ready;
@@ -12,12 +13,13 @@ use rb_script::{Lines, Script};
 use std::alloc::AllocError;
 
 impl<M: Machine> Session<M> {
-    ghost use Rattle.std.specs.Prelude.{◌≡◌, ◌+◌, ◌-◌, ◌≤◌, ◌^◌, ℕ, length, IfOk, OnErr};
+    ghost use Rattle.std.specs.Prelude.{◌≡◌, ◌+◌, ◌-◌, ◌≤◌, ◌^◌, ℕ, ◌++◌, length, take, drop, IfOk, OnErr};
     ghost use Rattle.rb_script.specs.declared.limits.TheConstants.{MAX_DIRECTIVES};
+    ghost use Rattle.rb_replay.specs.Run.{outputs};
     ghost use Rattle.rb_replay.specs.Report.{mismatches};
     ghost use Rattle.rb_replay.specs.Holding.{Holding};
-    ghost use Rattle.rb_replay.specs.Reuse.{change_by, IsChange, IsCost};
-    ghost use Rattle.rb_replay.specs.Cuts.{IsRerun, IsSeam, IsMended, IsReady};
+    ghost use Rattle.rb_replay.specs.Reuse.{change_by, IsChange, StayWhole, IsCost};
+    ghost use Rattle.rb_replay.specs.Cuts.{old_stop as old_stop_of, IsRerun, IsSeam, IsMended, IsReady};
 
     /// The mismatches of the new script: those of the front stay, the outputs that may have changed are
     /// compared, and those of the rest move with it.
@@ -46,15 +48,63 @@ impl<M: Machine> Session<M> {
         )
     }
 
+    /// The same where other lines may be expected of any directive: all outputs are compared, the old ones before the run, those
+    /// of the run, and the old ones behind it.
+    fn compared(
+        &self,
+        new: &Script,
+        course: &Course<M>,
+        old_stop: usize,
+    ) -> Result<Vec<usize>, AllocError>
+        requires few { length new.now.blocks ≤ MAX_DIRECTIVES }
+        requires from { course.now.from ≤ length self.now.script.blocks }
+        requires at { course.now.from + length course.now.outputs.items ≡ course.now.at }
+        requires outputs { take course.now.from (outputs self.now.script) ++ (course.now.outputs.items ++ drop old_stop (outputs self.now.script)) ≡ outputs new.now }
+        requires old_stop { old_stop ≤ length self.now.script.blocks }
+        ensures { IfOk result (λ v. v.items ≡ mismatches new.now) }
+    {
+        let mut places = list_differing(self.alloc, new, 0, &self.outputs[..course.from])?;
+        let run = list_differing(self.alloc, new, course.from, &course.outputs)?;
+        let rest = list_differing(self.alloc, new, course.at, &self.outputs[old_stop..])?;
+        places.extend_from_slice(&run)?;
+        places.extend_from_slice(&rest)?;
+        Ok(places)
+    }
+
+    /// The mismatches of the new script after a run.
+    fn mismatches_after(
+        &self,
+        new: &Script,
+        cut: Cut,
+        common: Common,
+        run: &Rerun<M>,
+        old_stop: usize,
+    ) -> Result<Vec<usize>, AllocError>
+        requires change { IsChange (change_by self.now new.now cut) }
+        requires whole { common ≡ Common.Blocks → StayWhole (change_by self.now new.now cut) }
+        requires few { length new.now.blocks ≤ MAX_DIRECTIVES }
+        requires run { IsRerun M.meaning (change_by self.now new.now cut) run.now }
+        requires old_stop { old_stop ≡ old_stop_of (change_by self.now new.now cut) run.now.met }
+        ensures { IfOk result (λ v. v.items ≡ mismatches new.now) }
+    {
+        let course = &run.course;
+        match common {
+            Common::Blocks => self.mended(new, cut, course.from, &course.outputs, old_stop),
+            Common::Directives => self.compared(new, course, old_stop),
+        }
+    }
+
     /// What stands ready after a run.
     fn assembled(
         &self,
         new: &Script,
         cut: Cut,
+        common: Common,
         run: Rerun<M>,
         seam: Seam,
     ) -> Result<Ready<M>, AllocError>
         requires change { IsChange (change_by self.now new.now cut) }
+        requires whole { common ≡ Common.Blocks → StayWhole (change_by self.now new.now cut) }
         requires few { length new.now.blocks ≤ MAX_DIRECTIVES }
         requires run { IsRerun M.meaning (change_by self.now new.now cut) run }
         requires seam { IsSeam (change_by self.now new.now cut) run.met seam }
@@ -68,13 +118,7 @@ impl<M: Machine> Session<M> {
             &self.points[seam.rest..],
             cut,
         )?;
-        let mismatches = self.mended(
-            new,
-            cut,
-            run.course.from,
-            &run.course.outputs,
-            seam.old_stop,
-        )?;
+        let mismatches = self.mismatches_after(new, cut, common, &run, seam.old_stop)?;
         Ok(Ready {
             course: run.course,
             seam,
@@ -88,9 +132,11 @@ impl<M: Machine> Session<M> {
         &self,
         new: &Script,
         cut: Cut,
+        common: Common,
         meter: &mut M::Meter,
     ) -> Result<Ready<M>, AllocError>
         requires change { IsChange (change_by self.now new.now cut) }
+        requires whole { common ≡ Common.Blocks → StayWhole (change_by self.now new.now cut) }
         requires few { length new.now.blocks ≤ MAX_DIRECTIVES }
         requires meter { M.Meter.count_of meter.old ≤ 2 ^ 62 }
         ensures ready { IfOk result (IsReady M.meaning (change_by self.now new.now cut) self.now.kept) }
@@ -101,6 +147,6 @@ impl<M: Machine> Session<M> {
     {
         let run = self.run_on(new, cut, meter)?;
         let seam = self.seam(new, cut, &run);
-        self.assembled(new, cut, run, seam)
+        self.assembled(new, cut, common, run, seam)
     }
 }

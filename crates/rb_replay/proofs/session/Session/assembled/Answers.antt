@@ -6,21 +6,13 @@ use Rattle.rb_replay.specs.Holding.{Holding, IsFresh}
 use Rattle.rb_replay.specs.Reuse.{change_by, start, stop, new_point}
 use Rattle.rb_replay.proofs.RunLaws.{both}
 use Rattle.rb_replay.proofs.DifferingLaws.{at_most-rest, at_most-more}
-use Rattle.rb_replay.proofs.ReadyLaws.{kept-all, mended-ready, outputs-ready, states-ready, joined_points, joined-before, old_stop-within, start-old}
+use Rattle.rb_replay.proofs.ReadyLaws.{kept-all, outputs-ready, states-ready, joined_points, joined-before, old_stop-within, start-old}
 use Rattle.rb_replay.proofs.session.Session.assembled.Goals as goal
 
 pub joined-requires-clause-small : goal.joined-requires-clause-small
 joined-requires-clause-small g c =
     rw c.deref-3.ensures.value
     (at_most-rest MAX_DIRECTIVES c.args.seam.rest c.self.inside.points.items (at_most-more _ MAX_DIRECTIVES c.self.inside.points.items c.self.invariant.few (kept-all c.self.inside.spacing _ c.self.inside.points.items c.self.invariant.near)))
-
-pub mended-requires-clause-mended : goal.mended-requires-clause-mended
-mended-requires-clause-mended g c =
-    let run = c.requires.run in
-    let on : take (start (change_by c.args.self.now c.args.new.now c.args.cut)) (outputs c.args.new.now) ++ c.args.run.course.outputs.items ≡ take (stop (change_by c.args.self.now c.args.new.now c.args.cut) c.args.run.met) (outputs c.args.new.now) =
-    ap (λ (n : ℕ). take n (outputs c.args.new.now) ++ c.args.run.course.outputs.items) (sym run.from_is) ∙ run.has_run.outputs_on ∙ ap (λ (n : ℕ). take n (outputs c.args.new.now)) run.at_is in
-    rw (run.from_is, c.deref-4.ensures.value, c.requires.seam.old_stop_is)
-    (mended-ready (change_by c.args.self.now c.args.new.now c.args.cut) c.args.cut c.args.run.met c.args.run.course.outputs.items refl refl c.requires.change run.is_first on)
 
 pub returns-clause-ready : goal.returns-clause-ready
 returns-clause-ready g c =

@@ -1,0 +1,56 @@
+-- Turning a session into another script, and what is shown then. (This project's.)
+use Rattle.std.specs.Prelude.{◌≡◌, ℕ, ◌+◌, ◌-◌, ◌≤◌, List, length, take, drop, Result, Ok, Err}
+use Rattle.rb_script.specs.Lines.{Line}
+use Rattle.rb_script.specs.Directive.{PlainDirective}
+use Rattle.rb_script.specs.Script.{PlainScript}
+use Rattle.rb_replay.specs.declared.cut.Cut.{Cut}
+use Rattle.rb_replay.specs.declared.session.Changed.{Changed}
+use Rattle.rb_replay.specs.Run.{directives}
+use Rattle.rb_replay.specs.Report.{mismatches}
+use Rattle.rb_replay.specs.Holding.{Holding, IsFresh}
+use Rattle.rb_replay.specs.Reuse.{change_by, Reuses, IsCost}
+
+-- The longest rest that two lists of directives share, and of what is left the longest front.
+pub record IsLongestCut (old new : List PlainDirective) (cut : Cut) : Type 0 where
+  pub same_rest : drop cut.new_rest new ≡ drop cut.old_rest old
+  pub old_within : cut.old_rest ≤ length old
+  pub new_within : cut.new_rest ≤ length new
+  pub longest_rest : (n : ℕ) → n ≤ length old → n ≤ length new → drop (length new - n) new ≡ drop (length old - n) old → n + cut.old_rest ≤ length old
+  pub same_front : take cut.front new ≡ take cut.front old
+  pub old_from : cut.front ≤ cut.old_rest
+  pub new_from : cut.front ≤ cut.new_rest
+  pub longest_front : (n : ℕ) → n ≤ cut.old_rest → n ≤ cut.new_rest → take n new ≡ take n old → n ≤ cut.front
+
+-- What is used again, exactly, of the run of the script before.
+pub record ReusesLongest (h : Holding) (new : PlainScript) (executed : ℕ) (points : List ℕ) : Type 0 where
+  pub cut : Cut
+  pub is_longest : IsLongestCut (directives h.script) (directives new) cut
+  pub reuse : Reuses (change_by h new cut) executed points
+
+-- how many directives are executed
+pub record IsTurnCost (h : Holding) (new : PlainScript) (executed : ℕ) : Type 0 where
+  pub cut : Cut
+  pub is_longest : IsLongestCut (directives h.script) (directives new) cut
+  pub cost : IsCost (change_by h new cut) executed
+
+-- A session that was turned into a script. What is held then is what one run of that script gives.
+pub record IsTurned (old : Holding) (script : PlainScript) (changed : Changed) (new : Holding) : Type 0 where
+  pub is_on : new.script ≡ script
+  pub fresh : IsFresh new
+  pub spacing : new.spacing ≡ old.spacing
+  pub reuse : ReusesLongest old script changed.executed new.points
+  pub mismatches_are : changed.mismatches ≡ length (mismatches script)
+
+-- where memory is refused, all is as it was
+abbrev pub IsTurn : {E : Type 0} → Holding → PlainScript → Result Changed E → Holding → Type 0
+IsTurn old script (Ok changed) new = IsTurned old script changed new
+IsTurn old script (Err e) new = new ≡ old
+
+-- All that is shown of a session: its texts are those of the script.
+pub record Shown : Type 0 where
+  pub script : PlainScript
+  pub outputs : List (List Line)
+  pub mismatches : List ℕ
+
+abbrev pub shown : Holding → Shown
+shown h = record { script = h.script; outputs = h.outputs; mismatches = h.mismatches }
