@@ -83,13 +83,20 @@ def order():
     """Which constants stand before the rows and which behind them, in order."""
     modules = [name.removesuffix(".js") for name in CODE]
     uses = ["use crate::html::{BETWEEN, BODY, END, HEAD};", *sorted(f"use crate::{name}::{name.upper()};" for name in [*modules, "style"])]
-    fronts, backs = ["HEAD", "STYLE", "BODY"], ["BETWEEN", *map(str.upper, modules), "END"]
-    return (
-        "//! What stands around the rows of a page, in parts. Made by `tests/page/assemble.py sources`.\n\n" + "\n".join(uses) + "\n\n"
-        "/// What stands before the rows: the page's head with its style, and its elements.\n"
-        f"#[rattlefmt::skip]\npub static FRONT: [&[u8]; {len(fronts)}] = [{', '.join(fronts)}];\n\n"
-        "/// What stands behind them: the page's code.\n"
-        f"#[rattlefmt::skip]\npub static BACK: [&[u8]; {len(backs)}] = [{', '.join(backs)}];\n")
+
+    def function(said, name, parts):
+        facts = " ∷ ".join(f"{part}.now" for part in parts)
+        return (
+            f"/// {said}\n#[rattlefmt::skip]\npub fn {name}() -> [&'static [u8]; {len(parts)}]\n"
+            f"    ensures {{ map (λ part. part.now) result ≡ {facts} ∷ [] }}\n"
+            f"{{\n    [{', '.join(parts)}]\n}}\n")
+    return "\n".join([
+        "//! What stands around the rows of a page, in parts. Made by `tests/page/assemble.py sources`.\n",
+        "ghost use Rattle.std.specs.Prelude.{◌≡◌, ◌∷◌, [], map};\n",
+        "\n".join(uses) + "\n",
+        function("What stands before the rows: the page's head with its style, and its elements.", "front", ["HEAD", "STYLE", "BODY"]),
+        function("What stands behind them: the page's code.", "back", ["BETWEEN", *map(str.upper, modules), "END"]),
+    ])
 
 
 def sources():

@@ -3,7 +3,7 @@
 use crate::edge::opened;
 use crate::refusal::Refusal;
 use rb_bench::Status;
-use rb_frame::{BACK, FRONT};
+use rb_frame::{back, front};
 use rb_line::Incoming;
 use rb_script::Through;
 use rb_steps::{Frame, page_over};
@@ -18,9 +18,10 @@ pub(crate) fn page<R: Files + Input + Print + AllocGlobal>(
     every: u64,
 ) -> Result<Status, Refusal> {
     let alloc = rt.alloc();
+    let (front, back) = (front(), back());
     let frame = Frame {
-        front: &FRONT,
-        back: &BACK,
+        front: &front,
+        back: &back,
     };
     let name = name_of(file).as_bytes();
     let mut writer = Through(BufWriter::new(alloc, io::writer(rt))?);

@@ -15,4 +15,4 @@ mod state;
 mod style;
 mod words;
 
-pub use frame::{BACK, FRONT};
+pub use frame::{back, front};

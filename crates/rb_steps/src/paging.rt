@@ -75,8 +75,10 @@ pub fn page_bytes<W: Outlet>(
     ensures io { W.takes_all writer.old → result ≢ Err BenchFault.Io }
 {
     let steps = read_steps(alloc, bytes)?;
-    write_out(writer, frame, name, &steps.texts)?;
-    Ok(steps.status)
+    match write_out(writer, frame, name, &steps.texts) {
+        Ok(()) => Ok(steps.status),
+        Err(_) => Err(BenchFault::Io),
+    }
 }
 
 // Writes a page, and hands it on.
