@@ -156,7 +156,7 @@ fn answered<R: Input + AllocGlobal, W: Write + Drop, E: Write + Drop>(
     head: usize,
     report: &mut Report<W, E>,
 ) -> Result<Review, AllocError> {
-    match answer(rt, report) {
+    match ask(rt, report) {
         Answer::Yes => {
             push(said, head)?;
             Ok(Review::Each)
@@ -171,7 +171,7 @@ fn answered<R: Input + AllocGlobal, W: Write + Drop, E: Write + Drop>(
 }
 
 // Asks until one of the answers comes. The end of the input, and a terminal that takes nothing more, end the review.
-fn answer<R: Input + AllocGlobal, W: Write + Drop, E: Write + Drop>(
+fn ask<R: Input + AllocGlobal, W: Write + Drop, E: Write + Drop>(
     rt: &R,
     report: &mut Report<W, E>,
 ) -> Answer {
