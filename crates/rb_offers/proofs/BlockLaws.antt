@@ -34,7 +34,8 @@ expectation_fits after e rest (inl p) =
     ]
 expectation_fits after e rest (inr d) =
     let double : begins_rule after ≡ true = ap begins_rule d.parts ∙ rule_begins (e ++ rule ∷ rule ∷ d.more) in
-    let len : length after ≡ 1 + (length e + length (rule ∷ rule ∷ d.more)) = ap length d.parts ∙ ap (λ (n : ℕ). 1 + n) (length-append e (rule ∷ rule ∷ d.more)) in
+    let shown : length after ≡ suc (length (e ++ rule ∷ rule ∷ d.more)) = ap length d.parts in
+    let len : length after ≡ 1 + (length e + length (rule ∷ rule ∷ d.more)) = omega (arith, shown, length-append e (rule ∷ rule ∷ d.more)) in
     elim d.closed [
       | inl b ↦ let more : length d.more ≡ length (b.0 ∷ rest) = ap length b.2 in rw double (omega (arith, len, more))
       | inr b ↦ let more : length d.more ≡ length rest = ap length b.1 in rw double (omega (arith, len, more))
@@ -98,7 +99,7 @@ fits whole ls rest b k n is r number =
     let shown = expectation_fits r.after b.expected rest r.expected in
     let some : 0 < length b.head = some_head b.head r.head.1 in
     let whole_len : length ls ≡ length whole - k = ap length is ∙ length-drop k whole in
-    let len : length ls ≡ length b.lead + (length b.head + (length b.input + (1 + length r.after))) =
+    let len : length ls ≡ length b.lead + (length b.head + (length b.input + suc (length r.after))) =
     ap length r.parts ∙ length-append b.lead (b.head ++ more) ∙ ap (λ (i : ℕ). length b.lead + i) (length-append b.head more ∙ ap (λ (i : ℕ). length b.head + i) (length-append b.input (r.separator ∷ r.after))) in
     record {
       begins = omega (arith, from);

@@ -1,5 +1,6 @@
 -- The words that are offered are those of the tables.
-use Rattle.std.proofs.Common.{◌≡◌, ◌∙◌, ℕ, Bool, true, false, List, [], ◌∷◌, ◌++◌, map, refl, ap, sym, map-append}
+use Rattle.std.proofs.Common.{◌≡◌, ◌∙◌, ℕ, Bool, true, false, List, [], ◌∷◌, ◌++◌, map, refl, ap, sym}
+use Rattle.std.proofs.lemmas.List.{map-append}
 use Rattle.std.specs.Prelude.{◌&&◌, codes, filter, if◌then◌else◌}
 use Rattle.std.specs.Str.{bytes_eq}
 use Rattle.rb_directive.specs.declared.table.Row.{Row}
@@ -84,4 +85,4 @@ chosen_words prefix documentation (c ∷ cs) =
     (λ no. rw no (chosen_words prefix documentation cs))
 
 pub values_offered : (name key prefix : List ℕ) → takes name key ≡ true → words (values name key prefix) ≡ filter (begins_with prefix) (choices_of key)
-values_offered name key prefix yes = rw yes (chosen_words prefix (line_of name) (choices_of key))
+values_offered name key prefix taken = rw taken (chosen_words prefix (line_of name) (choices_of key))

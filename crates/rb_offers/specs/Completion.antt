@@ -8,7 +8,7 @@ use Rattle.rb_document.specs.Places.{offset, position_of}
 use Rattle.rb_offers.specs.declared.offer.Kind.{Kind}
 use Rattle.rb_offers.specs.declared.offer.Kind.TheVariants as kinds
 use Rattle.rb_offers.specs.Above.{head_to}
-use Rattle.rb_offers.specs.Unfinished.{name_of, wanted}
+use Rattle.rb_offers.specs.Unfinished.{name_of, wanted_of}
 use Rattle.rb_offers.specs.Offers.{PlainOffer, offers}
 use Rattle.rb_offers.specs.Texts.{list_text, range_text}
 
@@ -33,7 +33,7 @@ item_text start end o =
 -- the words that a head can go on with, which ends at a place, in the place of what stands of one before it
 unfoldable pub of_head : Encoding → List ℕ → ℕ → List ℕ → List ℕ
 of_head encoding text at head =
-    list_text (item_text (position_of encoding (at - length (wanted head).prefix) text) (position_of encoding at text)) (offers (name_of head) (wanted head))
+    list_text (item_text (position_of encoding (at - length (wanted_of head).prefix) text) (position_of encoding at text)) (offers (name_of head) (wanted_of head))
 
 abbrev pub of_found : Encoding → List ℕ → ℕ → Option (List ℕ) → List ℕ
 of_found encoding text at None = codes "[]"

@@ -97,5 +97,5 @@ behind_name prefix (b ∷ rest) = in_arguments MAX_ARGUMENTS (b ∷ rest)
 abbrev pub name_of : List ℕ → List ℕ
 name_of head = while_of is_word (after_while is_space head)
 
-unfoldable pub wanted : List ℕ → PlainWanted
-wanted head = behind_name (after_while is_space head) (after_while is_word (after_while is_space head))
+unfoldable pub wanted_of : List ℕ → PlainWanted
+wanted_of head = behind_name (after_while is_space head) (after_while is_word (after_while is_space head))

@@ -7,7 +7,7 @@ ghost use Rattle.rb_offers.specs.Texts.{listed};
 
 use crate::above::head_to;
 use crate::offer::{Kind, Offer, offers};
-use crate::unfinished::{name_of, wanted};
+use crate::unfinished::{name_of, wanted_of};
 use crate::writing::add_range;
 use rb_document::{Encoding, Position, offset, position_of};
 use rb_json::{Piece, add_pieces};
@@ -102,7 +102,7 @@ fn add_offers(
     requires bounded { length text.now ≤ MAX_TEXT }
     ensures { OnOk result (out.new.items ≡ out.old.items ++ of_head encoding text.now at head.now) }
 {
-    let wanted = wanted(head);
+    let wanted = wanted_of(head);
     let list = offers(alloc, name_of(head), &wanted)?;
     let start = at.saturating_sub(wanted.prefix.len());
     out.extend_from_slice(b"[")?;

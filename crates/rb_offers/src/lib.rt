@@ -12,6 +12,7 @@ mod completion;
 mod folds;
 mod formatting;
 mod laws;
+mod lines;
 mod offer;
 mod part;
 mod symbols;

@@ -4,7 +4,7 @@ ghost use Rattle.std.specs.Prelude.{◌≡◌};
 ghost use Rattle.rb_script.specs.declared.limits.TheConstants.{MAX_ARGUMENTS};
 ghost use Rattle.rb_script.specs.Directive.{begins};
 ghost use Rattle.rb_script.specs.Heads.{begins_space};
-ghost use Rattle.rb_offers.specs.Unfinished.{argument_at, closed, in_arguments, last_piece, list_value, name_of, nothing, reach_of, rest_or, value_at, wanted};
+ghost use Rattle.rb_offers.specs.Unfinished.{argument_at, closed, in_arguments, last_piece, list_value, name_of, nothing, reach_of, rest_or, value_at, wanted_of};
 
 use crate::class::Class;
 use rb_script::{MAX_ARGUMENTS, is_space};
@@ -175,8 +175,8 @@ pub(crate) fn name_of(head: &[u8]) -> &[u8]
 }
 
 /// What an unfinished head ends in.
-pub(crate) fn wanted(head: &[u8]) -> Wanted<'_>
-    ensures { result ≡ wanted head.now }
+pub(crate) fn wanted_of(head: &[u8]) -> Wanted<'_>
+    ensures { result ≡ wanted_of head.now }
 {
     let name = Class::Space.after(head);
     let rest = Class::Word.after(name);
