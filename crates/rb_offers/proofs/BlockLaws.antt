@@ -1,8 +1,15 @@
 -- Where the blocks of a text stand in its lines.
 use Rattle.std.proofs.Common.{◌≡◌, ℕ, suc, ◌+◌, ◌-◌, ◌<◌, ◌≤◌, true, false, List, [], ◌∷◌, ◌++◌, length, take, drop, get_or, Some, None, Result, Ok, Err, refl, ap, sym, subst, ◌∙◌, arith, append_assoc, append-nil, length-append, length-drop, inl, inr, ◌⊎◌}
 use Rattle.std.specs.Prelude.{if◌then◌else◌, slice_get}
+use Rattle.std.proofs.lemmas.Option.{get_or_from_slice_get, slice_get_within}
 use Rattle.std.proofs.lemmas.List.{drop_all, drop_at, drop-drop, drop_more, take-append-drop, length-take-le}
 use Rattle.rb_script.specs.declared.fault.ScriptFault.{ScriptFault}
+use Rattle.rb_script.specs.declared.fault.ScriptFault.TheVariants.{OutOfMemory}
+use Rattle.rb_script.specs.Directive.{PlainDirective}
+use Rattle.rb_script.specs.Heads.{HeadThere, directive_of, head_at, with_inputs}
+use Rattle.rb_script.specs.Joined.{joined}
+use Rattle.rb_script.specs.Results.{Fails}
+use Rattle.rb_script.specs.Tokens.{SpannedDirective, plain}
 use Rattle.rb_script.specs.Lines.{Line, lines}
 use Rattle.rb_script.specs.Marks.{continues, is_rule, rule}
 use Rattle.rb_script.specs.Script.{PlainBlock, PlainScript}
@@ -18,7 +25,7 @@ use Rattle.rb_check.proofs.PieceLaws.{drop-get}
 use Rattle.rb_offers.specs.declared.block_lines.BlockLines.{BlockLines}
 use Rattle.rb_offers.specs.declared.block_lines.TheConstants.{DOUBLE_LINES}
 use Rattle.rb_offers.specs.Heads.{behind_block, heads_at, heads_of}
-use Rattle.rb_offers.specs.BlockLines.{AreApart, StandsIn, all_lines, behind_head, block_lines, blocks_of, found, mark_lines, of_script, script_of}
+use Rattle.rb_offers.specs.BlockLines.{AreApart, counted_lines, lines_at, lines_from, StandsIn, all_lines, behind_head, block_lines, blocks_of, found, mark_lines, of_script, script_of}
 
 -- ---- an expectation
 
@@ -117,12 +124,48 @@ stands ls n b h =
 pub stands_from : (ls : List Line) (n : ℕ) (b : PlainBlock) → StandsIn ls n b → 1 ≤ n
 stands_from ls n b h = omega (arith, h.line.number)
 
+-- its lines end within the text
+pub end_within : (ls : List Line) (n : ℕ) (b : PlainBlock) → StandsIn ls n b
+    → behind_head ls (n - 1) + length b.input + 1 + length b.expected + mark_lines ls (behind_head ls (n - 1) + length b.input + 1) ≤ length ls
+unfolding block_lines
+end_within ls n b h = omega (arith, (stands ls n b h).ends)
+
+with_inputs_are : (ls : List Line) (head : HeadThere) → (with_inputs ls head).inputs ≡ ls
+with_inputs_are ls None = refl
+with_inputs_are ls (Some head) = refl
+
+pub block_inputs : (b : PlainBlock) (d : SpannedDirective) → plain d ≡ directive_of b → length d.inputs ≡ length b.input
+unfolding directive_of
+block_inputs b d is = ap (λ (x : PlainDirective). length x.inputs) is ∙ ap length (with_inputs_are b.input (head_at (joined b.head)))
+
+-- what was counted
+pub lines_made : (ls : List Line) (n : ℕ) (b : PlainBlock) (body inputs expected marks : ℕ) → body ≡ behind_head ls (n - 1) → inputs ≡ length b.input → expected ≡ length b.expected → marks ≡ mark_lines ls (body + inputs + 1)
+    → counted_lines (n - 1) body (body + inputs + 1) (body + inputs + 1 + expected + marks) ≡ block_lines ls n b
+unfolding block_lines
+lines_made ls n b body inputs expected marks body_is inputs_is expected_is marks_is =
+    ap (λ (m : ℕ). counted_lines (n - 1) body (body + inputs + 1) (body + inputs + 1 + expected + m)) marks_is
+    ∙ ap (λ (e : ℕ). counted_lines (n - 1) body (body + inputs + 1) (body + inputs + 1 + e + mark_lines ls (body + inputs + 1))) expected_is
+    ∙ ap (λ (i : ℕ). lines_from ls b (n - 1) body (body + i + 1)) inputs_is
+    ∙ ap (lines_at ls b (n - 1)) body_is
+
 -- each block of those whose heads are told stands there
-pub all_stand : (ls : List Line) (bs : List PlainBlock) (ns : List ℕ) (i : ℕ) (b : PlainBlock) → AreHeadLines 1 ls bs ns → i < length bs → b ≡ get_or bs i b → StandsIn ls (get_or ns i 0) b
-all_stand ls bs ns i b h within is =
-    let parts : bs ≡ take i bs ++ b ∷ drop (i + 1) bs = sym (take-append-drop i bs) ∙ ap (λ (l : List PlainBlock). take i bs ++ l) (drop_more bs i b within) ∙ ap (λ (x : PlainBlock). take i bs ++ x ∷ drop (i + 1) bs) (sym is) in
-    let at : length (take i bs) ≡ i = length-take-le i bs (omega (arith, within)) in
-    record { before = take i bs; line = subst (λ (k : ℕ). IsHeadLine 1 ls (take i bs) b (get_or ns k 0)) at (h.each (take i bs) (drop (i + 1) bs) b parts) }
+record At (bs : List PlainBlock) (i : ℕ) (b : PlainBlock) : Type 0 where
+  within : i < length bs
+  is : b ≡ get_or bs i b
+
+at_place : (bs : List PlainBlock) (i : ℕ) (b : PlainBlock) → slice_get bs (i + 1 - 1) ≡ Some b → At bs i b
+at_place bs i b got =
+    let same : i ≡ i + 1 - 1 = omega arith in
+    let there : slice_get bs i ≡ Some b = ap (slice_get bs) same ∙ got in
+    record { within = slice_get_within bs i b there; is = sym (get_or_from_slice_get bs i b b there) }
+
+pub all_stand : (ls : List Line) (bs : List PlainBlock) (ns : List ℕ) (i : ℕ) (b : PlainBlock) → AreHeadLines 1 ls bs ns → slice_get bs (i + 1 - 1) ≡ Some b → StandsIn ls (get_or ns i 0) b
+all_stand ls bs ns i b h got =
+    let at = at_place bs i b got in
+    let parts : bs ≡ take i bs ++ b ∷ drop (i + 1) bs =
+    sym (take-append-drop i bs) ∙ ap (λ (l : List PlainBlock). take i bs ++ l) (drop_more bs i b at.within) ∙ ap (λ (x : PlainBlock). take i bs ++ x ∷ drop (i + 1) bs) (sym at.is) in
+    let count : length (take i bs) ≡ i = length-take-le i bs (omega (arith, at.within)) in
+    record { before = take i bs; line = subst (λ (k : ℕ). IsHeadLine 1 ls (take i bs) b (get_or ns k 0)) count (h.each (take i bs) (drop (i + 1) bs) b parts) }
 
 -- ---- the blocks of a text
 
@@ -176,17 +219,29 @@ pub script_read : (bytes : List ℕ) (s : PlainScript) → read_of bytes ≡ Ok 
 unfolding script_of
 script_read bytes s is = ap found is
 
--- a loop over blocks, with the lines of their heads
-pub one_block : (ls : List Line) (ns : List ℕ) (bs : List PlainBlock) (i : ℕ) (b : PlainBlock) → i < length ns → i < length bs → b ≡ get_or bs i b
-    → all_lines ls (drop i ns) (drop i bs) ≡ block_lines ls (get_or ns i 0) b ∷ all_lines ls (drop (i + 1) ns) (drop (i + 1) bs)
-one_block ls ns bs i b in_ns in_bs is =
-    ap (λ (l : List ℕ). all_lines ls l (drop i bs)) (drop_more ns i 0 in_ns)
-    ∙ ap (λ (l : List PlainBlock). all_lines ls (get_or ns i 0 ∷ drop (i + 1) ns) l) (drop_more bs i b in_bs)
-    ∙ ap (λ (x : PlainBlock). all_lines ls (get_or ns i 0 ∷ drop (i + 1) ns) (x ∷ drop (i + 1) bs)) (sym is)
+-- the bytes are refused, and not for want of memory
+pub script_none : (bytes : List ℕ) (fault : ScriptFault) → Fails fault (read_of bytes) → (fault ≡ OutOfMemory → ⊥) → script_of bytes ≡ None
+script_none bytes OutOfMemory fails other = absurd (other refl)
+script_none bytes fault fails other = script_refused bytes fault fails
 
-pub no_block : (ls : List Line) (ns : List ℕ) (bs : List PlainBlock) → ns ≡ [] → all_lines ls ns bs ≡ []
-no_block ls [] bs none = refl
-no_block ls (n ∷ ns) bs none = absurd cc
+-- a loop over blocks, with the lines of their heads
+pub one_block : (ls : List Line) (ns : List ℕ) (bs : List PlainBlock) (i : ℕ) (b : PlainBlock) → i < length ns → slice_get bs (i + 1 - 1) ≡ Some b
+    → all_lines ls (drop i ns) (drop i bs) ≡ block_lines ls (get_or ns i 0) b ∷ all_lines ls (drop (i + 1) ns) (drop (i + 1) bs)
+one_block ls ns bs i b within got =
+    let at = at_place bs i b got in
+    ap (λ (l : List ℕ). all_lines ls l (drop i bs)) (drop_more ns i 0 within)
+    ∙ ap (λ (l : List PlainBlock). all_lines ls (get_or ns i 0 ∷ drop (i + 1) ns) l) (drop_more bs i b at.within)
+    ∙ ap (λ (x : PlainBlock). all_lines ls (get_or ns i 0 ∷ drop (i + 1) ns) (x ∷ drop (i + 1) bs)) (sym at.is)
+
+-- one more block was kept
+pub one_kept : (kept more : List BlockLines) (ls : List Line) (ns : List ℕ) (bs : List PlainBlock) (i : ℕ) (b : PlainBlock) (p : BlockLines) → i < length ns → slice_get bs (i + 1 - 1) ≡ Some b → p ≡ block_lines ls (get_or ns i 0) b
+    → more ≡ kept ++ p ∷ [] → more ++ all_lines ls (drop (i + 1) ns) (drop (i + 1) bs) ≡ kept ++ all_lines ls (drop i ns) (drop i bs)
+one_kept kept more ls ns bs i b p within got is more_is =
+    let rest = all_lines ls (drop (i + 1) ns) (drop (i + 1) bs) in
+    ap (λ (l : List BlockLines). l ++ rest) more_is
+    ∙ append_assoc kept (p ∷ []) rest
+    ∙ ap (λ (x : BlockLines). kept ++ x ∷ rest) is
+    ∙ ap (λ (l : List BlockLines). kept ++ l) (sym (one_block ls ns bs i b within got))
 
 -- ---- loops over lines
 

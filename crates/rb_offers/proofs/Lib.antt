@@ -5,3 +5,4 @@ pub mod OfferLaws
 pub mod FormatLaws
 pub mod AboveLaws
 pub mod OrderLaws
+pub mod NameLaws

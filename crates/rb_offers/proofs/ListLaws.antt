@@ -1,7 +1,7 @@
 -- Texts in a list, one after another.
 use Rattle.std.proofs.Common.{◌≡◌, ◌∙◌, ℕ, ◌+◌, ◌<◌, ◌≤◌, List, [], ◌∷◌, ◌++◌, length, drop, get_or, ap, sym, append_assoc}
 use Rattle.std.specs.Prelude.{codes}
-use Rattle.std.proofs.lemmas.List.{drop_all, drop_more}
+use Rattle.std.proofs.lemmas.List.{drop_all, drop_more, get_or_default}
 use Rattle.rb_offers.specs.Texts.{listed}
 
 -- the first of some, and the others
@@ -19,6 +19,11 @@ one_more text lead out xs i x within is =
     append_assoc (out ++ lead) (text x) rest
     ∙ append_assoc out lead (text x ++ rest)
     ∙ ap (λ (l : List ℕ). out ++ l) (sym (first_listed text lead xs i x within is))
+
+-- the same of one that is read by its place
+pub one_more_read : {X : Type 0} (text : X → List ℕ) (lead out : List ℕ) (xs : List X) (i : ℕ) (d : X) → i < length xs
+    → ((out ++ lead) ++ text (get_or xs i d)) ++ listed text (codes ",") (drop (i + 1) xs) ≡ out ++ listed text lead (drop i xs)
+one_more_read text lead out xs i d within = one_more text lead out xs i (get_or xs i d) within (get_or_default xs i d (get_or xs i d) within)
 
 -- there are no more
 pub no_more : {X : Type 0} (text : X → List ℕ) (lead : List ℕ) (xs : List X) (i : ℕ) → length xs ≤ i → listed text lead (drop i xs) ≡ codes "]"

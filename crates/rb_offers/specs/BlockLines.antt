@@ -19,9 +19,12 @@ behind_head ls from = from + length (head_of (drop from ls))
 abbrev pub mark_lines : List Line → ℕ → ℕ
 mark_lines ls below = if begins_rule (drop below ls) then DOUBLE_LINES else 0
 
+abbrev pub counted_lines : ℕ → ℕ → ℕ → ℕ → BlockLines
+counted_lines from body below end = record { from = from; body = body; below = below; end = end }
+
 -- of a block that begins on line `from`, whose head ends before line `body`, and whose expectation begins on line `below`
 abbrev pub lines_from : List Line → PlainBlock → ℕ → ℕ → ℕ → BlockLines
-lines_from ls b from body below = record { from = from; body = body; below = below; end = below + length b.expected + mark_lines ls below }
+lines_from ls b from body below = counted_lines from body below (below + length b.expected + mark_lines ls below)
 
 abbrev pub lines_at : List Line → PlainBlock → ℕ → ℕ → BlockLines
 lines_at ls b from body = lines_from ls b from body (body + length b.input + 1)

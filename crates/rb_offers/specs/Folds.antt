@@ -11,10 +11,13 @@ use Rattle.rb_offers.specs.Texts.{list_text}
 abbrev pub ended_line : Position → ℕ
 ended_line p = if p.character == 0 then p.line - 1 else p.line
 
+-- a fold of an editor's lines
+unfoldable pub lines_text : ℕ → ℕ → List ℕ
+lines_text first last = codes "{\"startLine\":" ++ (decimal first ++ (codes ",\"endLine\":" ++ (decimal last ++ codes "}")))
+
 -- the fold of a script's lines from one on and before another
-unfoldable pub fold_text : List ℕ → ℕ → ℕ → List ℕ
-fold_text text from end =
-    codes "{\"startLine\":" ++ (decimal (start_of Utf8 from text).line ++ (codes ",\"endLine\":" ++ (decimal (ended_line (start_of Utf8 end text)) ++ codes "}")))
+abbrev pub fold_text : List ℕ → ℕ → ℕ → List ℕ
+fold_text text from end = lines_text (start_of Utf8 from text).line (ended_line (start_of Utf8 end text))
 
 -- that of a block's expectation, behind a comma, where it has more than one line
 unfoldable pub expectation_fold : List ℕ → BlockLines → List ℕ

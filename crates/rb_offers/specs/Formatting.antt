@@ -10,15 +10,13 @@ use Rattle.rb_document.specs.Edits.{range_between, new_between}
 use Rattle.rb_offers.specs.BlockLines.{script_of}
 use Rattle.rb_offers.specs.Texts.{range_text}
 
-abbrev pub put_text : Range → List ℕ → List ℕ
-put_text range new = codes "[{\"range\":" ++ (range_text range.start range.end ++ (codes ",\"newText\":\"" ++ (flat_map escaped new ++ codes "\"}]")))
+-- a text in the place of what stands in a range, as an edit in a list
+unfoldable pub text_edit : Range → List ℕ → List ℕ
+text_edit range new = codes "[{\"range\":" ++ (range_text range.start range.end ++ (codes ",\"newText\":\"" ++ (flat_map escaped new ++ codes "\"}]")))
 
--- what differs between two texts, as an edit in a list
-unfoldable pub edit_text : Encoding → List ℕ → List ℕ → List ℕ
-edit_text encoding old new = put_text (range_between encoding old new) (new_between old new)
-
+-- what differs between two texts, where something does
 abbrev pub edits : Encoding → List ℕ → List ℕ → List ℕ
-edits encoding old new = if bytes_eq old new then codes "[]" else edit_text encoding old new
+edits encoding old new = if bytes_eq old new then codes "[]" else text_edit (range_between encoding old new) (new_between old new)
 
 abbrev pub of_script : Encoding → List ℕ → Option PlainScript → List ℕ
 of_script encoding text None = codes "[]"

@@ -5,6 +5,7 @@ use Rattle.rb_script.specs.Lines.{Line, lines}
 use Rattle.rb_script.specs.Marks.{without_front}
 use Rattle.rb_json.specs.Escapes.{escaped}
 use Rattle.rb_document.specs.declared.position.Encoding.{Encoding}
+use Rattle.rb_document.specs.declared.position.Position.{Position}
 use Rattle.rb_document.specs.Places.{is_within}
 use Rattle.rb_document.specs.Tables.{start_of}
 use Rattle.rb_offers.specs.declared.block_lines.BlockLines.{BlockLines}
@@ -22,12 +23,17 @@ first_characters (suc n) (b ∷ bytes) = b ∷ (if is_within b then first_charac
 abbrev pub name_of : List Line → ℕ → List ℕ
 name_of ls from = first_characters MAX_NAME (without_front (slice_index_or ls from []))
 
--- a block, from its head to the end of its expectation, of which the head is selected
-unfoldable pub symbol_text : Encoding → List ℕ → BlockLines → List ℕ
-symbol_text encoding text b =
-    codes "{\"name\":\"" ++ (flat_map escaped (name_of (lines text) b.from) ++ (codes "\",\"kind\":24,\"range\":"
-    ++ (range_text (start_of encoding b.from text) (start_of encoding b.end text) ++ (codes ",\"selectionRange\":"
-    ++ (range_text (start_of encoding b.from text) (start_of encoding b.body text) ++ codes "}")))))
+-- the name and the kind of the symbol of a block whose head begins on a line
+unfoldable pub name_text : List Line → ℕ → List ℕ
+name_text ls from = codes "{\"name\":\"" ++ (flat_map escaped (name_of ls from) ++ codes "\",\"kind\":24,\"range\":")
+
+-- the symbol of a block between these positions, of which its head is selected
+unfoldable pub symbol_at : List Line → ℕ → Position → Position → Position → List ℕ
+symbol_at ls from start behind_head end = name_text ls from ++ (range_text start end ++ (codes ",\"selectionRange\":" ++ (range_text start behind_head ++ codes "}")))
+
+-- from its head to the end of its expectation
+abbrev pub symbol_text : Encoding → List ℕ → BlockLines → List ℕ
+symbol_text encoding text b = symbol_at (lines text) b.from (start_of encoding b.from text) (start_of encoding b.body text) (start_of encoding b.end text)
 
 unfoldable pub symbols : Encoding → List ℕ → List ℕ
 symbols encoding text = list_text (symbol_text encoding text) (blocks_of text)

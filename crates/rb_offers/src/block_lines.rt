@@ -1,6 +1,7 @@
 //! On which lines of a text the blocks of its script stand.
 
-ghost use Rattle.std.specs.Prelude.{◌≡◌, ◌≤◌, ◌<◌, ◌^◌, ◌-◌, length, drop, slice_get, IfOk, IfSome, Some};
+ghost use Rattle.std.specs.Prelude.{◌≡◌, ◌≢◌, ◌≤◌, ◌<◌, ◌^◌, ◌-◌, length, drop, slice_get, IfOk, IfSome, OnOk, Some};
+ghost use Rattle.rb_script.specs.declared.fault.ScriptFault.TheVariants.{OutOfMemory};
 ghost use Rattle.rb_script.specs.HeadLines.{AreHeadLines};
 ghost use Rattle.rb_script.specs.Lines.{lines};
 ghost use Rattle.rb_script.specs.Reads.{Reads, begins_rule};
@@ -104,6 +105,16 @@ fn all_lines(
     Ok(all)
 }
 
+// Whether it is the bytes that are refused; an error, where memory was.
+fn refused(fault: ScriptFault) -> Result<(), AllocError>
+    ensures { OnOk result (fault ≢ OutOfMemory) }
+{
+    match fault {
+        ScriptFault::OutOfMemory => Err(AllocError),
+        _ => Ok(()),
+    }
+}
+
 /// The script that the bytes are, where they are one.
 pub(crate) fn script_of(alloc: Global, bytes: &[u8]) -> Result<Option<Script>, AllocError>
     ensures value { IfOk result (λ found. found ≡ script_of bytes.now) }
@@ -111,8 +122,10 @@ pub(crate) fn script_of(alloc: Global, bytes: &[u8]) -> Result<Option<Script>, A
 {
     match Script::read(alloc, bytes) {
         Ok(script) => Ok(Some(script)),
-        Err(ScriptFault::OutOfMemory) => Err(AllocError),
-        Err(_) => Ok(None),
+        Err(fault) => {
+            refused(fault)?;
+            Ok(None)
+        }
     }
 }
 

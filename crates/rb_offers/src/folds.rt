@@ -4,10 +4,11 @@ ghost use Rattle.std.specs.Prelude.{◌≡◌, ◌≤◌, ◌++◌, [], OnOk, le
 ghost use Rattle.rb_document.specs.declared.limits.TheConstants.{MAX_TEXT};
 ghost use Rattle.rb_document.specs.declared.position.Encoding.TheVariants.{Utf8};
 ghost use Rattle.rb_document.specs.Tables.{IsTable};
-ghost use Rattle.rb_offers.specs.Folds.{block_folds, ended_line, expectation_fold, fold_text, folds};
+ghost use Rattle.rb_offers.specs.Folds.{block_folds, ended_line, expectation_fold, fold_text, folds, lines_text};
 ghost use Rattle.rb_offers.specs.Texts.{listed};
 
 use crate::block_lines::{BlockLines, blocks_of};
+use crate::writing::start_of;
 use rb_document::{Encoding, LineTable, Position};
 use rb_json::{Piece, add_pieces};
 use std::alloc::{AllocError, Global};
@@ -23,8 +24,24 @@ fn ended_line(position: Position) -> u64
     }
 }
 
-// The fold of the lines from one on and before another.
-#[tactic(auto, unfolding(crate::specs::Folds::fold_text))]
+// A fold of an editor's lines.
+#[tactic(auto, unfolding(crate::specs::Folds::lines_text))]
+fn add_lines(out: &mut Vec<u8>, first: u64, last: u64) -> Result<(), AllocError>
+    ensures { OnOk result (out.new.items ≡ out.old.items ++ lines_text first last) }
+{
+    add_pieces(
+        out,
+        &[
+            Piece::Bytes(b"{\"startLine\":"),
+            Piece::Number(first),
+            Piece::Bytes(b",\"endLine\":"),
+            Piece::Number(last),
+            Piece::Bytes(b"}"),
+        ],
+    )
+}
+
+// The fold of a script's lines from one on and before another.
 fn add_fold(
     out: &mut Vec<u8>,
     text: &[u8],
@@ -35,16 +52,9 @@ fn add_fold(
     requires { IsTable Utf8 text.now table.now }
     ensures { OnOk result (out.new.items ≡ out.old.items ++ fold_text text.now from end) }
 {
-    add_pieces(
-        out,
-        &[
-            Piece::Bytes(b"{\"startLine\":"),
-            Piece::Number(table.start_of(from).line),
-            Piece::Bytes(b",\"endLine\":"),
-            Piece::Number(ended_line(table.start_of(end))),
-            Piece::Bytes(b"}"),
-        ],
-    )
+    let start = start_of(Encoding::Utf8, text, table, from);
+    let stop = start_of(Encoding::Utf8, text, table, end);
+    add_lines(out, start.line, ended_line(stop))
 }
 
 // The fold of a block's expectation, where that has more than one line.

@@ -2,12 +2,13 @@
 
 ghost use Rattle.std.specs.Prelude.{◌≡◌, ◌≤◌, ◌++◌, IfOk, OnOk, length};
 ghost use Rattle.rb_document.specs.declared.limits.TheConstants.{MAX_TEXT};
+ghost use Rattle.rb_document.specs.Edits.{new_between, range_between};
 ghost use Rattle.rb_script.specs.Script.{text as canonical_text};
-ghost use Rattle.rb_offers.specs.Formatting.{edit_text, edits, formatting};
+ghost use Rattle.rb_offers.specs.Formatting.{edits, formatting, text_edit};
 
 use crate::block_lines::script_of;
 use crate::writing::add_range;
-use rb_document::{Encoding, edit_between};
+use rb_document::{Encoding, Range, edit_between};
 use rb_json::{Piece, add_pieces};
 use rb_script::{Script, Through};
 use std::alloc::{AllocError, Global};
@@ -24,23 +25,30 @@ fn canonical_text(alloc: Global, script: &Script) -> Result<Vec<u8>, AllocError>
     }
 }
 
-// The edit of what differs between two texts, in a list.
-#[tactic(auto, unfolding(crate::specs::Formatting::edit_text))]
-fn add_edit(out: &mut Vec<u8>, encoding: Encoding, old: &[u8], new: &[u8]) -> Result<(), AllocError>
-    requires { length old.now ≤ MAX_TEXT }
-    ensures { OnOk result (out.new.items ≡ out.old.items ++ edit_text encoding old.now new.now) }
+// A text in the place of what stands in a range, as an edit in a list.
+#[tactic(auto, unfolding(crate::specs::Formatting::text_edit))]
+fn add_text_edit(out: &mut Vec<u8>, range: Range, new: &[u8]) -> Result<(), AllocError>
+    ensures { OnOk result (out.new.items ≡ out.old.items ++ text_edit range new.now) }
 {
-    let edit = edit_between(encoding, old, new);
     out.extend_from_slice(b"[{\"range\":")?;
-    add_range(out, edit.range.start, edit.range.end)?;
+    add_range(out, range.start, range.end)?;
     add_pieces(
         out,
         &[
             Piece::Bytes(b",\"newText\":\""),
-            Piece::Escaped(edit.new),
+            Piece::Escaped(new),
             Piece::Bytes(b"\"}]"),
         ],
     )
+}
+
+// The edit of what differs between two texts.
+fn add_edit(out: &mut Vec<u8>, encoding: Encoding, old: &[u8], new: &[u8]) -> Result<(), AllocError>
+    requires { length old.now ≤ MAX_TEXT }
+    ensures { OnOk result (out.new.items ≡ out.old.items ++ text_edit (range_between encoding old.now new.now) (new_between old.now new.now)) }
+{
+    let edit = edit_between(encoding, old, new);
+    add_text_edit(out, edit.range, edit.new)
 }
 
 // The edits that make one text of another: none, where they are the same.

@@ -4,13 +4,13 @@ ghost use Rattle.std.specs.Prelude.{◌≡◌, ◌≤◌, ◌++◌, [], OnOk, le
 ghost use Rattle.rb_document.specs.declared.limits.TheConstants.{MAX_TEXT};
 ghost use Rattle.rb_document.specs.Tables.{IsTable};
 ghost use Rattle.rb_script.specs.Lines.{lines};
-ghost use Rattle.rb_offers.specs.Symbols.{first_characters, name_of, symbol_text, symbols};
+ghost use Rattle.rb_offers.specs.Symbols.{first_characters, name_of, name_text, symbol_at, symbol_text, symbols};
 ghost use Rattle.rb_offers.specs.Texts.{listed};
 
 use crate::block_lines::{BlockLines, blocks_of};
 use crate::lines::lines_of;
-use crate::writing::add_range;
-use rb_document::{Encoding, LineTable, is_within};
+use crate::writing::{add_range, start_of};
+use rb_document::{Encoding, LineTable, Position, is_within};
 use rb_json::{Piece, add_pieces};
 use rb_script::{Lines, without_front};
 use std::alloc::{AllocError, Global};
@@ -48,8 +48,42 @@ fn name_of(text: &Lines, from: usize) -> &[u8]
     first_characters(MAX_NAME, without_front(line_at(text, from)))
 }
 
+// The name and the kind of the symbol of a block whose head begins on a line.
+#[tactic(auto, unfolding(crate::specs::Symbols::name_text))]
+fn add_name(out: &mut Vec<u8>, text_lines: &Lines, from: usize) -> Result<(), AllocError>
+    ensures { OnOk result (out.new.items ≡ out.old.items ++ name_text text_lines.now from) }
+{
+    add_pieces(
+        out,
+        &[
+            Piece::Bytes(b"{\"name\":\""),
+            Piece::Escaped(name_of(text_lines, from)),
+            Piece::Bytes(b"\",\"kind\":24,\"range\":"),
+        ],
+    )
+}
+
+// The symbol of a block whose head begins on a line, between these positions.
+#[tactic(auto, unfolding(crate::specs::Symbols::symbol_at))]
+fn add_symbol_at(
+    out: &mut Vec<u8>,
+    text_lines: &Lines,
+    from: usize,
+    start: Position,
+    behind_head: Position,
+    end: Position,
+) -> Result<(), AllocError>
+    ensures { OnOk result (out.new.items ≡ out.old.items ++ symbol_at text_lines.now from start behind_head end) }
+{
+    add_name(out, text_lines, from)?;
+    add_range(out, start, end)?;
+    out.extend_from_slice(b",\"selectionRange\":")?;
+    add_range(out, start, behind_head)?;
+    out.extend_from_slice(b"}")?;
+    Ok(())
+}
+
 // The symbol of a block.
-#[tactic(auto, unfolding(crate::specs::Symbols::symbol_text))]
 fn add_symbol(
     out: &mut Vec<u8>,
     encoding: Encoding,
@@ -62,20 +96,10 @@ fn add_symbol(
     requires lines { text_lines.now ≡ lines text.now }
     ensures { OnOk result (out.new.items ≡ out.old.items ++ symbol_text encoding text.now block) }
 {
-    let start = table.start_of(block.from);
-    add_pieces(
-        out,
-        &[
-            Piece::Bytes(b"{\"name\":\""),
-            Piece::Escaped(name_of(text_lines, block.from)),
-            Piece::Bytes(b"\",\"kind\":24,\"range\":"),
-        ],
-    )?;
-    add_range(out, start, table.start_of(block.end))?;
-    out.extend_from_slice(b",\"selectionRange\":")?;
-    add_range(out, start, table.start_of(block.body))?;
-    out.extend_from_slice(b"}")?;
-    Ok(())
+    let start = start_of(encoding, text, table, block.from);
+    let behind_head = start_of(encoding, text, table, block.body);
+    let end = start_of(encoding, text, table, block.end);
+    add_symbol_at(out, text_lines, block.from, start, behind_head, end)
 }
 
 // Those of some blocks, of which the first stands behind nothing, and the others behind commas.

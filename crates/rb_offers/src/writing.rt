@@ -1,9 +1,10 @@
 //! What results are put together of: positions and ranges, as an editor is sent them.
 
 ghost use Rattle.std.specs.Prelude.{◌≡◌, ◌++◌, OnOk};
+ghost use Rattle.rb_document.specs.Tables.{IsTable, start_of};
 ghost use Rattle.rb_offers.specs.Texts.{position_text, range_text};
 
-use rb_document::Position;
+use rb_document::{Encoding, LineTable, Position};
 use rb_json::{Piece, add_pieces};
 use std::alloc::AllocError;
 
@@ -34,4 +35,12 @@ pub(crate) fn add_range(out: &mut Vec<u8>, start: Position, end: Position) -> Re
     add_position(out, end)?;
     out.extend_from_slice(b"}")?;
     Ok(())
+}
+
+/// Where a line of a text begins, whose lines stand in the table.
+pub(crate) fn start_of(_encoding: Encoding, _text: &[u8], table: &LineTable, n: usize) -> Position
+    requires { IsTable _encoding _text.now table.now }
+    ensures { result ≡ start_of _encoding n _text.now }
+{
+    table.start_of(n)
 }
