@@ -6,6 +6,7 @@ can't see.
 
     plain_chart.py FILE [LINE]     writes the picture of a script, or of its directives up to the one at a line
 """
+import os
 import pathlib
 import re
 import sys
@@ -19,30 +20,19 @@ sys.path.insert(0, str(pathlib.Path(__file__).resolve().parents[2]))
 from plain.script import read_script  # noqa: E402
 from plain_steps import rows_of  # noqa: E402
 
+# Sizes, in pixels. A row is its heading, a slot for each thing that happens in it, and a little room.
 SLOT, ROW_TOP, ROW_BOTTOM, HEADING = 18, 25, 8, 34
-GUTTER, LEFT, GAP, MOST_HEAD = 176, 92, 156, 24
+FIRST, GAP, RIGHT, LEAD, OUT = 268, 184, 192, 134, 40
 HALF_BAND = 5
-HALVES = {"leader": HALF_BAND, "candidate": 4, "precandidate": 4, "follower": 2.5}
+HALVES = {"leader": HALF_BAND, "candidate": 4, "precandidate": 4, "follower": 3}
+MOST_HEAD, MOST_NOTE, MOST_LABEL, MOST_MARK = 32, 36, 24, 25
 KINDS = {
     "MsgVote": "vote", "MsgPreVote": "vote", "MsgVoteResp": "vote", "MsgPreVoteResp": "vote", "MsgTimeoutNow": "vote", "MsgApp": "append",
     "MsgAppResp": "append", "MsgHeartbeat": "heartbeat", "MsgHeartbeatResp": "heartbeat", "MsgSnap": "snapshot", "MsgProp": "proposal",
     "MsgTransferLeader": "proposal",
 }
-LOOK = """
-svg { --paper: #fff; --ink: #1b1f24; --faint: #5d6672; --rule: #dfe3e8; --bad: #c0261c; --good: #1a7f43; --leader: #218a4b;
-  --candidate: #d08a12; --precandidate: #b39a2e; --follower: #a3abb6; --vote: #a85a06; --append: #2461d8; --heartbeat: #69727e;
-  --snapshot: #8237bd; --proposal: #0a7a75; font: 11.5px system-ui, "Segoe UI", "DejaVu Sans", Arial, sans-serif; }
-@media (prefers-color-scheme: dark) { svg { --paper: #14171c; --ink: #e4e7eb; --faint: #98a2af; --rule: #2e343d; --bad: #ff8278;
-  --good: #63cf8b; --leader: #3fae6b; --candidate: #d99a2b; --precandidate: #b8a244; --follower: #656e7a; --vote: #e0a050;
-  --append: #7ba7ff; --heartbeat: #98a2af; --snapshot: #c58df0; --proposal: #4fc4bd; } }
-.paper { fill: var(--paper); } text { fill: var(--ink); paint-order: stroke; stroke: var(--paper); stroke-width: 4px; }
-.edge { stroke: var(--rule); } .line { fill: var(--faint); text-anchor: end; } .name { font-weight: 600; text-anchor: middle; }
-.head { font: 600 11px ui-monospace, "DejaVu Sans Mono", Menlo, Consolas, monospace; } .quiet { fill: var(--faint); } .bad { fill: var(--bad); }
-.won, .moved { fill: var(--good); font-weight: 600; } .turn, .change, .installed { font-weight: 600; } .end { text-anchor: end; }
-.arrow { fill: none; stroke: currentColor; stroke-width: 1.4; } .waiting { stroke-dasharray: 2 3; } .tip { fill: currentColor; }
-.cross { fill: none; stroke: var(--bad); stroke-width: 2; } .leader { fill: var(--leader); } .candidate { fill: var(--candidate); }
-.precandidate { fill: var(--precandidate); } .follower { fill: var(--follower); }
-""" + "".join(f".{kind} {{ color: var(--{kind}); }} text.{kind} {{ fill: var(--{kind}); }}\n" for kind in sorted(set(KINDS.values())))
+# How things look, and the tips of arrows, of which there is one a kind.
+STYLE = (pathlib.Path(__file__).resolve().parents[2] / "crates" / "rb_chart" / "assets" / "style.svg").read_text()
 
 
 # Characters that have no look of their own, or turn the text around.
@@ -109,36 +99,30 @@ NOTES = {
 
 @dataclass
 class Arrow:
-    """A message, from where it was sent to where it ends."""
-    sender: int
-    to: int
-    kind: str
-    words: str
-    start: float
-    end: float = 0.0
-    fate: str = "waiting"
+    """A message on its way: where its line begins, and which of the lines is its own."""
+    start: int
+    place: int
 
 
 @dataclass
 class Row:
-    """A directive: where its row begins, and what stands in its gutter."""
+    """A directive: where its row begins, and how many things stand in it and in its gutter."""
     line: int
-    top: float
-    head: list = field(default_factory=list)
-    notes: list = field(default_factory=list)
+    top: int
     slots: int = 0
+    notes: int = 0
 
 
 @dataclass
 class Chart:
-    """Where everything stands."""
+    """Elements of a picture: what lies below, the lines of messages, and texts."""
     title: str
-    rows: list = field(default_factory=list)
-    arrows: list = field(default_factory=list)
-    marks: list = field(default_factory=list)
-    bands: dict = field(default_factory=lambda: defaultdict(list))
+    under: list = field(default_factory=list)
+    over: list = field(default_factory=list)
+    texts: list = field(default_factory=list)
     told: list = field(default_factory=list)
-    height: float = HEADING
+    width: int = 0
+    height: int = HEADING
 
 
 class Drafter:
@@ -146,8 +130,8 @@ class Drafter:
 
     def __init__(self, title):
         self.chart, self.row = Chart(title), None
-        self.mail, self.commits, self.bases = defaultdict(list), {}, {}
-        self.ready, self.sent, self.saves = 0, [], None
+        self.mail, self.commits, self.bases, self.bands = defaultdict(list), {}, {}, {}
+        self.ready, self.sent, self.saves = 0, 0, None
 
     def read(self, name, *cells):
         if name != "save":
@@ -162,25 +146,54 @@ class Drafter:
         elif name in MARKS:
             self.mark(name, *cells)
         elif name in NOTES:
-            self.row.notes.append(NOTES[name](*cells))
+            self.note(*NOTES[name](*cells))
+
+    # Rows
 
     def slot(self):
         self.row.slots += 1
-        return self.row.top + ROW_TOP + SLOT * (self.row.slots - 0.5)
+        return self.row.top + ROW_TOP + SLOT * self.row.slots - SLOT // 2
 
     def end_row(self):
         if self.row:
             self.end_saves()
-            self.chart.height = self.row.top + ROW_TOP + SLOT * max(self.row.slots, len(self.row.notes)) + ROW_BOTTOM
+            self.chart.height = self.row.top + ROW_TOP + SLOT * max(self.row.slots, self.row.notes) + ROW_BOTTOM
 
-    def read_step(self, line):
+    def begin_row(self, line, head):
         self.end_row()
-        self.row = Row(line, self.chart.height)
-        self.chart.rows.append(self.row)
-        self.sent = []
+        self.row, self.sent = Row(line, self.chart.height), 0
+        self.chart.under.append(f'<rect class="edge" y="{self.row.top}" width="100%" height="1"/>')
+        self.words("line", 30, self.row.top + 17, str(line))
+        self.words("head", 38, self.row.top + 17, fitted(head, MOST_HEAD))
+
+    def note(self, text, look):
+        self.row.notes += 1
+        self.words(look, 38, self.row.top + ROW_TOP + SLOT * self.row.notes - SLOT // 2, fitted(text, MOST_NOTE))
+
+    def words(self, look, x, y, text):
+        self.chart.texts.append(f'<text class="{look}" x="{x}" y="{y}">{escape(text)}</text>')
+
+    def tell(self, sentence):
+        self.chart.told.append(f"Line {self.row.line}: {sentence}.")
+
+    # Nodes
+
+    def end_band(self, id, bottom):
+        role, top = self.bands[id]
+        half = HALVES[role]
+        return f'<rect class="{role}" x="{x_of(id) - half}" y="{top}" width="{2 * half}" height="{bottom - top}"/>'
+
+    def read_started(self, id):
+        self.bands[id] = "follower", self.row.top
+        self.words("name", x_of(id), 22, f"node {id}")
+
+    def read_became(self, id, role, term):
+        y = self.mark("became", id, role, term)
+        self.chart.under.append(self.end_band(id, y))
+        self.bands[id] = role, y
 
     def read_ready(self, id):
-        self.ready, self.sent = id, []
+        self.ready, self.sent = id, 0
 
     def read_save(self, index, term, body):
         self.saves = (self.saves[0] if self.saves else index, index)
@@ -196,13 +209,6 @@ class Drafter:
             self.commits[self.ready] = commit
             self.mark("committed", self.ready, commit)
 
-    def read_started(self, id):
-        self.chart.bands[id].append((self.row.top, "follower"))
-
-    def read_became(self, id, role, term):
-        self.mark("became", id, role, term)
-        self.chart.bands[id].append((self.chart.marks[-1][1], role))
-
     def read_restored(self, id, term, index):
         self.commits[id] = self.bases[id] = index
         self.mark("restored", id, term, index)
@@ -217,142 +223,116 @@ class Drafter:
             self.bases[id] = base
             self.mark("compacted", id, base)
 
+    def mark(self, name, *cells):
+        words, look = MARKS[name](*cells)
+        y = self.slot()
+        self.words(look, x_of(cells[0]) + HALF_BAND + 5, y - 2, fitted(words, MOST_MARK))
+        self.tell(f"node {cells[0]}: {words}")
+        return y
+
+    # Messages
+
     def send(self, sender, to, kind, term, *cells):
         words = f"{kind[3:]} {said(kind, cells)}".strip()
-        arrow = Arrow(sender, to, kind, words, self.slot())
-        self.chart.arrows.append(arrow)
+        arrow = Arrow(self.slot(), len(self.chart.over))
+        self.chart.over += line(sender, to, kind, arrow.start, "waiting")
+        is_left = to < sender
+        x = x_of(sender) + (-HALF_BAND - 5 if is_left else HALF_BAND + 5)
+        self.words(KINDS[kind] + " end" * is_left, x, arrow.start - 5, fitted(words, MOST_LABEL))
         self.mail[to, kind].append(arrow)
-        self.sent.append(arrow)
+        self.sent += 1
         self.tell(f"{sender} sends {to} {words}")
 
-    def meet(self, fate, sender, to, kind, *rest):
-        arrow = self.mail[to, kind].pop(0)
-        arrow.end, arrow.fate = self.slot(), fate
-        self.tell(f"{arrow.words} from {sender} to {to} is {fate}")
+    def meet(self, fate, sender, to, kind, term, *cells):
+        arrow, end = self.mail[to, kind].pop(0), self.slot()
+        is_short = fate == "dropped" and to not in self.bands
+        self.draw_anew(arrow.place, line(sender, to, kind, arrow.start, "given up" if is_short else fate, end))
+        self.tell_end(fate, sender, to, kind, cells)
 
     def read_no_room(self, sender, to, kind, term, *cells):
         if not self.sent:
             self.send(sender, to, kind, term, *cells)
         arrow = self.mail[to, kind].pop()
-        arrow.fate = "given up"
-        self.sent.pop()
-        self.tell(f"{arrow.words} from {sender} to {to} is given up")
+        self.sent -= 1
+        self.draw_anew(arrow.place, line(sender, to, kind, arrow.start, "given up"))
+        self.tell_end("given up", sender, to, kind, cells)
 
-    def mark(self, name, *cells):
-        words, look = MARKS[name](*cells)
-        self.chart.marks.append((cells[0], self.slot(), words, look))
-        self.tell(f"node {cells[0]}: {words}")
+    def draw_anew(self, place, drawn):
+        self.chart.over[place] = drawn[0]
+        self.chart.over += drawn[1:]
 
-    def tell(self, sentence):
-        self.chart.told.append(f"Line {self.row.line}: {sentence}.")
+    def tell_end(self, fate, sender, to, kind, cells):
+        words = f"{kind[3:]} {said(kind, cells)}".strip()
+        self.tell(f"{words} from {sender} to {to} is {fate}")
+
+    # The end
 
     def read_end(self, *counts):
         self.end_row()
 
+    def done(self):
+        self.end_row()
+        self.chart.under += [self.end_band(id, self.chart.height) for id in sorted(self.bands)]
+        self.chart.width = x_of(max([*self.bands, 1])) + RIGHT
+        return self.chart
+
 
 def chart_of(data, name, until=None):
-    """The places of all that a script's picture has; of the directives up to the one at a line where there is one."""
-    drafter = Drafter(name if until is None else f"{name}, up to line {until}")
-    heads = (block.head for block in read_script(data).blocks)
+    """All that a script's picture has; of the directives up to the one at a line where there is one."""
+    title = shown(name if isinstance(name, bytes) else os.fsencode(name))
+    drafter = Drafter(title if until is None else f"{title}, up to line {until}")
+    heads = (block.head[0] for block in read_script(data).blocks)
     for row in rows_of(data, name):
         if row[0] == "step" and until is not None and row[1] > until:
             break
-        if row[0] not in ("raftbench", "text", "output", "expected", "mismatch"):
-            drafter.read(*row)
         if row[0] == "step":
-            drafter.row.head += map(shown, next(heads))
-    drafter.end_row()
-    return drafter.chart
+            drafter.end_saves()
+            drafter.begin_row(row[1], shown(next(heads)))
+        elif row[0] not in ("raftbench", "text", "output", "expected", "mismatch"):
+            drafter.read(*row)
+    return drafter.done()
 
 
 # Drawing
 
 
 def x_of(id):
-    return GUTTER + LEFT + GAP * (id - 1)
-
-
-def n(number):
-    return f"{number:.1f}".removesuffix(".0")
-
-
-def words(look, x, y, text):
-    return f'<text class="{look}" x="{n(x)}" y="{n(y)}">{escape(text)}</text>'
-
-
-def arrow_lines(arrow):
-    """An arrow with its tip or its cross, and its label."""
-    kind, side = KINDS[arrow.kind], -1 if arrow.to < arrow.sender else 1
-    start, from_x = arrow.start, x_of(arrow.sender) + side * HALF_BAND
-    to_x, end = x_of(arrow.to) - side * (HALF_BAND + 1), arrow.end
-    if arrow.fate == "dropped":
-        to_x -= 18 * side
-    elif arrow.fate != "delivered":
-        to_x, end = from_x + side * (0.55 if arrow.fate == "waiting" else 0.3) * GAP, start + SLOT * 0.45
-    waiting = " waiting" if arrow.fate == "waiting" else ""
-    if arrow.to == arrow.sender:
-        to_x, end = from_x, end if arrow.fate in ("delivered", "dropped") else start + SLOT
-        yield f'<path class="arrow {kind}{waiting}" d="M{n(from_x)} {n(start)}C{n(from_x + 34)} {n(start)} {n(from_x + 34)} {n(end)} {n(to_x)} {n(end)}"/>'
-        angle = (-1.0, 0.0)
-    else:
-        yield f'<path class="arrow {kind}{waiting}" d="M{n(from_x)} {n(start)}L{n(to_x)} {n(end)}"/>'
-        length = ((to_x - from_x) ** 2 + (end - start) ** 2) ** 0.5
-        angle = ((to_x - from_x) / length, (end - start) / length)
-    if arrow.fate == "delivered":
-        yield f'<path class="tip {kind}" d="{tip(to_x, end, *angle)}"/>'
-    elif arrow.fate != "waiting":
-        yield f'<path class="cross" d="M{n(to_x - 4)} {n(end - 4)}l8 8m0 -8l-8 8"/>'
-
-
-def tip(x, y, ux, uy):
-    back, out = (x - 9 * ux, y - 9 * uy), (3.6 * uy, 3.6 * ux)
-    return f"M{n(x)} {n(y)}L{n(back[0] - out[0])} {n(back[1] + out[1])}L{n(back[0] + out[0])} {n(back[1] - out[1])}Z"
-
-
-def label(arrow):
-    is_left = arrow.to < arrow.sender
-    x = x_of(arrow.sender) + (-HALF_BAND - 5 if is_left else HALF_BAND + 5)
-    return words(f"{KINDS[arrow.kind]}{' end' if is_left else ''}", x, arrow.start - 4, fitted(arrow.words, 24))
+    return FIRST + GAP * (id - 1)
 
 
 def fitted(text, most):
     return text if len(text) <= most else text[:most - 1] + "…"
 
 
-def gutter(row):
-    yield words("line", 30, row.top + 17, str(row.line))
-    yield words("head", 38, row.top + 17, fitted(" ".join(row.head), MOST_HEAD))
-    for at, (text, look) in enumerate(row.notes):
-        yield words(look, 38, row.top + ROW_TOP + SLOT * at + 9, fitted(text, 40))
-
-
-def band(id, parts, height):
-    ends = [top for top, _ in parts[1:]] + [height]
-    for (top, role), end in zip(parts, ends):
-        half = HALVES[role]
-        yield f'<rect class="{role}" x="{n(x_of(id) - half)}" y="{n(top)}" width="{n(2 * half)}" height="{n(end - top)}"/>'
+def line(sender, to, kind, start, fate, end=0):
+    """The line of a message, along its label and from there to where it ends; and a cross where it is lost."""
+    kind, side = KINDS[kind], -1 if to < sender else 1
+    x, bend = x_of(sender) + side * HALF_BAND, x_of(sender) + side * LEAD
+    if to == sender:
+        x += 1
+        to_x, end = x, end if fate in ("delivered", "dropped") else start + SLOT
+        path = f"M{x} {start}C{x + OUT} {start} {x + OUT} {end} {x} {end}"
+    else:
+        to_x = x_of(to) - side * (HALF_BAND + (1 if fate == "delivered" else 19))
+        if fate in ("waiting", "given up"):
+            to_x, end = bend + side * (26 if fate == "waiting" else 14), start + 8
+        path = f"M{x} {start}H{bend}L{to_x} {end}"
+    look = fate if fate in ("delivered", "waiting") else "lost"
+    crosses = [f'<path class="cross" d="M{to_x} {end}m-4 -4l8 8m0 -8l-8 8"/>'] if look == "lost" else []
+    return [f'<path class="arrow {kind} {look}" d="{path}"/>', *crosses]
 
 
 def svg_lines(chart):
-    width = x_of(max([*chart.bands, 1])) + LEFT + 40
+    width, height = chart.width, chart.height
     yield (f'<svg xmlns="http://www.w3.org/2000/svg" role="img" aria-labelledby="title what" '
-           f'viewBox="0 0 {n(width)} {n(chart.height)}" width="{n(width)}" height="{n(chart.height)}">')
+           f'viewBox="0 0 {width} {height}" width="{width}" height="{height}">')
     yield f'<title id="title">{escape(chart.title)}</title>'
-    yield f'<desc id="what">{escape(chr(10).join(chart.told))}</desc>'
-    yield f"<style>{LOOK}</style>"
+    yield f'<desc id="what">{escape("".join(f"{sentence}{chr(10)}" for sentence in chart.told))}</desc>'
+    yield STYLE.rstrip("\n")
     yield '<rect class="paper" width="100%" height="100%"/>'
-    edges = "".join(f"M0 {n(row.top + 0.5)}H{n(width)}" for row in chart.rows)
-    yield f'<path class="edge" d="{edges}"/>'
-    for id in sorted(chart.bands):
-        yield from band(id, chart.bands[id], chart.height)
-        yield words("name", x_of(id), 22, f"node {id}")
-    for arrow in chart.arrows:
-        yield from arrow_lines(arrow)
-    yield from map(label, chart.arrows)
-    for id, y, text, look in chart.marks:
-        yield words(look, x_of(id) + HALF_BAND + 5, y - 2, fitted(text, 26))
-    for row in chart.rows:
-        yield from gutter(row)
+    yield from chart.under
+    yield from chart.over
+    yield from chart.texts
     yield "</svg>"
 
 

@@ -1,0 +1,5 @@
+pub mod Escapes
+pub mod Pieces
+pub mod Shapes
+pub mod Charts
+pub mod Titles

@@ -1,0 +1,95 @@
+-- Shapes as elements of SVG. (SVG 2, W3C: paths in section 9.3, rectangles in 10.2, texts in 11; the classes are those of assets/style.svg.)
+use Rattle.std.specs.Prelude.{ℕ, codes, decimal, List, [], ◌++◌, Option, Some, None, slice_get}
+use Rattle.std.specs.List.{flat_map}
+use Rattle.rb_script.specs.Lines.{Line}
+use Rattle.rb_message.specs.declared.role.Role.{Role}
+use Rattle.rb_texts.specs.States.{role_text}
+use Rattle.rb_chart.specs.declared.look.Fate.{Fate}
+use Rattle.rb_chart.specs.declared.look.Fate.TheVariants as fates
+use Rattle.rb_chart.specs.declared.look.Kind.{Kind}
+use Rattle.rb_chart.specs.declared.look.Kind.TheVariants as kinds
+use Rattle.rb_chart.specs.declared.look.Look.{Look}
+use Rattle.rb_chart.specs.declared.look.Look.TheVariants as looks
+use Rattle.rb_chart.specs.declared.shape.Shape.{Shape}
+use Rattle.rb_chart.specs.declared.shape.Shape.TheVariants as shapes
+use Rattle.rb_chart.specs.Escapes.{escaped}
+
+-- ---- classes
+
+abbrev pub kind_text : Kind → List ℕ
+kind_text kinds.Vote = codes "vote"
+kind_text kinds.Append = codes "append"
+kind_text kinds.Heartbeat = codes "heartbeat"
+kind_text kinds.Snapshot = codes "snapshot"
+kind_text kinds.Proposal = codes "proposal"
+
+abbrev pub fate_text : Fate → List ℕ
+fate_text fates.Waiting = codes "waiting"
+fate_text fates.Delivered = codes "delivered"
+fate_text fates.Lost = codes "lost"
+
+-- where words end at their place, ` end` follows their class
+abbrev pub look_text : Look → List ℕ
+look_text looks.LineNumber = codes "line"
+look_text looks.Head = codes "head"
+look_text looks.Name = codes "name"
+look_text looks.Quiet = codes "quiet"
+look_text looks.Bad = codes "bad"
+look_text looks.Won = codes "won"
+look_text looks.Turn = codes "turn"
+look_text looks.Moved = codes "moved"
+look_text looks.Change = codes "change"
+look_text looks.Installed = codes "installed"
+look_text (looks.Label kind) = kind_text kind
+look_text (looks.LeftLabel kind) = kind_text kind ++ codes " end"
+
+-- ---- elements
+
+-- the line above a directive's row
+abbrev pub edge_text : ℕ → List ℕ
+edge_text y = codes "<rect class=\"edge\" y=\"" ++ (decimal y ++ codes "\" width=\"100%\" height=\"1\"/>\n")
+
+-- a node in one role
+abbrev pub band_text : Role → ℕ → ℕ → ℕ → ℕ → List ℕ
+band_text role x y width height =
+    codes "<rect class=\"" ++ (role_text role ++ (codes "\" x=\"" ++ (decimal x ++ (codes "\" y=\"" ++ (decimal y
+    ++ (codes "\" width=\"" ++ (decimal width ++ (codes "\" height=\"" ++ (decimal height ++ codes "\"/>\n")))))))))
+
+-- a message's line: along its label to where it bends, and from there to where it ends
+abbrev pub arrow_text : Kind → Fate → ℕ → ℕ → ℕ → ℕ → ℕ → List ℕ
+arrow_text kind fate x y bend to_x to_y =
+    codes "<path class=\"arrow " ++ (kind_text kind ++ (codes " " ++ (fate_text fate ++ (codes "\" d=\"M" ++ (decimal x ++ (codes " " ++ (decimal y
+    ++ (codes "H" ++ (decimal bend ++ (codes "L" ++ (decimal to_x ++ (codes " " ++ (decimal to_y ++ codes "\"/>\n")))))))))))))
+
+-- the line of a message to the node that sends it
+abbrev pub loop_text : Kind → Fate → ℕ → ℕ → ℕ → ℕ → List ℕ
+loop_text kind fate x y out to_y =
+    codes "<path class=\"arrow " ++ (kind_text kind ++ (codes " " ++ (fate_text fate ++ (codes "\" d=\"M" ++ (decimal x ++ (codes " " ++ (decimal y
+    ++ (codes "C" ++ (decimal out ++ (codes " " ++ (decimal y ++ (codes " " ++ (decimal out ++ (codes " " ++ (decimal to_y
+    ++ (codes " " ++ (decimal x ++ (codes " " ++ (decimal to_y ++ codes "\"/>\n")))))))))))))))))))
+
+-- where a message is lost
+abbrev pub cross_text : ℕ → ℕ → List ℕ
+cross_text x y = codes "<path class=\"cross\" d=\"M" ++ (decimal x ++ (codes " " ++ (decimal y ++ codes "m-4 -4l8 8m0 -8l-8 8\"/>\n")))
+
+abbrev pub words_text : Look → ℕ → ℕ → List ℕ → List ℕ
+words_text look x y words =
+    codes "<text class=\"" ++ (look_text look ++ (codes "\" x=\"" ++ (decimal x ++ (codes "\" y=\"" ++ (decimal y
+    ++ (codes "\">" ++ (flat_map escaped words ++ codes "</text>\n")))))))
+
+-- no words where there are none at that place
+abbrev pub given : Option Line → Line
+given None = []
+given (Some words) = words
+
+-- a shape, where these are the words of all
+abbrev pub shape_text : List Line → Shape → List ℕ
+shape_text words (shapes.Edge y) = edge_text y
+shape_text words (shapes.Band role x y width height) = band_text role x y width height
+shape_text words (shapes.Arrow kind fate x y bend to_x to_y) = arrow_text kind fate x y bend to_x to_y
+shape_text words (shapes.Loop kind fate x y out to_y) = loop_text kind fate x y out to_y
+shape_text words (shapes.Cross x y) = cross_text x y
+shape_text words (shapes.Words look x y at) = words_text look x y (given (slice_get words at))
+
+abbrev pub shapes_text : List Line → List Shape → List ℕ
+shapes_text words ss = flat_map (shape_text words) ss

@@ -1,0 +1,58 @@
+//! A picture.
+
+use crate::shape::Shape;
+use crate::sizes::HEADING;
+use rb_script::Lines;
+use std::alloc::Global;
+use std::marker::Model;
+
+/// A picture, as shapes that stand in their places. Sizes and places are in pixels, from the upper left corner on.
+#[derive(Drop)]
+pub struct Chart {
+    pub(crate) width: u64,
+    pub(crate) height: u64,
+    pub(crate) title: Vec<u8>,
+    // what it tells who can't see
+    pub(crate) told: Vec<u8>,
+    // the shapes, from the lowest layer up
+    pub(crate) under: Vec<Shape>,
+    pub(crate) over: Vec<Shape>,
+    pub(crate) texts: Vec<Shape>,
+    // the words of all shapes
+    pub(crate) words: Lines,
+}
+
+impl Model for Chart {
+    ghost use Rattle.rb_chart.specs.Charts.{PlainChart};
+
+    ghost Value = { PlainChart };
+
+    ghost view = { λ c. record { width = c.width; height = c.height; title = c.title.items; told = c.told.items; under = c.under.items; over = c.over.items; texts = c.texts.items; words = c.words } };
+}
+
+impl Chart {
+    ghost use Rattle.std.specs.Prelude.{◌≡◌};
+
+    /// A picture in which there is nothing yet. Takes no memory.
+    pub(crate) fn new(alloc: Global) -> Chart {
+        Chart {
+            width: 0,
+            height: HEADING,
+            title: Vec::new(alloc),
+            told: Vec::new(alloc),
+            under: Vec::new(alloc),
+            over: Vec::new(alloc),
+            texts: Vec::new(alloc),
+            words: Lines::new(alloc),
+        }
+    }
+
+    /// The picture with a title.
+    pub(crate) fn titled(self, title: Vec<u8>) -> Chart
+        ensures { result ≡ record self { title = title.items } }
+    {
+        let mut chart = self;
+        chart.title = title;
+        chart
+    }
+}

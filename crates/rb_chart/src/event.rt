@@ -1,0 +1,207 @@
+//! What happened, of which a row is read.
+
+use crate::names::{Name, name_of, role_of, type_of};
+use crate::row::{Row, name_and_cells, row_of};
+use rb_message::{MessageType, Role};
+
+/// What happened.
+#[derive(Clone, Copy)]
+pub(crate) enum Event<'a> {
+    /// A directive begins, whose head is at this line.
+    Step { line: u64 },
+    /// What comes next is of this node's ready.
+    Ready { id: u64 },
+    /// An entry becomes durable.
+    Saved { index: u64 },
+    /// The hard state of the ready's node has this commit.
+    Hard { commit: u64 },
+    Sent(Message<'a>),
+    Delivered(Message<'a>),
+    Dropped(Message<'a>),
+    /// It is given up: too many are on their way.
+    GivenUp(Message<'a>),
+    Started { id: u64 },
+    /// A node has this commit.
+    Node { id: u64, commit: u64 },
+    /// A node's log begins behind this index.
+    Log { id: u64, base: u64 },
+    /// A node tells of itself.
+    Told { id: u64, mark: Mark<'a> },
+    /// What is said of the directive.
+    Noted(Note<'a>),
+}
+
+/// A message. Names and texts are as rows have them, between quotes.
+#[derive(Clone, Copy)]
+pub(crate) struct Message<'a> {
+    pub(crate) from: u64,
+    pub(crate) to: u64,
+    pub(crate) message_type: MessageType,
+    pub(crate) name: &'a [u8],
+    /// What it says behind its type and its term, in order.
+    pub(crate) said: [u64; 4],
+    pub(crate) body: &'a [u8],
+}
+
+/// What a node tells, or what is seen of it.
+#[derive(Clone, Copy)]
+pub(crate) enum Mark<'a> {
+    Became {
+        role: Role,
+        term: u64,
+    },
+    CannotCampaign {
+        why: &'a [u8],
+    },
+    Vote {
+        is_granted: bool,
+        from: u64,
+        result_name: &'a [u8],
+    },
+    Ignored {
+        type_name: &'a [u8],
+    },
+    DroppedProposal,
+    Conflict {
+        index: u64,
+        commit: u64,
+    },
+    AppendsNothing,
+    ReplacedChange {
+        index: u64,
+        why: &'a [u8],
+    },
+    Switched {
+        config: &'a [u8],
+    },
+    RefusedChange {
+        index: u64,
+        fault: &'a [u8],
+    },
+    Restored {
+        term: u64,
+        index: u64,
+    },
+    TransferStarts {
+        to: u64,
+    },
+    TransferEnds {
+        to: u64,
+    },
+    LostQuorum,
+    Committed {
+        index: u64,
+    },
+    Compacted {
+        index: u64,
+    },
+    Saved {
+        first: u64,
+        last: u64,
+    },
+}
+
+/// What is said of a directive.
+#[derive(Clone, Copy)]
+pub(crate) enum Note<'a> {
+    NoMessages,
+    Stopped { rounds: u64 },
+    Error { text: &'a [u8] },
+}
+
+fn message_of<'a>(row: &Row<'a>) -> Option<Message<'a>> {
+    let message_type = type_of(row.first)?;
+    let numbers = &row.numbers;
+    Some(Message {
+        from: numbers[0],
+        to: numbers[1],
+        message_type,
+        name: row.first,
+        said: [numbers[3], numbers[4], numbers[5], numbers[6]],
+        body: row.second,
+    })
+}
+
+// What a node tells by a row of this name.
+fn mark_of<'a>(name: Name, row: &Row<'a>) -> Option<Mark<'a>> {
+    let second = row.numbers[1];
+    let third = row.numbers[2];
+    let text = row.first;
+    let mark = match name {
+        Name::Became => Mark::Became {
+            role: role_of(text)?,
+            term: second,
+        },
+        Name::CannotCampaign => Mark::CannotCampaign { why: text },
+        Name::Vote => Mark::Vote {
+            is_granted: second == 1,
+            from: third,
+            result_name: row.second,
+        },
+        Name::Ignored => Mark::Ignored { type_name: text },
+        Name::DroppedProposal => Mark::DroppedProposal,
+        Name::Conflict => Mark::Conflict {
+            index: second,
+            commit: third,
+        },
+        Name::AppendsNothing => Mark::AppendsNothing,
+        Name::ReplacedChange => Mark::ReplacedChange {
+            index: second,
+            why: text,
+        },
+        Name::Switched => Mark::Switched { config: text },
+        Name::RefusedChange => Mark::RefusedChange {
+            index: second,
+            fault: text,
+        },
+        Name::Restored => Mark::Restored {
+            term: second,
+            index: third,
+        },
+        Name::TransferStarts => Mark::TransferStarts { to: second },
+        Name::TransferEnds => Mark::TransferEnds { to: second },
+        Name::LostQuorum => Mark::LostQuorum,
+        _ => return None,
+    };
+    Some(mark)
+}
+
+// What happened by a row of this name.
+fn named<'a>(name: Name, row: &Row<'a>) -> Option<Event<'a>> {
+    let id = row.numbers[0];
+    let event = match name {
+        Name::Step => Event::Step { line: id },
+        Name::Ready => Event::Ready { id },
+        Name::Hard => Event::Hard {
+            commit: row.numbers[2],
+        },
+        Name::Save => Event::Saved { index: id },
+        Name::Sent => Event::Sent(message_of(row)?),
+        Name::Delivered => Event::Delivered(message_of(row)?),
+        Name::Dropped => Event::Dropped(message_of(row)?),
+        Name::NoRoom => Event::GivenUp(message_of(row)?),
+        Name::NoMessages => Event::Noted(Note::NoMessages),
+        Name::Stopped => Event::Noted(Note::Stopped { rounds: id }),
+        Name::Error => Event::Noted(Note::Error { text: row.first }),
+        Name::Started => Event::Started { id },
+        Name::Node => Event::Node {
+            id,
+            commit: row.numbers[4],
+        },
+        Name::Log => Event::Log {
+            id,
+            base: row.numbers[2],
+        },
+        _ => Event::Told {
+            id,
+            mark: mark_of(name, row)?,
+        },
+    };
+    Some(event)
+}
+
+/// What a row says that happened, from its text; `None` where a picture shows nothing of it.
+pub(crate) fn event_of(text: &[u8]) -> Option<Event<'_>> {
+    let (name, cells) = name_and_cells(text)?;
+    named(name_of(name)?, &row_of(cells))
+}

@@ -1,0 +1,39 @@
+//! The picture of a script's run alone, as a document of SVG that stands without scripts (docs/PAGE.md).
+//!
+//! [`chart_of`] reads the rows of a run, and places what they say: nodes side by side, time downwards, messages as
+//! arrows. [`put_chart`] writes the picture. What is written is the definition's text of its shapes, in which each text of a script stands
+//! as a text of XML; where things stand is tested beside another program.
+#![tactic(auto)]
+
+mod chart;
+mod columns;
+mod draft;
+mod drafter;
+mod escape;
+mod event;
+mod flight;
+mod laws;
+mod look;
+mod mail;
+mod marks;
+mod messages;
+mod names;
+mod painting;
+mod piece;
+mod row;
+mod sentence;
+mod shape;
+mod shown;
+mod sizes;
+mod slots;
+mod source;
+mod style;
+mod writing;
+
+pub use chart::Chart;
+pub use draft::chart_of;
+pub use laws::{words_have_no_brackets, words_read_back};
+pub use look::{Fate, Kind, Look};
+pub use shape::Shape;
+pub use style::STYLE;
+pub use writing::put_chart;

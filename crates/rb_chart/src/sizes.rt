@@ -1,0 +1,49 @@
+//! Sizes, in pixels. Sums stop at the largest number: no script's picture comes near it.
+
+/// What one thing that happens takes of the height.
+pub(crate) const SLOT: u64 = 18;
+/// What the head of a directive takes, and the room below its row.
+pub(crate) const ROW_TOP: u64 = 25;
+
+pub(crate) const ROW_BOTTOM: u64 = 8;
+/// What the names of nodes take.
+pub(crate) const HEADING: u64 = 34;
+/// Where the first node stands, how far from it the next one, and how much room is behind the last.
+const FIRST: u64 = 268;
+
+const GAP: u64 = 184;
+
+const RIGHT: u64 = 192;
+/// How far a message goes level, along its label.
+pub(crate) const LEAD: u64 = 134;
+/// How far a message of a node to itself goes.
+pub(crate) const OUT: u64 = 40;
+/// Half of the widest band.
+pub(crate) const HALF_BAND: u64 = 5;
+/// How many characters are shown at most: of a head, of a note, of a message's label, and of a mark.
+pub(crate) const MOST_HEAD: usize = 32;
+
+pub(crate) const MOST_NOTE: usize = 36;
+
+pub(crate) const MOST_LABEL: usize = 24;
+
+pub(crate) const MOST_MARK: usize = 25;
+
+/// Where the middle of a node's band is.
+pub(crate) fn middle(id: u64) -> u64 {
+    FIRST.saturating_add(GAP.saturating_mul(id.saturating_sub(1)))
+}
+
+/// How wide a picture of so many nodes is.
+pub(crate) fn width_of(nodes: usize) -> u64 {
+    middle((nodes as u64).max(1)).saturating_add(RIGHT)
+}
+
+/// A place so far from another, to the left or to the right.
+pub(crate) fn beside(x: u64, is_left: bool, far: u64) -> u64 {
+    if is_left {
+        x.saturating_sub(far)
+    } else {
+        x.saturating_add(far)
+    }
+}
