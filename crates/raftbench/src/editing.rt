@@ -1,7 +1,7 @@
 //! `raftbench lsp`: an editor over standard input and output.
 
 use crate::refusal::Refusal;
-use rb_diagnostics::lsp;
+use rb_actions::lsp;
 use rb_line::Incoming;
 use rb_script::Through;
 use rb_server::{ServeFault, Status};

@@ -2,13 +2,8 @@
 
 ghost use Rattle.std.specs.Prelude.{◌≡◌, List, ℕ, [], codes};
 ghost use Rattle.rb_document.specs.declared.position.Encoding.{Encoding};
-ghost use Rattle.rb_diagnostics.specs.Laws.{IsQuietText, TextsHaveOneRun};
+ghost use Rattle.rb_diagnostics.specs.Laws.{IsQuietText};
 ghost use Rattle.rb_diagnostics.specs.Published.{diagnose};
-
-/// Whatever was sent before: what goes out for a notification is what one fresh run of a document's text gives, as the text then stands.
-pub fn texts_have_one_run()
-    ensures { TextsHaveOneRun }
-{}
 
 /// Nothing is said of a script whose outputs are the expected ones, and no error.
 pub fn matching_texts_have_none()

@@ -48,8 +48,8 @@ fn of_session<M: Machine>(
     Ok(list)
 }
 
-// The lines of the bytes on which the heads of the script begin, which the bytes are.
-fn heads<M: Machine>(
+/// The lines of the bytes on which the heads of the script begin, which the bytes are.
+pub fn heads_of<M: Machine>(
     alloc: Global,
     _session: &Session<M>,
     bytes: &[u8],
@@ -75,7 +75,7 @@ fn of_bytes<M: Machine>(
     requires { Reads bytes.now session.now.script }
     ensures { IfOk result (λ list. list.items ≡ of_script bytes.now session.now.script) }
 {
-    let heads = heads(alloc, session, bytes)?;
+    let heads = heads_of(alloc, session, bytes)?;
     let text = lines_of(alloc, bytes)?;
     of_session(alloc, table, session, &text, heads.as_slice())
 }

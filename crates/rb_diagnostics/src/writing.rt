@@ -26,8 +26,9 @@ fn add_position(out: &mut Vec<u8>, position: Position) -> Result<(), AllocError>
     )
 }
 
+/// Adds the beginning of an object, with a range as its first member, whose own end is left out.
 #[tactic(auto, unfolding(crate::specs::Texts::range_text))]
-fn add_range(out: &mut Vec<u8>, start: Position, end: Position) -> Result<(), AllocError>
+pub fn add_range(out: &mut Vec<u8>, start: Position, end: Position) -> Result<(), AllocError>
     ensures { OnOk result (out.new.items ≡ out.old.items ++ range_text start end) }
 {
     out.extend_from_slice(b"{\"range\":{\"start\":")?;
@@ -102,7 +103,7 @@ fn add_all(
 
 /// Adds the diagnostics of a text, as a list.
 #[tactic(auto, unfolding(crate::specs::Texts::list_text))]
-pub(crate) fn add_list(
+pub fn add_list(
     alloc: Global,
     out: &mut Vec<u8>,
     encoding: Encoding,

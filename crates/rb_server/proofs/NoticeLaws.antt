@@ -5,11 +5,12 @@ use Rattle.serde_json.specs.Data.{Data}
 use Rattle.rb_document.specs.declared.position.Encoding.{Encoding}
 use Rattle.rb_rpc.specs.Params.{number_below, text_below}
 use Rattle.rb_server.specs.declared.method.Method.{Method}
-use Rattle.rb_server.specs.declared.method.Method.TheVariants.{Initialize, Shutdown, Exit, DidOpen, DidChange, DidClose, Unknown}
+use Rattle.rb_server.specs.declared.method.Method.TheVariants.{Initialize, Shutdown, Exit, DidOpen, DidChange, DidClose, Asks, Unknown}
 use Rattle.rb_server.specs.declared.phase.Phase.{Phase}
 use Rattle.rb_server.specs.declared.phase.Phase.TheVariants.{Fresh, Running, Stopped}
 use Rattle.rb_server.specs.Methods.{is_of_documents}
-use Rattle.rb_server.specs.Notices.{Diagnose, Notice, notice_of, notice_text, with_uri}
+use Rattle.rb_server.specs.Meanings.{Meaning}
+use Rattle.rb_server.specs.Notices.{Notice, notice_of, notice_text, with_uri}
 use Rattle.rb_server.specs.Replies.{PlainServer, On, noticed_by, published, with_notice}
 use Rattle.rb_server.specs.Laws.{Publishes}
 
@@ -32,26 +33,27 @@ notice_is (Running encoding) method None = tt
 notice_is (Running encoding) method (Some d) = taken_is (is_of_documents method) encoding method d (text_below (codes "textDocument") (codes "uri") d)
 notice_is Stopped method params = tt
 
-one_is : (diagnose : Diagnose) (next : PlainServer) (notice : Option Notice) → IsOf next.phase notice → (notice_text diagnose notice next.documents ≡ []) ⊎ Publishes diagnose next (notice_text diagnose notice next.documents)
-one_is diagnose next None is = inl refl
-one_is diagnose next (Some n) is = inr (record { encoding = n.encoding; uri = n.uri; version = number_below (codes "textDocument") (codes "version") n.given; running = is; text_is = refl })
+one_is : (meaning : Meaning) (next : PlainServer) (notice : Option Notice) → IsOf next.phase notice → (notice_text meaning notice next.documents ≡ []) ⊎ Publishes meaning next (notice_text meaning notice next.documents)
+one_is meaning next None is = inl refl
+one_is meaning next (Some n) is = inr (record { encoding = n.encoding; uri = n.uri; version = number_below (codes "textDocument") (codes "version") n.given; running = is; text_is = refl })
 
 -- a notification that is no `exit`
-after_is : (diagnose : Diagnose) (server next : PlainServer) (method : Method) (params : Option Data) → On (with_notice server method params) ≡ On next
-    → (notice_text diagnose (notice_of server.phase method params) (with_notice server method params).documents ≡ [])
-    ⊎ Publishes diagnose next (notice_text diagnose (notice_of server.phase method params) (with_notice server method params).documents)
-after_is diagnose server next method params e =
+after_is : (meaning : Meaning) (server next : PlainServer) (method : Method) (params : Option Data) → On (with_notice server method params) ≡ On next
+    → (notice_text meaning (notice_of server.phase method params) (with_notice server method params).documents ≡ [])
+    ⊎ Publishes meaning next (notice_text meaning (notice_of server.phase method params) (with_notice server method params).documents)
+after_is meaning server next method params e =
     let is : with_notice server method params ≡ next = cc in
-    let text = notice_text diagnose (notice_of server.phase method params) (with_notice server method params).documents in
-    subst (λ (s : PlainServer). (text ≡ []) ⊎ Publishes diagnose s text) is
-    (one_is diagnose (with_notice server method params) (notice_of server.phase method params) (notice_is server.phase method params))
+    let text = notice_text meaning (notice_of server.phase method params) (with_notice server method params).documents in
+    subst (λ (s : PlainServer). (text ≡ []) ⊎ Publishes meaning s text) is
+    (one_is meaning (with_notice server method params) (notice_of server.phase method params) (notice_is server.phase method params))
 
-pub diagnosed : (diagnose : Diagnose) (server next : PlainServer) (method : Method) (params : Option Data) → noticed_by server method params ≡ On next
-    → (published diagnose server method params ≡ []) ⊎ Publishes diagnose next (published diagnose server method params)
-diagnosed diagnose server next Initialize params e = after_is diagnose server next Initialize params e
-diagnosed diagnose server next Shutdown params e = after_is diagnose server next Shutdown params e
-diagnosed diagnose server next Exit params e = inl refl
-diagnosed diagnose server next DidOpen params e = after_is diagnose server next DidOpen params e
-diagnosed diagnose server next DidChange params e = after_is diagnose server next DidChange params e
-diagnosed diagnose server next DidClose params e = after_is diagnose server next DidClose params e
-diagnosed diagnose server next Unknown params e = after_is diagnose server next Unknown params e
+pub diagnosed : (meaning : Meaning) (server next : PlainServer) (method : Method) (params : Option Data) → noticed_by server method params ≡ On next
+    → (published meaning server method params ≡ []) ⊎ Publishes meaning next (published meaning server method params)
+diagnosed meaning server next Initialize params e = after_is meaning server next Initialize params e
+diagnosed meaning server next Shutdown params e = after_is meaning server next Shutdown params e
+diagnosed meaning server next Exit params e = inl refl
+diagnosed meaning server next DidOpen params e = after_is meaning server next DidOpen params e
+diagnosed meaning server next DidChange params e = after_is meaning server next DidChange params e
+diagnosed meaning server next DidClose params e = after_is meaning server next DidClose params e
+diagnosed meaning server next (Asks question) params e = after_is meaning server next (Asks question) params e
+diagnosed meaning server next Unknown params e = after_is meaning server next Unknown params e

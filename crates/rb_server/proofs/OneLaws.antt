@@ -6,7 +6,7 @@ use Rattle.rb_rpc.specs.Messages.{IsMessage, HasNoMessage, NeverHasMessage}
 use Rattle.rb_rpc.specs.Said.{Said, said}
 use Rattle.rb_rpc.proofs.MessageLaws.{one_message}
 use Rattle.rb_server.specs.declared.phase.Status.{Status}
-use Rattle.rb_server.specs.Notices.{Diagnose}
+use Rattle.rb_server.specs.Meanings.{Meaning}
 use Rattle.rb_server.specs.Replies.{PlainServer, On, Over}
 use Rattle.rb_server.specs.Talk.{Hears, told, goes, Begins, stands, goes_on, Ends, exits, closes, cuts_off, strays, Talks}
 
@@ -46,7 +46,7 @@ heard_one all b c r q g h m n x y =
 
 -- ---- the end
 
-pub record Exits (diagnose : Diagnose) (server : PlainServer) (all text : List ℕ) : Type 0 where
+pub record Exits (meaning : Meaning) (server : PlainServer) (all text : List ℕ) : Type 0 where
   pub body : List ℕ
   pub rest : List ℕ
   pub heard : Option Said
@@ -54,48 +54,48 @@ pub record Exits (diagnose : Diagnose) (server : PlainServer) (all text : List �
   pub message : IsMessage all body rest
   pub hears : Hears body heard
   pub over : goes server heard ≡ Over status
-  pub text_is : text ≡ told diagnose server heard
+  pub text_is : text ≡ told meaning server heard
 
-abbrev pub IsEnd : Diagnose → PlainServer → List ℕ → List ℕ → Type 0
-IsEnd diagnose server all text = (HasNoMessage all × (text ≡ [])) ⊎ Exits diagnose server all text
+abbrev pub IsEnd : Meaning → PlainServer → List ℕ → List ℕ → Type 0
+IsEnd meaning server all text = (HasNoMessage all × (text ≡ [])) ⊎ Exits meaning server all text
 
-end_of : {diagnose : Diagnose} {server : PlainServer} {all text : List ℕ} {status : Status} → Ends diagnose server all status text → IsEnd diagnose server all text
+end_of : {meaning : Meaning} {server : PlainServer} {all text : List ℕ} {status : Status} → Ends meaning server all status text → IsEnd meaning server all text
 end_of (exits server status all body rest heard m h over) = inr (record { body = body; rest = rest; heard = heard; status = status; message = m; hears = h; over = over; text_is = refl })
 end_of (closes server all is) = inl (subst HasNoMessage (sym is) none_in_none, refl)
 end_of (cuts_off server all none some) = inl (none, refl)
 end_of (strays server all never) = inl (none_now all never, refl)
 
-one_end : (diagnose : Diagnose) (server : PlainServer) (all x y : List ℕ) → IsEnd diagnose server all x → IsEnd diagnose server all y → x ≡ y
-one_end diagnose server all x y (inl a) (inl b) = a.1 ∙ sym b.1
-one_end diagnose server all x y (inl a) (inr e) = absurd (a.0 e.body e.rest e.message)
-one_end diagnose server all x y (inr e) (inl b) = absurd (b.0 e.body e.rest e.message)
-one_end diagnose server all x y (inr e) (inr f) =
-    e.text_is ∙ ap (told diagnose server) (heard_one all e.body f.body e.rest f.rest e.heard f.heard e.message f.message e.hears f.hears).0 ∙ sym f.text_is
+one_end : (meaning : Meaning) (server : PlainServer) (all x y : List ℕ) → IsEnd meaning server all x → IsEnd meaning server all y → x ≡ y
+one_end meaning server all x y (inl a) (inl b) = a.1 ∙ sym b.1
+one_end meaning server all x y (inl a) (inr e) = absurd (a.0 e.body e.rest e.message)
+one_end meaning server all x y (inr e) (inl b) = absurd (b.0 e.body e.rest e.message)
+one_end meaning server all x y (inr e) (inr f) =
+    e.text_is ∙ ap (told meaning server) (heard_one all e.body f.body e.rest f.rest e.heard f.heard e.message f.message e.hears f.hears).0 ∙ sym f.text_is
 
 -- where a message is answered and the server goes on, it doesn't end
-no_end : (diagnose : Diagnose) (server next : PlainServer) (all body rest text : List ℕ) (heard : Option Said) → IsMessage all body rest → Hears body heard → goes server heard ≡ On next → IsEnd diagnose server all text → ⊥
-no_end diagnose server next all body rest text heard m h on (inl a) = a.0 body rest m
-no_end diagnose server next all body rest text heard m h on (inr e) =
+no_end : (meaning : Meaning) (server next : PlainServer) (all body rest text : List ℕ) (heard : Option Said) → IsMessage all body rest → Hears body heard → goes server heard ≡ On next → IsEnd meaning server all text → ⊥
+no_end meaning server next all body rest text heard m h on (inl a) = a.0 body rest m
+no_end meaning server next all body rest text heard m h on (inr e) =
     let same = (heard_one all body e.body rest e.rest heard e.heard m e.message h e.hears).0 in
     let both : On next ≡ Over e.status = sym on ∙ ap (goes server) same ∙ e.over in
     cc
 
 -- ---- all of it
 
-one_text : (diagnose : Diagnose) {server last other : PlainServer} {all left more a b : List ℕ} (x y : List ℕ) → Begins diagnose server all last left a → IsEnd diagnose last left x → Begins diagnose server all other more b → IsEnd diagnose other more y → a ++ x ≡ b ++ y
-one_text diagnose x y (stands server all) e (stands server' all') f = one_end diagnose server all x y e f
-one_text diagnose x y (stands server all) e (goes_on server' next last all' body rest left text heard m h on b) f = absurd (no_end diagnose server next all body rest x heard m h on e)
-one_text diagnose x y (goes_on server next last all body rest left text heard m h on b) e (stands server' all') f = absurd (no_end diagnose server next all body rest y heard m h on f)
-one_text diagnose x y (goes_on server next last all body rest left text heard m h on b) e (goes_on server' next' last' all' body' rest' left' text' heard' m' h' on' b') f =
+one_text : (meaning : Meaning) {server last other : PlainServer} {all left more a b : List ℕ} (x y : List ℕ) → Begins meaning server all last left a → IsEnd meaning last left x → Begins meaning server all other more b → IsEnd meaning other more y → a ++ x ≡ b ++ y
+one_text meaning x y (stands server all) e (stands server' all') f = one_end meaning server all x y e f
+one_text meaning x y (stands server all) e (goes_on server' next last all' body rest left text heard m h on b) f = absurd (no_end meaning server next all body rest x heard m h on e)
+one_text meaning x y (goes_on server next last all body rest left text heard m h on b) e (stands server' all') f = absurd (no_end meaning server next all body rest y heard m h on f)
+one_text meaning x y (goes_on server next last all body rest left text heard m h on b) e (goes_on server' next' last' all' body' rest' left' text' heard' m' h' on' b') f =
     let same = heard_one all body body' rest rest' heard heard' m m' h h' in
     let both : On next ≡ On next' = sym on ∙ ap (goes server) same.0 ∙ on' in
     let nexts : next ≡ next' = cc in
-    let moved = subst (λ (p : PlainServer). Begins diagnose p rest last' left' text') (sym nexts) (subst (λ (l : List ℕ). Begins diagnose next' l last' left' text') (sym same.1) b') in
-    let later : text ++ x ≡ text' ++ y = one_text diagnose x y b e moved f in
-    append_assoc (told diagnose server heard) text x
-    ∙ ap (λ (l : List ℕ). told diagnose server heard ++ l) later
-    ∙ ap (λ (o : Option Said). told diagnose server o ++ (text' ++ y)) same.0
-    ∙ sym (append_assoc (told diagnose server heard') text' y)
+    let moved = subst (λ (p : PlainServer). Begins meaning p rest last' left' text') (sym nexts) (subst (λ (l : List ℕ). Begins meaning next' l last' left' text') (sym same.1) b') in
+    let later : text ++ x ≡ text' ++ y = one_text meaning x y b e moved f in
+    append_assoc (told meaning server heard) text x
+    ∙ ap (λ (l : List ℕ). told meaning server heard ++ l) later
+    ∙ ap (λ (o : Option Said). told meaning server o ++ (text' ++ y)) same.0
+    ∙ sym (append_assoc (told meaning server heard') text' y)
 
-pub one_conversation : (diagnose : Diagnose) (all : List ℕ) (s t : Status) (x y : List ℕ) → Talks diagnose all s x → Talks diagnose all t y → x ≡ y
-one_conversation diagnose all s t x y a b = a.text_is ∙ one_text diagnose a.ending b.ending a.begins (end_of a.ends) b.begins (end_of b.ends) ∙ sym b.text_is
+pub one_conversation : (meaning : Meaning) (all : List ℕ) (s t : Status) (x y : List ℕ) → Talks meaning all s x → Talks meaning all t y → x ≡ y
+one_conversation meaning all s t x y a b = a.text_is ∙ one_text meaning a.ending b.ending a.begins (end_of a.ends) b.begins (end_of b.ends) ∙ sym b.text_is

@@ -10,8 +10,8 @@ use Rattle.rb_rpc.specs.Said.{Said, request, notification, response, invalid, sa
 use Rattle.rb_server.specs.declared.phase.Phase.{Phase}
 use Rattle.rb_server.specs.declared.phase.Phase.TheVariants.{Fresh, Running, Stopped}
 use Rattle.rb_server.specs.declared.method.Method.{Method}
-use Rattle.rb_server.specs.declared.method.Method.TheVariants.{Initialize, Shutdown, Exit, DidOpen, DidChange, DidClose, Unknown}
-use Rattle.rb_server.specs.Beginnings.{chosen_encoding, initialized, synchronizes}
+use Rattle.rb_server.specs.declared.method.Method.TheVariants.{Initialize, Shutdown, Exit, DidOpen, DidChange, DidClose, Asks, Unknown}
+use Rattle.rb_server.specs.Beginnings.{capabilities, chosen_encoding, initialized, synchronizes}
 use Rattle.rb_server.specs.Replies.{answer_to, initialize_answer}
 
 id_is_plain : (d : Data) → is_id d ≡ true → has_float d ≡ false
@@ -55,7 +55,7 @@ said_is_plain : (d : Data) → IsPlain (said d)
 said_is_plain d = versioned (has_version d) (with_method d (text_at (codes "method") d)) (with_method_is_plain d (text_at (codes "method") d))
 
 initialized_is_plain : (encoding : Encoding) → has_float (initialized encoding) ≡ false
-unfolding initialized synchronizes
+unfolding initialized capabilities synchronizes
 initialized_is_plain Utf8 = refl
 initialized_is_plain Utf16 = refl
 
@@ -70,6 +70,7 @@ answer_is_plain Fresh Exit params id plain = rw plain
 answer_is_plain Fresh DidOpen params id plain = rw plain
 answer_is_plain Fresh DidChange params id plain = rw plain
 answer_is_plain Fresh DidClose params id plain = rw plain
+answer_is_plain Fresh (Asks question) params id plain = rw plain
 answer_is_plain Fresh Unknown params id plain = rw plain
 answer_is_plain (Running encoding) Initialize params id plain = rw plain
 answer_is_plain (Running encoding) Shutdown params id plain = rw plain
@@ -77,6 +78,7 @@ answer_is_plain (Running encoding) Exit params id plain = rw plain
 answer_is_plain (Running encoding) DidOpen params id plain = rw plain
 answer_is_plain (Running encoding) DidChange params id plain = rw plain
 answer_is_plain (Running encoding) DidClose params id plain = rw plain
+answer_is_plain (Running encoding) (Asks question) params id plain = rw plain
 answer_is_plain (Running encoding) Unknown params id plain = rw plain
 answer_is_plain Stopped method params id plain = rw plain
 

@@ -10,7 +10,7 @@ use Rattle.rb_rpc.specs.Said.{Said}
 use Rattle.rb_server.specs.declared.fault.ServeFault.{ServeFault}
 use Rattle.rb_server.specs.declared.phase.Status.{Status}
 use Rattle.rb_server.specs.declared.phase.Status.TheVariants.{Closed, CutOff, NoMessage}
-use Rattle.rb_server.specs.Notices.{Diagnose}
+use Rattle.rb_server.specs.Meanings.{Meaning}
 use Rattle.rb_server.specs.Replies.{PlainServer, Turned, On, Over, fresh}
 use Rattle.rb_server.specs.Talk.{Hears, told, goes, Begins, stands, goes_on, exits, closes, cuts_off, strays, nothing, answer, waits, comes}
 use Rattle.rb_server.specs.Serves.{Responds, StartsAnswer, TurnsOut, TurnBreaks, Served, BreaksOff, turned_of}
@@ -40,130 +40,130 @@ none_err r held text = front_err r held held text (front_none held text)
 
 -- ---- a message
 
-pub responds_by : (diagnose : Diagnose) (server then : PlainServer) (body : List ℕ) (heard : Option Said) (old new : Option (List ℕ)) (r : Result (Option Status) ServeFault) → Hears body heard
-    → IfOk r (λ over. turned_of over then ≡ goes server heard) → OnOk r (Appends old new (told diagnose server heard)) → IfOk r (λ over. Responds diagnose server body (turned_of over then) old new)
-responds_by diagnose server then body heard old new (Ok over) hears is wrote = record { heard = heard; hears = hears; turned_is = is; wrote = wrote }
-responds_by diagnose server then body heard old new (Err fault) hears is wrote = tt
+pub responds_by : (meaning : Meaning) (server then : PlainServer) (body : List ℕ) (heard : Option Said) (old new : Option (List ℕ)) (r : Result (Option Status) ServeFault) → Hears body heard
+    → IfOk r (λ over. turned_of over then ≡ goes server heard) → OnOk r (Appends old new (told meaning server heard)) → IfOk r (λ over. Responds meaning server body (turned_of over then) old new)
+responds_by meaning server then body heard old new (Ok over) hears is wrote = record { heard = heard; hears = hears; turned_is = is; wrote = wrote }
+responds_by meaning server then body heard old new (Err fault) hears is wrote = tt
 
-pub fails_by : (diagnose : Diagnose) (server : PlainServer) (body : List ℕ) (heard : Option Said) (old new : Option (List ℕ)) (r : Result (Option Status) ServeFault) → Hears body heard
-    → OnErr r (AppendsFront old new (told diagnose server heard)) → OnErr r (StartsAnswer diagnose server body old new)
-fails_by diagnose server body heard old new (Ok turned) hears wrote = tt
-fails_by diagnose server body heard old new (Err fault) hears wrote = record { text = told diagnose server heard; may = answer server body heard hears; wrote = wrote }
+pub fails_by : (meaning : Meaning) (server : PlainServer) (body : List ℕ) (heard : Option Said) (old new : Option (List ℕ)) (r : Result (Option Status) ServeFault) → Hears body heard
+    → OnErr r (AppendsFront old new (told meaning server heard)) → OnErr r (StartsAnswer meaning server body old new)
+fails_by meaning server body heard old new (Ok turned) hears wrote = tt
+fails_by meaning server body heard old new (Err fault) hears wrote = record { text = told meaning server heard; may = answer server body heard hears; wrote = wrote }
 
-pub says_nothing : (diagnose : Diagnose) (server : PlainServer) (body : List ℕ) (held : Option (List ℕ)) → StartsAnswer diagnose server body held held
-says_nothing diagnose server body held = record { text = []; may = nothing server body; wrote = front_none held [] }
+pub says_nothing : (meaning : Meaning) (server : PlainServer) (body : List ℕ) (held : Option (List ℕ)) → StartsAnswer meaning server body held held
+says_nothing meaning server body held = record { text = []; may = nothing server body; wrote = front_none held [] }
 
 -- ---- a turn
 
-takes_by : (diagnose : Diagnose) (server : PlainServer) (turned : Turned) (before left old new : Option (List ℕ)) (body : List ℕ) → LosesMessage before left body → Responds diagnose server body turned old new
-    → TurnsOut diagnose server turned before left old new
-takes_by diagnose server (On next) None left old new body loses r = tt
-takes_by diagnose server (On next) (Some all) None old new body loses r = absurd loses
-takes_by diagnose server (On next) (Some all) (Some rest) old new body loses r =
+takes_by : (meaning : Meaning) (server : PlainServer) (turned : Turned) (before left old new : Option (List ℕ)) (body : List ℕ) → LosesMessage before left body → Responds meaning server body turned old new
+    → TurnsOut meaning server turned before left old new
+takes_by meaning server (On next) None left old new body loses r = tt
+takes_by meaning server (On next) (Some all) None old new body loses r = absurd loses
+takes_by meaning server (On next) (Some all) (Some rest) old new body loses r =
     record { body = body; rest = rest; heard = r.heard; left_is = refl; message = loses; hears = r.hears; next_is = sym r.turned_is; wrote = r.wrote }
-takes_by diagnose server (Over status) None left old new body loses r = tt
-takes_by diagnose server (Over status) (Some all) None old new body loses r = absurd loses
-takes_by diagnose server (Over status) (Some all) (Some rest) old new body loses r = record {
-  text = told diagnose server r.heard;
+takes_by meaning server (Over status) None left old new body loses r = tt
+takes_by meaning server (Over status) (Some all) None old new body loses r = absurd loses
+takes_by meaning server (Over status) (Some all) (Some rest) old new body loses r = record {
+  text = told meaning server r.heard;
   ends = exits server status all body rest r.heard loses r.hears (sym r.turned_is);
   wrote = r.wrote;
 }
 
 -- a message came
-pub turns_by : (diagnose : Diagnose) (server then : PlainServer) (r : Result (Option Status) ServeFault) (before left old new : Option (List ℕ)) (body seen : List ℕ) → seen ≡ body → LosesMessage before left body
-    → IfOk r (λ over. Responds diagnose server seen (turned_of over then) old new) → IfOk r (λ over. TurnsOut diagnose server (turned_of over then) before left old new)
-turns_by diagnose server then (Ok over) before left old new body seen is loses r =
-    takes_by diagnose server (turned_of over then) before left old new body loses (subst (λ (b : List ℕ). Responds diagnose server b (turned_of over then) old new) is r)
-turns_by diagnose server then (Err fault) before left old new body seen is loses r = tt
+pub turns_by : (meaning : Meaning) (server then : PlainServer) (r : Result (Option Status) ServeFault) (before left old new : Option (List ℕ)) (body seen : List ℕ) → seen ≡ body → LosesMessage before left body
+    → IfOk r (λ over. Responds meaning server seen (turned_of over then) old new) → IfOk r (λ over. TurnsOut meaning server (turned_of over then) before left old new)
+turns_by meaning server then (Ok over) before left old new body seen is loses r =
+    takes_by meaning server (turned_of over then) before left old new body loses (subst (λ (b : List ℕ). Responds meaning server b (turned_of over then) old new) is r)
+turns_by meaning server then (Err fault) before left old new body seen is loses r = tt
 
-starts_by : (diagnose : Diagnose) (server : PlainServer) (before left old new : Option (List ℕ)) (body : List ℕ) → LosesMessage before left body → StartsAnswer diagnose server body old new → TurnBreaks diagnose server before old new
-starts_by diagnose server None left old new body loses s = tt
-starts_by diagnose server (Some all) None old new body loses s = absurd loses
-starts_by diagnose server (Some all) (Some rest) old new body loses s = record { text = s.text; may = comes server all body rest s.text loses s.may; wrote = s.wrote }
+starts_by : (meaning : Meaning) (server : PlainServer) (before left old new : Option (List ℕ)) (body : List ℕ) → LosesMessage before left body → StartsAnswer meaning server body old new → TurnBreaks meaning server before old new
+starts_by meaning server None left old new body loses s = tt
+starts_by meaning server (Some all) None old new body loses s = absurd loses
+starts_by meaning server (Some all) (Some rest) old new body loses s = record { text = s.text; may = comes server all body rest s.text loses s.may; wrote = s.wrote }
 
-pub breaks_by : (diagnose : Diagnose) (server : PlainServer) (r : Result (Option Status) ServeFault) (before left old new : Option (List ℕ)) (body seen : List ℕ) → seen ≡ body → LosesMessage before left body
-    → OnErr r (StartsAnswer diagnose server seen old new) → OnErr r (TurnBreaks diagnose server before old new)
-breaks_by diagnose server (Ok turned) before left old new body seen is loses s = tt
-breaks_by diagnose server (Err fault) before left old new body seen is loses s = starts_by diagnose server before left old new body loses (subst (λ (b : List ℕ). StartsAnswer diagnose server b old new) is s)
+pub breaks_by : (meaning : Meaning) (server : PlainServer) (r : Result (Option Status) ServeFault) (before left old new : Option (List ℕ)) (body seen : List ℕ) → seen ≡ body → LosesMessage before left body
+    → OnErr r (StartsAnswer meaning server seen old new) → OnErr r (TurnBreaks meaning server before old new)
+breaks_by meaning server (Ok turned) before left old new body seen is loses s = tt
+breaks_by meaning server (Err fault) before left old new body seen is loses s = starts_by meaning server before left old new body loses (subst (λ (b : List ℕ). StartsAnswer meaning server b old new) is s)
 
 -- none came, since a call failed
-breaks_before : (diagnose : Diagnose) (server : PlainServer) (before held : Option (List ℕ)) → TurnBreaks diagnose server before held held
-breaks_before diagnose server None held = tt
-breaks_before diagnose server (Some all) held = record { text = []; may = waits server all; wrote = front_none held [] }
+breaks_before : (meaning : Meaning) (server : PlainServer) (before held : Option (List ℕ)) → TurnBreaks meaning server before held held
+breaks_before meaning server None held = tt
+breaks_before meaning server (Some all) held = record { text = []; may = waits server all; wrote = front_none held [] }
 
-pub breaks_err : (diagnose : Diagnose) {X E : Type 0} (r : Result X E) (server : PlainServer) (before held : Option (List ℕ)) → OnErr r (TurnBreaks diagnose server before held held)
-breaks_err diagnose (Ok x) server before held = tt
-breaks_err diagnose (Err e) server before held = breaks_before diagnose server before held
+pub breaks_err : (meaning : Meaning) {X E : Type 0} (r : Result X E) (server : PlainServer) (before held : Option (List ℕ)) → OnErr r (TurnBreaks meaning server before held held)
+breaks_err meaning (Ok x) server before held = tt
+breaks_err meaning (Err e) server before held = breaks_before meaning server before held
 
 -- none is left
-pub closed_by : (diagnose : Diagnose) (server : PlainServer) (before left held : Option (List ℕ)) → IsAtEnd before → TurnsOut diagnose server (Over Closed) before left held held
-closed_by diagnose server None left held at_end = tt
-closed_by diagnose server (Some all) left held at_end = record { text = []; ends = closes server all at_end; wrote = Appends-nil held }
+pub closed_by : (meaning : Meaning) (server : PlainServer) (before left held : Option (List ℕ)) → IsAtEnd before → TurnsOut meaning server (Over Closed) before left held held
+closed_by meaning server None left held at_end = tt
+closed_by meaning server (Some all) left held at_end = record { text = []; ends = closes server all at_end; wrote = Appends-nil held }
 
-pub cut_by : (diagnose : Diagnose) (server : PlainServer) (before left held : Option (List ℕ)) → IfSome before (λ all. HasNoMessage all × (all ≢ [])) → TurnsOut diagnose server (Over CutOff) before left held held
-cut_by diagnose server None left held cut = tt
-cut_by diagnose server (Some all) left held cut = record { text = []; ends = cuts_off server all cut.0 cut.1; wrote = Appends-nil held }
+pub cut_by : (meaning : Meaning) (server : PlainServer) (before left held : Option (List ℕ)) → IfSome before (λ all. HasNoMessage all × (all ≢ [])) → TurnsOut meaning server (Over CutOff) before left held held
+cut_by meaning server None left held cut = tt
+cut_by meaning server (Some all) left held cut = record { text = []; ends = cuts_off server all cut.0 cut.1; wrote = Appends-nil held }
 
-pub stray_by : (diagnose : Diagnose) (server : PlainServer) (before left held : Option (List ℕ)) → IfSome before NeverHasMessage → TurnsOut diagnose server (Over NoMessage) before left held held
-stray_by diagnose server None left held never = tt
-stray_by diagnose server (Some all) left held never = record { text = []; ends = strays server all never; wrote = Appends-nil held }
+pub stray_by : (meaning : Meaning) (server : PlainServer) (before left held : Option (List ℕ)) → IfSome before NeverHasMessage → TurnsOut meaning server (Over NoMessage) before left held held
+stray_by meaning server None left held never = tt
+stray_by meaning server (Some all) left held never = record { text = []; ends = strays server all never; wrote = Appends-nil held }
 
 -- ---- all turns
 
 -- what was answered so far begins a conversation over all, whatever follows
-pub record SoFar (diagnose : Diagnose) (all : List ℕ) (server : PlainServer) (left old new : Option (List ℕ)) : Type 0 where
+pub record SoFar (meaning : Meaning) (all : List ℕ) (server : PlainServer) (left old new : Option (List ℕ)) : Type 0 where
   pub text : List ℕ
   pub rest : List ℕ
   pub left_is : left ≡ Some rest
   pub wrote : Appends old new text
-  pub begins : (last : PlainServer) (end more : List ℕ) → Begins diagnose server rest last end more → Begins diagnose fresh all last end (text ++ more)
+  pub begins : (last : PlainServer) (end more : List ℕ) → Begins meaning server rest last end more → Begins meaning fresh all last end (text ++ more)
 
-begun : (diagnose : Diagnose) (all : List ℕ) (server : PlainServer) (left old new : Option (List ℕ)) (far : SoFar diagnose all server left old new) → Begins diagnose fresh all server far.rest far.text
-begun diagnose all server left old new far = subst (λ (l : List ℕ). Begins diagnose fresh all server far.rest l) (append-nil far.text) (far.begins server far.rest [] (stands server far.rest))
+begun : (meaning : Meaning) (all : List ℕ) (server : PlainServer) (left old new : Option (List ℕ)) (far : SoFar meaning all server left old new) → Begins meaning fresh all server far.rest far.text
+begun meaning all server left old new far = subst (λ (l : List ℕ). Begins meaning fresh all server far.rest l) (append-nil far.text) (far.begins server far.rest [] (stands server far.rest))
 
-abbrev pub Far : Diagnose → Option (List ℕ) → PlainServer → Option (List ℕ) → Option (List ℕ) → Option (List ℕ) → Type 0
-Far diagnose None server left old new = ⊤
-Far diagnose (Some all) server left old new = SoFar diagnose all server left old new
+abbrev pub Far : Meaning → Option (List ℕ) → PlainServer → Option (List ℕ) → Option (List ℕ) → Option (List ℕ) → Type 0
+Far meaning None server left old new = ⊤
+Far meaning (Some all) server left old new = SoFar meaning all server left old new
 
-pub far_none : (diagnose : Diagnose) (first left held : Option (List ℕ)) → left ≡ first → Far diagnose first fresh left held held
-far_none diagnose None left held is = tt
-far_none diagnose (Some all) left held is = record { text = []; rest = all; left_is = is; wrote = Appends-nil held; begins = λ last end more b. b }
+pub far_none : (meaning : Meaning) (first left held : Option (List ℕ)) → left ≡ first → Far meaning first fresh left held held
+far_none meaning None left held is = tt
+far_none meaning (Some all) left held is = record { text = []; rest = all; left_is = is; wrote = Appends-nil held; begins = λ last end more b. b }
 
-pub far_more : (diagnose : Diagnose) (first left after old mid new : Option (List ℕ)) (server next : PlainServer) → Far diagnose first server left old mid → TurnsOut diagnose server (On next) left after mid new → Far diagnose first next after old new
-far_more diagnose None left after old mid new server next far turned = tt
-far_more diagnose (Some all) left after old mid new server next far turned =
-    let t = subst (λ (l : Option (List ℕ)). TurnsOut diagnose server (On next) l after mid new) far.left_is turned in
-    let piece = told diagnose server t.heard in record {
+pub far_more : (meaning : Meaning) (first left after old mid new : Option (List ℕ)) (server next : PlainServer) → Far meaning first server left old mid → TurnsOut meaning server (On next) left after mid new → Far meaning first next after old new
+far_more meaning None left after old mid new server next far turned = tt
+far_more meaning (Some all) left after old mid new server next far turned =
+    let t = subst (λ (l : Option (List ℕ)). TurnsOut meaning server (On next) l after mid new) far.left_is turned in
+    let piece = told meaning server t.heard in record {
       text = far.text ++ piece;
       rest = t.rest;
       left_is = t.left_is;
       wrote = Appends-trans old mid new far.text piece far.wrote t.wrote;
-      begins = λ last end more b. subst (λ (l : List ℕ). Begins diagnose fresh all last end l) (sym (append_assoc far.text piece more))
+      begins = λ last end more b. subst (λ (l : List ℕ). Begins meaning fresh all last end l) (sym (append_assoc far.text piece more))
           (far.begins last end (piece ++ more) (goes_on server next last far.rest t.body t.rest end more t.heard t.message t.hears t.next_is b));
     }
 
-pub far_over : (diagnose : Diagnose) (first left after old mid new : Option (List ℕ)) (server : PlainServer) (status : Status) → Far diagnose first server left old mid → TurnsOut diagnose server (Over status) left after mid new → Served diagnose first status old new
-far_over diagnose None left after old mid new server status far turned = tt
-far_over diagnose (Some all) left after old mid new server status far turned =
-    let e = subst (λ (l : Option (List ℕ)). TurnsOut diagnose server (Over status) l after mid new) far.left_is turned in record {
+pub far_over : (meaning : Meaning) (first left after old mid new : Option (List ℕ)) (server : PlainServer) (status : Status) → Far meaning first server left old mid → TurnsOut meaning server (Over status) left after mid new → Served meaning first status old new
+far_over meaning None left after old mid new server status far turned = tt
+far_over meaning (Some all) left after old mid new server status far turned =
+    let e = subst (λ (l : Option (List ℕ)). TurnsOut meaning server (Over status) l after mid new) far.left_is turned in record {
       text = far.text ++ e.text;
-      talks = record { last = server; left = far.rest; answers = far.text; ending = e.text; begins = begun diagnose all server left old mid far; ends = e.ends; text_is = refl };
+      talks = record { last = server; left = far.rest; answers = far.text; ending = e.text; begins = begun meaning all server left old mid far; ends = e.ends; text_is = refl };
       wrote = Appends-trans old mid new far.text e.text far.wrote e.wrote;
     }
 
-pub far_broken : (diagnose : Diagnose) (first left old mid new : Option (List ℕ)) (server : PlainServer) → Far diagnose first server left old mid → TurnBreaks diagnose server left mid new → BreaksOff diagnose first old new
-far_broken diagnose None left old mid new server far broken = tt
-far_broken diagnose (Some all) left old mid new server far broken =
-    let s = subst (λ (l : Option (List ℕ)). TurnBreaks diagnose server l mid new) far.left_is broken in record {
+pub far_broken : (meaning : Meaning) (first left old mid new : Option (List ℕ)) (server : PlainServer) → Far meaning first server left old mid → TurnBreaks meaning server left mid new → BreaksOff meaning first old new
+far_broken meaning None left old mid new server far broken = tt
+far_broken meaning (Some all) left old mid new server far broken =
+    let s = subst (λ (l : Option (List ℕ)). TurnBreaks meaning server l mid new) far.left_is broken in record {
       last = server;
       left = far.rest;
       answers = far.text;
       next = s.text;
-      begins = begun diagnose all server left old mid far;
+      begins = begun meaning all server left old mid far;
       may = s.may;
       wrote = then_front old mid new far.text s.text far.wrote s.wrote;
     }
 
 -- all calls were made
-pub far_stopped : (diagnose : Diagnose) (first left old mid : Option (List ℕ)) (server : PlainServer) → Far diagnose first server left old mid → BreaksOff diagnose first old mid
-far_stopped diagnose first left old mid server far = far_broken diagnose first left old mid mid server far (breaks_before diagnose server left mid)
+pub far_stopped : (meaning : Meaning) (first left old mid : Option (List ℕ)) (server : PlainServer) → Far meaning first server left old mid → BreaksOff meaning first old mid
+far_stopped meaning first left old mid server far = far_broken meaning first left old mid mid server far (breaks_before meaning server left mid)

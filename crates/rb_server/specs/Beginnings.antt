@@ -39,10 +39,21 @@ encoding_name Utf16 = codes "utf-16"
 unfoldable pub synchronizes : Data
 synchronizes = object (member (codes "change") (number (unsigned 2)) (member (codes "openClose") (boolean true) no_members))
 
+-- what it can be told and asked
+unfoldable pub capabilities : Encoding → Data
+capabilities encoding =
+    object
+    (member (codes "codeActionProvider") (boolean true)
+    (member (codes "completionProvider") (object no_members)
+    (member (codes "documentFormattingProvider") (boolean true)
+    (member (codes "documentSymbolProvider") (boolean true)
+    (member (codes "foldingRangeProvider") (boolean true)
+    (member (codes "hoverProvider") (boolean true)
+    (member (codes "positionEncoding") (string (encoding_name encoding)) (member (codes "textDocumentSync") synchronizes no_members))))))))
+
 -- what the server can do
 unfoldable pub initialized : Encoding → Data
 initialized encoding =
     object
-    (member
-    (codes "capabilities") (object (member (codes "positionEncoding") (string (encoding_name encoding)) (member (codes "textDocumentSync") synchronizes no_members)))
+    (member (codes "capabilities") (capabilities encoding)
     (member (codes "serverInfo") (object (member (codes "name") (string (codes "raftbench")) no_members)) no_members))

@@ -1,46 +1,63 @@
 -- What holds of all answers, of what is published, and of conversations.
 use Rattle.std.specs.Prelude.{◌≡◌, ◌⊎◌, ℕ, List, [], Option, Some, None}
 use Rattle.serde_json.specs.Data.{Data}
+use Rattle.serde_json.specs.Written.{compact_text}
 use Rattle.rb_document.specs.declared.position.Encoding.{Encoding}
 use Rattle.rb_rpc.specs.Messages.{frame}
 use Rattle.rb_rpc.specs.Said.{request, notification, response}
 use Rattle.rb_rpc.specs.Answers.{success, failure}
 use Rattle.rb_rpc.specs.declared.answer.ErrorCode.{ErrorCode}
-use Rattle.rb_server.specs.declared.phase.Phase.{Phase}
 use Rattle.rb_server.specs.declared.phase.Phase.TheVariants.{Running}
 use Rattle.rb_server.specs.declared.phase.Status.{Status}
+use Rattle.rb_server.specs.declared.asked.Asked.{Asked}
 use Rattle.rb_server.specs.Documents.{text_of}
-use Rattle.rb_server.specs.Notices.{Diagnose, publication}
+use Rattle.rb_server.specs.Meanings.{Meaning}
+use Rattle.rb_server.specs.Questions.{answer_text, body_text, named_text}
+use Rattle.rb_server.specs.Notices.{publication}
 use Rattle.rb_server.specs.Replies.{PlainServer, On, reply, told_of, turned_by}
 use Rattle.rb_server.specs.Talk.{Talks}
 
--- a message that answers the request with this id
-pub data Answers : Data → Data → Type 0 where
-  done : (id result : Data) → Answers id (success id result)
-  refused : (id : Data) (code : ErrorCode) (message : List ℕ) → Answers id (failure id code message)
+-- The text of an answer to the request with this id: a result, a refusal, or what the text of a document that is open means, as it stands.
+pub data Answers (meaning : Meaning) (server : PlainServer) : Data → List ℕ → Type 0 where
+  done : (id result : Data) → Answers meaning server id (body_text (success id result))
+  refused : (id : Data) (code : ErrorCode) (message : List ℕ) → Answers meaning server id (body_text (failure id code message))
+  answered : (id : Data) (encoding : Encoding) (asked : Asked) (uri text : List ℕ) → server.phase ≡ Running encoding → text_of uri server.documents ≡ Some text
+      → Answers meaning server id (answer_text id (meaning.answer encoding asked uri text))
 
 -- each request has one answer
 abbrev pub RequestsHaveOneAnswer : Type 0
-RequestsHaveOneAnswer = (phase : Phase) (id : Data) (method : List ℕ) (params : Option Data)
-    → (answer : Data) × (reply phase (request id method params) ≡ Some answer) × Answers id answer
+RequestsHaveOneAnswer = (meaning : Meaning) (server : PlainServer) (id : Data) (method : List ℕ) (params : Option Data)
+    → (answer : List ℕ) × (reply meaning server (request id method params) ≡ Some answer) × Answers meaning server id answer
 
 -- a notification has none, and neither has an answer
 abbrev pub NotificationsHaveNoAnswer : Type 0
-NotificationsHaveNoAnswer = (phase : Phase) → ((method : List ℕ) (params : Option Data) → reply phase (notification method params) ≡ None) × (reply phase response ≡ None)
+NotificationsHaveNoAnswer = (meaning : Meaning) (server : PlainServer)
+    → ((method : List ℕ) (params : Option Data) → reply meaning server (notification method params) ≡ None) × (reply meaning server response ≡ None)
+
+-- whatever was sent before, and whatever else is open: what is answered to a request depends on where the server stands, and on the text, as it
+-- stands, of the document that the request names
+abbrev pub TextsAreAnswered : Type 0
+TextsAreAnswered = (meaning : Meaning) (server other : PlainServer) (id : Data) (method : List ℕ) (params : Option Data)
+    → server.phase ≡ other.phase → named_text params server.documents ≡ named_text params other.documents
+    → told_of meaning server (request id method params) ≡ told_of meaning other (request id method params)
+
+-- the text of an answer, whose result is the text of a value, is that of an answer with the value
+abbrev pub ResultsStandInAnswers : Type 0
+ResultsStandInAnswers = (id result : Data) → answer_text id (compact_text result) ≡ body_text (success id result)
 
 -- the diagnostics of a document's text as it stands go out, and nothing else
-pub record Publishes (diagnose : Diagnose) (server : PlainServer) (text : List ℕ) : Type 0 where
+pub record Publishes (meaning : Meaning) (server : PlainServer) (text : List ℕ) : Type 0 where
   pub encoding : Encoding
   pub uri : List ℕ
   pub version : Option ℕ
   pub running : server.phase ≡ Running encoding
-  pub text_is : text ≡ frame (publication diagnose encoding uri version (text_of uri server.documents))
+  pub text_is : text ≡ frame (publication meaning encoding uri version (text_of uri server.documents))
 
 -- whatever was sent before: what goes out for a notification are the diagnostics of a text as it then stands
 abbrev pub TextsAreDiagnosed : Type 0
-TextsAreDiagnosed = (diagnose : Diagnose) (server next : PlainServer) (method : List ℕ) (params : Option Data)
-    → turned_by server (notification method params) ≡ On next → (told_of diagnose server (notification method params) ≡ []) ⊎ Publishes diagnose next (told_of diagnose server (notification method params))
+TextsAreDiagnosed = (meaning : Meaning) (server next : PlainServer) (method : List ℕ) (params : Option Data)
+    → turned_by server (notification method params) ≡ On next → (told_of meaning server (notification method params) ≡ []) ⊎ Publishes meaning next (told_of meaning server (notification method params))
 
 -- what is written depends on the bytes alone
 abbrev pub ConversationsAreOne : Type 0
-ConversationsAreOne = (diagnose : Diagnose) (all : List ℕ) (s t : Status) (x y : List ℕ) → Talks diagnose all s x → Talks diagnose all t y → x ≡ y
+ConversationsAreOne = (meaning : Meaning) (all : List ℕ) (s t : Status) (x y : List ℕ) → Talks meaning all s x → Talks meaning all t y → x ≡ y

@@ -2,6 +2,8 @@ pub mod Methods
 pub mod Beginnings
 pub mod Documents
 pub mod Changes
+pub mod Meanings
+pub mod Questions
 pub mod Notices
 pub mod Replies
 pub mod Talk

@@ -13,10 +13,7 @@ use Rattle.rb_server.specs.declared.phase.Phase.TheVariants.{Running}
 use Rattle.rb_server.specs.Methods.{is_of_documents}
 use Rattle.rb_server.specs.Documents.{PlainDocument, text_of, closed, kept}
 use Rattle.rb_server.specs.Changes.{text_after}
-
--- the diagnostics of a text, as a list in JSON: of the encoding of columns, the URI of the document, and its text
-abbrev pub Diagnose : Type 0
-Diagnose = Encoding → List ℕ → List ℕ → List ℕ
+use Rattle.rb_server.specs.Meanings.{Meaning}
 
 -- ---- what is published
 
@@ -26,16 +23,16 @@ middle_text None = codes ",\"diagnostics\":"
 middle_text (Some n) = codes ",\"version\":" ++ (decimal n ++ codes ",\"diagnostics\":")
 
 -- those of the text of a document that is open, and else none
-abbrev pub list_text : Diagnose → Encoding → List ℕ → Option (List ℕ) → List ℕ
-list_text diagnose encoding uri None = codes "[]"
-list_text diagnose encoding uri (Some text) = diagnose encoding uri text
+abbrev pub list_text : Meaning → Encoding → List ℕ → Option (List ℕ) → List ℕ
+list_text meaning encoding uri None = codes "[]"
+list_text meaning encoding uri (Some text) = meaning.diagnose encoding uri text
 
 unfoldable pub head_text : List ℕ → List ℕ
 head_text uri = codes "{\"jsonrpc\":\"2.0\",\"method\":\"textDocument/publishDiagnostics\",\"params\":{\"uri\":\"" ++ (flat_map escaped uri ++ codes "\"")
 
-unfoldable pub publication : Diagnose → Encoding → List ℕ → Option ℕ → Option (List ℕ) → List ℕ
-publication diagnose encoding uri version text =
-    head_text uri ++ (middle_text version ++ (list_text diagnose encoding uri text ++ codes "}}"))
+unfoldable pub publication : Meaning → Encoding → List ℕ → Option ℕ → Option (List ℕ) → List ℕ
+publication meaning encoding uri version text =
+    head_text uri ++ (middle_text version ++ (list_text meaning encoding uri text ++ codes "}}"))
 
 -- ---- a notification
 
@@ -62,7 +59,7 @@ documents_after None ds = ds
 documents_after (Some n) ds = kept n.uri (text_after n.encoding n.method n.given (text_of n.uri ds)) (closed n.uri ds)
 
 -- what goes out, where these are the documents after it
-abbrev pub notice_text : Diagnose → Option Notice → List PlainDocument → List ℕ
-notice_text diagnose None ds = []
-notice_text diagnose (Some n) ds =
-    frame (publication diagnose n.encoding n.uri (number_below (codes "textDocument") (codes "version") n.given) (text_of n.uri ds))
+abbrev pub notice_text : Meaning → Option Notice → List PlainDocument → List ℕ
+notice_text meaning None ds = []
+notice_text meaning (Some n) ds =
+    frame (publication meaning n.encoding n.uri (number_below (codes "textDocument") (codes "version") n.given) (text_of n.uri ds))

@@ -2,7 +2,6 @@
 -- sentences are this project's.)
 use Rattle.std.specs.Prelude.{ℕ, List, [], Option, Some, None, codes}
 use Rattle.serde_json.specs.Data.{Data, null}
-use Rattle.serde_json.specs.Written.{compact_text}
 use Rattle.rb_document.specs.declared.position.Encoding.{Encoding}
 use Rattle.rb_rpc.specs.Messages.{frame}
 use Rattle.rb_rpc.specs.Said.{Said, request, notification, response, invalid}
@@ -11,15 +10,22 @@ use Rattle.rb_rpc.specs.declared.answer.ErrorCode.TheVariants.{ParseError, Inval
 use Rattle.rb_server.specs.Methods.{method_of}
 use Rattle.rb_server.specs.Beginnings.{chosen_encoding, initialized}
 use Rattle.rb_server.specs.declared.method.Method.{Method}
-use Rattle.rb_server.specs.declared.method.Method.TheVariants.{Initialize, Shutdown, Exit}
+use Rattle.rb_server.specs.declared.method.Method.TheVariants.{Initialize, Shutdown, Exit, Asks}
 use Rattle.rb_server.specs.declared.phase.Phase.{Phase}
 use Rattle.rb_server.specs.declared.phase.Phase.TheVariants.{Fresh, Running, Stopped}
 use Rattle.rb_server.specs.declared.phase.Status.{Status}
 use Rattle.rb_server.specs.declared.phase.Status.TheVariants.{Done, Exited}
 use Rattle.rb_server.specs.Documents.{PlainDocument}
-use Rattle.rb_server.specs.Notices.{Diagnose, documents_after, notice_of, notice_text}
+use Rattle.rb_server.specs.Meanings.{Meaning}
+use Rattle.rb_server.specs.Questions.{body_text, question_body}
+use Rattle.rb_server.specs.Notices.{documents_after, notice_of, notice_text}
 
--- ---- the answer to a request
+-- a server, as it stands
+pub record PlainServer : Type 0 where
+  pub phase : Phase
+  pub documents : List PlainDocument
+
+-- ---- the answer to a request of no document
 
 abbrev pub initialize_answer : Option Encoding → Data → Data
 initialize_answer (Some encoding) id = success id (initialized encoding)
@@ -51,17 +57,25 @@ no_message = failure null InvalidRequest (codes "this is no message")
 unfoldable pub no_json : Data
 no_json = failure null ParseError (codes "this is no JSON")
 
+-- to a request: of a document, between `initialize` and `shutdown`, or of none
+abbrev pub body_in : Meaning → List PlainDocument → Phase → Method → Option Data → Data → List ℕ
+body_in meaning ds (Running encoding) (Asks question) params id = question_body meaning encoding ds question params id
+body_in meaning ds phase method params id = body_text (answer_to phase method params id)
+
+abbrev pub answer_body : Meaning → PlainServer → Method → Option Data → Data → List ℕ
+answer_body meaning server method params id = body_in meaning server.documents server.phase method params id
+
 -- to a request one answer, to a notification none
-abbrev pub reply : Phase → Said → Option Data
-reply phase (request id method params) = Some (answer_to phase (method_of method) params id)
-reply phase (notification method params) = None
-reply phase response = None
-reply phase invalid = Some no_message
+abbrev pub reply : Meaning → PlainServer → Said → Option (List ℕ)
+reply meaning server (request id method params) = Some (answer_body meaning server (method_of method) params id)
+reply meaning server (notification method params) = None
+reply meaning server response = None
+reply meaning server invalid = Some (body_text no_message)
 
 -- what goes out
-unfoldable pub sent : Option Data → List ℕ
+unfoldable pub sent : Option (List ℕ) → List ℕ
 sent None = []
-sent (Some d) = frame (compact_text d)
+sent (Some body) = frame body
 
 -- ---- where the server stands after a message
 
@@ -83,12 +97,7 @@ abbrev pub status_of : Phase → Status
 status_of Stopped = Done
 status_of phase = Exited
 
--- a server, as it stands
-pub record PlainServer : Type 0 where
-  pub phase : Phase
-  pub documents : List PlainDocument
-
--- as it begins
+-- a server as it begins
 abbrev pub fresh : PlainServer
 fresh = record { phase = Fresh; documents = [] }
 
@@ -118,10 +127,10 @@ turned_by server invalid = On server
 -- ---- what goes out
 
 -- of a notification: what it makes of a document is published
-abbrev pub published : Diagnose → PlainServer → Method → Option Data → List ℕ
-published diagnose server Exit params = []
-published diagnose server method params = notice_text diagnose (notice_of server.phase method params) (with_notice server method params).documents
+abbrev pub published : Meaning → PlainServer → Method → Option Data → List ℕ
+published meaning server Exit params = []
+published meaning server method params = notice_text meaning (notice_of server.phase method params) (with_notice server method params).documents
 
-abbrev pub told_of : Diagnose → PlainServer → Said → List ℕ
-told_of diagnose server (notification method params) = published diagnose server (method_of method) params
-told_of diagnose server what = sent (reply server.phase what)
+abbrev pub told_of : Meaning → PlainServer → Said → List ℕ
+told_of meaning server (notification method params) = published meaning server (method_of method) params
+told_of meaning server what = sent (reply meaning server what)

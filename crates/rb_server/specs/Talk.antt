@@ -6,7 +6,8 @@ use Rattle.rb_rpc.specs.Messages.{IsMessage, HasNoMessage, NeverHasMessage}
 use Rattle.rb_rpc.specs.Said.{Said, said}
 use Rattle.rb_server.specs.declared.phase.Status.{Status}
 use Rattle.rb_server.specs.declared.phase.Status.TheVariants.{Closed, CutOff, NoMessage}
-use Rattle.rb_server.specs.Notices.{Diagnose}
+use Rattle.rb_server.specs.Meanings.{Meaning}
+use Rattle.rb_server.specs.Questions.{body_text}
 use Rattle.rb_server.specs.Replies.{PlainServer, Turned, On, Over, fresh, no_json, sent, told_of, turned_by}
 
 -- what a body says, if it is JSON
@@ -15,9 +16,9 @@ Hears body (Some what) = (d : Data) × IsUtf8 body × (read body ≡ Some d) × 
 Hears body None = IsUtf8 body → read body ≡ None
 
 -- what goes out
-abbrev pub told : Diagnose → PlainServer → Option Said → List ℕ
-told diagnose server None = sent (Some no_json)
-told diagnose server (Some what) = told_of diagnose server what
+abbrev pub told : Meaning → PlainServer → Option Said → List ℕ
+told meaning server None = sent (Some (body_text no_json))
+told meaning server (Some what) = told_of meaning server what
 
 -- where the server stands then, or how it ends
 abbrev pub goes : PlainServer → Option Said → Turned
@@ -25,39 +26,39 @@ goes server None = On server
 goes server (Some what) = turned_by server what
 
 -- A conversation begins: where the server stands after some messages, which bytes are left, and what went out.
-pub data Begins (diagnose : Diagnose) : PlainServer → List ℕ → PlainServer → List ℕ → List ℕ → Type 0 where
-  stands : (server : PlainServer) (all : List ℕ) → Begins diagnose server all server all []
+pub data Begins (meaning : Meaning) : PlainServer → List ℕ → PlainServer → List ℕ → List ℕ → Type 0 where
+  stands : (server : PlainServer) (all : List ℕ) → Begins meaning server all server all []
   goes_on : (server next last : PlainServer) (all body rest left text : List ℕ) (heard : Option Said) → IsMessage all body rest → Hears body heard
-      → goes server heard ≡ On next → Begins diagnose next rest last left text → Begins diagnose server all last left (told diagnose server heard ++ text)
+      → goes server heard ≡ On next → Begins meaning next rest last left text → Begins meaning server all last left (told meaning server heard ++ text)
 
 -- How it ends, and what still goes out.
-pub data Ends (diagnose : Diagnose) : PlainServer → List ℕ → Status → List ℕ → Type 0 where
+pub data Ends (meaning : Meaning) : PlainServer → List ℕ → Status → List ℕ → Type 0 where
   -- a message tells the server to end
   exits : (server : PlainServer) (status : Status) (all body rest : List ℕ) (heard : Option Said) → IsMessage all body rest → Hears body heard
-      → goes server heard ≡ Over status → Ends diagnose server all status (told diagnose server heard)
+      → goes server heard ≡ Over status → Ends meaning server all status (told meaning server heard)
   -- nothing is left
-  closes : (server : PlainServer) (all : List ℕ) → all ≡ [] → Ends diagnose server all Closed []
+  closes : (server : PlainServer) (all : List ℕ) → all ≡ [] → Ends meaning server all Closed []
   -- no message is left
-  cuts_off : (server : PlainServer) (all : List ℕ) → HasNoMessage all → all ≢ [] → Ends diagnose server all CutOff []
+  cuts_off : (server : PlainServer) (all : List ℕ) → HasNoMessage all → all ≢ [] → Ends meaning server all CutOff []
   -- nor would more bytes make one
-  strays : (server : PlainServer) (all : List ℕ) → NeverHasMessage all → Ends diagnose server all NoMessage []
+  strays : (server : PlainServer) (all : List ℕ) → NeverHasMessage all → Ends meaning server all NoMessage []
 
 -- The whole conversation over bytes: how it ends, and what is written.
-pub record Talks (diagnose : Diagnose) (all : List ℕ) (status : Status) (text : List ℕ) : Type 0 where
+pub record Talks (meaning : Meaning) (all : List ℕ) (status : Status) (text : List ℕ) : Type 0 where
   pub last : PlainServer
   pub left : List ℕ
   pub answers : List ℕ
   pub ending : List ℕ
-  pub begins : Begins diagnose fresh all last left answers
-  pub ends : Ends diagnose last left status ending
+  pub begins : Begins meaning fresh all last left answers
+  pub ends : Ends meaning last left status ending
   pub text_is : text ≡ answers ++ ending
 
 -- What may be written for a body, if a call fails.
-pub data MayAnswer (diagnose : Diagnose) : PlainServer → List ℕ → List ℕ → Type 0 where
-  nothing : (server : PlainServer) (body : List ℕ) → MayAnswer diagnose server body []
-  answer : (server : PlainServer) (body : List ℕ) (heard : Option Said) → Hears body heard → MayAnswer diagnose server body (told diagnose server heard)
+pub data MayAnswer (meaning : Meaning) : PlainServer → List ℕ → List ℕ → Type 0 where
+  nothing : (server : PlainServer) (body : List ℕ) → MayAnswer meaning server body []
+  answer : (server : PlainServer) (body : List ℕ) (heard : Option Said) → Hears body heard → MayAnswer meaning server body (told meaning server heard)
 
 -- And for the next message.
-pub data MayCome (diagnose : Diagnose) : PlainServer → List ℕ → List ℕ → Type 0 where
-  waits : (server : PlainServer) (all : List ℕ) → MayCome diagnose server all []
-  comes : (server : PlainServer) (all body rest text : List ℕ) → IsMessage all body rest → MayAnswer diagnose server body text → MayCome diagnose server all text
+pub data MayCome (meaning : Meaning) : PlainServer → List ℕ → List ℕ → Type 0 where
+  waits : (server : PlainServer) (all : List ℕ) → MayCome meaning server all []
+  comes : (server : PlainServer) (all body rest text : List ℕ) → IsMessage all body rest → MayAnswer meaning server body text → MayCome meaning server all text

@@ -3,11 +3,15 @@
 ghost use Rattle.std.specs.Prelude.{◌≡◌, false, IfOk, option_map};
 ghost use Rattle.serde_json.specs.View.{view};
 ghost use Rattle.serde_json.specs.Written.{has_float};
-ghost use Rattle.rb_server.specs.Replies.{after, answer_to, fresh_answer, initialize_answer, no_json, no_message, running_answer};
+ghost use Rattle.rb_server.specs.Questions.{body_text};
+ghost use Rattle.rb_server.specs.Replies.{after, answer_to, body_in, fresh_answer, initialize_answer, no_json, no_message, running_answer};
 
 use crate::beginning::{chosen_encoding, initialized};
+use crate::documents::Documents;
 use crate::method::Method;
 use crate::phase::Phase;
+use crate::question::{body_text, question_body};
+use crate::service::Service;
 use rb_document::Encoding;
 use rb_rpc::{ErrorCode, failure, success};
 use serde_json::Value;
@@ -68,8 +72,8 @@ fn running_answer(alloc: Global, method: Method, id: &Value) -> Result<Value, Al
     }
 }
 
-/// The answer to a request.
-pub(crate) fn answer_to(
+// The answer to a request of no document.
+fn answer_to(
     alloc: Global,
     phase: Phase,
     method: Method,
@@ -83,6 +87,42 @@ pub(crate) fn answer_to(
         Phase::Running(_) => running_answer(alloc, method, id),
         Phase::Stopped => failure(alloc, id, ErrorCode::InvalidRequest, "shutdown came before"),
     }
+}
+
+/// The text of the answer to a request, where these documents are open.
+pub(crate) fn answer_body<V: Service>(
+    alloc: Global,
+    service: &mut V,
+    documents: &Documents,
+    phase: Phase,
+    method: Method,
+    params: Option<&Value>,
+    id: &Value,
+) -> Result<Vec<u8>, AllocError>
+    requires { has_float (view id.now) ≡ false }
+    ensures { IfOk result (λ body. body.items ≡ body_in V.meaning documents.now phase method (option_map (λ v. view v.now) params.entry) (view id.now)) }
+{
+    match (phase, method) {
+        (Phase::Running(encoding), Method::Asks(question)) => question_body(
+            alloc, service, documents, encoding, question, params, id,
+        ),
+        _ => own_body(alloc, phase, method, params, id),
+    }
+}
+
+// The text of the answer to a request of no document.
+fn own_body(
+    alloc: Global,
+    phase: Phase,
+    method: Method,
+    params: Option<&Value>,
+    id: &Value,
+) -> Result<Vec<u8>, AllocError>
+    requires { has_float (view id.now) ≡ false }
+    ensures { IfOk result (λ body. body.items ≡ body_text (answer_to phase method (option_map (λ v. view v.now) params.entry) (view id.now))) }
+{
+    let answer = answer_to(alloc, phase, method, params, id)?;
+    body_text(alloc, &answer)
 }
 
 /// Where a server stands after a request.

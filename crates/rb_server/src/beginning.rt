@@ -2,7 +2,7 @@
 
 ghost use Rattle.std.specs.Prelude.{◌≡◌, false, IfOk, option_map};
 ghost use Rattle.serde_json.specs.View.{view};
-ghost use Rattle.rb_server.specs.Beginnings.{chosen_encoding, encoding_name, initialized, names_bytes, offered, offers_bytes, synchronizes};
+ghost use Rattle.rb_server.specs.Beginnings.{capabilities, chosen_encoding, encoding_name, initialized, names_bytes, offered, offers_bytes, synchronizes};
 
 use rb_document::Encoding;
 use serde_json::{Value, json};
@@ -70,12 +70,21 @@ fn synchronizes(alloc: Global) -> Result<Value, AllocError>
     json!(in alloc; {"openClose": true, "change": 2})
 }
 
+// What it can be told and asked.
+#[tactic(auto, unfolding(crate::specs::Beginnings::capabilities))]
+fn capabilities(alloc: Global, encoding: Encoding) -> Result<Value, AllocError>
+    ensures { IfOk result (λ value. view value ≡ capabilities encoding) }
+{
+    let name = encoding_name(encoding);
+    let synchronizes = synchronizes(alloc)?;
+    json!(in alloc; {"codeActionProvider": true, "completionProvider": {}, "documentFormattingProvider": true, "documentSymbolProvider": true, "foldingRangeProvider": true, "hoverProvider": true, "positionEncoding": name, "textDocumentSync": synchronizes})
+}
+
 /// What is answered to `initialize`: what the server can do.
 #[tactic(auto, unfolding(crate::specs::Beginnings::initialized))]
 pub(crate) fn initialized(alloc: Global, encoding: Encoding) -> Result<Value, AllocError>
     ensures { IfOk result (λ value. view value ≡ initialized encoding) }
 {
-    let name = encoding_name(encoding);
-    let synchronizes = synchronizes(alloc)?;
-    json!(in alloc; {"capabilities": {"positionEncoding": name, "textDocumentSync": synchronizes}, "serverInfo": {"name": "raftbench"}})
+    let capabilities = capabilities(alloc, encoding)?;
+    json!(in alloc; {"capabilities": capabilities, "serverInfo": {"name": "raftbench"}})
 }

@@ -1,6 +1,6 @@
 //! Laws of answers, of what is published, and of conversations, for whoever reads the contracts. No call does anything.
 
-ghost use Rattle.rb_server.specs.Laws.{ConversationsAreOne, NotificationsHaveNoAnswer, RequestsHaveOneAnswer, TextsAreDiagnosed};
+ghost use Rattle.rb_server.specs.Laws.{ConversationsAreOne, NotificationsHaveNoAnswer, RequestsHaveOneAnswer, ResultsStandInAnswers, TextsAreAnswered, TextsAreDiagnosed};
 
 /// Wherever the server stands, a request has one answer, which has the request's id.
 pub fn requests_have_one_answer()
@@ -10,6 +10,17 @@ pub fn requests_have_one_answer()
 /// A notification has none, nor has an answer.
 pub fn notifications_have_no_answer()
     ensures { NotificationsHaveNoAnswer }
+{}
+
+/// Whatever was sent before, and whatever else is open: what is answered to a request depends on where the server stands, and on the text, as
+/// it stands, of the document that the request names.
+pub fn texts_are_answered()
+    ensures { TextsAreAnswered }
+{}
+
+/// An answer whose result is the text of a value is the answer with that value.
+pub fn results_stand_in_answers()
+    ensures { ResultsStandInAnswers }
 {}
 
 /// Bytes have one conversation: whatever pieces they come in, the same is written.

@@ -2,14 +2,15 @@
 //!
 //! [`serve`] is a server over any [`Source`] of [`rb_line`] and any [`Sink`] of [`rb_script`]. It begins with `initialize`, does
 //! requests until `shutdown`, and ends with `exit`; a [`Status`] says how it ended. It keeps the texts of the documents that the editor has
-//! open, and publishes the diagnostics of each as it changes. What documents mean, a [`Service`] knows. What each message is answered, what is
-//! published for it, and where the server stands then, depends on the message and on where it stood before.
+//! open, publishes the diagnostics of each as it changes, and answers what is [`Asked`] of one. What documents mean, a [`Service`] knows. What
+//! each message is answered, what is published for it, and where the server stands then, depends on the message and on where it stood before.
 //!
 //! [`Source`]: rb_line::Source
 //! [`Sink`]: rb_script::Sink
 #![tactic(auto)]
 
 mod answers;
+mod asked;
 mod beginning;
 mod changes;
 mod documents;
@@ -19,14 +20,16 @@ mod limits;
 mod method;
 mod phase;
 mod publication;
+mod question;
 mod server;
 mod service;
 mod serving;
 
+pub use asked::Asked;
 pub use fault::ServeFault;
 pub use laws::{
     conversations_are_one, notifications_have_no_answer, requests_have_one_answer,
-    texts_are_diagnosed,
+    results_stand_in_answers, texts_are_answered, texts_are_diagnosed,
 };
 pub use limits::{MAX_DOCUMENTS, limits_are};
 pub use phase::Status;

@@ -1,7 +1,18 @@
 //! The methods that a server knows.
 
 ghost use Rattle.std.specs.Prelude.{◌≡◌};
-ghost use Rattle.rb_server.specs.Methods.{document_method, is_of_documents, method_of};
+ghost use Rattle.rb_server.specs.Methods.{document_method, is_of_documents, method_of, question_method, whole_method};
+
+/// What may be asked of a document.
+#[derive(Clone, Copy, Debug, PartialEq, Eq)]
+pub(crate) enum Question {
+    CodeAction,
+    Formatting,
+    Hover,
+    Completion,
+    FoldingRange,
+    DocumentSymbol,
+}
 
 /// A method.
 #[derive(Clone, Copy, Debug, PartialEq, Eq)]
@@ -15,8 +26,42 @@ pub(crate) enum Method {
     DidChange,
     /// It is no longer open.
     DidClose,
+    /// A client asks something of it.
+    Asks(Question),
     /// Any other.
     Unknown,
+}
+
+// The method of this name, which asks something of a whole document.
+#[tactic(auto, unfolding(crate::specs::Methods::whole_method))]
+fn whole_method(name: &str) -> Method
+    ensures { result ≡ whole_method name.now }
+{
+    if name == "textDocument/formatting" {
+        Method::Asks(Question::Formatting)
+    } else if name == "textDocument/foldingRange" {
+        Method::Asks(Question::FoldingRange)
+    } else if name == "textDocument/documentSymbol" {
+        Method::Asks(Question::DocumentSymbol)
+    } else {
+        Method::Unknown
+    }
+}
+
+// The method of this name, which asks something of a document.
+#[tactic(auto, unfolding(crate::specs::Methods::question_method))]
+fn question_method(name: &str) -> Method
+    ensures { result ≡ question_method name.now }
+{
+    if name == "textDocument/hover" {
+        Method::Asks(Question::Hover)
+    } else if name == "textDocument/codeAction" {
+        Method::Asks(Question::CodeAction)
+    } else if name == "textDocument/completion" {
+        Method::Asks(Question::Completion)
+    } else {
+        whole_method(name)
+    }
 }
 
 // The method of this name, of a document.
@@ -31,7 +76,7 @@ fn document_method(name: &str) -> Method
     } else if name == "textDocument/didClose" {
         Method::DidClose
     } else {
-        Method::Unknown
+        question_method(name)
     }
 }
 

@@ -52,7 +52,7 @@ fn add_list<V: Service>(
     out: &mut Vec<u8>,
 ) -> Result<(), AllocError>
     requires { IfSome text (λ text. length text.now ≤ MAX_TEXT) }
-    ensures { OnOk result (out.new.items ≡ out.old.items ++ list_text V.diagnose encoding uri.now (option_map (λ text. text.now) text.entry)) }
+    ensures { OnOk result (out.new.items ≡ out.old.items ++ list_text V.meaning encoding uri.now (option_map (λ text. text.now) text.entry)) }
 {
     match text {
         Some(text) => service.add_diagnostics(encoding, uri, text, out),
@@ -71,7 +71,7 @@ pub(crate) fn publication<V: Service>(
     text: Option<&[u8]>,
 ) -> Result<Vec<u8>, AllocError>
     requires { IfSome text (λ text. length text.now ≤ MAX_TEXT) }
-    ensures { IfOk result (λ out. out.items ≡ publication V.diagnose encoding uri.now version (option_map (λ text. text.now) text.entry)) }
+    ensures { IfOk result (λ out. out.items ≡ publication V.meaning encoding uri.now version (option_map (λ text. text.now) text.entry)) }
 {
     let mut out = Vec::new(alloc);
     add_head(&mut out, uri)?;

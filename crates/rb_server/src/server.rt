@@ -9,18 +9,20 @@ ghost use Rattle.rb_rpc.specs.Said.{said};
 ghost use Rattle.rb_server.specs.Changes.{text_after};
 ghost use Rattle.rb_server.specs.Documents.{closed, kept, text_of};
 ghost use Rattle.rb_server.specs.Notices.{documents_after, notice_of, notice_text, publication};
-ghost use Rattle.rb_server.specs.Replies.{after, answer_to, no_json, noticed_by, published, sent, told_of, turned_by, with_phase};
+ghost use Rattle.rb_server.specs.Questions.{body_text};
+ghost use Rattle.rb_server.specs.Replies.{after, answer_body, no_json, noticed_by, published, sent, told_of, turned_by, with_phase};
 ghost use Rattle.rb_server.specs.Serves.{turned_of};
 
-use crate::answers::{after, answer_to, no_json, no_message};
+use crate::answers::{after, answer_body, no_json, no_message};
 use crate::changes::document_after;
 use crate::documents::Documents;
 use crate::method::{Method, is_of_documents, method_of};
 use crate::phase::{Phase, Status, status_of};
 use crate::publication::{framed, publication};
+use crate::question::body_text;
 use crate::service::Service;
 use rb_document::Encoding;
-use rb_rpc::{Incoming, incoming_of, number_below, text_below, text_of};
+use rb_rpc::{Incoming, incoming_of, number_below, text_below};
 use serde_json::Value;
 use std::alloc::{AllocError, Global};
 use std::marker::Model;
@@ -73,31 +75,47 @@ fn silent(alloc: Global, over: Option<Status>) -> Heard
     }
 }
 
-// An answer as it goes out.
+// An answer with this text, as it goes out.
 #[tactic(auto, unfolding(crate::specs::Replies::sent))]
-fn sent(alloc: Global, answer: &Value) -> Result<Vec<u8>, AllocError>
-    requires { has_float (view answer.now) ≡ false }
-    ensures { IfOk result (λ out. out.items ≡ sent (Some (view answer.now))) }
+fn sent(alloc: Global, body: &[u8]) -> Result<Vec<u8>, AllocError>
+    ensures { IfOk result (λ out. out.items ≡ sent (Some body.now)) }
 {
-    let text = text_of(alloc, answer)?;
-    framed(alloc, text.as_bytes())
+    framed(alloc, body)
+}
+
+// An answer of the server's own, as it goes out.
+fn sent_answer(alloc: Global, answer: &Value) -> Result<Vec<u8>, AllocError>
+    requires { has_float (view answer.now) ≡ false }
+    ensures { IfOk result (λ out. out.items ≡ sent (Some (body_text (view answer.now)))) }
+{
+    let body = body_text(alloc, answer)?;
+    sent(alloc, body.as_slice())
 }
 
 // Hears a request.
-fn hear_request(
+fn hear_request<V: Service>(
     alloc: Global,
+    service: &mut V,
     server: &mut Server,
     id: &Value,
     method: Method,
     params: Option<&Value>,
 ) -> Result<Heard, AllocError>
     requires { has_float (view id.now) ≡ false }
-    ensures out { IfOk result (λ heard. heard.out.items ≡ sent (Some (answer_to server.old.phase method (option_map (λ v. view v.now) params.entry) (view id.now)))) }
+    ensures out { IfOk result (λ heard. heard.out.items ≡ sent (Some (answer_body V.meaning server.old method (option_map (λ v. view v.now) params.entry) (view id.now)))) }
     ensures over { IfOk result (λ heard. heard.over ≡ None) }
     ensures server { OnOk result (server.new ≡ with_phase server.old (after server.old.phase method (option_map (λ v. view v.now) params.entry))) }
 {
-    let answer = answer_to(alloc, server.phase, method, params, id)?;
-    let out = sent(alloc, &answer)?;
+    let body = answer_body(
+        alloc,
+        service,
+        &server.documents,
+        server.phase,
+        method,
+        params,
+        id,
+    )?;
+    let out = sent(alloc, body.as_slice())?;
     server.phase = after(server.phase, method, params);
     Ok(Heard { out, over: None })
 }
@@ -113,7 +131,7 @@ fn notice<V: Service>(
     uri: &[u8],
 ) -> Result<Vec<u8>, AllocError>
     ensures documents { OnOk result (documents.new ≡ kept uri.now (text_after encoding method (view params.now) (text_of uri.now documents.old)) (closed uri.now documents.old)) }
-    ensures out { IfOk result (λ out. out.items ≡ frame (publication V.diagnose encoding uri.now (number_below (codes "textDocument") (codes "version") (view params.now)) (text_of uri.now documents.new))) }
+    ensures out { IfOk result (λ out. out.items ≡ frame (publication V.meaning encoding uri.now (number_below (codes "textDocument") (codes "version") (view params.now)) (text_of uri.now documents.new))) }
 {
     let old = documents.take(uri);
     let new = document_after(alloc, encoding, method, params, old)?;
@@ -133,7 +151,7 @@ fn take_notice<V: Service>(
 ) -> Result<Vec<u8>, AllocError>
     ensures phase { server.new.phase ≡ server.old.phase }
     ensures documents { OnOk result (server.new.documents ≡ documents_after (notice_of server.old.phase method (option_map (λ v. view v.now) params.entry)) server.old.documents) }
-    ensures out { IfOk result (λ out. out.items ≡ notice_text V.diagnose (notice_of server.old.phase method (option_map (λ v. view v.now) params.entry)) server.new.documents) }
+    ensures out { IfOk result (λ out. out.items ≡ notice_text V.meaning (notice_of server.old.phase method (option_map (λ v. view v.now) params.entry)) server.new.documents) }
 {
     let Phase::Running(encoding) = server.phase else {
         return Ok(Vec::new(alloc));
@@ -166,10 +184,10 @@ fn hear_notification<V: Service>(
     method: Method,
     params: Option<&Value>,
 ) -> Result<Heard, AllocError>
-    ensures out { IfOk result (λ heard. heard.out.items ≡ published V.diagnose server.old method (option_map (λ v. view v.now) params.entry)) }
+    ensures out { IfOk result (λ heard. heard.out.items ≡ published V.meaning server.old method (option_map (λ v. view v.now) params.entry)) }
     ensures turned { IfOk result (λ heard. turned_of heard.over server.new ≡ noticed_by server.old method (option_map (λ v. view v.now) params.entry)) }
 {
-    if method == Method::Exit {
+    if matches!(method, Method::Exit) {
         return Ok(silent(alloc, Some(status_of(server.phase))));
     }
     let out = take_notice(alloc, service, server, method, params)?;
@@ -183,19 +201,19 @@ pub(crate) fn hear<V: Service>(
     server: &mut Server,
     message: &Value,
 ) -> Result<Heard, AllocError>
-    ensures out { IfOk result (λ heard. heard.out.items ≡ told_of V.diagnose server.old (said (view message.now))) }
+    ensures out { IfOk result (λ heard. heard.out.items ≡ told_of V.meaning server.old (said (view message.now))) }
     ensures turned { IfOk result (λ heard. turned_of heard.over server.new ≡ turned_by server.old (said (view message.now))) }
 {
     match incoming_of(message) {
         Incoming::Request(id, method, params) => {
-            hear_request(alloc, server, id, method_of(method), params)
+            hear_request(alloc, service, server, id, method_of(method), params)
         }
         Incoming::Notification(method, params) => {
             hear_notification(alloc, service, server, method_of(method), params)
         }
         Incoming::Response => Ok(silent(alloc, None)),
         Incoming::Invalid => Ok(Heard {
-            out: sent(alloc, &no_message(alloc)?)?,
+            out: sent_answer(alloc, &no_message(alloc)?)?,
             over: None,
         }),
     }
@@ -203,8 +221,8 @@ pub(crate) fn hear<V: Service>(
 
 /// What goes out for what is no JSON.
 pub(crate) fn refused(alloc: Global) -> Result<Vec<u8>, AllocError>
-    ensures { IfOk result (λ out. out.items ≡ sent (Some no_json)) }
+    ensures { IfOk result (λ out. out.items ≡ sent (Some (body_text no_json))) }
 {
     let answer = no_json(alloc)?;
-    sent(alloc, &answer)
+    sent_answer(alloc, &answer)
 }

@@ -1,16 +1,17 @@
 //! What a server lets others do: whatever depends on what documents mean.
 
-ghost use Rattle.std.specs.Prelude.{◌≡◌, ◌≤◌, ◌++◌, ℕ, List, OnOk, length};
+ghost use Rattle.std.specs.Prelude.{◌≡◌, ◌≤◌, ◌++◌, OnOk, length};
 ghost use Rattle.rb_document.specs.declared.limits.TheConstants.{MAX_TEXT};
-ghost use Rattle.rb_document.specs.declared.position.Encoding.{Encoding};
+ghost use Rattle.rb_server.specs.Meanings.{Meaning};
 
+use crate::asked::Asked;
 use rb_document::Encoding;
 use std::alloc::AllocError;
 
 /// Knows what documents mean.
 pub trait Service {
-    // the diagnostics of a text, as a list in JSON: of the encoding of columns, the URI of the document, and its text
-    ghost diagnose: { Encoding → List ℕ → List ℕ → List ℕ };
+    // what is said of a text, and what is answered of it
+    ghost meaning: { Meaning };
 
     /// Adds the diagnostics of the text of a document. They depend on what is handed in alone.
     fn add_diagnostics(
@@ -21,5 +22,17 @@ pub trait Service {
         out: &mut Vec<u8>,
     ) -> Result<(), AllocError>
         requires { length text.now ≤ MAX_TEXT }
-        ensures { OnOk result (out.new.items ≡ out.old.items ++ diagnose encoding uri.now text.now) };
+        ensures { OnOk result (out.new.items ≡ out.old.items ++ (meaning).diagnose encoding uri.now text.now) };
+
+    /// Adds the result of a request, of the text of a document. It depends on what is handed in alone.
+    fn add_answer(
+        &mut self,
+        encoding: Encoding,
+        asked: Asked,
+        uri: &[u8],
+        text: &[u8],
+        out: &mut Vec<u8>,
+    ) -> Result<(), AllocError>
+        requires { length text.now ≤ MAX_TEXT }
+        ensures { OnOk result (out.new.items ≡ out.old.items ++ (meaning).answer encoding asked uri.now text.now) };
 }

@@ -32,9 +32,9 @@ pub fn serve<V: Service, S: Source, W: Sink>(
     sink: &mut W,
 ) -> Result<Status, ServeFault>
     // What is written is the conversation over the bytes that come in, and the status is that of its end.
-    ensures ok { IfOk result (λ status. Served V.diagnose (S.left source.old) status (W.held sink.old) (W.held sink.new)) }
+    ensures ok { IfOk result (λ status. Served V.meaning (S.left source.old) status (W.held sink.old) (W.held sink.new)) }
     // Where a call fails, a beginning of it went out.
-    ensures failed { OnErr result (BreaksOff V.diagnose (S.left source.old) (W.held sink.old) (W.held sink.new)) }
+    ensures failed { OnErr result (BreaksOff V.meaning (S.left source.old) (W.held sink.old) (W.held sink.new)) }
 {
     let mut reader = MessageReader::new(alloc, MAX_CALLS);
     let mut server = Server::new(alloc);
@@ -57,8 +57,8 @@ fn turn<V: Service, S: Source, W: Sink>(
     source: &mut S,
     sink: &mut W,
 ) -> Result<Option<Status>, ServeFault>
-    ensures ok { IfOk result (λ over. TurnsOut V.diagnose server.old (turned_of over server.new) (left_of reader.old (S.left source.old)) (left_of reader.new (S.left source.new)) (W.held sink.old) (W.held sink.new)) }
-    ensures failed { OnErr result (TurnBreaks V.diagnose server.old (left_of reader.old (S.left source.old)) (W.held sink.old) (W.held sink.new)) }
+    ensures ok { IfOk result (λ over. TurnsOut V.meaning server.old (turned_of over server.new) (left_of reader.old (S.left source.old)) (left_of reader.new (S.left source.new)) (W.held sink.old) (W.held sink.new)) }
+    ensures failed { OnErr result (TurnBreaks V.meaning server.old (left_of reader.old (S.left source.old)) (W.held sink.old) (W.held sink.new)) }
 {
     match reader.next(source)? {
         Next::Message => respond(alloc, service, server, reader.body(), sink),
@@ -76,8 +76,8 @@ fn respond<V: Service, W: Sink>(
     body: &[u8],
     sink: &mut W,
 ) -> Result<Option<Status>, ServeFault>
-    ensures ok { IfOk result (λ over. Responds V.diagnose server.old body.now (turned_of over server.new) (W.held sink.old) (W.held sink.new)) }
-    ensures failed { OnErr result (StartsAnswer V.diagnose server.old body.now (W.held sink.old) (W.held sink.new)) }
+    ensures ok { IfOk result (λ over. Responds V.meaning server.old body.now (turned_of over server.new) (W.held sink.old) (W.held sink.new)) }
+    ensures failed { OnErr result (StartsAnswer V.meaning server.old body.now (W.held sink.old) (W.held sink.new)) }
 {
     match read(alloc, body) {
         Ok(message) => respond_to(alloc, service, server, &message, sink),
@@ -95,8 +95,8 @@ fn respond_to<V: Service, W: Sink>(
     sink: &mut W,
 ) -> Result<Option<Status>, ServeFault>
     ensures turned { IfOk result (λ over. turned_of over server.new ≡ goes server.old (Some (said (view message.now)))) }
-    ensures wrote { OnOk result (Appends (W.held sink.old) (W.held sink.new) (told V.diagnose server.old (Some (said (view message.now))))) }
-    ensures failed { OnErr result (AppendsFront (W.held sink.old) (W.held sink.new) (told V.diagnose server.old (Some (said (view message.now))))) }
+    ensures wrote { OnOk result (Appends (W.held sink.old) (W.held sink.new) (told V.meaning server.old (Some (said (view message.now))))) }
+    ensures failed { OnErr result (AppendsFront (W.held sink.old) (W.held sink.new) (told V.meaning server.old (Some (said (view message.now))))) }
 {
     let heard = hear(alloc, service, server, message)?;
     sink.put(heard.out.as_slice())?;
@@ -110,8 +110,8 @@ fn refuse<V: Service, W: Sink>(
     sink: &mut W,
 ) -> Result<Option<Status>, ServeFault>
     ensures turned { IfOk result (λ over. turned_of over server.new ≡ goes server.old None) }
-    ensures wrote { OnOk result (Appends (W.held sink.old) (W.held sink.new) (told V.diagnose server.old None)) }
-    ensures failed { OnErr result (AppendsFront (W.held sink.old) (W.held sink.new) (told V.diagnose server.old None)) }
+    ensures wrote { OnOk result (Appends (W.held sink.old) (W.held sink.new) (told V.meaning server.old None)) }
+    ensures failed { OnErr result (AppendsFront (W.held sink.old) (W.held sink.new) (told V.meaning server.old None)) }
 {
     let out = refused(alloc)?;
     sink.put(out.as_slice())?;

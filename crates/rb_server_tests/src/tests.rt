@@ -3,21 +3,32 @@
 use rb_document::Encoding;
 use rb_rpc::framed;
 use rb_script::Through;
-use rb_server::{ServeFault, Service, Status, serve};
+use rb_server::{Asked, ServeFault, Service, Status, serve};
 use std::alloc::{AllocError, Global};
 use std::process::Abort;
 use std::test::Fail;
 
-// What it says of a text is that text.
+// What it says of a text is that text, and what it answers too.
 #[derive(Drop)]
 struct Echo;
 
 impl Service for Echo {
-    ghost diagnose = { λ encoding uri text. text };
+    ghost meaning = { record { diagnose = λ encoding uri text. text; answer = λ encoding asked uri text. text } };
 
     fn add_diagnostics(
         &mut self,
         _encoding: Encoding,
+        _uri: &[u8],
+        text: &[u8],
+        out: &mut Vec<u8>,
+    ) -> Result<(), AllocError> {
+        out.extend_from_slice(text)
+    }
+
+    fn add_answer(
+        &mut self,
+        _encoding: Encoding,
+        _asked: Asked,
         _uri: &[u8],
         text: &[u8],
         out: &mut Vec<u8>,
@@ -74,7 +85,7 @@ fn a_life(rt: HostRuntime) -> Result<(), Fail> {
         ],
         &[
             r#"{"error":{"code":-32002,"message":"initialize comes first"},"id":1,"jsonrpc":"2.0"}"#,
-            r#"{"id":2,"jsonrpc":"2.0","result":{"capabilities":{"positionEncoding":"utf-8","textDocumentSync":{"change":2,"openClose":true}},"serverInfo":{"name":"raftbench"}}}"#,
+            r#"{"id":2,"jsonrpc":"2.0","result":{"capabilities":{"codeActionProvider":true,"completionProvider":{},"documentFormattingProvider":true,"documentSymbolProvider":true,"foldingRangeProvider":true,"hoverProvider":true,"positionEncoding":"utf-8","textDocumentSync":{"change":2,"openClose":true}},"serverInfo":{"name":"raftbench"}}}"#,
             r#"{"id":"a","jsonrpc":"2.0","result":null}"#,
         ],
         Status::Done,
@@ -100,7 +111,7 @@ fn refusals(rt: HostRuntime) -> Result<(), Fail> {
             r#"{"error":{"code":-32602,"message":"params is no object"},"id":1,"jsonrpc":"2.0"}"#,
             r#"{"error":{"code":-32600,"message":"this is no message"},"id":null,"jsonrpc":"2.0"}"#,
             r#"{"error":{"code":-32700,"message":"this is no JSON"},"id":null,"jsonrpc":"2.0"}"#,
-            r#"{"id":3,"jsonrpc":"2.0","result":{"capabilities":{"positionEncoding":"utf-16","textDocumentSync":{"change":2,"openClose":true}},"serverInfo":{"name":"raftbench"}}}"#,
+            r#"{"id":3,"jsonrpc":"2.0","result":{"capabilities":{"codeActionProvider":true,"completionProvider":{},"documentFormattingProvider":true,"documentSymbolProvider":true,"foldingRangeProvider":true,"hoverProvider":true,"positionEncoding":"utf-16","textDocumentSync":{"change":2,"openClose":true}},"serverInfo":{"name":"raftbench"}}}"#,
             r#"{"error":{"code":-32600,"message":"initialize came before"},"id":4,"jsonrpc":"2.0"}"#,
             r#"{"error":{"code":-32601,"message":"there is no such method"},"id":5,"jsonrpc":"2.0"}"#,
             r#"{"id":6,"jsonrpc":"2.0","result":null}"#,
@@ -137,12 +148,43 @@ fn documents(rt: HostRuntime) -> Result<(), Fail> {
             r#"{"jsonrpc":"2.0","method":"textDocument/didChange","params":{"textDocument":{"uri":"a","version":3},"contentChanges":[{"text":"[3]"}]}}"#,
         ],
         &[
-            r#"{"id":1,"jsonrpc":"2.0","result":{"capabilities":{"positionEncoding":"utf-16","textDocumentSync":{"change":2,"openClose":true}},"serverInfo":{"name":"raftbench"}}}"#,
+            r#"{"id":1,"jsonrpc":"2.0","result":{"capabilities":{"codeActionProvider":true,"completionProvider":{},"documentFormattingProvider":true,"documentSymbolProvider":true,"foldingRangeProvider":true,"hoverProvider":true,"positionEncoding":"utf-16","textDocumentSync":{"change":2,"openClose":true}},"serverInfo":{"name":"raftbench"}}}"#,
             "{\"jsonrpc\":\"2.0\",\"method\":\"textDocument/publishDiagnostics\",\"params\":{\"uri\":\"a\",\"version\":1,\"diagnostics\":[\n]}}",
             r#"{"jsonrpc":"2.0","method":"textDocument/publishDiagnostics","params":{"uri":"\u0022b","version":1,"diagnostics":[]}}"#,
             r#"{"jsonrpc":"2.0","method":"textDocument/publishDiagnostics","params":{"uri":"a","version":2,"diagnostics":[1,2]}}"#,
             r#"{"jsonrpc":"2.0","method":"textDocument/publishDiagnostics","params":{"uri":"a","diagnostics":[]}}"#,
             r#"{"jsonrpc":"2.0","method":"textDocument/publishDiagnostics","params":{"uri":"a","version":3,"diagnostics":[]}}"#,
+        ],
+        Status::Closed,
+    )
+}
+
+#[test]
+fn questions(rt: HostRuntime) -> Result<(), Fail> {
+    answers(
+        &rt,
+        rt.alloc(),
+        &[
+            r#"{"jsonrpc":"2.0","id":1,"method":"textDocument/formatting","params":{"textDocument":{"uri":"a"},"options":{}}}"#,
+            r#"{"jsonrpc":"2.0","id":2,"method":"initialize","params":{"capabilities":{"general":{"positionEncodings":["utf-8"]}}}}"#,
+            r#"{"jsonrpc":"2.0","method":"textDocument/didOpen","params":{"textDocument":{"uri":"a","languageId":"","version":1,"text":"[1]"}}}"#,
+            r#"{"jsonrpc":"2.0","id":"f","method":"textDocument/formatting","params":{"textDocument":{"uri":"a"},"options":{}}}"#,
+            r#"{"jsonrpc":"2.0","id":-3,"method":"textDocument/hover","params":{"textDocument":{"uri":"a"},"position":{"line":0,"character":0}}}"#,
+            r#"{"jsonrpc":"2.0","id":4,"method":"textDocument/hover","params":{"textDocument":{"uri":"a"},"position":{"line":0}}}"#,
+            r#"{"jsonrpc":"2.0","id":5,"method":"textDocument/documentSymbol","params":{"textDocument":{"uri":"b"}}}"#,
+            r#"{"jsonrpc":"2.0","id":6,"method":"shutdown"}"#,
+            r#"{"jsonrpc":"2.0","id":7,"method":"textDocument/foldingRange","params":{"textDocument":{"uri":"a"}}}"#,
+        ],
+        &[
+            r#"{"error":{"code":-32002,"message":"initialize comes first"},"id":1,"jsonrpc":"2.0"}"#,
+            r#"{"id":2,"jsonrpc":"2.0","result":{"capabilities":{"codeActionProvider":true,"completionProvider":{},"documentFormattingProvider":true,"documentSymbolProvider":true,"foldingRangeProvider":true,"hoverProvider":true,"positionEncoding":"utf-8","textDocumentSync":{"change":2,"openClose":true}},"serverInfo":{"name":"raftbench"}}}"#,
+            r#"{"jsonrpc":"2.0","method":"textDocument/publishDiagnostics","params":{"uri":"a","version":1,"diagnostics":[1]}}"#,
+            r#"{"id":"f","jsonrpc":"2.0","result":[1]}"#,
+            r#"{"id":-3,"jsonrpc":"2.0","result":[1]}"#,
+            r#"{"error":{"code":-32602,"message":"the method takes other params"},"id":4,"jsonrpc":"2.0"}"#,
+            r#"{"error":{"code":-32602,"message":"the document isn't open"},"id":5,"jsonrpc":"2.0"}"#,
+            r#"{"id":6,"jsonrpc":"2.0","result":null}"#,
+            r#"{"error":{"code":-32600,"message":"shutdown came before"},"id":7,"jsonrpc":"2.0"}"#,
         ],
         Status::Closed,
     )

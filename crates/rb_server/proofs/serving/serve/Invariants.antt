@@ -4,4 +4,4 @@ use Rattle.rb_server.proofs.TalkLaws.{Far}
 use Rattle.rb_server.proofs.serving.serve.Given as goal
 
 abbrev pub invariant-loop : goal.invariant-loop
-invariant-loop g l = Far g.V.Service.diagnose (g.S.Source.left l.fn.source) l.server (left_of l.reader (g.S.Source.left l.source)) (g.W.Sink.held l.fn.sink) (g.W.Sink.held l.sink)
+invariant-loop g l = Far g.V.Service.meaning (g.S.Source.left l.fn.source) l.server (left_of l.reader (g.S.Source.left l.source)) (g.W.Sink.held l.fn.sink) (g.W.Sink.held l.sink)

@@ -2,17 +2,18 @@
 
 ghost use Rattle.std.specs.Prelude.{IfOk, OnErr};
 ghost use Rattle.rb_server.specs.Serves.{BreaksOff, Served};
-ghost use Rattle.rb_diagnostics.specs.Published.{diagnose};
+ghost use Rattle.rb_actions.specs.Meanings.{meaning};
 
-use crate::running::diagnostics_of;
-use crate::writing::add_list;
+use crate::action::add_actions;
+use crate::hover::add_hover;
 use rb_check::Table;
 use rb_cluster::{Cluster, Meter};
+use rb_diagnostics::{add_list, diagnostics_of};
 use rb_document::Encoding;
 use rb_line::Source;
 use rb_raftlog::SplitLog;
 use rb_script::Sink;
-use rb_server::{ServeFault, Service, Status, serve};
+use rb_server::{Asked, ServeFault, Service, Status, serve};
 use std::alloc::{AllocError, Global};
 
 /// Knows what scripts mean.
@@ -31,7 +32,7 @@ impl Bench {
 }
 
 impl Service for Bench {
-    ghost diagnose = { diagnose };
+    ghost meaning = { meaning };
 
     fn add_diagnostics(
         &mut self,
@@ -44,6 +45,30 @@ impl Service for Bench {
         let table = &mut self.table;
         let list = diagnostics_of::<Cluster<SplitLog>>(self.alloc, table, &mut meter, text)?;
         add_list(self.alloc, out, encoding, text, list.as_slice())
+    }
+
+    fn add_answer(
+        &mut self,
+        encoding: Encoding,
+        asked: Asked,
+        uri: &[u8],
+        text: &[u8],
+        out: &mut Vec<u8>,
+    ) -> Result<(), AllocError> {
+        let mut meter = Meter::new();
+        let alloc = self.alloc;
+        match asked {
+            Asked::CodeAction(range) => add_actions::<Cluster<SplitLog>>(
+                alloc, out, encoding, range, uri, text, &mut meter,
+            ),
+            Asked::Formatting => out.extend_from_slice(b"null"),
+            Asked::Hover(position) => add_hover::<Cluster<SplitLog>>(
+                alloc, out, encoding, position, text, &mut meter,
+            ),
+            Asked::Completion(_) => out.extend_from_slice(b"null"),
+            Asked::FoldingRange => out.extend_from_slice(b"null"),
+            Asked::DocumentSymbol => out.extend_from_slice(b"null"),
+        }
     }
 }
 
@@ -58,9 +83,9 @@ pub fn lsp<S: Source, W: Sink>(
     sink: &mut W,
 ) -> Result<Status, ServeFault>
     // What is written is the conversation over the bytes that come in, and the status is that of its end.
-    ensures ok { IfOk result (λ status. Served diagnose (S.left source.old) status (W.held sink.old) (W.held sink.new)) }
+    ensures ok { IfOk result (λ status. Served meaning (S.left source.old) status (W.held sink.old) (W.held sink.new)) }
     // Where a call fails, a beginning of it went out.
-    ensures failed { OnErr result (BreaksOff diagnose (S.left source.old) (W.held sink.old) (W.held sink.new)) }
+    ensures failed { OnErr result (BreaksOff meaning (S.left source.old) (W.held sink.old) (W.held sink.new)) }
 {
     let mut bench = Bench::new(alloc)?;
     serve(alloc, &mut bench, source, sink)

@@ -3,13 +3,13 @@ use Rattle.std.specs.Prelude.{OnErr}
 use Rattle.rb_server.specs.Replies.{fresh}
 use Rattle.rb_server.specs.Serves.{BreaksOff}
 use Rattle.rb_server.proofs.TalkLaws.{far_none, far_stopped}
-use Rattle.rb_diagnostics.specs.Published.{diagnose}
-use Rattle.rb_diagnostics.proofs.bench.lsp.Goals as goal
+use Rattle.rb_actions.specs.Meanings.{meaning}
+use Rattle.rb_actions.proofs.bench.lsp.Goals as goal
 
 -- where there was no memory to begin with, nothing went out
-nothing_went : {X E : Type 0} (r : Result X E) (known held : Option (List ℕ)) → OnErr r (BreaksOff diagnose known held held)
+nothing_went : {X E : Type 0} (r : Result X E) (known held : Option (List ℕ)) → OnErr r (BreaksOff meaning known held held)
 nothing_went (Ok x) known held = tt
-nothing_went (Err e) known held = far_stopped diagnose known known held held fresh (far_none diagnose known known held refl)
+nothing_went (Err e) known held = far_stopped meaning known known held held fresh (far_none meaning known known held refl)
 
 pub returns-in_err-bench-clause-failed : goal.returns-in_err-bench-clause-failed
 returns-in_err-bench-clause-failed g c = nothing_went c.from_residual.result (g.S.Source.left c.args.source.now) (g.W.Sink.held c.args.sink.now)

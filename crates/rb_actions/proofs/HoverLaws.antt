@@ -1,0 +1,76 @@
+-- What is shown of a line, directive by directive.
+use Rattle.std.proofs.Common.{◌≡◌, ◌∙◌, ℕ, ◌+◌, Bool, true, false, List, [], ◌∷◌, drop, Err, refl, ap, sym}
+use Rattle.std.specs.Prelude.{if◌then◌else◌, slice_get, Some, codes}
+use Rattle.rb_script.specs.declared.fault.ScriptFault.{ScriptFault}
+use Rattle.rb_script.specs.Lines.{Line, lines}
+use Rattle.rb_script.specs.Script.{PlainBlock, PlainScript}
+use Rattle.rb_script.specs.Reads.{Reads}
+use Rattle.rb_script.specs.Reading.{read_of}
+use Rattle.rb_script.proofs.ScriptLaws.{read_complete}
+use Rattle.rb_replay.specs.Run.{outputs}
+use Rattle.rb_look.specs.Looks.{looked}
+use Rattle.rb_check.proofs.PieceLaws.{drop-get}
+use Rattle.rb_document.specs.declared.position.Encoding.{Encoding}
+use Rattle.rb_document.specs.declared.position.Position.{Position}
+use Rattle.rb_offers.specs.Heads.{heads_of}
+use Rattle.rb_actions.specs.declared.extent.Extent.{Extent}
+use Rattle.rb_actions.specs.Extents.{extent_of, has_line}
+use Rattle.rb_actions.specs.Layouts.{line_at}
+use Rattle.rb_actions.specs.Hovers.{hover, hover_in, hover_of, hover_text, shown}
+
+-- one directive more
+pub hover-step : (encoding : Encoding) (text : List ℕ) (s : PlainScript) (line n : ℕ) (heads : List ℕ) (bs : List PlainBlock) (os : List (List Line)) (i head : ℕ) (b : PlainBlock) (o : List Line)
+    → slice_get heads i ≡ Some head → slice_get bs i ≡ Some b → slice_get os i ≡ Some o
+    → hover_in encoding text s line n (drop i heads) (drop i bs) (drop i os)
+    ≡ (if has_line line line (extent_of (lines text) head b) then hover_text encoding text (extent_of (lines text) head b) (shown o (looked s (n + 1)))
+    else hover_in encoding text s line (n + 1) (drop (i + 1) heads) (drop (i + 1) bs) (drop (i + 1) os))
+hover-step encoding text s line n heads bs os i head b o there block output =
+    ap (λ (ns : List ℕ). hover_in encoding text s line n ns (drop i bs) (drop i os)) (drop-get heads i head there)
+    ∙ ap (λ (cs : List PlainBlock). hover_in encoding text s line n (head ∷ drop (i + 1) heads) cs (drop i os)) (drop-get bs i b block)
+    ∙ ap (λ (outs : List (List Line)). hover_in encoding text s line n (head ∷ drop (i + 1) heads) (b ∷ drop (i + 1) bs) outs) (drop-get os i o output)
+
+-- there are no more
+pub hover-done : (encoding : Encoding) (text : List ℕ) (s : PlainScript) (line n : ℕ) (heads : List ℕ) (bs : List PlainBlock) (os : List (List Line)) → heads ≡ [] → hover_in encoding text s line n heads bs os ≡ codes "null"
+hover-done encoding text s line n [] bs os none = refl
+hover-done encoding text s line n (head ∷ heads) bs os none = absurd cc
+
+-- what is shown at the directive behind i others, and behind it, where it is looked at whether it has the line
+looked_at : (encoding : Encoding) (text : List ℕ) (s : PlainScript) (line i head : ℕ) (b : PlainBlock) (o ls : List Line) (e : Extent) (t u : Bool) (total : List ℕ)
+    → slice_get (heads_of text s) i ≡ Some head → slice_get s.blocks i ≡ Some b → slice_get (outputs s) i ≡ Some o → ls ≡ lines text → e ≡ extent_of ls head b → t ≡ has_line line line e → t ≡ u
+    → hover_in encoding text s line i (drop i (heads_of text s)) (drop i s.blocks) (drop i (outputs s)) ≡ total
+    → (if u then hover_text encoding text e (shown o (looked s (i + 1))) else hover_in encoding text s line (i + 1) (drop (i + 1) (heads_of text s)) (drop (i + 1) s.blocks) (drop (i + 1) (outputs s))) ≡ total
+looked_at encoding text s line i head b o ls e t u total there block output lines_are extent test is far =
+    let rest = hover_in encoding text s line (i + 1) (drop (i + 1) (heads_of text s)) (drop (i + 1) s.blocks) (drop (i + 1) (outputs s)) in
+    let same : e ≡ extent_of (lines text) head b = extent ∙ ap (λ (xs : List Line). extent_of xs head b) lines_are in
+    ap (λ (x : Bool). if x then hover_text encoding text e (shown o (looked s (i + 1))) else rest) (sym is ∙ test)
+    ∙ ap (λ (x : Extent). if has_line line line x then hover_text encoding text x (shown o (looked s (i + 1))) else rest) same
+    ∙ sym (hover-step encoding text s line i (heads_of text s) s.blocks (outputs s) i head b o there block output)
+    ∙ far
+
+-- it has the line
+pub hover_here : (encoding : Encoding) (text : List ℕ) (s : PlainScript) (line i head : ℕ) (b : PlainBlock) (o ls : List Line) (e : Extent) (t : Bool) (total : List ℕ)
+    → slice_get (heads_of text s) i ≡ Some head → slice_get s.blocks i ≡ Some b → slice_get (outputs s) i ≡ Some o → ls ≡ lines text → e ≡ extent_of ls head b → t ≡ has_line line line e → t ≡ true
+    → hover_in encoding text s line i (drop i (heads_of text s)) (drop i s.blocks) (drop i (outputs s)) ≡ total → hover_text encoding text e (shown o (looked s (i + 1))) ≡ total
+hover_here encoding text s line i head b o ls e t total there block output lines_are extent test is far =
+    looked_at encoding text s line i head b o ls e t true total there block output lines_are extent test is far
+
+-- it hasn't
+pub hover_next : (encoding : Encoding) (text : List ℕ) (s : PlainScript) (line i head : ℕ) (b : PlainBlock) (o ls : List Line) (e : Extent) (t : Bool) (total : List ℕ)
+    → slice_get (heads_of text s) i ≡ Some head → slice_get s.blocks i ≡ Some b → slice_get (outputs s) i ≡ Some o → ls ≡ lines text → e ≡ extent_of ls head b → t ≡ has_line line line e → t ≡ false
+    → hover_in encoding text s line i (drop i (heads_of text s)) (drop i s.blocks) (drop i (outputs s)) ≡ total
+    → hover_in encoding text s line (i + 1) (drop (i + 1) (heads_of text s)) (drop (i + 1) s.blocks) (drop (i + 1) (outputs s)) ≡ total
+hover_next encoding text s line i head b o ls e t total there block output lines_are extent test is far =
+    looked_at encoding text s line i head b o ls e t false total there block output lines_are extent test is far
+
+-- ---- of a text
+
+-- of a script
+pub of_read : (encoding : Encoding) (position : Position) (text : List ℕ) (s : PlainScript) → Reads text s
+    → hover_in encoding text s (line_at encoding position text) 0 (heads_of text s) s.blocks (outputs s) ≡ hover encoding position text
+unfolding hover
+of_read encoding position text s reads = ap (hover_of encoding position text) (sym (read_complete text s reads))
+
+-- of what is none
+pub of_fault : (encoding : Encoding) (position : Position) (text : List ℕ) (fault : ScriptFault) → read_of text ≡ Err fault → codes "null" ≡ hover encoding position text
+unfolding hover
+of_fault encoding position text fault is = ap (hover_of encoding position text) (sym is)

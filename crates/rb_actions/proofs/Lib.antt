@@ -1,0 +1,6 @@
+pub mod ExtentLaws
+pub mod HoverLaws
+pub mod ActionLaws
+pub mod RangeLaws
+pub mod EditedLaws
+pub mod EditedScriptLaws

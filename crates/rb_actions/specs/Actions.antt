@@ -1,0 +1,122 @@
+-- Actions that accept outputs: edits of expectations. (LSP 3.17, "Code Action Request", "WorkspaceEdit" and "TextEdit". What is accepted
+-- is what `check --accept` accepts.)
+use Rattle.std.specs.Prelude.{ℕ, ◌-◌, ◌==◌, Bool, false, ◌&&◌, ◌||◌, not, nat_le, if◌then◌else◌, List, [], ◌∷◌, ◌++◌, codes, length, slice_get, Option, Some, None, Result, Ok, Err}
+use Rattle.std.specs.List.{flat_map}
+use Rattle.rb_script.specs.declared.fault.ScriptFault.{ScriptFault}
+use Rattle.rb_script.specs.Lines.{Line, lines, text_of}
+use Rattle.rb_script.specs.Marks.{rule}
+use Rattle.rb_script.specs.Script.{PlainBlock, PlainScript}
+use Rattle.rb_script.specs.Reading.{read_of}
+use Rattle.rb_replay.specs.Run.{outputs}
+use Rattle.rb_replay.specs.Report.{same_lines}
+use Rattle.rb_checked.specs.Accepting.{is_left}
+use Rattle.rb_json.specs.Escapes.{escaped}
+use Rattle.rb_document.specs.declared.position.Encoding.{Encoding}
+use Rattle.rb_document.specs.declared.position.Range.{Range}
+use Rattle.rb_document.specs.Tables.{start_of}
+use Rattle.rb_offers.specs.Heads.{heads_of}
+use Rattle.rb_diagnostics.specs.Texts.{range_text}
+use Rattle.rb_actions.specs.declared.extent.Extent.{Extent}
+use Rattle.rb_actions.specs.declared.extent.Span.{Span}
+use Rattle.rb_actions.specs.Layouts.{line_at}
+use Rattle.rb_actions.specs.Extents.{extent_of, has_line}
+
+-- whether the output isn't the expected one and is accepted, of a head that begins on the line
+abbrev pub is_accepted : List Line → ℕ → PlainBlock → List Line → Bool
+is_accepted ls line b output = not (same_lines b.expected output || is_left false ls line b output)
+
+-- whether a directive stands among some lines, or anywhere where none are given
+abbrev pub is_among : Option Span → Extent → Bool
+is_among None e = not false
+is_among (Some span) e = has_line span.first span.last e
+
+abbrev pub is_wanted : Option Span → List Line → ℕ → PlainBlock → List Line → Bool
+is_wanted span ls line b output = is_accepted ls line b output && is_among span (extent_of ls line b)
+
+-- ---- the edit of one expectation
+
+abbrev pub is_feed : Option ℕ → Bool
+is_feed None = false
+is_feed (Some b) = b == 10
+
+-- the last line has an end
+abbrev pub has_end : List ℕ → Bool
+has_end text = is_feed (slice_get text (length text - 1))
+
+-- what ends the line above, where the text ends with it and it has no end
+abbrev pub end_above : List ℕ → List Line → Extent → List ℕ
+end_above text ls e = if nat_le (length ls) e.expected && not (has_end text) then 10 ∷ [] else []
+
+-- lines in one of the forms of an expectation
+abbrev pub form : Bool → List Line → List Line
+form is_double output = if is_double then rule ∷ output ++ rule ∷ rule ∷ [] else output
+
+-- What comes in the place of an expectation: it stays in its form. Each output can be shown in the plain one, since none of its lines is
+-- blank or a rule.
+abbrev pub new_text : List ℕ → List Line → Extent → List Line → List ℕ
+new_text text ls e output = end_above text ls e ++ text_of (form e.is_double output)
+
+unfoldable pub edit_text : Encoding → List ℕ → Extent → List ℕ → List ℕ
+edit_text encoding text e new =
+    range_text (start_of encoding e.expected text) (start_of encoding e.end text) ++ (codes "},\"newText\":\"" ++ (flat_map escaped new ++ codes "\"}"))
+
+-- ---- the edits of some
+
+-- a comma, where others stand before
+abbrev pub comma_if : Bool → List ℕ
+comma_if later = if later then codes "," else []
+
+-- of a directive, if it is wanted
+abbrev pub one_edit : Encoding → List ℕ → Option Span → Bool → ℕ → PlainBlock → List Line → List ℕ
+one_edit encoding text span later line b output =
+    if is_wanted span (lines text) line b output
+    then comma_if later ++ edit_text encoding text (extent_of (lines text) line b) (new_text text (lines text) (extent_of (lines text) line b) output)
+    else []
+
+-- of directives in order, with the lines of their heads and their outputs
+abbrev pub edits_text : Encoding → List ℕ → Option Span → Bool → List ℕ → List PlainBlock → List (List Line) → List ℕ
+edits_text encoding text span later [] bs os = []
+edits_text encoding text span later (line ∷ heads) [] os = []
+edits_text encoding text span later (line ∷ heads) (b ∷ bs) [] = []
+edits_text encoding text span later (line ∷ heads) (b ∷ bs) (output ∷ os) =
+    one_edit encoding text span later line b output ++ edits_text encoding text span (later || is_wanted span (lines text) line b output) heads bs os
+
+-- ---- actions
+
+-- what an action is called, and of which kind it is: it is of some lines, or of all
+unfoldable pub action_head : Option Span → List ℕ
+action_head (Some span) = codes "{\"title\":\"Expect what came\",\"kind\":\"quickfix\",\"edit\":{\"changes\":{\""
+action_head None = codes "{\"title\":\"Expect what came everywhere\",\"kind\":\"source\",\"edit\":{\"changes\":{\""
+
+-- an action of these edits
+unfoldable pub action_text : List ℕ → Option Span → List ℕ → List ℕ
+action_text uri span edits = action_head span ++ (flat_map escaped uri ++ (codes "\":[" ++ (edits ++ codes "]}}}")))
+
+-- if there are any
+abbrev pub action_if : List ℕ → Option Span → List ℕ → List ℕ
+action_if uri span edits = if length edits == 0 then [] else action_text uri span edits
+
+-- a comma between two actions, of which the second is there where the first is
+abbrev pub comma_behind : List ℕ → List ℕ
+comma_behind edits = if length edits == 0 then [] else codes ","
+
+-- with the edits of some lines, and those of all
+unfoldable pub actions_text : List ℕ → Span → List ℕ → List ℕ → List ℕ
+actions_text uri span here all =
+    codes "[" ++ (action_if uri (Some span) here ++ (comma_behind here ++ (action_if uri None all ++ codes "]")))
+
+abbrev pub edits_of : Encoding → List ℕ → PlainScript → Option Span → List ℕ
+edits_of encoding text s span = edits_text encoding text span false (heads_of text s) s.blocks (outputs s)
+
+-- the lines on which a range begins and ends
+abbrev pub span_of : Encoding → Range → List ℕ → Span
+span_of encoding range text = record { first = line_at encoding range.start text; last = line_at encoding range.end text }
+
+-- of a text that is read so
+abbrev pub actions_of : Encoding → Range → List ℕ → List ℕ → Result PlainScript ScriptFault → List ℕ
+actions_of encoding range uri text (Err fault) = codes "[]"
+actions_of encoding range uri text (Ok s) =
+    actions_text uri (span_of encoding range text) (edits_of encoding text s (Some (span_of encoding range text))) (edits_of encoding text s None)
+
+unfoldable pub actions : Encoding → Range → List ℕ → List ℕ → List ℕ
+actions encoding range uri text = actions_of encoding range uri text (read_of text)

@@ -1,0 +1,54 @@
+-- What holds of what an editor is told. (This project's.)
+use Rattle.std.specs.Prelude.{◌≡◌, ◌⊎◌, ℕ, ◌≤◌, true, false, List, [], ◌∷◌, ◌++◌, length, take, drop, slice_index, Option}
+use Rattle.std.specs.List.{AllByRecursion}
+use Rattle.serde_json.specs.Data.{Data}
+use Rattle.rb_script.specs.Lines.{Line}
+use Rattle.rb_script.specs.LineParts.{IsSolid}
+use Rattle.rb_script.specs.HeadLines.{AreHeadLines}
+use Rattle.rb_script.specs.Reads.{ReadsSome}
+use Rattle.rb_script.specs.Script.{PlainBlock, expecting}
+use Rattle.rb_document.specs.declared.position.Encoding.{Encoding}
+use Rattle.rb_document.specs.declared.position.Range.{Range}
+use Rattle.rb_document.specs.Places.{begins}
+use Rattle.rb_document.specs.Changes.{changed, spliced}
+use Rattle.rb_document.specs.Tables.{feed_start, start_of}
+use Rattle.rb_rpc.specs.Said.{notification}
+use Rattle.rb_server.specs.Replies.{PlainServer, On, told_of, turned_by}
+use Rattle.rb_server.specs.Laws.{Publishes}
+use Rattle.rb_checked.specs.Accepting.{accepted_lines}
+use Rattle.rb_actions.specs.declared.extent.Extent.{Extent}
+use Rattle.rb_actions.specs.Extents.{extent_of}
+use Rattle.rb_actions.specs.Actions.{form, is_accepted}
+use Rattle.rb_actions.specs.Meanings.{meaning}
+
+-- whatever was sent before: what goes out for a notification is what one fresh run of a document's text gives, as the text then stands
+abbrev pub TextsHaveOneRun : Type 0
+TextsHaveOneRun = (server next : PlainServer) (method : List ℕ) (params : Option Data)
+    → turned_by server (notification method params) ≡ On next → (told_of meaning server (notification method params) ≡ []) ⊎ Publishes meaning next (told_of meaning server (notification method params))
+
+-- a directive expects its output where that is accepted, and else what it did, as `check --accept` has it
+abbrev pub AcceptsAsCheckDoes : Type 0
+AcceptsAsCheckDoes = (ls : List Line) (line : ℕ) (b : PlainBlock) (output : List Line)
+    → (is_accepted ls line b output ≡ true → accepted_lines false ls line b output ≡ output) × (is_accepted ls line b output ≡ false → accepted_lines false ls line b output ≡ b.expected)
+
+-- the range of the lines of a script from `first` on, up to `behind`, as edits have it
+abbrev pub lines_range : Encoding → List ℕ → ℕ → ℕ → Range
+lines_range encoding text first behind = record { start = start_of encoding first text; end = start_of encoding behind text }
+
+-- An editor that puts a text in the place of such a range puts it in the place of these lines, and of nothing else, where each line begins with
+-- a character, as in UTF-8.
+abbrev pub EditsReplaceLines : Type 0
+EditsReplaceLines = (encoding : Encoding) (text new : List ℕ) (first behind : ℕ) → first ≤ behind
+    → begins (drop (feed_start first text) text) ≡ true → begins (drop (feed_start behind text) text) ≡ true
+    → changed encoding (lines_range encoding text first behind) new text ≡ spliced (feed_start first text) (feed_start behind text) new text
+
+-- the lines of a script with others in the place of the expectation that stands there
+abbrev pub with_lines : List Line → Extent → List Line → List Line
+with_lines ls e output = take e.expected ls ++ (form e.is_double output ++ drop e.end ls)
+
+-- A script's lines, with an output in the place of the expectation of one of its directives, read as the script in which that directive
+-- expects the output.
+abbrev pub EditedLinesRead : Type 0
+EditedLinesRead = (ls tail : List Line) (before later : List PlainBlock) (b : PlainBlock) (output : List Line) (heads : List ℕ)
+    → ReadsSome ls (before ++ b ∷ later) tail → AreHeadLines 1 ls (before ++ b ∷ later) heads → AllByRecursion IsSolid output
+    → ReadsSome (with_lines ls (extent_of ls (slice_index heads (length before)) b) output) (before ++ expecting b output ∷ later) tail

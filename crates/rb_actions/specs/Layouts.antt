@@ -1,0 +1,21 @@
+-- A script's lines, as they are. (docs/SCRIPT-FORMAT.md.)
+use Rattle.std.specs.Prelude.{◌≡◌, ℕ, ◌==◌, List, length, take, count_by}
+use Rattle.rb_script.specs.Lines.{lines}
+use Rattle.rb_script.specs.Script.{PlainScript}
+use Rattle.rb_document.specs.declared.position.Encoding.{Encoding}
+use Rattle.rb_document.specs.declared.position.Position.{Position}
+use Rattle.rb_document.specs.Places.{offset}
+use Rattle.rb_document.specs.Tables.{IsTable}
+use Rattle.rb_offers.specs.Heads.{heads_of}
+use Rattle.rb_actions.specs.declared.layout.Layout.{Layout}
+
+-- the layout of bytes that are the script
+pub record IsLayout (encoding : Encoding) (bytes : List ℕ) (s : PlainScript) (layout : Layout) : Type 0 where
+  pub lines_are : layout.lines ≡ lines bytes
+  pub heads_are : layout.heads.items ≡ heads_of bytes s
+  pub count : length layout.heads.items ≡ length s.blocks
+  pub table : IsTable encoding bytes layout.table
+
+-- the line of a script on which a position of an editor stands, counted from 0: so many lines end before it
+abbrev pub line_at : Encoding → Position → List ℕ → ℕ
+line_at encoding position text = count_by (λ b. b == 10) (take (offset encoding position text) text)

@@ -1,0 +1,6 @@
+pub mod Layouts
+pub mod Extents
+pub mod Hovers
+pub mod Actions
+pub mod Meanings
+pub mod Laws

@@ -1,0 +1,21 @@
+-- What scripts mean to an editor: what is said of a text, and what is answered of it, by one fresh run. (This project's.)
+use Rattle.std.specs.Prelude.{ℕ, List, codes}
+use Rattle.rb_document.specs.declared.position.Encoding.{Encoding}
+use Rattle.rb_server.specs.declared.asked.Asked.{Asked}
+use Rattle.rb_server.specs.declared.asked.Asked.TheVariants.{CodeAction, Formatting, Hover, Completion, FoldingRange, DocumentSymbol}
+use Rattle.rb_server.specs.Meanings.{Meaning}
+use Rattle.rb_diagnostics.specs.Published.{diagnose}
+use Rattle.rb_actions.specs.Actions.{actions}
+use Rattle.rb_actions.specs.Hovers.{hover}
+
+abbrev pub answer : Encoding → Asked → List ℕ → List ℕ → List ℕ
+answer encoding (CodeAction range) uri text = actions encoding range uri text
+answer encoding Formatting uri text = codes "null"
+answer encoding (Hover position) uri text = hover encoding position text
+answer encoding (Completion position) uri text = codes "null"
+answer encoding FoldingRange uri text = codes "null"
+answer encoding DocumentSymbol uri text = codes "null"
+
+-- It depends on the text alone, and on what columns count in.
+abbrev pub meaning : Meaning
+meaning = record { diagnose = diagnose; answer = answer }

@@ -1,0 +1,167 @@
+//! What is shown of a position in a script.
+
+ghost use Rattle.std.specs.Prelude.{◌≡◌, ◌+◌, ◌≤◌, ◌^◌, ◌++◌, IfOk, OnOk, length};
+ghost use Rattle.rb_script.specs.declared.limits.TheConstants.{MAX_DIRECTIVES};
+ghost use Rattle.rb_script.specs.Reads.{Reads};
+ghost use Rattle.rb_replay.specs.Run.{outputs};
+ghost use Rattle.rb_look.specs.Looks.{looked};
+ghost use Rattle.rb_document.specs.declared.limits.TheConstants.{MAX_TEXT};
+ghost use Rattle.rb_document.specs.Tables.{IsTable};
+ghost use Rattle.rb_offers.specs.Heads.{heads_of};
+ghost use Rattle.rb_actions.specs.Layouts.{IsLayout, line_at};
+ghost use Rattle.rb_actions.specs.Hovers.{hover, hover_in, hover_text, shown};
+
+use crate::extent::{Extent, Span, extent_of, has_line};
+use crate::layout::{Layout, layout_of, line_at};
+use rb_checked::{block_at, number_at, output_at};
+use rb_diagnostics::add_range;
+use rb_document::{Encoding, LineTable, Position};
+use rb_json::{Piece, add_pieces};
+use rb_look::{Nodes, look};
+use rb_machine::{Count, Machine};
+use rb_replay::{Session, StartFault};
+use rb_script::{Lines, Script};
+use std::alloc::{AllocError, Global};
+
+// The output of the directive at a place, which counts from 1, an empty line, and what is seen behind it.
+fn shown_at<M: Nodes>(
+    alloc: Global,
+    script: &Script,
+    place: usize,
+    output: &Lines,
+    meter: &mut M::Meter,
+) -> Result<Vec<u8>, AllocError>
+    requires there { place ≤ length script.now.blocks }
+    requires few { place ≤ MAX_DIRECTIVES }
+    requires meter { M.Meter.count_of meter.old ≤ 2 ^ 62 }
+    ensures { IfOk result (λ text. text.items ≡ shown output.now (looked script.now place)) }
+{
+    let seen = look::<M>(alloc, script, place, meter)?;
+    let mut text = Vec::from_slice(alloc, output.text())?;
+    text.push(b'\n')?;
+    text.extend_from_slice(seen.text())?;
+    Ok(text)
+}
+
+// Adds a text for the lines of a directive.
+#[tactic(auto, unfolding(crate::specs::Hovers::hover_text))]
+fn add_hover_text(
+    out: &mut Vec<u8>,
+    encoding: Encoding,
+    text: &[u8],
+    table: &LineTable,
+    extent: Extent,
+    shown: &[u8],
+) -> Result<(), AllocError>
+    requires { IsTable encoding text.now table.now }
+    ensures { OnOk result (out.new.items ≡ out.old.items ++ hover_text encoding text.now extent shown.now) }
+{
+    let start = table.start_of(extent.head);
+    let end = table.start_of(extent.end);
+    add_range(out, start, end)?;
+    add_pieces(
+        out,
+        &[
+            Piece::Bytes(b"},\"contents\":{\"kind\":\"plaintext\",\"value\":\""),
+            Piece::Escaped(shown),
+            Piece::Bytes(b"\"}}"),
+        ],
+    )
+}
+
+// Adds what is shown of a line of a script that ran, whose layout this is.
+fn add_line<M: Nodes>(
+    alloc: Global,
+    out: &mut Vec<u8>,
+    encoding: Encoding,
+    text: &[u8],
+    session: &Session<M>,
+    script: &Script,
+    layout: &Layout,
+    line: usize,
+    meter: &mut M::Meter,
+) -> Result<(), AllocError>
+    requires layout { IsLayout encoding text.now session.now.script layout.now }
+    requires same { script.now ≡ session.now.script }
+    requires meter { M.Meter.count_of meter.old ≤ 2 ^ 62 }
+    ensures { OnOk result (out.new.items ≡ out.old.items ++ hover_in encoding text.now session.now.script line 0 (heads_of text.now session.now.script) session.now.script.blocks (outputs session.now.script)) }
+{
+    let span = Span {
+        first: line,
+        last: line,
+    };
+    for i in 0..session.len() {
+        let head = number_at(layout.heads.as_slice(), i);
+        let block = block_at(session, i);
+        let output = output_at(session, i);
+        let extent = extent_of(&layout.lines, head, block);
+        if has_line(span, extent) {
+            let shown = shown_at::<M>(alloc, script, i + 1, output, meter)?;
+            let table = &layout.table;
+            add_hover_text(out, encoding, text, table, extent, shown.as_slice())?;
+            return Ok(());
+        }
+    }
+    out.extend_from_slice(b"null")?;
+    Ok(())
+}
+
+// The session's script, whose bytes these are, once more.
+fn script_of<M: Machine>(
+    alloc: Global,
+    _session: &Session<M>,
+    bytes: &[u8],
+) -> Result<Script, AllocError>
+    requires { Reads bytes.now _session.now.script }
+    ensures { IfOk result (λ script. script ≡ _session.now.script) }
+{
+    match Script::read(alloc, bytes) {
+        Ok(script) => Ok(script),
+        // Where they are a script it can be nothing else.
+        Err(_) => Err(AllocError),
+    }
+}
+
+// Adds what is shown of a position in a script that ran.
+fn add_position<M: Nodes>(
+    alloc: Global,
+    out: &mut Vec<u8>,
+    encoding: Encoding,
+    position: Position,
+    text: &[u8],
+    session: &Session<M>,
+    meter: &mut M::Meter,
+) -> Result<(), AllocError>
+    requires reads { Reads text.now session.now.script }
+    requires bounded { length text.now ≤ MAX_TEXT }
+    requires meter { M.Meter.count_of meter.old ≤ 2 ^ 62 }
+    ensures { OnOk result (out.new.items ≡ out.old.items ++ hover_in encoding text.now session.now.script (line_at encoding position text.now) 0 (heads_of text.now session.now.script) session.now.script.blocks (outputs session.now.script)) }
+{
+    let layout = layout_of(alloc, encoding, session, text)?;
+    let script = script_of(alloc, session, text)?;
+    let line = line_at(encoding, position, text);
+    add_line(
+        alloc, out, encoding, text, session, &script, &layout, line, meter,
+    )
+}
+
+/// Adds what is shown of a position in a text: `null` where no directive stands there, and where the text is no script.
+#[tactic(auto, using(crate::proofs::HoverLaws::of_read, crate::proofs::HoverLaws::of_fault))]
+pub(crate) fn add_hover<M: Nodes>(
+    alloc: Global,
+    out: &mut Vec<u8>,
+    encoding: Encoding,
+    position: Position,
+    text: &[u8],
+    meter: &mut M::Meter,
+) -> Result<(), AllocError>
+    requires bounded { length text.now ≤ MAX_TEXT }
+    requires meter { M.Meter.count_of meter.old ≤ 2 ^ 61 }
+    ensures { OnOk result (out.new.items ≡ out.old.items ++ hover encoding position text.now) }
+{
+    match Session::<M>::run_once(alloc, text, meter) {
+        Ok(session) => add_position(alloc, out, encoding, position, text, &session, meter),
+        Err(StartFault::Script(_)) => out.extend_from_slice(b"null"),
+        Err(_) => Err(AllocError),
+    }
+}

@@ -1,0 +1,17 @@
+//! What an editor is told about a script: the language server of scripts.
+//!
+//! [`lsp`] publishes the diagnostics of rb_diagnostics, and answers what is asked of a script by one fresh run of its text: at a position what
+//! came of the directive there, with the cluster behind it, and for a range the actions that accept what came, each with its edit. What is
+//! answered depends on the text alone.
+#![tactic(auto)]
+
+mod action;
+mod bench;
+mod extent;
+mod hover;
+mod laws;
+mod layout;
+mod replacement;
+
+pub use bench::lsp;
+pub use laws::{accepts_as_check_does, edited_lines_read, edits_replace_lines, texts_have_one_run};
