@@ -1,5 +1,5 @@
 """Opens a script in Neovim without a screen, with the files of editors/vim and editors/nvim, and looks at what is shown: a mismatch is marked when it is
-typed, and is gone when it is mended and the script saved.
+typed, what came is shown at a key, and the mismatch is gone when it is mended, or accepted at a key, and the script saved.
 """
 import pathlib
 import subprocess
@@ -27,6 +27,18 @@ local function attached()
   end
   return false
 end
+-- The window that shows what came, its first line and how many there are.
+local function shown()
+  for _, window in ipairs(vim.api.nvim_list_wins()) do
+    if vim.api.nvim_win_get_config(window).relative ~= '' then
+      return vim.api.nvim_buf_get_lines(vim.api.nvim_win_get_buf(window), 0, -1, true)
+    end
+  end
+end
+local function press(keys)
+  vim.api.nvim_feedkeys(keys, 'x', false)
+end
+vim.ui.select = function(items, _, choose) choose(items[1], 1) end
 local is_attached = vim.wait(60000, attached, 20)
 print(vim.bo.filetype, is_attached)
 wait_for(0)
@@ -34,10 +46,19 @@ vim.api.nvim_buf_set_lines(0, 2, 3, true, { 'no' })
 wait_for(1)
 vim.api.nvim_buf_set_lines(0, 2, 3, true, { 'ok' })
 wait_for(0)
+vim.api.nvim_buf_set_lines(0, 2, 3, true, { 'another' })
+wait_for(1)
+vim.api.nvim_win_set_cursor(0, { 1, 0 })
+press('K')
+vim.wait(60000, shown, 20)
+print('shown', unpack(shown() or {}))
+press('gra')
+wait_for(0)
 print('')
 vim.cmd('silent write | qall!')
 """
-DUE = ["raftbench true", "there 0", "there 1", "0 1 mismatch - no|+ ok", "there 0"]
+DUE = ["raftbench true", "there 0", "there 1", "0 1 mismatch - no|+ ok", "there 0", "there 1", "0 1 mismatch - another|+ ok",
+       "shown ok raft-state ok on their way no messages", "there 0"]
 
 
 def shown(program, room):
@@ -56,7 +77,7 @@ def look(program):
     """Texts for what is not as it must be."""
     with tempfile.TemporaryDirectory() as room:
         lines, left = shown(program, pathlib.Path(room))
-    if (lines := [line for line in lines if line.split()[0] in ("raftbench", "there", "missing", "0")]) != DUE:
+    if (lines := [line for line in lines if line.split()[0] in ("raftbench", "there", "missing", "0", "shown")]) != DUE:
         yield f"shown: {lines}"
     if left != SCRIPT:
         yield f"left: {left!r}"

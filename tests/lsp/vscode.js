@@ -24,12 +24,49 @@ class Range {
   }
 }
 
+class MarkdownString {
+  appendCodeblock(text) {
+    this.text = text;
+    return this;
+  }
+}
+
+class Hover {
+  constructor(contents, range) {
+    Object.assign(this, { contents, range });
+  }
+}
+
+class CodeAction {
+  constructor(title, kind) {
+    Object.assign(this, { title, kind });
+  }
+}
+
+class WorkspaceEdit {
+  constructor() {
+    this.edits = [];
+  }
+
+  replace(uri, range, text) {
+    this.edits.push([uri, range.numbers, text]);
+  }
+}
+
+const providers = {};
 const pretended = {
+  CodeAction,
+  CodeActionKind: { QuickFix: "QuickFix", Source: "Source" },
   Diagnostic,
+  Hover,
+  MarkdownString,
+  WorkspaceEdit,
   Range,
   Uri: { parse: (text) => text },
   languages: {
     createDiagnosticCollection: () => ({ set: (uri, list) => shown.set(uri, list), clear: () => shown.clear() }),
+    registerHoverProvider: (language, provider) => Object.assign(providers, provider),
+    registerCodeActionsProvider: (language, provider) => Object.assign(providers, provider),
     setTextDocumentLanguage: (document, id) => {
       listeners.close.forEach((listener) => listener(document));
       document.languageId = id;
@@ -64,6 +101,13 @@ async function main() {
   await until(() => shown.get(uri)?.length === 1);
   const [told] = shown.get(uri);
   assert.deepStrictEqual([told.message, told.severity, told.code, told.source, told.range.numbers], ["- no\n+ ok", 0, "mismatch", "raftbench", [0, 0, 1, 0]]);
+  const place = { line: 0, character: 0 };
+  const hover = await providers.provideHover(document, place);
+  assert.deepStrictEqual([hover.contents.text, hover.range.numbers], ["ok\n\nraft-state\n  ok\non their way\n  no messages\n", [0, 0, 3, 0]]);
+  const actions = await providers.provideCodeActions(document, { start: place, end: place });
+  const edits = [[uri, [2, 0, 3, 0], "ok\n"]];
+  assert.deepStrictEqual(actions.map(({ title, kind, edit }) => [title, kind, edit.edits]), [["Expect what came", "QuickFix", edits], ["Expect what came everywhere", "Source", edits]]);
+  assert.strictEqual(await providers.provideHover(document, { line: 3, character: 0 }), undefined);
   document.version = 2;
   listeners.change.forEach((listener) => listener({ document, contentChanges: [{ range, rangeLength: 2, text: "ok" }] }));
   await until(() => shown.get(uri)?.length === 0);
