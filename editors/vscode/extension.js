@@ -42,6 +42,33 @@ function start() {
   client.begin();
 }
 
+// What the server answers to a request about a document, or undefined where it refuses.
+async function asked(method, document, params) {
+  if (!client) return undefined;
+  const answer = await client.request(`textDocument/${method}`, { textDocument: { uri: document.uri.toString() }, ...params });
+  return answer.result;
+}
+
+// What came of the directive at a position, and the cluster behind it.
+async function hover(document, position) {
+  const told = await asked("hover", document, { position });
+  if (!told) return undefined;
+  return new vscode.Hover(new vscode.MarkdownString().appendCodeblock(told.contents.value, "plaintext"), rangeOf(told.range));
+}
+
+function actionOf(document, { title, kind, edit }) {
+  const action = new vscode.CodeAction(title, kind === "quickfix" ? vscode.CodeActionKind.QuickFix : vscode.CodeActionKind.Source);
+  action.edit = new vscode.WorkspaceEdit();
+  for (const { range, newText } of Object.values(edit.changes).flat()) action.edit.replace(document.uri, rangeOf(range), newText);
+  return action;
+}
+
+// The actions that accept what came.
+async function actions(document, { start, end }) {
+  const told = await asked("codeAction", document, { range: { start, end }, context: { diagnostics: [] } });
+  return (told ?? []).map((action) => actionOf(document, action));
+}
+
 function open(document) {
   if (document.languageId !== "raftbench") return;
   if (!client) start();
@@ -70,6 +97,8 @@ function activate(context) {
     vscode.workspace.onDidOpenTextDocument(open),
     vscode.workspace.onDidChangeTextDocument(change),
     vscode.workspace.onDidCloseTextDocument(close),
+    vscode.languages.registerHoverProvider("raftbench", { provideHover: hover }),
+    vscode.languages.registerCodeActionsProvider("raftbench", { provideCodeActions: actions }),
   );
   vscode.workspace.textDocuments.forEach(look);
   vscode.workspace.textDocuments.forEach(open);
