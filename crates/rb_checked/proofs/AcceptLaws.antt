@@ -125,7 +125,7 @@ unpicked false r true b o none same = same refl
 unpicked false r false b o none same = refl
 
 same_stays : (b : PlainBlock) (o : List Line) → same_lines b.expected o ≡ true → expecting b o ≡ b
-same_stays b o yes = ap (λ (ls : List Line). expecting b ls) (sym ((same_lines-Decides b.expected o).0 yes))
+same_stays b o same = ap (λ (ls : List Line). expecting b ls) (sym ((same_lines-Decides b.expected o).0 same))
 
 pub stays : (wanted : Wanted) (ls : List Line) (heads : List ℕ) (bs : List PlainBlock) (os : List (List Line)) (k line : ℕ) (b : PlainBlock) (o : List Line)
     → slice_get heads k ≡ Some line → slice_get bs k ≡ Some b → slice_get os k ≡ Some o → is_picked wanted.picked line ≡ false

@@ -1,6 +1,7 @@
 //! Which outputs are to be accepted.
 
 ghost use Rattle.std.specs.Prelude.{◌≡◌, ◌==◌};
+ghost use Rattle.std.specs.List.{list_any};
 ghost use Rattle.rb_checked.specs.Accepting.{is_picked};
 
 /// Which outputs are to be accepted.
@@ -27,6 +28,12 @@ pub fn is_picked(picked: Picked<'_>, line: usize) -> bool
 {
     match picked {
         Picked::All => true,
-        Picked::Heads(heads) => heads.iter().any(|head| *head == line),
+        Picked::Heads(heads) => is_among(heads, line),
     }
+}
+
+fn is_among(heads: &[usize], line: usize) -> bool
+    ensures { result ≡ list_any (λ head. head == line) heads.now }
+{
+    heads.contains(&line)
 }
