@@ -56,7 +56,10 @@ fn add_list<V: Service>(
 {
     match text {
         Some(text) => service.add_diagnostics(encoding, uri, text, out),
-        None => out.extend_from_slice(b"[]"),
+        None => {
+            service.forget(uri);
+            out.extend_from_slice(b"[]")
+        }
     }
 }
 
