@@ -2,4 +2,3 @@ pub mod KeepLaws
 pub mod LogLaws
 pub mod StateLaws
 pub mod StepLaws
-pub mod WrittenLaws

@@ -3,4 +3,3 @@ pub mod Logs
 pub mod States
 pub mod Steps
 pub mod Pages
-pub mod Written

@@ -3,7 +3,7 @@
 //! [`steps_of`] runs the directives of a session once more and keeps, as texts of rows (docs/PAGE.md), what stands in the script, what each
 //! directive printed, what it did whatever the level is, and what stands after it that didn't stand so before. So the rows grow with
 //! what happens, and not with nodes times directives. [`put_page`] writes them, and a page around them. Nothing is written before all
-//! memory is there. [`page_over`] does all of it, from the bytes of a script to those of its page.
+//! memory is there.
 #![tactic(auto)]
 
 mod fresh;
@@ -11,17 +11,12 @@ mod laws;
 mod log;
 mod node;
 mod page;
-mod paging;
 mod script;
-mod script_steps;
 mod step;
 mod steps;
 
 pub use laws::{
-    changes_have_few_rows, pages_are_one, steps_are_inert, steps_are_rows,
-    what_stands_still_has_no_row,
+    changes_have_few_rows, steps_are_inert, steps_are_rows, what_stands_still_has_no_row,
 };
 pub use page::{FORMAT, Frame, put_page, put_steps};
-pub use paging::{page_bytes, page_over};
-pub use script_steps::{ScriptSteps, read_steps};
 pub use steps::steps_of;

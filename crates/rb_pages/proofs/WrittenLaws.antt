@@ -13,7 +13,7 @@ use Rattle.rb_bench.specs.declared.status.Status.{Status}
 use Rattle.rb_bench.specs.declared.fault.BenchFault.TheVariants as faults
 use Rattle.rb_bench.specs.Runs.{IsNoScript, status_of}
 use Rattle.rb_steps.specs.Steps.{steps_texts}
-use Rattle.rb_steps.specs.Written.{AreRowsOf, AreStepsOf, Tells}
+use Rattle.rb_pages.specs.Written.{AreRowsOf, AreStepsOf, Tells}
 
 rows_once : (bytes heads : List ℕ) (s : PlainScript) (texts : List Line) → AreHeadLines 1 (lines bytes) s.blocks heads → AreRowsOf bytes s texts → texts ≡ steps_texts bytes heads s
 rows_once bytes heads s texts h a =

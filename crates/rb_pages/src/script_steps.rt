@@ -9,15 +9,15 @@ ghost use Rattle.rb_script.specs.HeadLines.{AreHeadLines};
 ghost use Rattle.rb_replay.specs.Report.{mismatches};
 ghost use Rattle.rb_bench.specs.Faults.{TellsFault};
 ghost use Rattle.rb_bench.specs.Runs.{status_of};
-ghost use Rattle.rb_steps.specs.Written.{AreRowsOf, AreStepsOf};
+ghost use Rattle.rb_pages.specs.Written.{AreRowsOf, AreStepsOf};
 
-use crate::steps::steps_of;
 use rb_bench::{BenchFault, Status};
 use rb_cluster::{Cluster, Meter};
 use rb_machine::Machine;
 use rb_raftlog::{RaftLog, SplitLog};
 use rb_replay::Session;
 use rb_script::{Lines, head_lines};
+use rb_steps::steps_of;
 use std::alloc::{AllocError, Global};
 
 /// The rows of a script behind the first, each as a text, and the status that a report of it would have.

@@ -1,5 +1,5 @@
-use Rattle.rb_steps.proofs.WrittenLaws.{page_ended, page_failed, no_page_ends, no_page_fails}
-use Rattle.rb_steps.proofs.laws.pages_are_one.Goals as goal
+use Rattle.rb_pages.proofs.WrittenLaws.{page_ended, page_failed, no_page_ends, no_page_fails}
+use Rattle.rb_pages.proofs.laws.pages_are_one.Goals as goal
 
 pub returns-clause-ended : goal.returns-clause-ended
 returns-clause-ended c = page_ended

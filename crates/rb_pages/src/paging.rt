@@ -1,4 +1,4 @@
-//! The page of a script, from bytes to bytes.
+//! The page of a script.
 
 ghost use Rattle.std.specs.Prelude.{◌≡◌, ◌≢◌, ◌↔◌, ◌⊎◌, ◌≤◌, true, false, ℕ, List, length, Err, IsErrOf, IsOk, IfSome, OnOk};
 ghost use Rattle.std.specs.Io.KnownBytes.{Consumes};
@@ -9,14 +9,14 @@ ghost use Rattle.rb_replay.specs.Start.{is_spacing};
 ghost use Rattle.rb_bench.specs.Handed.{IsHandedOn};
 ghost use Rattle.rb_bench.specs.Runs.{most_read};
 ghost use Rattle.rb_steps.specs.Pages.{page_joined};
-ghost use Rattle.rb_steps.specs.Written.{Tells, TellsOver};
+ghost use Rattle.rb_pages.specs.Written.{Tells, TellsOver};
 
-use crate::page::{Frame, put_page};
 use crate::script_steps::read_steps;
 use rb_bench::{BenchFault, Outlet, Status};
 use rb_line::{Source, read_up_to};
 use rb_replay::is_spacing;
 use rb_script::{Lines, MAX_SCRIPT, WriteFault};
+use rb_steps::{Frame, put_page};
 use std::alloc::Global;
 
 /// Reads a script, runs it and writes its page, under this name. The answer is the program's status: `Done`, or `Mismatches` where there are
