@@ -6,3 +6,5 @@ pub mod FormatLaws
 pub mod AboveLaws
 pub mod OrderLaws
 pub mod NameLaws
+pub mod HeadToLaws
+pub mod WantedLaws

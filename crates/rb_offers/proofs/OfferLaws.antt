@@ -1,6 +1,6 @@
 -- The words that are offered are those of the tables.
-use Rattle.std.proofs.Common.{◌≡◌, ◌∙◌, ℕ, Bool, true, false, List, [], ◌∷◌, ◌++◌, map, refl, ap, sym}
-use Rattle.std.proofs.lemmas.List.{map-append}
+use Rattle.std.proofs.Common.{◌≡◌, ◌∙◌, ℕ, ◌+◌, ◌<◌, ◌≤◌, Bool, true, false, List, [], ◌∷◌, ◌++◌, length, drop, get_or, map, refl, ap, sym, append_assoc, append-nil}
+use Rattle.std.proofs.lemmas.List.{drop_all, drop_more, map-append}
 use Rattle.std.specs.Prelude.{◌&&◌, codes, filter, if◌then◌else◌}
 use Rattle.std.specs.Str.{bytes_eq}
 use Rattle.rb_directive.specs.declared.table.Row.{Row}
@@ -16,6 +16,27 @@ use Rattle.rb_offers.specs.Offers.{PlainOffer, begins_with, chosen, key_offer, k
 test_cases : {A : Type 0} (t : Bool) → (t ≡ true → A) → (t ≡ false → A) → A
 test_cases true same other = same refl
 test_cases false same other = other refl
+
+-- ---- a loop that keeps some
+
+pub one_seen : {X Y Z : Type 0} (view : X → Y) (test : Y → Bool) (offer : Y → Z) (xs : List X) (i : ℕ) (d : X) (t : Bool) (list next : List Z) → i < length xs → t ≡ test (view (get_or xs i d))
+    → next ≡ list ++ (if t then offer (view (get_or xs i d)) ∷ [] else []) → next ++ map offer (filter test (map view (drop (i + 1) xs))) ≡ list ++ map offer (filter test (map view (drop i xs)))
+one_seen view test offer xs i d t list next within is next_is =
+    let rest = map offer (filter test (map view (drop (i + 1) xs))) in
+    let x = get_or xs i d in
+    let step : map offer (filter test (map view (drop i xs))) ≡ map offer (filter test (view x ∷ map view (drop (i + 1) xs))) = ap (λ (l : List _). map offer (filter test (map view l))) (drop_more xs i d within) in
+    test_cases t
+    (λ yes. let passes : test (view x) ≡ true = sym is ∙ yes in
+    let more : map offer (filter test (view x ∷ map view (drop (i + 1) xs))) ≡ offer (view x) ∷ rest = rw passes refl in
+    let kept : next ≡ list ++ offer (view x) ∷ [] = next_is ∙ rw yes refl in
+    ap (λ (l : List _). l ++ rest) kept ∙ append_assoc list (offer (view x) ∷ []) rest ∙ ap (λ (l : List _). list ++ l) (sym (step ∙ more)))
+    (λ no. let fails : test (view x) ≡ false = sym is ∙ no in
+    let more : map offer (filter test (view x ∷ map view (drop (i + 1) xs))) ≡ rest = rw fails refl in
+    let kept : next ≡ list = next_is ∙ rw no (append-nil list) in
+    ap (λ (l : List _). l ++ rest) kept ∙ ap (λ (l : List _). list ++ l) (sym (step ∙ more)))
+
+pub none_left : {X Y Z : Type 0} (view : X → Y) (test : Y → Bool) (offer : Y → Z) (xs : List X) (i : ℕ) (list : List Z) → length xs ≤ i → list ++ map offer (filter test (map view (drop i xs))) ≡ list
+none_left view test offer xs i list past = ap (λ (l : List _). list ++ map offer (filter test (map view l))) (drop_all i xs past) ∙ append-nil list
 
 -- ---- names
 

@@ -23,12 +23,18 @@ mark kinds.Directive = []
 mark kinds.Key = codes "="
 mark kinds.Value = []
 
+-- what stands of a word before the range of its edit, and behind it
+unfoldable pub front_text : PlainOffer → List ℕ
+front_text o =
+    codes "{\"label\":\"" ++ (flat_map escaped o.word ++ (mark o.kind ++ (codes "\",\"kind\":" ++ (decimal (kind_number o.kind)
+    ++ (codes ",\"documentation\":\"" ++ (flat_map escaped o.documentation ++ codes "\",\"textEdit\":{\"range\":"))))))
+
+unfoldable pub back_text : PlainOffer → List ℕ
+back_text o = codes ",\"newText\":\"" ++ (flat_map escaped o.word ++ (mark o.kind ++ codes "\"}}"))
+
 -- a word, in the place of what stands between two positions
 unfoldable pub item_text : Position → Position → PlainOffer → List ℕ
-item_text start end o =
-    codes "{\"label\":\"" ++ (flat_map escaped o.word ++ (mark o.kind ++ (codes "\",\"kind\":" ++ (decimal (kind_number o.kind)
-    ++ (codes ",\"documentation\":\"" ++ (flat_map escaped o.documentation ++ (codes "\",\"textEdit\":{\"range\":" ++ (range_text start end
-    ++ (codes ",\"newText\":\"" ++ (flat_map escaped o.word ++ (mark o.kind ++ codes "\"}}")))))))))))
+item_text start end o = front_text o ++ (range_text start end ++ back_text o)
 
 -- the words that a head can go on with, which ends at a place, in the place of what stands of one before it
 unfoldable pub of_head : Encoding → List ℕ → ℕ → List ℕ → List ℕ

@@ -19,6 +19,10 @@ pub record PlainOffer : Type 0 where
 abbrev pub begins_with : List ℕ → List ℕ → Bool
 begins_with prefix word = bytes_eq prefix (take (length prefix) word)
 
+-- one, if it is kept
+abbrev pub if_kept : Bool → PlainOffer → List PlainOffer
+if_kept t o = if t then o ∷ [] else []
+
 abbrev pub name_offer : Page → PlainOffer
 name_offer p = record { kind = kinds.Directive; word = p.0; documentation = p.1 }
 
@@ -37,14 +41,18 @@ line_of name = line_in name pages
 abbrev pub key_offer : List ℕ → List ℕ → PlainOffer
 key_offer documentation key = record { kind = kinds.Key; word = key; documentation = documentation }
 
+-- this key of that directive is one of the directive with this name, and begins so
+abbrev pub is_key : List ℕ → List ℕ → List ℕ → List ℕ → Bool
+is_key name prefix owner key = bytes_eq owner name && begins_with prefix key
+
 -- the keys among these that the directive with this name has, and that begin so
 unfoldable pub keyed : List ℕ → List ℕ → List ℕ → List Key → List PlainOffer
-keyed name prefix documentation ks = map (λ (k : Key). key_offer documentation k.1) (filter (λ (k : Key). bytes_eq k.0 name && begins_with prefix k.1) ks)
+keyed name prefix documentation ks = map (λ (k : Key). key_offer documentation k.1) (filter (λ (k : Key). is_key name prefix k.0 k.1) ks)
 
 -- those of the options that a directive takes, each of which takes `log-level`
 unfoldable pub options : List ℕ → List ℕ → List PlainOffer
 options name prefix =
-    keyed name prefix (line_of name) keys ++ (if begins_with prefix (codes "log-level") then key_offer (line_of name) (codes "log-level") ∷ [] else [])
+    keyed name prefix (line_of name) keys ++ if_kept (begins_with prefix (codes "log-level")) (key_offer (line_of name) (codes "log-level"))
 
 -- the directive with this name has an option with this key among these
 abbrev pub has_key : List ℕ → List ℕ → List Key → Bool

@@ -2,7 +2,7 @@
 
 ghost use Rattle.std.specs.Prelude.{◌≡◌, ◌≤◌, ◌++◌, [], OnOk, length};
 ghost use Rattle.rb_document.specs.declared.limits.TheConstants.{MAX_TEXT};
-ghost use Rattle.rb_offers.specs.Completion.{completion, item_text, kind_number, mark, of_head};
+ghost use Rattle.rb_offers.specs.Completion.{back_text, completion, front_text, item_text, kind_number, mark, of_head};
 ghost use Rattle.rb_offers.specs.Texts.{listed};
 
 use crate::above::head_to;
@@ -34,15 +34,10 @@ fn mark(kind: Kind) -> &'static [u8]
     }
 }
 
-// A word, in the place of what stands between two positions.
-#[tactic(auto, unfolding(crate::specs::Completion::item_text))]
-fn add_item(
-    out: &mut Vec<u8>,
-    start: Position,
-    end: Position,
-    offer: &Offer,
-) -> Result<(), AllocError>
-    ensures { OnOk result (out.new.items ≡ out.old.items ++ item_text start end offer.now) }
+// What stands of a word before the range of its edit.
+#[tactic(auto, unfolding(crate::specs::Completion::front_text))]
+fn add_front(out: &mut Vec<u8>, offer: &Offer) -> Result<(), AllocError>
+    ensures { OnOk result (out.new.items ≡ out.old.items ++ front_text offer.now) }
 {
     add_pieces(
         out,
@@ -56,8 +51,14 @@ fn add_item(
             Piece::Escaped(offer.documentation),
             Piece::Bytes(b"\",\"textEdit\":{\"range\":"),
         ],
-    )?;
-    add_range(out, start, end)?;
+    )
+}
+
+// What stands behind it.
+#[tactic(auto, unfolding(crate::specs::Completion::back_text))]
+fn add_back(out: &mut Vec<u8>, offer: &Offer) -> Result<(), AllocError>
+    ensures { OnOk result (out.new.items ≡ out.old.items ++ back_text offer.now) }
+{
     add_pieces(
         out,
         &[
@@ -67,6 +68,22 @@ fn add_item(
             Piece::Bytes(b"\"}}"),
         ],
     )
+}
+
+// A word, in the place of what stands between two positions.
+#[tactic(auto, unfolding(crate::specs::Completion::item_text))]
+fn add_item(
+    out: &mut Vec<u8>,
+    start: Position,
+    end: Position,
+    offer: &Offer,
+) -> Result<(), AllocError>
+    ensures { OnOk result (out.new.items ≡ out.old.items ++ item_text start end offer.now) }
+{
+    add_front(out, offer)?;
+    add_range(out, start, end)?;
+    add_back(out, offer)?;
+    Ok(())
 }
 
 // Some, of which the first stands behind nothing, and the others behind commas.

@@ -1,10 +1,7 @@
 //! The words that a head can go on with: names of directives, keys of options, and values, with what the manual says of them.
 
-ghost use Rattle.std.specs.Prelude.{◌≡◌, ◌++◌, [], IfOk, OnOk, map};
-ghost use Rattle.std.specs.Str.{bytes_eq};
-ghost use Rattle.rb_hint.specs.Choices.{choices_of};
-ghost use Rattle.rb_manual.specs.Manual.{keys, pages};
-ghost use Rattle.rb_offers.specs.Offers.{begins_with, chosen, has_key, is_key, keyed, line_in, line_of, named, offers, options, takes};
+ghost use Rattle.std.specs.Prelude.{◌≡◌, ◌++◌, IfOk, OnOk, map};
+ghost use Rattle.rb_offers.specs.Offers.{begins_with, chosen, has_key, if_kept, is_key, keyed, line_in, line_of, named, offers, options, takes};
 
 use crate::unfinished::{Wanted, Wish};
 use rb_hint::{Known, choices_of};
@@ -47,6 +44,16 @@ fn begins_with(prefix: &[u8], word: &[u8]) -> bool
     word.starts_with(prefix)
 }
 
+// Puts an offer behind others, if it is kept.
+fn keep(list: &mut Vec<Offer>, is_kept: bool, offer: Offer) -> Result<(), AllocError>
+    ensures { OnOk result (list.new.items ≡ list.old.items ++ if_kept is_kept offer.entry) }
+{
+    if is_kept {
+        list.push(offer)?;
+    }
+    Ok(())
+}
+
 // The names among these pages that begin so.
 fn named(
     alloc: Global,
@@ -57,13 +64,12 @@ fn named(
 {
     let mut list = Vec::new(alloc);
     for page in pages {
-        if begins_with(prefix, page.0) {
-            list.push(Offer {
-                kind: Kind::Directive,
-                word: page.0,
-                documentation: page.1,
-            })?;
-        }
+        let offer = Offer {
+            kind: Kind::Directive,
+            word: page.0,
+            documentation: page.1,
+        };
+        keep(&mut list, begins_with(prefix, page.0), offer)?;
     }
     Ok(list)
 }
@@ -81,7 +87,7 @@ fn line_in(name: &[u8], pages: &[(Known, Known, Known)]) -> Known
 }
 
 // The line of the manual on the directive with this name.
-#[tactic(auto, unfolding(rb_manual::specs::Manual::pages))]
+#[tactic(auto, unfolding(rb_manual::specs::Manual::pages, crate::specs::Offers::line_of))]
 fn line_of(name: &[u8]) -> Known
     ensures { result.now ≡ line_of name.now }
 {
@@ -101,11 +107,21 @@ fn has_key(name: &[u8], key: &[u8], keys: &[(Known, Known)]) -> bool
 }
 
 // Whether the directive with this name takes an option with this key.
-#[tactic(auto, unfolding(rb_manual::specs::Manual::keys))]
+#[tactic(auto, unfolding(rb_manual::specs::Manual::keys, crate::specs::Offers::takes))]
 fn takes(name: &[u8], key: &[u8]) -> bool
     ensures { result ≡ takes name.now key.now }
 {
-    key == b"log-level".as_slice() || has_key(name, key, &KEYS)
+    if key == b"log-level".as_slice() {
+        return true;
+    }
+    has_key(name, key, &KEYS)
+}
+
+// Whether this key of that directive is one of the directive with this name, and begins so.
+fn is_key(name: &[u8], prefix: &[u8], owner: &[u8], key: &[u8]) -> bool
+    ensures { result ≡ is_key name.now prefix.now owner.now key.now }
+{
+    owner == name && begins_with(prefix, key)
 }
 
 // The keys among these that the directive with this name has, and that begin so.
@@ -120,32 +136,30 @@ fn keyed(
 {
     let mut list = Vec::new(alloc);
     for row in keys {
-        if row.0 == name && begins_with(prefix, row.1) {
-            list.push(Offer {
-                kind: Kind::Key,
-                word: row.1,
-                documentation,
-            })?;
-        }
+        let offer = Offer {
+            kind: Kind::Key,
+            word: row.1,
+            documentation,
+        };
+        keep(&mut list, is_key(name, prefix, row.0, row.1), offer)?;
     }
     Ok(list)
 }
 
 // The keys of the options that the directive with this name takes, and that begin so.
-#[tactic(auto, unfolding(rb_manual::specs::Manual::keys))]
+#[tactic(auto, unfolding(rb_manual::specs::Manual::keys, crate::specs::Offers::options))]
 fn options(alloc: Global, name: &[u8], prefix: &[u8]) -> Result<Vec<Offer>, AllocError>
     ensures { IfOk result (λ list. list.items ≡ options name.now prefix.now) }
 {
     let documentation = line_of(name);
     let mut list = keyed(alloc, name, prefix, documentation, &KEYS)?;
     let every: Known = b"log-level";
-    if begins_with(prefix, every) {
-        list.push(Offer {
-            kind: Kind::Key,
-            word: every,
-            documentation,
-        })?;
-    }
+    let offer = Offer {
+        kind: Kind::Key,
+        word: every,
+        documentation,
+    };
+    keep(&mut list, begins_with(prefix, every), offer)?;
     Ok(list)
 }
 
@@ -160,13 +174,12 @@ fn chosen(
 {
     let mut list = Vec::new(alloc);
     for choice in choices {
-        if begins_with(prefix, choice) {
-            list.push(Offer {
-                kind: Kind::Value,
-                word: *choice,
-                documentation,
-            })?;
-        }
+        let offer = Offer {
+            kind: Kind::Value,
+            word: *choice,
+            documentation,
+        };
+        keep(&mut list, begins_with(prefix, choice), offer)?;
     }
     Ok(list)
 }

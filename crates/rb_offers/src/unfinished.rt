@@ -88,7 +88,7 @@ fn last_piece(bytes: &[u8]) -> &[u8]
 
 // What is left behind an argument, or the argument, where nothing is left.
 fn rest_or<'a>(wanted: Wanted<'a>, rest: &'a [u8]) -> Result<&'a [u8], Wanted<'a>>
-    ensures { reach_of result ≡ rest_or wanted rest.now }
+    ensures { reach_of result ≡ rest_or wanted.entry rest.now }
 {
     if rest.is_empty() {
         Err(wanted)
@@ -135,6 +135,7 @@ fn value_at<'a>(key: &'a [u8], bytes: &'a [u8]) -> Result<&'a [u8], Wanted<'a>>
 }
 
 // What is left behind the argument at the front, or where the head ends in it.
+#[tactic(auto, unfolding(crate::specs::Unfinished::argument_at))]
 fn argument_at(bytes: &[u8]) -> Result<&[u8], Wanted<'_>>
     ensures { reach_of result ≡ argument_at bytes.now }
 {
