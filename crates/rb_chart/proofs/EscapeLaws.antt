@@ -4,7 +4,7 @@ use Rattle.std.specs.Prelude.{not, ◌&&◌, ◌==◌, if◌then◌else◌}
 use Rattle.std.specs.List.{flat_map, list_all}
 use Rattle.std.proofs.lemmas.Bool.{eqb-true}
 use Rattle.std.proofs.lemmas.List.Folds.{list_all-append}
-use Rattle.rb_chart.specs.Escapes.{is_no_bracket, escaped, IsCharacter, IsParted, ReadsAs}
+use Rattle.rb_chart.specs.Escapes.{is_no_bracket, escaped, IsCharacter, ReadsAs}
 
 -- two tests that pass, as one
 both : (a b : Bool) → a ≡ true → b ≡ true → (a && b) ≡ true

@@ -4,7 +4,7 @@ use crate::look::Kind;
 use rb_message::{MessageType, Role};
 
 /// The rows that a picture shows something of.
-#[derive(Clone, Copy, Debug, PartialEq, Eq)]
+#[derive(Clone, Copy)]
 pub(crate) enum Name {
     Step,
     Ready,
