@@ -7,6 +7,7 @@ use Rattle.rb_check.specs.Heads.{before_value}
 use Rattle.rb_check.proofs.PieceLaws.{drop-get}
 use Rattle.rb_formats.specs.declared.format.Format.{Format}
 use Rattle.rb_formats.specs.Objects.{quoted, strings_from}
+use Rattle.rb_formats.specs.Commands.{command_with}
 use Rattle.rb_formats.specs.Formats.{directive_text, directives_text}
 
 -- one line more
@@ -30,3 +31,13 @@ directives_step format ls path heads bs os i line b o head block output =
 pub directives_done : (format : Format) (ls : List Line) (path heads : List ℕ) (bs : List PlainBlock) (os : List (List Line)) → heads ≡ [] → directives_text format ls path heads bs os ≡ []
 directives_done format ls path [] bs os none = refl
 directives_done format ls path (line ∷ heads) bs os none = absurd cc
+
+-- ---- workflow commands
+
+-- what stands before the rest of a command, and the rest
+pub opened : (command path : List ℕ) (line : ℕ) (title rest : List ℕ) → command_with command path (Some line) title rest ≡ command_with command path (Some line) title [] ++ rest
+opened command path line title rest = sym (simp append_assoc)
+
+-- three texts, one behind another, of which the last is known otherwise
+pub said_behind : (t0 t1 t2 a b d whole : List ℕ) → t1 ≡ t0 ++ a → t2 ≡ t1 ++ b → b ≡ d → whole ≡ a ++ d → t2 ≡ t0 ++ whole
+said_behind t0 t1 t2 a b d whole h1 h2 same is = rw (h2, h1, same, is) (simp append_assoc)

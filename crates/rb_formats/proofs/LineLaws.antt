@@ -8,8 +8,8 @@ use Rattle.rb_json.specs.Escapes.{hex_digit, is_plain, numbered, escaped, ascii}
 use Rattle.rb_formats.specs.Escapes.{in_message, in_property}
 
 cases : {A : Type 0} (t : Bool) → (t ≡ true → A) → (t ≡ false → A) → A
-cases true yes no = yes refl
-cases false yes no = no refl
+cases true same other = same refl
+cases false same other = other refl
 
 both_true : (t u : Bool) → t ≡ true → u ≡ true → (t && u) ≡ true
 both_true true u h k = k
@@ -54,17 +54,29 @@ is_in_line b = not (b == 10) && not (b == 13)
 abbrev pub is_in_value : ℕ → Bool
 is_in_value b = not (b == 10) && not (b == 13) && not (b == 58) && not (b == 44)
 
+line_true : (s t : Bool) → s ≡ false → t ≡ false → ((not s && not t) && true) ≡ true
+line_true false false h k = refl
+line_true true t h k = absurd cc
+line_true false true h k = absurd cc
+
+value_true : (s t u v : Bool) → s ≡ false → t ≡ false → u ≡ false → v ≡ false → ((((not s && not t) && not u) && not v) && true) ≡ true
+value_true false false false false h k l m = refl
+value_true true t u v h k l m = absurd cc
+value_true false true u v h k l m = absurd cc
+value_true false false true v h k l m = absurd cc
+value_true false false false true h k l m = absurd cc
+
 byte_in_line : (b : ℕ) → list_all is_in_line (in_message b) ≡ true
 byte_in_line b = cases (b == 37) (λ yes. rw yes refl)
     (λ no37. cases (b == 13) (λ yes. rw (no37, yes) refl)
-    (λ no13. cases (b == 10) (λ yes. rw (no37, no13, yes) refl) (λ no10. rw (no37, no13, no10) refl)))
+    (λ no13. cases (b == 10) (λ yes. rw (no37, no13, yes) refl) (λ no10. rw (no37, no13, no10) (line_true (b == 10) (b == 13) no10 no13))))
 
 byte_in_value : (b : ℕ) → list_all is_in_value (in_property b) ≡ true
 byte_in_value b = cases (b == 58) (λ yes. rw yes refl)
     (λ no58. cases (b == 44) (λ yes. rw (no58, yes) refl)
     (λ no44. cases (b == 37) (λ yes. rw (no58, no44, yes) refl)
     (λ no37. cases (b == 13) (λ yes. rw (no58, no44, no37, yes) refl)
-    (λ no13. cases (b == 10) (λ yes. rw (no58, no44, no37, no13, yes) refl) (λ no10. rw (no58, no44, no37, no13, no10) refl)))))
+    (λ no13. cases (b == 10) (λ yes. rw (no58, no44, no37, no13, yes) refl) (λ no10. rw (no58, no44, no37, no13, no10) (value_true (b == 10) (b == 13) (b == 58) (b == 44) no10 no13 no58 no44))))))
 
 pub all_in_line : (bytes : List ℕ) → list_all is_in_line (flat_map in_message bytes) ≡ true
 all_in_line bytes = all_along is_in_line in_message bytes byte_in_line

@@ -1,10 +1,12 @@
 //! A directive as a workflow command.
 
-ghost use Rattle.std.specs.Prelude.{◌≡◌, ◌++◌, Some, OnOk, IfOk};
+ghost use Rattle.std.specs.Prelude.{◌≡◌, ◌++◌, [], Some, OnOk, IfOk, codes};
+ghost use Rattle.std.specs.List.{flat_map};
 ghost use Rattle.rb_check.specs.declared.colors.Colors.TheVariants.{Off};
 ghost use Rattle.rb_check.specs.Diffs.{parts};
 ghost use Rattle.rb_check.specs.Folds.{folded_text};
-ghost use Rattle.rb_formats.specs.Commands.{command_text, difference_text};
+ghost use Rattle.rb_formats.specs.Escapes.{in_message};
+ghost use Rattle.rb_formats.specs.Commands.{command_with, command_text, difference_text};
 
 use crate::piece::{Piece, add_pieces};
 use rb_check::{Colors, Place, Table, put_diff};
@@ -12,12 +14,12 @@ use rb_script::{Lines, Through};
 use std::alloc::{AllocError, Global};
 
 /// Adds a command that says the message of a directive: the head is its title.
-pub(crate) fn add_command(
+pub(crate) fn add_command<'a>(
     text: &mut Vec<u8>,
-    command: &[u8],
-    place: Place<'_>,
-    head: &[u8],
-    message: &[u8],
+    command: &'a [u8],
+    place: Place<'a>,
+    head: &'a [u8],
+    message: &'a [u8],
 ) -> Result<(), AllocError>
     ensures { OnOk result (text.new.items ≡ text.old.items ++ command_text command.now place.entry.path.now (Some place.entry.line) head.now message.now) }
 {
@@ -55,6 +57,37 @@ fn diff_of(
     }
 }
 
+// Adds what stands before the message of a command that says what differs.
+fn add_opening<'a>(text: &mut Vec<u8>, place: Place<'a>, head: &'a [u8]) -> Result<(), AllocError>
+    ensures { OnOk result (text.new.items ≡ text.old.items ++ command_with (codes "error") place.entry.path.now (Some place.entry.line) head.now []) }
+{
+    add_pieces(
+        text,
+        &[
+            Piece::Bytes(b"::error file="),
+            Piece::Property(place.path),
+            Piece::Bytes(b",line="),
+            Piece::Number(place.line as u64),
+            Piece::Bytes(b",title="),
+            Piece::Property(head),
+            Piece::Bytes(b"::"),
+        ],
+    )
+}
+
+// Adds the message, which says what its signs mean.
+fn add_diff(text: &mut Vec<u8>, diff: &[u8]) -> Result<(), AllocError>
+    ensures { OnOk result (text.new.items ≡ text.old.items ++ (flat_map in_message diff.now ++ codes "(- expected, + output)\n")) }
+{
+    add_pieces(
+        text,
+        &[
+            Piece::Message(diff),
+            Piece::Bytes(b"(- expected, + output)\n"),
+        ],
+    )
+}
+
 /// Adds a command that says what differs in a directive's output: the head is its title.
 pub(crate) fn add_difference(
     alloc: Global,
@@ -68,18 +101,7 @@ pub(crate) fn add_difference(
     ensures { OnOk result (text.new.items ≡ text.old.items ++ difference_text place.entry.path.now place.entry.line head.now expected.now output.now) }
 {
     let diff = diff_of(alloc, expected, output, table)?;
-    add_pieces(
-        text,
-        &[
-            Piece::Bytes(b"::error file="),
-            Piece::Property(place.path),
-            Piece::Bytes(b",line="),
-            Piece::Number(place.line as u64),
-            Piece::Bytes(b",title="),
-            Piece::Property(head),
-            Piece::Bytes(b"::"),
-            Piece::Message(diff.as_slice()),
-            Piece::Bytes(b"(- expected, + output)\n"),
-        ],
-    )
+    add_opening(text, place, head)?;
+    add_diff(text, diff.as_slice())?;
+    Ok(())
 }

@@ -10,12 +10,12 @@ use crate::kind::Kind;
 use crate::piece::{Piece, add_pieces};
 use std::alloc::{AllocError, Global};
 
-fn add_object(
+fn add_object<'a>(
     text: &mut Vec<u8>,
-    path: &[u8],
+    path: &'a [u8],
     line: Option<usize>,
-    status: &[u8],
-    message: &[u8],
+    status: &'a [u8],
+    message: &'a [u8],
 ) -> Result<(), AllocError>
     ensures { OnOk result (text.new.items ≡ text.old.items ++ notice_object path.now line status.now message.now) }
 {
@@ -50,13 +50,13 @@ fn add_object(
     }
 }
 
-fn add_command(
+fn add_command<'a>(
     text: &mut Vec<u8>,
-    command: &[u8],
-    path: &[u8],
+    command: &'a [u8],
+    path: &'a [u8],
     line: Option<usize>,
-    title: &[u8],
-    message: &[u8],
+    title: &'a [u8],
+    message: &'a [u8],
 ) -> Result<(), AllocError>
     ensures { OnOk result (text.new.items ≡ text.old.items ++ command_text command.now path.now line title.now message.now) }
 {

@@ -40,11 +40,11 @@ fn add_strings(text: &mut Vec<u8>, lines: &Lines) -> Result<(), AllocError>
     Ok(())
 }
 
-fn add_front(
+fn add_front<'a>(
     text: &mut Vec<u8>,
-    place: Place<'_>,
-    head: &[u8],
-    status: &[u8],
+    place: Place<'a>,
+    head: &'a [u8],
+    status: &'a [u8],
 ) -> Result<(), AllocError>
     ensures { OnOk result (text.new.items ≡ text.old.items ++ object_front place.entry.path.now place.entry.line head.now status.now) }
 {

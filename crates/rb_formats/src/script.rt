@@ -42,10 +42,12 @@ fn add_error(
 ) -> Result<(), AllocError>
     ensures { OnOk result (text.new.items ≡ text.old.items ++ error_text format place.entry.path.now place.entry.line block.now output.now) }
 {
-    let head = head_of(alloc, &block.directive())?;
+    let made = head_of(alloc, &block.directive())?;
+    let head = made.as_slice();
+    let expected = block.expected();
     match format {
-        Format::Json => add_object(text, place, &head, b"error", block.expected(), output),
-        Format::Github => add_command(text, b"warning", place, &head, first_line(output)),
+        Format::Json => add_object(text, place, head, b"error", expected, output),
+        Format::Github => add_command(text, b"warning", place, head, first_line(output)),
     }
 }
 
@@ -61,11 +63,12 @@ fn add_differing(
 ) -> Result<(), AllocError>
     ensures { OnOk result (text.new.items ≡ text.old.items ++ differing_text format place.entry.path.now place.entry.line block.now output.now) }
 {
-    let head = head_of(alloc, &block.directive())?;
+    let made = head_of(alloc, &block.directive())?;
+    let head = made.as_slice();
     let expected = block.expected();
     match format {
-        Format::Json => add_object(text, place, &head, b"mismatch", expected, output),
-        Format::Github => add_difference(alloc, text, place, &head, expected, output, table),
+        Format::Json => add_object(text, place, head, b"mismatch", expected, output),
+        Format::Github => add_difference(alloc, text, place, head, expected, output, table),
     }
 }
 
