@@ -13,7 +13,7 @@ MOST_SECONDS = 120
 # Scripts that are refused.
 REFUSED = {
     "BadLine": b"add-nodes =x\n----\n",
-    "NoSeparator": b"add-nodes 1\n\nraft-state\n----\n",
+    "NoSeparator": b"# one node\nadd-nodes 1\n",
     "LineTooLong": b"raft-state\n----\n" + b"x" * 65_537 + b"\n",
     "TooLong": b"# a line\n" * 500_000,
     "TooManyDirectives": b"raft-state\n----\n\n" * 20_001,
