@@ -46,7 +46,7 @@ fn begins_with(prefix: &[u8], word: &[u8]) -> bool
 
 // Puts an offer behind others, if it is kept.
 fn keep(list: &mut Vec<Offer>, is_kept: bool, offer: Offer) -> Result<(), AllocError>
-    ensures { OnOk result (list.new.items ≡ list.old.items ++ if_kept is_kept offer.entry) }
+    ensures { OnOk result (list.new.items ≡ list.old.items ++ if_kept is_kept offer) }
 {
     if is_kept {
         list.push(offer)?;
