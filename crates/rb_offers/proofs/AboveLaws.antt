@@ -1,10 +1,10 @@
 -- Above the head of a block of a script stand whole blocks and lead lines, and so a head can be written there.
-use Rattle.std.proofs.Common.{◌≡◌, ◌∙◌, ℕ, ◌+◌, ◌-◌, ◌<◌, Bool, true, false, List, [], ◌∷◌, ◌++◌, length, take, refl, ap, sym, subst, arith, append_assoc, append-nil, length-append, inl, inr, ◌⊎◌}
+use Rattle.std.proofs.Common.{◌≡◌, ◌∙◌, ℕ, ◌+◌, ◌-◌, ◌<◌, Bool, true, false, List, [], ◌∷◌, ◌++◌, length, take, refl, ap, sym, arith, append_assoc, length-append, inl, inr, ◌⊎◌}
 use Rattle.std.specs.Prelude.{◌&&◌, not}
 use Rattle.std.specs.List.{list_all}
 use Rattle.std.proofs.lemmas.List.{append_cancel_right, take_at}
 use Rattle.rb_script.specs.Lines.{Line}
-use Rattle.rb_script.specs.Marks.{continues, is_blank, is_lead, is_rule, is_separator, is_space, is_empty_or_comment, rule, without_front}
+use Rattle.rb_script.specs.Marks.{is_blank, is_lead, is_rule, is_separator, is_space, is_empty_or_comment, rule, without_front}
 use Rattle.rb_script.specs.Script.{PlainBlock}
 use Rattle.rb_script.specs.Reads.{IsContinued, ReadsPlain, ReadsDouble, ReadsBlock, ReadsSome, begins_lead, begins_rule, ends_or_rules, is_readable}
 use Rattle.rb_offers.specs.declared.part.Part.{Part}

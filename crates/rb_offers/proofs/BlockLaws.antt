@@ -24,7 +24,7 @@ use Rattle.rb_script.proofs.ScriptLaws.{read_sound, read_complete}
 use Rattle.rb_check.proofs.PieceLaws.{drop-get}
 use Rattle.rb_offers.specs.declared.block_lines.BlockLines.{BlockLines}
 use Rattle.rb_offers.specs.declared.block_lines.TheConstants.{DOUBLE_LINES}
-use Rattle.rb_offers.specs.Heads.{behind_block, heads_at, heads_of}
+use Rattle.rb_offers.specs.Heads.{behind_block, heads_at}
 use Rattle.rb_offers.specs.BlockLines.{AreApart, counted_lines, lines_at, lines_from, StandsIn, all_lines, behind_head, block_lines, blocks_of, found, mark_lines, of_script, script_of}
 
 -- ---- an expectation

@@ -6,7 +6,6 @@ use Rattle.rb_script.proofs.TextLaws.{text_reads}
 use Rattle.rb_script.proofs.ValidLaws.{read_valid}
 use Rattle.rb_document.specs.declared.position.Encoding.{Encoding}
 use Rattle.rb_document.proofs.DifferLaws.{edits_make}
-use Rattle.rb_offers.specs.BlockLines.{script_of}
 use Rattle.rb_offers.specs.Formatting.{edits, formatting, of_script}
 use Rattle.rb_offers.specs.Laws.{Formats}
 use Rattle.rb_offers.proofs.BlockLaws.{script_found}

@@ -1,8 +1,7 @@
 -- The lines of a script stand in an editor's lines in their order.
-use Rattle.std.proofs.Common.{◌≡◌, ℕ, zero, suc, ◌+◌, ◌<◌, ◌≤◌, ◌==◌, Bool, true, false, List, [], ◌∷◌, refl, arith}
+use Rattle.std.proofs.Common.{◌≡◌, ℕ, zero, suc, ◌≤◌, ◌==◌, Bool, true, false, List, [], ◌∷◌, refl, arith}
 use Rattle.rb_document.specs.declared.position.Encoding.{Encoding}
-use Rattle.rb_document.specs.declared.position.Position.{Position}
-use Rattle.rb_document.specs.Places.{beside, beside_at, ends_line, position_of, units}
+use Rattle.rb_document.specs.Places.{beside_at, ends_line, position_of, units}
 use Rattle.rb_document.specs.Tables.{feed_start, start_of}
 
 test_cases : {A : Type 0} (t : Bool) → (t ≡ true → A) → (t ≡ false → A) → A

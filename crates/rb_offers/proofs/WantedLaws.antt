@@ -1,5 +1,5 @@
 -- The arguments of an unfinished head, one after another.
-use Rattle.std.proofs.Common.{◌≡◌, ◌∙◌, ℕ, zero, suc, ◌+◌, ◌-◌, ◌<◌, ◌≤◌, true, false, List, [], ◌∷◌, length, Ok, Err, refl, ap, sym, arith}
+use Rattle.std.proofs.Common.{◌≡◌, ◌∙◌, ℕ, zero, suc, ◌<◌, true, false, List, [], ◌∷◌, length, Ok, Err, refl, ap, sym, arith}
 use Rattle.rb_script.specs.declared.limits.TheConstants.{MAX_ARGUMENTS}
 use Rattle.rb_script.specs.Directive.{is_word}
 use Rattle.rb_script.specs.Marks.{is_space}

@@ -1,4 +1,4 @@
-use Rattle.std.proofs.Common.{◌≡◌, ◌∙◌, ℕ, ◌+◌, ◌-◌, length, ap, arith}
+use Rattle.std.proofs.Common.{◌≡◌, ◌∙◌, ◌+◌, ◌-◌, length, ap, arith}
 use Rattle.rb_offers.specs.BlockLines.{behind_head, mark_lines}
 use Rattle.rb_offers.proofs.BlockLaws.{block_inputs, end_within, lines_made}
 use Rattle.rb_offers.proofs.block_lines.block_lines.Goals as goal

@@ -1,4 +1,4 @@
-use Rattle.std.proofs.Common.{◌∙◌, ℕ, ◌+◌, ◌-◌, ap, sym, arith}
+use Rattle.std.proofs.Common.{◌∙◌, ◌+◌, ◌-◌, ap, sym, arith}
 use Rattle.rb_script.specs.declared.limits.TheConstants.{MAX_ARGUMENTS}
 use Rattle.rb_offers.specs.Unfinished.{argument_at}
 use Rattle.rb_offers.proofs.WantedLaws.{ends_in, goes_past, is_bad, no_more_arguments}
