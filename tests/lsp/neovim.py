@@ -11,11 +11,14 @@ SCRIPT = "log-level debug\n----\nok\n"
 
 # Waits until there are as many diagnostics as are due, and writes them.
 DRIVER = """
+local function say(...)
+  io.stderr:write(table.concat(vim.tbl_map(tostring, { ... }), ' ') .. '\\n')
+end
 local function wait_for(count)
   local is_there = vim.wait(60000, function() return #vim.diagnostic.get(0) == count end, 20)
   local found = vim.diagnostic.get(0)
-  print(is_there and 'there' or 'missing', #found)
-  for _, it in ipairs(found) do print(it.lnum, it.severity, it.code or '', (it.message:gsub('\\n', '|'))) end
+  say(is_there and 'there' or 'missing', #found)
+  for _, it in ipairs(found) do say(it.lnum, it.severity, it.code or '', (it.message:gsub('\\n', '|'))) end
 end
 local function clients()
   if vim.lsp.get_clients then return vim.lsp.get_clients({ bufnr = 0 }) end
@@ -40,7 +43,7 @@ local function press(keys)
 end
 vim.ui.select = function(items, _, choose) choose(items[1], 1) end
 local is_attached = vim.wait(60000, attached, 20)
-print(vim.bo.filetype, is_attached)
+say(vim.bo.filetype, is_attached)
 wait_for(0)
 vim.api.nvim_buf_set_lines(0, 2, 3, true, { 'no' })
 wait_for(1)
@@ -51,10 +54,10 @@ wait_for(1)
 vim.api.nvim_win_set_cursor(0, { 1, 0 })
 press('K')
 vim.wait(60000, shown, 20)
-print('shown', unpack(shown() or {}))
+say('shown', unpack(shown() or {}))
 press('gra')
 wait_for(0)
-print('')
+say('')
 vim.cmd('silent write | qall!')
 """
 DUE = ["raftbench true", "there 0", "there 1", "0 1 mismatch - no|+ ok", "there 0", "there 1", "0 1 mismatch - another|+ ok",
