@@ -11,6 +11,7 @@ use rb_cluster::{Cluster, Meter};
 use rb_diagnostics::{add_list, diagnostics_of};
 use rb_document::Encoding;
 use rb_line::Source;
+use rb_offers::{add_completion, add_folds, add_formatting, add_symbols};
 use rb_raftlog::SplitLog;
 use rb_script::Sink;
 use rb_server::{Asked, ServeFault, Service, Status, serve};
@@ -61,13 +62,13 @@ impl Service for Bench {
             Asked::CodeAction(range) => add_actions::<Cluster<SplitLog>>(
                 alloc, out, encoding, range, uri, text, &mut meter,
             ),
-            Asked::Formatting => out.extend_from_slice(b"null"),
+            Asked::Formatting => add_formatting(alloc, out, encoding, text),
             Asked::Hover(position) => add_hover::<Cluster<SplitLog>>(
                 alloc, out, encoding, position, text, &mut meter,
             ),
-            Asked::Completion(_) => out.extend_from_slice(b"null"),
-            Asked::FoldingRange => out.extend_from_slice(b"null"),
-            Asked::DocumentSymbol => out.extend_from_slice(b"null"),
+            Asked::Completion(position) => add_completion(alloc, out, encoding, text, position),
+            Asked::FoldingRange => add_folds(alloc, out, text),
+            Asked::DocumentSymbol => add_symbols(alloc, out, encoding, text),
         }
     }
 }

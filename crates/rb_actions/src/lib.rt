@@ -1,8 +1,8 @@
 //! What an editor is told about a script: the language server of scripts.
 //!
 //! [`lsp`] publishes the diagnostics of rb_diagnostics, and answers what is asked of a script by one fresh run of its text: at a position what
-//! came of the directive there, with the cluster behind it, and for a range the actions that accept what came, each with its edit. What is
-//! answered depends on the text alone.
+//! came of the directive there, with the cluster behind it, and for a range the actions that accept what came, each with its edit. What a text
+//! offers without a run is rb_offers'. What is answered depends on the text alone.
 #![tactic(auto)]
 
 mod action;
