@@ -121,9 +121,6 @@ pub stands : (ls : List Line) (n : ℕ) (b : PlainBlock) → (h : StandsIn ls n 
 stands ls n b h =
     fits ls (b.lead ++ h.line.from) h.line.rest b (length h.line.front) n (sym (ap (drop (length h.line.front)) h.line.parts ∙ drop_at h.line.front (b.lead ++ h.line.from) (length h.line.front) refl)) h.line.block h.line.number
 
-pub stands_from : (ls : List Line) (n : ℕ) (b : PlainBlock) → StandsIn ls n b → 1 ≤ n
-stands_from ls n b h = omega (arith, h.line.number)
-
 -- its lines end within the text
 pub end_within : (ls : List Line) (n : ℕ) (b : PlainBlock) → StandsIn ls n b
     → behind_head ls (n - 1) + length b.input + 1 + length b.expected + mark_lines ls (behind_head ls (n - 1) + length b.input + 1) ≤ length ls
@@ -268,6 +265,3 @@ head_ends ls i past =
 
 pub rule_at : (ls : List Line) (i : ℕ) (line : Line) → slice_get ls i ≡ Some line → begins_rule (drop i ls) ≡ is_rule line
 rule_at ls i line is = ap begins_rule (drop-get ls i line is)
-
-pub rule_past : (ls : List Line) (i : ℕ) → length ls ≤ i → begins_rule (drop i ls) ≡ false
-rule_past ls i past = ap begins_rule (drop_all i ls past)
