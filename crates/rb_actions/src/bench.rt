@@ -6,9 +6,10 @@ ghost use Rattle.rb_actions.specs.Meanings.{meaning};
 
 use crate::action::add_actions;
 use crate::hover::add_hover;
+use crate::kept::{Sessions, of_document};
 use rb_check::Table;
 use rb_cluster::{Cluster, Meter};
-use rb_diagnostics::{add_list, diagnostics_of};
+use rb_diagnostics::add_list;
 use rb_document::Encoding;
 use rb_line::Source;
 use rb_offers::{add_completion, add_folds, add_formatting, add_symbols};
@@ -22,29 +23,39 @@ use std::alloc::{AllocError, Global};
 pub(crate) struct Bench {
     alloc: Global,
     table: Table,
+    sessions: Sessions<Cluster<SplitLog>>,
 }
 
 impl Bench {
     // With room for comparing outputs, which is taken once.
     fn new(alloc: Global) -> Result<Bench, AllocError> {
         let table = Table::new(alloc)?;
-        Ok(Bench { alloc, table })
+        let sessions = Sessions::new(alloc);
+        Ok(Bench {
+            alloc,
+            table,
+            sessions,
+        })
     }
 }
 
 impl Service for Bench {
     ghost meaning = { meaning };
 
+    fn forget(&mut self, uri: &[u8]) {
+        let _ = self.sessions.take(uri);
+    }
+
     fn add_diagnostics(
         &mut self,
         encoding: Encoding,
-        _uri: &[u8],
+        uri: &[u8],
         text: &[u8],
         out: &mut Vec<u8>,
     ) -> Result<(), AllocError> {
         let mut meter = Meter::new();
         let table = &mut self.table;
-        let list = diagnostics_of::<Cluster<SplitLog>>(self.alloc, table, &mut meter, text)?;
+        let list = of_document(self.alloc, table, &mut self.sessions, &mut meter, uri, text)?;
         add_list(self.alloc, out, encoding, text, list.as_slice())
     }
 

@@ -13,5 +13,5 @@ mod writing;
 
 pub use diagnostic::{Diagnostic, Kind};
 pub use laws::matching_texts_have_none;
-pub use running::{diagnostics_of, heads_of};
+pub use running::{diagnostics_of, heads_of, of_bytes, of_fault};
 pub use writing::{add_list, add_range};

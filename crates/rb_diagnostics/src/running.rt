@@ -1,6 +1,6 @@
 //! What is to be said of a text, by one fresh run of it.
 
-ghost use Rattle.std.specs.Prelude.{◌≡◌, ◌≤◌, ◌^◌, ◌++◌, [], IfOk, OnOk, length};
+ghost use Rattle.std.specs.Prelude.{◌≡◌, ◌≤◌, ◌^◌, ◌++◌, [], ◌∷◌, IfOk, OnOk, length};
 ghost use Rattle.rb_script.specs.Lines.{lines};
 ghost use Rattle.rb_script.specs.Reads.{Reads};
 ghost use Rattle.rb_replay.specs.Run.{outputs};
@@ -65,8 +65,12 @@ pub fn heads_of<M: Machine>(
     }
 }
 
-// What is to be said of the bytes, whose script ran.
-fn of_bytes<M: Machine>(
+/// What is to be said of the bytes, whose script ran.
+///
+/// # Errors
+///
+/// Where memory was refused.
+pub fn of_bytes<M: Machine>(
     alloc: Global,
     table: &mut Table,
     session: &Session<M>,
@@ -89,6 +93,19 @@ fn refused(alloc: Global, fault: ScriptFault) -> Result<Diagnostic, AllocError>
         kind: Kind::NoScript,
         message: Vec::from_slice(alloc, sentence(fault))?,
     })
+}
+
+/// What is to be said of bytes that are no script: that alone.
+///
+/// # Errors
+///
+/// Where memory was refused.
+pub fn of_fault(alloc: Global, fault: ScriptFault) -> Result<Vec<Diagnostic>, AllocError>
+    ensures { IfOk result (λ list. list.items ≡ refused fault ∷ []) }
+{
+    let mut list = Vec::new(alloc);
+    list.push(refused(alloc, fault)?)?;
+    Ok(list)
 }
 
 fn or_first(line: Option<usize>) -> usize
@@ -114,11 +131,7 @@ pub fn diagnostics_of<M: Machine>(
 {
     match Session::<M>::start(alloc, bytes, MAX_SPACING, meter) {
         Ok(session) => of_bytes(alloc, table, &session, bytes),
-        Err(StartFault::Script(fault)) => {
-            let mut list = Vec::new(alloc);
-            list.push(refused(alloc, fault)?)?;
-            Ok(list)
-        }
+        Err(StartFault::Script(fault)) => of_fault(alloc, fault),
         Err(_) => Err(AllocError),
     }
 }
