@@ -1,29 +1,47 @@
-//! `raftbench chart FILE`: the picture of a script.
+//! `raftbench chart FILE [--until LINE]`: the picture of a script.
 
-use crate::edge::opened;
+use crate::edge::{misused, opened};
+use crate::misuse::Misuse;
 use crate::page::name_of;
 use crate::refusal::Refusal;
 use rb_bench::Status;
 use rb_line::Incoming;
+use rb_number::number_of;
 use rb_pages::chart_over;
 use rb_script::Through;
+use std::alloc::Global;
 use std::io;
 use std::io::BufWriter;
 use std::rt::Files;
 
-/// Writes the picture of the script in the file, or on standard input; of its directives up to the one at line `until`, where that is given.
+/// Writes the picture of the script in the file, or on standard input, or of its directives up to a line.
 pub(crate) fn chart<R: Files + Input + Print + AllocGlobal>(
     rt: &R,
     file: &str,
-    until: Option<u64>,
+    until: Option<&str>,
 ) -> Result<Status, Refusal> {
     let alloc = rt.alloc();
+    let last = last_line(alloc, until)?;
     let name = name_of(file).as_bytes();
     let mut writer = Through(BufWriter::new(alloc, io::writer(rt))?);
     if file == "-" {
         let mut source = Incoming(rt.reader());
-        return Ok(chart_over(alloc, &mut source, &mut writer, name, until)?);
+        return Ok(chart_over(alloc, &mut source, &mut writer, name, last)?);
     }
     let mut source = Incoming(opened(rt, file)?);
-    Ok(chart_over(alloc, &mut source, &mut writer, name, until)?)
+    Ok(chart_over(alloc, &mut source, &mut writer, name, last)?)
+}
+
+// The line behind `--until`, where it is given.
+fn last_line(alloc: Global, until: Option<&str>) -> Result<Option<u64>, Refusal> {
+    let Some(word) = until else {
+        return Ok(None);
+    };
+    match number_of(word.as_bytes()) {
+        Some(line) => Ok(Some(line)),
+        None => Err(match misused(alloc, until) {
+            Some(text) => Refusal::OwnUsage(Misuse::Until(text)),
+            None => Refusal::OutOfMemory,
+        }),
+    }
 }

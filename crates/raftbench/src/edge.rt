@@ -1,5 +1,6 @@
 //! The words, the files and the streams.
 
+use crate::chart::chart;
 use crate::clusters::Clusters;
 use crate::colors::{Wish, colors, wish_of};
 use crate::directives::directives;
@@ -93,7 +94,7 @@ fn named(refusal: Refusal, alloc: Global, every: Option<&str>) -> Refusal {
 }
 
 // The word, where it is given and there is memory for it.
-fn misused(alloc: Global, word: Option<&str>) -> Option<String> {
+pub(crate) fn misused(alloc: Global, word: Option<&str>) -> Option<String> {
     match String::from_str(alloc, word?) {
         Ok(text) => Some(text),
         Err(_) => None,
@@ -215,6 +216,7 @@ fn with_file<R: Files + Input + Print + AllocGlobal>(
         Subcommand::Session => session(rt, file.as_str(), every),
         Subcommand::Look => look_at(rt, file.as_str()),
         Subcommand::Page => page(rt, file.as_str(), every),
+        Subcommand::Chart => chart(rt, file.as_str(), choice.until.as_deref()),
         Subcommand::Check | Subcommand::Directives | Subcommand::Lsp => {
             Err(Refusal::Usage(Misuse::NoCommand))
         }

@@ -1,7 +1,8 @@
-//! `raftbench check PATH..`, `raftbench run|rewrite|session|page FILE`, `raftbench look FILE:LINE`, `raftbench directives [NAME]`, `raftbench lsp`: the
-//! words, the files and the streams of the program.
+//! `raftbench check PATH..`, `raftbench run|rewrite|session|page|chart FILE`, `raftbench look FILE:LINE`, `raftbench directives [NAME]`,
+//! `raftbench lsp`: the words, the files and the streams of the program.
 #![tactic(auto)]
 
+mod chart;
 mod clusters;
 mod colors;
 mod directives;

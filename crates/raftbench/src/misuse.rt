@@ -27,6 +27,8 @@ pub(crate) enum Misuse {
     NoTerminal,
     /// What `--review` asks about isn't to be shown.
     Unseen,
+    /// What stands behind `--until` is no line.
+    Until(String),
     /// What stands behind `look` names no directive of a file.
     Place(String),
     /// No directive has the name; and the one that is near it.
@@ -53,6 +55,7 @@ impl Misuse {
             Misuse::Unseen => eprintln!(rt;
                 "--review: it shows what it asks about, so it goes with neither --quiet nor --format"
             ),
+            Misuse::Until(text) => eprintln!(rt; "--until {text}: the line of a directive"),
             Misuse::Place(text) => eprintln!(rt;
                 "{text}: FILE:LINE, where a directive stands at the line or above it"
             ),

@@ -5,7 +5,7 @@ use Rattle.clap.specs.Words.{IsAmong, Kinds, Row, Text, all_of, first_of, kind_o
 use Rattle.clap.specs.declared.error.Error.{Error}
 use Rattle.clap.specs.declared.error.kind.ErrorKind.TheVariants as kind
 use Rattle.rb_args.specs.declared.choice.Subcommand.{Subcommand}
-use Rattle.rb_args.specs.declared.choice.Subcommand.TheVariants.{Run, Rewrite, Session, Check, Look, Page, Directives, Lsp}
+use Rattle.rb_args.specs.declared.choice.Subcommand.TheVariants.{Run, Rewrite, Session, Check, Look, Page, Chart, Directives, Lsp}
 use Rattle.rb_args.specs.declared.choice.Choice.{Choice}
 use Rattle.rb_args.specs.declared.choice.CheckChoice.{CheckChoice}
 use Rattle.rb_args.specs.declared.choice.ChoiceFault.{ChoiceFault}
@@ -20,6 +20,7 @@ named_by name =
     else if bytes_eq name (codes "check") then Some Check
     else if bytes_eq name (codes "look") then Some Look
     else if bytes_eq name (codes "page") then Some Page
+    else if bytes_eq name (codes "chart") then Some Chart
     else if bytes_eq name (codes "directives") then Some Directives
     else if bytes_eq name (codes "lsp") then Some Lsp
     else None
@@ -44,12 +45,13 @@ pub record IsCheckOf (rows : Option (List Row)) (check : CheckChoice) : Type 0 w
   pub verbose : check.is_verbose ≡ is_set (option_and_then (first_of (codes "verbose")) rows)
   pub quiet : check.is_quiet ≡ is_set (option_and_then (first_of (codes "quiet")) rows)
 
--- the subcommand that was met, and the values of its FILE, its NAME and its --every; and what is said to `check`
+-- the subcommand that was met, and the values of its FILE, its NAME, its --every and its --until; and what is said to `check`
 pub record IsChoiceOf (met : Option (Text × List Row)) (choice : Choice) : Type 0 where
   pub subcommand : choice.subcommand ≡ option_and_then (λ p. named_by p.0) met
   pub file : option_map string_bytes choice.file ≡ option_and_then (λ p. first_of (codes "file") p.1) met
   pub name : option_map string_bytes choice.name ≡ option_and_then (λ p. first_of (codes "name") p.1) met
   pub every : option_map string_bytes choice.every ≡ option_and_then (λ p. first_of (codes "every") p.1) met
+  pub until : option_map string_bytes choice.until ≡ option_and_then (λ p. first_of (codes "until") p.1) met
   pub check : IsCheckOf (option_map (λ p. p.1) met) choice.check
 
 -- an error of one of these kinds, or that memory was refused, which no error tells

@@ -35,6 +35,10 @@ name_rule = record (new_rule (codes "name")) { value_names = 1 }
 abbrev pub every_rule : Rule
 every_rule = option_rule (codes "every")
 
+-- --until LINE
+abbrev pub until_rule : Rule
+until_rule = option_rule (codes "until")
+
 -- SUBCOMMAND [FILE]
 abbrev pub plain_line : Text → App
 plain_line subcommand = with_rule (new_app subcommand) file_rule
@@ -75,9 +79,13 @@ with_files line = with_subcommand (with_subcommand (with_subcommand line (subcom
 abbrev pub directives_line : App
 directives_line = with_rule (new_app (codes "directives")) name_rule
 
--- .. look FILE:LINE, page FILE ..
+-- chart [FILE] [--until LINE]
+abbrev pub chart_line : App
+chart_line = with_rule (plain_line (codes "chart")) until_rule
+
+-- .. look FILE:LINE, page FILE .., chart FILE ..
 abbrev pub with_views : App → App
-with_views line = with_subcommand (with_subcommand line (plain_line (codes "look")).top) (subcommand_line (codes "page")).top
+with_views line = with_subcommand (with_subcommand (with_subcommand line (plain_line (codes "look")).top) (subcommand_line (codes "page")).top) chart_line.top
 
 -- lsp
 abbrev pub server_line : App
@@ -87,6 +95,6 @@ server_line = new_app (codes "lsp")
 abbrev pub with_help : App → App
 with_help line = with_subcommand (with_subcommand line directives_line.top) server_line.top
 
--- raftbench [check|run|rewrite|session|look|page|directives|lsp ..]
+-- raftbench [check|run|rewrite|session|look|page|chart|directives|lsp ..]
 abbrev pub command_line : App
 command_line = with_help (with_views (with_files (with_subcommand (with_version (new_app (codes "raftbench"))) check_line.top)))

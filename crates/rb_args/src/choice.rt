@@ -17,6 +17,8 @@ pub enum Subcommand {
     Look,
     /// `page`: write the page of a script.
     Page,
+    /// `chart`: write the picture of a script.
+    Chart,
     /// `directives`: show what directives there are, or one of them.
     Directives,
     /// `lsp`: answer an editor.
@@ -34,6 +36,8 @@ pub struct Choice {
     pub name: Option<String>,
     /// The text of its `--every`, as it was given.
     pub every: Option<String>,
+    /// The text of its `--until`, as it was given.
+    pub until: Option<String>,
     /// What is said to `check` alone.
     pub check: CheckChoice,
 }

@@ -81,6 +81,7 @@ fn no_choice(alloc: Global) -> Choice
         file: None,
         name: None,
         every: None,
+        until: None,
         check,
     }
 }
@@ -93,11 +94,13 @@ fn given(alloc: Global, name: &str, inner: &ArgMatches<'_>) -> Result<Choice, Al
     let file = text_of(alloc, inner, "file")?;
     let about = text_of(alloc, inner, "name")?;
     let every = text_of(alloc, inner, "every")?;
+    let until = text_of(alloc, inner, "until")?;
     Ok(Choice {
         subcommand: named_by(name),
         file,
         name: about,
         every,
+        until,
         check,
     })
 }
@@ -141,6 +144,8 @@ fn named_by(name: &str) -> Option<Subcommand>
         Some(Subcommand::Look)
     } else if name == "page" {
         Some(Subcommand::Page)
+    } else if name == "chart" {
+        Some(Subcommand::Chart)
     } else if name == "directives" {
         Some(Subcommand::Directives)
     } else if name == "lsp" {

@@ -3,7 +3,7 @@
 ghost use Rattle.std.specs.Prelude.{◌≡◌, IfOk, codes, false};
 ghost use Rattle.clap.specs.Words.{app_of, new_app, rule_of, with_rule, with_subcommand};
 ghost use Rattle.clap.specs.declared.builder.command.Command.TheViews.{out-Command};
-ghost use Rattle.rb_args.specs.CommandLine.{command_line, subcommand_line, check_line, directives_line, plain_line, server_line, with_accepting, with_amounts, with_choices, with_files, with_help, with_version, with_views, with_words, every_rule, flag_rule, letter_rule, many_rule, name_rule, option_rule, path_rule};
+ghost use Rattle.rb_args.specs.CommandLine.{command_line, subcommand_line, chart_line, check_line, directives_line, plain_line, server_line, with_accepting, with_amounts, with_choices, with_files, with_help, with_version, with_views, with_words, every_rule, until_rule, flag_rule, letter_rule, many_rule, name_rule, option_rule, path_rule};
 
 use clap::{Arg, ArgAction, Command};
 use std::alloc::{AllocError, Global};
@@ -75,14 +75,15 @@ fn with_views<'a>(command: Command<'a>, alloc: Global) -> Result<Command<'a>, Al
         "raftbench look <FILE:LINE>",
         "FILE:LINE is a script's file and the line of a directive in it",
     )?;
-    with_file(
+    let command = with_file(
         command,
         alloc,
         "page",
         "Runs a script and writes a page that shows what it does, step by step",
         "raftbench page [OPTIONS] <FILE>",
         "FILE is a script's file; - is standard input",
-    )
+    )?;
+    command.subcommand(chart_command(alloc)?)
 }
 
 // The subcommands of no script.
@@ -152,6 +153,21 @@ fn view_command<'a>(
         .override_usage(usage)
         .after_help(file_help)
         .arg(file)
+}
+
+// chart [FILE] [--until LINE]
+fn chart_command<'a>(alloc: Global) -> Result<Command<'a>, AllocError>
+    ensures app { IfOk result (λ command. app_of command ≡ chart_line) }
+    ensures local { IfOk result (λ command. (out-Command command).has_globals ≡ false) }
+{
+    view_command(
+        alloc,
+        "chart",
+        "Runs a script and writes a picture of what it does, as SVG",
+        "raftbench chart [OPTIONS] <FILE>",
+        "FILE is a script's file; - is standard input",
+    )?
+    .arg(until_argument(alloc))
 }
 
 fn check_command<'a>(alloc: Global) -> Result<Command<'a>, AllocError>
@@ -345,6 +361,19 @@ fn every_argument<'a>(alloc: Global) -> Arg<'a>
     ensures local { result.global ≡ false }
 {
     option_argument(alloc, "every", "K", EVERY_HELP)
+}
+
+// --until LINE
+fn until_argument<'a>(alloc: Global) -> Arg<'a>
+    ensures rule { rule_of result ≡ until_rule }
+    ensures local { result.global ≡ false }
+{
+    option_argument(
+        alloc,
+        "until",
+        "LINE",
+        "Shows the directives up to the one at this line",
+    )
 }
 
 // --NAME VALUE

@@ -8,10 +8,11 @@ complete -c raftbench -n __fish_use_subcommand -a rewrite -d 'Run a script and w
 complete -c raftbench -n __fish_use_subcommand -a session -d 'Keep a script and answer edits of it'
 complete -c raftbench -n __fish_use_subcommand -a look -d 'Show the cluster as it is after a directive'
 complete -c raftbench -n __fish_use_subcommand -a page -d 'Write a page that shows a script step by step'
+complete -c raftbench -n __fish_use_subcommand -a chart -d 'Write a picture of what a script does'
 complete -c raftbench -n __fish_use_subcommand -a lsp -d 'Serve an editor'
 complete -c raftbench -s h -l help -d 'Show help'
 complete -c raftbench -n __fish_use_subcommand -s V -l version -d 'Show the version'
-complete -c raftbench -n '__fish_seen_subcommand_from check look page run rewrite session' -F
+complete -c raftbench -n '__fish_seen_subcommand_from chart check look page run rewrite session' -F
 complete -c raftbench -n '__fish_seen_subcommand_from check' -l accept -d 'Write the outputs that came into the scripts, but new errors'
 complete -c raftbench -n '__fish_seen_subcommand_from check' -l accept-errors -d 'Accept new errors too'
 complete -c raftbench -n '__fish_seen_subcommand_from check' -l force -d 'Accept outputs of a script that has warnings too'
@@ -24,5 +25,6 @@ complete -c raftbench -n '__fish_seen_subcommand_from check' -s q -l quiet -d 'S
 complete -c raftbench -n '__fish_seen_subcommand_from check' -l color -x -a 'auto always never' -d 'When to show colours'
 complete -c raftbench -n '__fish_seen_subcommand_from check page run rewrite session' -l every -x -a '1 4 16 64' -d 'Directives from one checkpoint to the next'
 complete -c raftbench -n '__fish_seen_subcommand_from check' -l format -x -a 'text json github' -d 'How what differs is written'
+complete -c raftbench -n '__fish_seen_subcommand_from chart' -l until -x -d 'Show the directives up to the one at this line'
 complete -c raftbench -n '__fish_seen_subcommand_from directives' -a 'add-nodes campaign propose propose-conf-change process-ready deliver-msgs stabilize tick-election tick-heartbeat set-randomized-election-timeout'
 complete -c raftbench -n '__fish_seen_subcommand_from directives' -a 'transfer-leadership forget-leader report-unreachable send-snapshot compact log-level raft-log status raft-state'
