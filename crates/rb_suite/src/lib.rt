@@ -6,8 +6,8 @@
 
 mod accepting;
 mod asked;
-mod check;
 mod checking;
+mod paths;
 mod picking;
 mod place;
 mod progress;
@@ -17,7 +17,7 @@ mod runner;
 mod target;
 
 pub use asked::Asked;
-pub use check::check;
+pub use paths::check;
 pub use place::place_at;
 pub use runner::Runner;
 pub use target::Target;
