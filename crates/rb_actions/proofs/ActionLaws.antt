@@ -15,7 +15,7 @@ use Rattle.rb_checked.specs.Errors.{is_unexpected}
 use Rattle.rb_document.specs.declared.position.Encoding.{Encoding}
 use Rattle.rb_document.specs.declared.position.Range.{Range}
 use Rattle.rb_actions.specs.declared.extent.Span.{Span}
-use Rattle.rb_actions.specs.Actions.{actions, actions_of, actions_text, edits_of, edits_text, is_accepted, is_wanted, one_edit, span_of}
+use Rattle.rb_actions.specs.Actions.{actions, actions_of, all_but_new_errors, actions_text, edits_of, edits_text, is_accepted, is_wanted, one_edit, span_of}
 
 -- one directive more
 pub edits-step : (encoding : Encoding) (text : List ℕ) (span : Option Span) (later : Bool) (heads : List ℕ) (bs : List PlainBlock) (os : List (List Line)) (i line : ℕ) (b : PlainBlock) (o : List Line)
@@ -56,5 +56,5 @@ picked false true e o is = (λ yes. absurd cc, λ no. refl)
 picked false false e o is = (λ yes. refl, λ no. absurd cc)
 
 pub as_check_does : (ls : List Line) (line : ℕ) (b : PlainBlock) (output : List Line)
-    → (is_accepted ls line b output ≡ true → accepted_lines false ls line b output ≡ output) × (is_accepted ls line b output ≡ false → accepted_lines false ls line b output ≡ b.expected)
+    → (is_accepted ls line b output ≡ true → accepted_lines all_but_new_errors ls line b output ≡ output) × (is_accepted ls line b output ≡ false → accepted_lines all_but_new_errors ls line b output ≡ b.expected)
 as_check_does ls line b output = picked (same_lines b.expected output) (is_unexpected ls line output) b.expected output (same_lines-Decides b.expected output).0

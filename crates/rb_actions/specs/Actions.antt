@@ -9,6 +9,8 @@ use Rattle.rb_script.specs.Script.{PlainBlock, PlainScript}
 use Rattle.rb_script.specs.Reading.{read_of}
 use Rattle.rb_replay.specs.Run.{outputs}
 use Rattle.rb_replay.specs.Report.{same_lines}
+use Rattle.rb_checked.specs.declared.wanted.Picked.TheVariants as picks
+use Rattle.rb_checked.specs.declared.wanted.Wanted.{Wanted}
 use Rattle.rb_checked.specs.Accepting.{is_left}
 use Rattle.rb_json.specs.Escapes.{escaped}
 use Rattle.rb_document.specs.declared.position.Encoding.{Encoding}
@@ -21,9 +23,13 @@ use Rattle.rb_actions.specs.declared.extent.Span.{Span}
 use Rattle.rb_actions.specs.Layouts.{line_at}
 use Rattle.rb_actions.specs.Extents.{extent_of, has_line}
 
+-- the outputs of all directives but new errors
+abbrev pub all_but_new_errors : Wanted
+all_but_new_errors = record { picked = picks.All; errors = false }
+
 -- whether the output isn't the expected one and is accepted, of a head that begins on the line
 abbrev pub is_accepted : List Line → ℕ → PlainBlock → List Line → Bool
-is_accepted ls line b output = not (same_lines b.expected output || is_left false ls line b output)
+is_accepted ls line b output = not (same_lines b.expected output || is_left all_but_new_errors ls line b output)
 
 -- whether a directive stands among some lines, or anywhere where none are given
 abbrev pub is_among : Option Span → Extent → Bool

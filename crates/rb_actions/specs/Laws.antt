@@ -18,7 +18,7 @@ use Rattle.rb_server.specs.Laws.{Publishes}
 use Rattle.rb_checked.specs.Accepting.{accepted_lines}
 use Rattle.rb_actions.specs.declared.extent.Extent.{Extent}
 use Rattle.rb_actions.specs.Extents.{extent_of}
-use Rattle.rb_actions.specs.Actions.{form, is_accepted}
+use Rattle.rb_actions.specs.Actions.{all_but_new_errors, form, is_accepted}
 use Rattle.rb_actions.specs.Meanings.{meaning}
 
 -- whatever was sent before: what goes out for a notification is what one fresh run of a document's text gives, as the text then stands
@@ -29,7 +29,7 @@ TextsHaveOneRun = (server next : PlainServer) (method : List ℕ) (params : Opti
 -- a directive expects its output where that is accepted, and else what it did, as `check --accept` has it
 abbrev pub AcceptsAsCheckDoes : Type 0
 AcceptsAsCheckDoes = (ls : List Line) (line : ℕ) (b : PlainBlock) (output : List Line)
-    → (is_accepted ls line b output ≡ true → accepted_lines false ls line b output ≡ output) × (is_accepted ls line b output ≡ false → accepted_lines false ls line b output ≡ b.expected)
+    → (is_accepted ls line b output ≡ true → accepted_lines all_but_new_errors ls line b output ≡ output) × (is_accepted ls line b output ≡ false → accepted_lines all_but_new_errors ls line b output ≡ b.expected)
 
 -- the range of the lines of a script from `first` on, up to `behind`, as edits have it
 abbrev pub lines_range : Encoding → List ℕ → ℕ → ℕ → Range
