@@ -7,6 +7,7 @@ use rb_suite::Runner;
 use std::alloc::Global;
 
 /// Clusters of nodes with split logs. No directive runs again, so as few are kept as there may be.
+#[derive(Drop)]
 pub(crate) struct Clusters;
 
 impl Runner for Clusters {
