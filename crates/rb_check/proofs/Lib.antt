@@ -2,6 +2,7 @@ pub mod PieceLaws
 pub mod StepLaws
 pub mod HeadLaws
 pub mod ShownLaws
+pub mod HighlightLaws
 pub mod CommonLaws
 pub mod SubsequenceLaws
 pub mod GapLaws

@@ -3,6 +3,7 @@ pub mod Shown
 pub mod Subsequences
 pub mod Tables
 pub mod Diffs
+pub mod Highlights
 pub mod Folds
 pub mod Heads
 pub mod Hints

@@ -14,6 +14,7 @@ mod doubt;
 mod failure;
 mod fold;
 mod head;
+mod highlight;
 mod hint;
 mod laws;
 mod left;
@@ -40,6 +41,7 @@ pub use failure::{Failure, failure_sentence, put_failure};
 pub use head::put_head;
 pub use laws::{
     colors_go_around, counts_are_sums, diffs_are, diffs_are_longest, diffs_tell_both_sides,
+    highlights_are_least, highlights_need_colors, highlights_take_nothing_away,
     lines_are_told_apart, same_lines_are_plain, sentences_are_distinct,
     shown_diffs_tell_both_sides, statuses_are_greatest,
 };

@@ -41,7 +41,8 @@ pub(crate) fn end_mark(line: &[u8]) -> &'static [u8]
     if needs_mark(line) { b"$" } else { b"" }
 }
 
-fn put_line<S: Sink>(
+/// Writes a line of a side.
+pub(crate) fn put_line<S: Sink>(
     sink: &mut S,
     colors: Colors,
     side: Side,

@@ -1,0 +1,23 @@
+use Rattle.rb_check.specs.declared.colors.Colors.TheVariants.{On}
+use Rattle.rb_check.specs.Shown.{line_shown}
+use Rattle.rb_check.specs.Highlights.{Parts, highlighted_text, beside_text}
+use Rattle.rb_check.proofs.PieceLaws.{writes_along}
+use Rattle.rb_check.proofs.HighlightLaws.{beside-plain, beside-highlighted}
+use Rattle.rb_check.proofs.highlight.put_beside.Goals as goal
+
+pub returns-then-differs-line-clause-wrote : goal.returns-then-differs-line-clause-wrote
+returns-then-differs-line-clause-wrote g c =
+    let line = c.args.line.now in
+    let other = c.args.other.now in
+    let p : Parts = record { front = c.parts_beside.result.0.now; differs = c.parts_beside.result.1.now; back = c.parts_beside.result.2.now } in
+    writes_along c.put_line.result (g.S.Sink.held c.args.sink.now) (g.S.Sink.held c.put_line.new.sink) (line_shown On c.args.side line) (beside_text c.args.side line other)
+    (beside-plain c.args.side line other p c.parts_beside.ensures c.if-differs-line.true) c.put_line.ensures.wrote
+
+pub returns-clause-wrote : goal.returns-clause-wrote
+returns-clause-wrote g c =
+    let line = c.args.line.now in
+    let other = c.args.other.now in
+    let mark = c.end_mark.result.now in
+    let p : Parts = record { front = c.parts_beside.result.0.now; differs = c.parts_beside.result.1.now; back = c.parts_beside.result.2.now } in
+    writes_along c.put_highlighted.result (g.S.Sink.held c.args.sink.now) (g.S.Sink.held c.put_highlighted.new.sink) (highlighted_text c.args.side p mark) (beside_text c.args.side line other)
+    (beside-highlighted c.args.side line other p mark c.parts_beside.ensures c.if-differs-line.false c.end_mark.ensures) c.put_highlighted.ensures.wrote

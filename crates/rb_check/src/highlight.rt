@@ -1,0 +1,157 @@
+//! What differs within two lines that stand for one another.
+//!
+//! Where as many lines came as were expected, each is compared with the one that it stands for. What is not in a common beginning or a
+//! common end is shown in reverse video. Without colours nothing is.
+
+ghost use Rattle.std.specs.Prelude.{◌≡◌, ◌+◌, ◌-◌, ◌≤◌, IsOk, length};
+ghost use Rattle.rb_script.specs.Writes.{Writes};
+ghost use Rattle.rb_check.specs.Diffs.{between};
+ghost use Rattle.rb_check.specs.Highlights.{front_len, back_len, parts_beside, highlighted_text, beside_text, paired_text, is_paired, changed_text};
+
+use crate::colors::Colors;
+use crate::line::{end_mark, put_line, put_lines};
+use crate::piece::{Piece, put_pieces};
+use crate::side::{Side, after, before};
+use rb_script::{Lines, Sink, WriteFault};
+
+// How many bytes are the same at the beginnings.
+fn front_len(line: &[u8], other: &[u8]) -> usize
+    ensures value { result ≡ front_len line.now other.now }
+    ensures within { result ≤ length line.now }
+    ensures within_other { result ≤ length other.now }
+{
+    let most = line.len().min(other.len());
+    for i in 0..most {
+        let here = line[i];
+        let there = other[i];
+        if here != there {
+            return i;
+        }
+    }
+    most
+}
+
+// How many are the same at the ends.
+fn back_len(line: &[u8], other: &[u8]) -> usize
+    ensures value { result ≡ back_len line.now other.now }
+    ensures within { result ≤ length line.now }
+{
+    let most = line.len().min(other.len());
+    for i in 0..most {
+        let here = line[line.len() - 1 - i];
+        let there = other[other.len() - 1 - i];
+        if here != there {
+            return i;
+        }
+    }
+    most
+}
+
+// What a line begins with as another does, what differs, and what it ends with as the other does.
+fn parts_beside<'a>(line: &'a [u8], other: &[u8]) -> (&'a [u8], &'a [u8], &'a [u8])
+    ensures { record { front = result.0.now; differs = result.1.now; back = result.2.now } ≡ parts_beside line.now other.now }
+{
+    let front_len = front_len(line, other);
+    let (front, rest) = line.split_at(front_len);
+    let (_, rest_other) = other.split_at(front_len);
+    let (differs, back) = rest.split_at(rest.len() - back_len(rest, rest_other));
+    (front, differs, back)
+}
+
+// Writes a line in three parts, the one between in reverse video.
+fn put_highlighted<'a, S: Sink>(
+    sink: &mut S,
+    side: Side,
+    front: &'a [u8],
+    differs: &'a [u8],
+    back: &'a [u8],
+    mark: &'a [u8],
+) -> Result<(), WriteFault>
+    ensures wrote { Writes result (S.held sink.old) (S.held sink.new) (highlighted_text side (record { front = front.now; differs = differs.now; back = back.now }) mark.now) }
+    ensures all { S.takes_all sink.old → IsOk result × S.takes_all sink.new }
+{
+    put_pieces(
+        sink,
+        &[
+            Piece::Bytes(before(Colors::On, side)),
+            Piece::Bytes(front),
+            Piece::Bytes(b"\x1b[7m"),
+            Piece::Bytes(differs),
+            Piece::Bytes(b"\x1b[27m"),
+            Piece::Bytes(back),
+            Piece::Bytes(mark),
+            Piece::Bytes(after(Colors::On, side)),
+            Piece::Bytes(b"\n"),
+        ],
+    )
+}
+
+fn put_beside<S: Sink>(
+    sink: &mut S,
+    side: Side,
+    line: &[u8],
+    other: &[u8],
+) -> Result<(), WriteFault>
+    ensures wrote { Writes result (S.held sink.old) (S.held sink.new) (beside_text side line.now other.now) }
+    ensures all { S.takes_all sink.old → IsOk result × S.takes_all sink.new }
+{
+    let (front, differs, back) = parts_beside(line, other);
+    if differs.len() == line.len() {
+        return put_line(sink, Colors::On, side, line);
+    }
+    put_highlighted(sink, side, front, differs, back, end_mark(line))
+}
+
+// Writes the lines from one position up to another, each beside the one that it stands for.
+fn put_paired<S: Sink>(
+    sink: &mut S,
+    side: Side,
+    lines: &Lines,
+    from: (usize, usize),
+    others: &Lines,
+    beside: (usize, usize),
+) -> Result<(), WriteFault>
+    requires within { from.1 ≤ length lines.now }
+    requires within_others { beside.1 ≤ length others.now }
+    requires as_many { from.1 - from.0 ≡ beside.1 - beside.0 }
+    ensures wrote { Writes result (S.held sink.old) (S.held sink.new) (paired_text side (between from.0 from.1 lines.now) (between beside.0 beside.1 others.now)) }
+    ensures all { S.takes_all sink.old → IsOk result × S.takes_all sink.new }
+{
+    for i in from.0..from.1 {
+        let other = others.line(beside.0 + (i - from.0));
+        put_beside(sink, side, lines.line(i), other)?;
+    }
+    Ok(())
+}
+
+fn is_paired(colors: Colors, count: usize, other_count: usize) -> bool
+    ensures { result ≡ is_paired colors count other_count }
+{
+    match colors {
+        Colors::Off => false,
+        Colors::On => count == other_count,
+    }
+}
+
+/// Writes the lines from one position up to another, in whose place those of the other side stand.
+pub(crate) fn put_changed<S: Sink>(
+    sink: &mut S,
+    colors: Colors,
+    side: Side,
+    lines: &Lines,
+    from: (usize, usize),
+    others: &Lines,
+    beside: (usize, usize),
+) -> Result<(), WriteFault>
+    requires begins { from.0 ≤ from.1 }
+    requires within { from.1 ≤ length lines.now }
+    requires begins_others { beside.0 ≤ beside.1 }
+    requires within_others { beside.1 ≤ length others.now }
+    ensures wrote { Writes result (S.held sink.old) (S.held sink.new) (changed_text colors side (between from.0 from.1 lines.now) (between beside.0 beside.1 others.now)) }
+    ensures all { S.takes_all sink.old → IsOk result × S.takes_all sink.new }
+{
+    if is_paired(colors, from.1 - from.0, beside.1 - beside.0) {
+        return put_paired(sink, side, lines, from, others, beside);
+    }
+    put_lines(sink, colors, side, lines, from.0, from.1)
+}
