@@ -1,5 +1,5 @@
--- What is accepted and what is left, one directive after another.
-use Rattle.std.proofs.Common.{◌≡◌, ◌∙◌, ℕ, zero, suc, ◌+◌, Bool, true, false, List, [], ◌∷◌, ◌++◌, drop, length, Some, Result, Ok, Err, refl, ap, sym, subst, arith}
+-- What is accepted and what is left.
+use Rattle.std.proofs.Common.{◌≡◌, ◌∙◌, ℕ, zero, suc, Bool, true, false, List, [], ◌∷◌, length, Some, Result, Ok, Err, refl, ap, sym, subst, arith}
 use Rattle.std.specs.Prelude.{slice_get, ◌&&◌, ◌||◌, not, if◌then◌else◌, IfOk}
 use Rattle.std.proofs.lemmas.Option.{slice_get_within}
 use Rattle.rb_script.specs.declared.edit.Edit.TheVariants.{Accept}
@@ -14,49 +14,11 @@ use Rattle.rb_script.proofs.TextLaws.{text_reads}
 use Rattle.rb_replay.specs.Report.{same_lines}
 use Rattle.rb_replay.proofs.ChangeLaws.{accepted}
 use Rattle.rb_replay.proofs.DifferingLaws.{same_lines-Decides}
-use Rattle.rb_check.proofs.PieceLaws.{drop-get}
 use Rattle.rb_checked.specs.declared.wanted.Picked.{Picked}
 use Rattle.rb_checked.specs.declared.wanted.Picked.TheVariants as picks
 use Rattle.rb_checked.specs.declared.wanted.Wanted.{Wanted}
 use Rattle.rb_checked.specs.Errors.{is_unexpected}
-use Rattle.rb_checked.specs.Accepting.{is_picked, is_left, accepted_lines, accepted_of, one_left, left_heads, left_shown, all_left}
-
--- one directive more
-pub accepted_step : (wanted : Wanted) (ls : List Line) (heads : List ℕ) (bs : List PlainBlock) (os : List (List Line)) (i line : ℕ) (b : PlainBlock) (o : List Line)
-    → slice_get heads i ≡ Some line → slice_get bs i ≡ Some b → slice_get os i ≡ Some o
-    → accepted_of wanted ls (drop i heads) (drop i bs) (drop i os) ≡ accepted_lines wanted ls line b o ∷ accepted_of wanted ls (drop (i + 1) heads) (drop (i + 1) bs) (drop (i + 1) os)
-accepted_step wanted ls heads bs os i line b o head block output =
-    ap (λ (ns : List ℕ). accepted_of wanted ls ns (drop i bs) (drop i os)) (drop-get heads i line head)
-    ∙ ap (λ (cs : List PlainBlock). accepted_of wanted ls (line ∷ drop (i + 1) heads) cs (drop i os)) (drop-get bs i b block)
-    ∙ ap (λ (outs : List (List Line)). accepted_of wanted ls (line ∷ drop (i + 1) heads) (b ∷ drop (i + 1) bs) outs) (drop-get os i o output)
-
-pub accepted_done : (wanted : Wanted) (ls : List Line) (heads : List ℕ) (bs : List PlainBlock) (os : List (List Line)) → heads ≡ [] → accepted_of wanted ls heads bs os ≡ []
-accepted_done wanted ls [] bs os none = refl
-accepted_done wanted ls (line ∷ heads) bs os none = absurd cc
-
-pub left_step : (wanted : Wanted) (ls : List Line) (heads : List ℕ) (bs : List PlainBlock) (os : List (List Line)) (i line : ℕ) (b : PlainBlock) (o : List Line)
-    → slice_get heads i ≡ Some line → slice_get bs i ≡ Some b → slice_get os i ≡ Some o
-    → left_heads wanted ls (drop i heads) (drop i bs) (drop i os) ≡ one_left wanted ls line b o ++ left_heads wanted ls (drop (i + 1) heads) (drop (i + 1) bs) (drop (i + 1) os)
-left_step wanted ls heads bs os i line b o head block output =
-    ap (λ (ns : List ℕ). left_heads wanted ls ns (drop i bs) (drop i os)) (drop-get heads i line head)
-    ∙ ap (λ (cs : List PlainBlock). left_heads wanted ls (line ∷ drop (i + 1) heads) cs (drop i os)) (drop-get bs i b block)
-    ∙ ap (λ (outs : List (List Line)). left_heads wanted ls (line ∷ drop (i + 1) heads) (b ∷ drop (i + 1) bs) outs) (drop-get os i o output)
-
-pub left_done : (wanted : Wanted) (ls : List Line) (heads : List ℕ) (bs : List PlainBlock) (os : List (List Line)) → heads ≡ [] → left_heads wanted ls heads bs os ≡ []
-left_done wanted ls [] bs os none = refl
-left_done wanted ls (line ∷ heads) bs os none = absurd cc
-
-pub all_left_step : (wanted : Wanted) (ls : List Line) (path heads : List ℕ) (bs : List PlainBlock) (os : List (List Line)) (i line : ℕ) (b : PlainBlock) (o : List Line)
-    → slice_get heads i ≡ Some line → slice_get bs i ≡ Some b → slice_get os i ≡ Some o
-    → all_left wanted ls path (drop i heads) (drop i bs) (drop i os) ≡ left_shown wanted ls path line b o ++ all_left wanted ls path (drop (i + 1) heads) (drop (i + 1) bs) (drop (i + 1) os)
-all_left_step wanted ls path heads bs os i line b o head block output =
-    ap (λ (ns : List ℕ). all_left wanted ls path ns (drop i bs) (drop i os)) (drop-get heads i line head)
-    ∙ ap (λ (cs : List PlainBlock). all_left wanted ls path (line ∷ drop (i + 1) heads) cs (drop i os)) (drop-get bs i b block)
-    ∙ ap (λ (outs : List (List Line)). all_left wanted ls path (line ∷ drop (i + 1) heads) (b ∷ drop (i + 1) bs) outs) (drop-get os i o output)
-
-pub all_left_done : (wanted : Wanted) (ls : List Line) (path heads : List ℕ) (bs : List PlainBlock) (os : List (List Line)) → heads ≡ [] → all_left wanted ls path heads bs os ≡ []
-all_left_done wanted ls path [] bs os none = refl
-all_left_done wanted ls path (line ∷ heads) bs os none = absurd cc
+use Rattle.rb_checked.specs.Accepting.{is_picked, is_left, accepted_of}
 
 -- ---- the script with what is accepted
 

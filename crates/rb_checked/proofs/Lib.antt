@@ -1,3 +1,4 @@
+pub mod EachLaws
 pub mod ShownLaws
 pub mod MismatchLaws
 pub mod AcceptLaws

@@ -1,5 +1,5 @@
--- What is shown of directives, one after another.
-use Rattle.std.proofs.Common.{◌≡◌, ◌∙◌, ℕ, suc, ◌+◌, ◌-◌, ◌≤◌, Bool, true, false, List, [], ◌∷◌, ◌++◌, length, drop, Some, refl, ap, sym, arith}
+-- What is shown of a script's directives.
+use Rattle.std.proofs.Common.{◌≡◌, ◌∙◌, ℕ, suc, ◌+◌, ◌-◌, ◌≤◌, Bool, true, false, List, [], ◌∷◌, length, drop, Some, refl, ap, sym, arith}
 use Rattle.std.specs.Prelude.{◌&&◌, ◌||◌, slice_get, slice_index, slice_index_or}
 use Rattle.std.specs.List.{list_any}
 use Rattle.rb_script.specs.Lines.{Line}
@@ -15,23 +15,8 @@ use Rattle.rb_replay.proofs.DifferingLaws.{AreAtMost}
 use Rattle.rb_check.specs.declared.colors.Colors.{Colors}
 use Rattle.rb_check.specs.Briefs.{brief_text}
 use Rattle.rb_check.proofs.PieceLaws.{drop-get}
-use Rattle.rb_checked.specs.Checked.{mismatch_shown, mismatch_at, directive_shown, all_shown, brief_at, of_first, head_line, IsFirst}
+use Rattle.rb_checked.specs.Checked.{mismatch_shown, mismatch_at, brief_at, of_first, head_line, IsFirst}
 use Rattle.rb_checked.specs.Errors.{is_error, is_mark, marked, error_count}
-
--- one directive more
-pub shown-step : (all : Bool) (colors : Colors) (ls : List Line) (path heads : List ℕ) (bs : List PlainBlock) (os : List (List Line)) (i line : ℕ) (b : PlainBlock) (o : List Line)
-    → slice_get heads i ≡ Some line → slice_get bs i ≡ Some b → slice_get os i ≡ Some o
-    → all_shown all colors ls path (drop i heads) (drop i bs) (drop i os) ≡ directive_shown all colors ls path line b o ++ all_shown all colors ls path (drop (i + 1) heads) (drop (i + 1) bs) (drop (i + 1) os)
-shown-step all colors ls path heads bs os i line b o head block output =
-    ap (λ (ns : List ℕ). all_shown all colors ls path ns (drop i bs) (drop i os)) (drop-get heads i line head)
-    ∙ ap (λ (cs : List PlainBlock). all_shown all colors ls path (line ∷ drop (i + 1) heads) cs (drop i os)) (drop-get bs i b block)
-    ∙ ap (λ (outs : List (List Line)). all_shown all colors ls path (line ∷ drop (i + 1) heads) (b ∷ drop (i + 1) bs) outs) (drop-get os i o output)
-
--- there are no more
-pub shown-done : (all : Bool) (colors : Colors) (ls : List Line) (path heads : List ℕ) (bs : List PlainBlock) (os : List (List Line)) → bs ≡ [] → all_shown all colors ls path heads bs os ≡ []
-shown-done all colors ls path [] bs os none = refl
-shown-done all colors ls path (line ∷ heads) [] os none = refl
-shown-done all colors ls path (line ∷ heads) (b ∷ bs) os none = absurd cc
 
 -- one output more
 pub count-step : (ls : List Line) (heads : List ℕ) (os : List (List Line)) (i line : ℕ) (o : List Line) → slice_get heads i ≡ Some line → slice_get os i ≡ Some o

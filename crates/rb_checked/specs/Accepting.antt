@@ -1,5 +1,5 @@
 -- What a script expects once outputs of it are accepted, and what stays as it was. (This project's.)
-use Rattle.std.specs.Prelude.{ℕ, ◌==◌, Bool, true, ◌&&◌, ◌||◌, not, if◌then◌else◌, List, [], ◌∷◌, ◌++◌}
+use Rattle.std.specs.Prelude.{ℕ, ◌==◌, Bool, true, ◌&&◌, ◌||◌, not, if◌then◌else◌, List, [], ◌∷◌}
 use Rattle.std.specs.List.{list_any}
 use Rattle.rb_script.specs.Lines.{Line}
 use Rattle.rb_script.specs.Script.{PlainBlock, PlainScript, with_outputs}
@@ -10,7 +10,7 @@ use Rattle.rb_checked.specs.declared.wanted.Picked.{Picked}
 use Rattle.rb_checked.specs.declared.wanted.Picked.TheVariants as picks
 use Rattle.rb_checked.specs.declared.wanted.Wanted.{Wanted}
 use Rattle.rb_checked.specs.Errors.{first_line, is_unexpected}
-use Rattle.rb_checked.specs.Checked.{head_of}
+use Rattle.rb_checked.specs.Checked.{head_of, of_each}
 
 -- whether the directive is picked whose head begins on the line
 abbrev pub is_picked : Picked → ℕ → Bool
@@ -29,10 +29,7 @@ accepted_lines wanted ls line b output = if is_left wanted ls line b output then
 
 -- what directives expect then, whose heads begin on these lines
 abbrev pub accepted_of : Wanted → List Line → List ℕ → List PlainBlock → List (List Line) → List (List Line)
-accepted_of wanted ls [] bs os = []
-accepted_of wanted ls (line ∷ heads) [] os = []
-accepted_of wanted ls (line ∷ heads) (b ∷ bs) [] = []
-accepted_of wanted ls (line ∷ heads) (b ∷ bs) (output ∷ os) = accepted_lines wanted ls line b output ∷ accepted_of wanted ls heads bs os
+accepted_of wanted ls heads bs os = of_each (λ line b output. accepted_lines wanted ls line b output ∷ []) heads bs os
 
 -- the script then
 abbrev pub accepted : Wanted → List Line → List ℕ → PlainScript → PlainScript
@@ -46,10 +43,7 @@ one_left wanted ls line b output = if is_left wanted ls line b output then line 
 
 -- the lines of the heads whose outputs are not accepted
 abbrev pub left_heads : Wanted → List Line → List ℕ → List PlainBlock → List (List Line) → List ℕ
-left_heads wanted ls [] bs os = []
-left_heads wanted ls (line ∷ heads) [] os = []
-left_heads wanted ls (line ∷ heads) (b ∷ bs) [] = []
-left_heads wanted ls (line ∷ heads) (b ∷ bs) (output ∷ os) = one_left wanted ls line b output ++ left_heads wanted ls heads bs os
+left_heads wanted ls heads bs os = of_each (λ line b output. one_left wanted ls line b output) heads bs os
 
 -- what is said of one that was picked
 abbrev pub left_shown : Wanted → List Line → List ℕ → ℕ → PlainBlock → List Line → List ℕ
@@ -57,7 +51,4 @@ left_shown wanted ls path line b output = if is_picked wanted.picked line && is_
 
 -- what is said of all
 abbrev pub all_left : Wanted → List Line → List ℕ → List ℕ → List PlainBlock → List (List Line) → List ℕ
-all_left wanted ls path [] bs os = []
-all_left wanted ls path (line ∷ heads) [] os = []
-all_left wanted ls path (line ∷ heads) (b ∷ bs) [] = []
-all_left wanted ls path (line ∷ heads) (b ∷ bs) (output ∷ os) = left_shown wanted ls path line b output ++ all_left wanted ls path heads bs os
+all_left wanted ls path heads bs os = of_each (λ line b output. left_shown wanted ls path line b output) heads bs os

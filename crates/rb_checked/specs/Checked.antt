@@ -39,12 +39,16 @@ abbrev pub directive_shown : Bool → Colors → List Line → List ℕ → ℕ 
 directive_shown all colors ls path line b output =
     if same_lines b.expected output then match_shown all ls path line b output else mismatch_shown colors path line b output
 
+-- what directives give one after another, each by the line of its head, itself and its output
+abbrev pub of_each : {A : Type 0} → (ℕ → PlainBlock → List Line → List A) → List ℕ → List PlainBlock → List (List Line) → List A
+of_each one [] bs os = []
+of_each one (line ∷ heads) [] os = []
+of_each one (line ∷ heads) (b ∷ bs) [] = []
+of_each one (line ∷ heads) (b ∷ bs) (output ∷ os) = one line b output ++ of_each one heads bs os
+
 -- directives in order, with the lines of their heads and their outputs
 abbrev pub all_shown : Bool → Colors → List Line → List ℕ → List ℕ → List PlainBlock → List (List Line) → List ℕ
-all_shown all colors ls path [] bs os = []
-all_shown all colors ls path (line ∷ heads) [] os = []
-all_shown all colors ls path (line ∷ heads) (b ∷ bs) [] = []
-all_shown all colors ls path (line ∷ heads) (b ∷ bs) (output ∷ os) = directive_shown all colors ls path line b output ++ all_shown all colors ls path heads bs os
+all_shown all colors ls path heads bs os = of_each (λ line b output. directive_shown all colors ls path line b output) heads bs os
 
 -- the line of the head at a place, which counts from 1
 abbrev pub head_line : List ℕ → ℕ → ℕ
