@@ -1,14 +1,11 @@
--- What is told of lines and of directives, one after another.
-use Rattle.std.proofs.Common.{◌≡◌, ◌∙◌, ℕ, ◌+◌, List, [], ◌∷◌, ◌++◌, drop, Some, refl, ap, sym, append_assoc}
+-- What is told of lines, one after another, and of directives.
+use Rattle.std.proofs.Common.{◌≡◌, ◌∙◌, ℕ, ◌+◌, List, [], ◌++◌, drop, Some, ap, sym, append_assoc}
 use Rattle.std.specs.Prelude.{slice_get}
 use Rattle.rb_script.specs.Lines.{Line}
-use Rattle.rb_script.specs.Script.{PlainBlock}
 use Rattle.rb_check.specs.Heads.{before_value}
 use Rattle.rb_check.proofs.PieceLaws.{drop-get}
-use Rattle.rb_formats.specs.declared.format.Format.{Format}
 use Rattle.rb_formats.specs.Objects.{quoted, strings_from}
 use Rattle.rb_formats.specs.Commands.{command_with}
-use Rattle.rb_formats.specs.Formats.{directive_text, directives_text}
 
 -- one line more
 pub strings_step : (ls : List Line) (i : ℕ) (line : Line) → slice_get ls i ≡ Some line → strings_from i (drop i ls) ≡ (before_value i ++ quoted line) ++ strings_from (i + 1) (drop (i + 1) ls)
@@ -17,20 +14,6 @@ strings_step ls i line got = ap (λ (xs : List Line). strings_from i xs) (drop-g
 -- five texts, one behind another
 pub joined : (t0 t1 t2 t3 t4 t5 a b m d e : List ℕ) → t1 ≡ t0 ++ a → t2 ≡ t1 ++ b → t3 ≡ t2 ++ m → t4 ≡ t3 ++ d → t5 ≡ t4 ++ e → t5 ≡ t0 ++ (a ++ (b ++ (m ++ (d ++ e))))
 joined t0 t1 t2 t3 t4 t5 a b m d e h1 h2 h3 h4 h5 = rw (h5, h4, h3, h2, h1) (simp append_assoc)
-
--- one directive more
-pub directives_step : (format : Format) (ls : List Line) (path heads : List ℕ) (bs : List PlainBlock) (os : List (List Line)) (i line : ℕ) (b : PlainBlock) (o : List Line)
-    → slice_get heads i ≡ Some line → slice_get bs i ≡ Some b → slice_get os i ≡ Some o
-    → directives_text format ls path (drop i heads) (drop i bs) (drop i os) ≡ directive_text format ls path line b o ++ directives_text format ls path (drop (i + 1) heads) (drop (i + 1) bs) (drop (i + 1) os)
-directives_step format ls path heads bs os i line b o head block output =
-    ap (λ (ns : List ℕ). directives_text format ls path ns (drop i bs) (drop i os)) (drop-get heads i line head)
-    ∙ ap (λ (cs : List PlainBlock). directives_text format ls path (line ∷ drop (i + 1) heads) cs (drop i os)) (drop-get bs i b block)
-    ∙ ap (λ (outs : List (List Line)). directives_text format ls path (line ∷ drop (i + 1) heads) (b ∷ drop (i + 1) bs) outs) (drop-get os i o output)
-
--- there are no more
-pub directives_done : (format : Format) (ls : List Line) (path heads : List ℕ) (bs : List PlainBlock) (os : List (List Line)) → heads ≡ [] → directives_text format ls path heads bs os ≡ []
-directives_done format ls path [] bs os none = refl
-directives_done format ls path (line ∷ heads) bs os none = absurd cc
 
 -- ---- workflow commands
 

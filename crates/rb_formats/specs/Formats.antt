@@ -1,10 +1,10 @@
 -- What `check` writes of a script for programs: its directives in order, each with the line of its head. (This project's.)
-use Rattle.std.specs.Prelude.{ℕ, if◌then◌else◌, List, [], ◌∷◌, ◌++◌, Option, Some, codes}
+use Rattle.std.specs.Prelude.{ℕ, if◌then◌else◌, List, [], Option, Some, codes}
 use Rattle.rb_script.specs.Lines.{Line}
 use Rattle.rb_script.specs.Script.{PlainBlock, PlainScript}
 use Rattle.rb_replay.specs.Run.{outputs}
 use Rattle.rb_replay.specs.Report.{same_lines}
-use Rattle.rb_checked.specs.Checked.{head_of}
+use Rattle.rb_checked.specs.Checked.{head_of, of_each}
 use Rattle.rb_checked.specs.Errors.{first_line, is_unexpected}
 use Rattle.rb_formats.specs.declared.format.Format.{Format}
 use Rattle.rb_formats.specs.declared.format.Format.TheVariants.{Json, Github}
@@ -30,10 +30,7 @@ directive_text format ls path line b output =
 
 -- directives in order, with the lines of their heads and their outputs
 abbrev pub directives_text : Format → List Line → List ℕ → List ℕ → List PlainBlock → List (List Line) → List ℕ
-directives_text format ls path [] bs os = []
-directives_text format ls path (line ∷ heads) [] os = []
-directives_text format ls path (line ∷ heads) (b ∷ bs) [] = []
-directives_text format ls path (line ∷ heads) (b ∷ bs) (output ∷ os) = directive_text format ls path line b output ++ directives_text format ls path heads bs os
+directives_text format ls path heads bs os = of_each (λ line b output. directive_text format ls path line b output) heads bs os
 
 -- a script of these lines, whose heads begin on those
 abbrev pub script_text : Format → List Line → List ℕ → List ℕ → PlainScript → List ℕ
