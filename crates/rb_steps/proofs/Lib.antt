@@ -1,4 +1,5 @@
 pub mod KeepLaws
 pub mod LogLaws
+pub mod CommittedLaws
 pub mod StateLaws
 pub mod StepLaws

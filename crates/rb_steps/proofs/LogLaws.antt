@@ -1,6 +1,6 @@
 -- Logs that are compared entry by entry.
-use Rattle.std.proofs.Common.{◌≡◌, ◌∙◌, ℕ, suc, ◌+◌, ◌-◌, ◌<◌, ◌≤◌, ◌⊎◌, inl, inr, Bool, true, false, List, [], ◌∷◌, ◌++◌, length, drop, Option, Some, None, Ok, Err, refl, ap, sym, subst, arith}
-use Rattle.std.specs.Prelude.{◌&&◌, ◌==◌, not, min, if◌then◌else◌, codes, slice_get, Decides}
+use Rattle.std.proofs.Common.{◌≡◌, ◌∙◌, ℕ, zero, suc, ◌+◌, ◌-◌, ◌<◌, ◌≤◌, ◌⊎◌, inl, inr, Bool, true, false, List, [], ◌∷◌, ◌++◌, length, drop, Option, Some, None, Ok, Err, refl, ap, sym, subst, arith}
+use Rattle.std.specs.Prelude.{◌&&◌, ◌==◌, not, max, min, if◌then◌else◌, codes, slice_get, Decides}
 use Rattle.std.specs.Str.{bytes_eq}
 use Rattle.std.proofs.lemmas.Slice.Eq.{bytes_eq-Decides}
 use Rattle.std.proofs.lemmas.Bool.{and_parts, le-leb}
@@ -24,6 +24,7 @@ use Rattle.rb_page.specs.Kept.{texts_of}
 use Rattle.rb_page.specs.Rows.{Row, next_text}
 use Rattle.rb_page.proofs.KeptLaws.{left_some}
 use Rattle.rb_steps.proofs.KeepLaws.{both, one_part}
+use Rattle.rb_steps.specs.Committed.{IsKept}
 use Rattle.rb_steps.specs.Logs.{common, entry_rows, is_same_log, log_changes, log_from, same_word, same_words, same_body, same_entry, stays}
 
 -- ---- which entries are the same
@@ -158,6 +159,64 @@ pub stays_over : (old new : LogValue) (whole i : ℕ) (x y : Entry) → old.base
 stays_over old new whole i x y above past got other is_other inv =
     let here : common (entries_after old i) (entries_after new i) ≡ 0 = both common (after_first old i x above got) (after_first new i y past other) ∙ (rw is_other refl) in
     omega (arith, here, inv)
+
+-- ---- what is known to be kept
+
+record IsThere (v : LogValue) (i : ℕ) : Type 0 where
+  entry : Entry
+  low : i - v.base - 1 < length v.entries
+  is : slice_get v.entries (i - v.base - 1) ≡ Some entry
+
+is_there : (v : LogValue) (i : ℕ) → v.base < i → i ≤ last v → IsThere v i
+is_there v i above within =
+    elim (slice_get_cases v.entries (i - v.base - 1)).1 as (λ _. IsThere v i) [
+      | inl w ↦ record { entry = w.0; low = w.1; is = w.2 }
+      | inr w ↦ absurd (let past = w.0 in omega (arith, above, within, past))
+    ]
+
+-- an entry that is kept is there in both logs
+record AreThere (old new : LogValue) (i : ℕ) : Type 0 where
+  entry : Entry
+  before : slice_get old.entries (i - old.base - 1) ≡ Some entry
+  low : i - new.base - 1 < length new.entries
+  after : slice_get new.entries (i - new.base - 1) ≡ Some entry
+
+below : (xs : List Entry) (k : ℕ) (e : Entry) → slice_get xs k ≡ Some e → k < length xs
+below xs k e got = elim (slice_get_cases xs k).1 as (λ _. k < length xs) [ inl w ↦ w.1 | inr w ↦ absurd (let none : slice_get xs k ≡ None = w.1 in cc) ]
+
+are_there : (old new : LogValue) (index i : ℕ) → IsKept old new index → new.base < i → i ≤ index → AreThere old new i
+are_there old new index i kept past low =
+    let above : old.base < i = omega (arith, kept.base, past) in
+    let t = is_there old i above (omega (arith, low, kept.held)) in
+    let was : entry_at old i ≡ Ok t.entry = entry_past old i above ∙ ap found t.is in
+    let is = entry_there new i t.entry past (kept.entries i low past ∙ was) in
+    record { entry = t.entry; before = t.is; low = below new.entries (i - new.base - 1) t.entry is; after = is }
+
+kept_from : (old new : LogValue) (index k i : ℕ) → i ≡ new.base + k → i ≤ max new.base index → IsKept old new index → stays old new ≡ i + common (entries_after old i) (entries_after new i)
+kept_from old new index zero i is low kept =
+    let at : new.base ≡ i = omega (arith, is) in
+    subst (λ (j : ℕ). stays old new ≡ j + common (entries_after old j) (entries_after new j)) at (stays_from old new kept.base)
+kept_from old new index (suc k) i is low kept =
+    let j = new.base + k in
+    let next : j + 1 ≡ i = omega (arith, is) in
+    let up : i ≤ index = omega (arith, is, low) in
+    let t = are_there old new index i kept (omega (arith, is)) up in
+    let before : slice_get old.entries (j + 1 - old.base - 1) ≡ Some t.entry = ap (λ (m : ℕ). slice_get old.entries (m - old.base - 1)) next ∙ t.before in
+    let after : slice_get new.entries (j + 1 - new.base - 1) ≡ Some t.entry = ap (λ (m : ℕ). slice_get new.entries (m - new.base - 1)) next ∙ t.after in
+    subst (λ (m : ℕ). stays old new ≡ m + common (entries_after old m) (entries_after new m)) next
+    (stays_on old new (stays old new) j t.entry t.entry (omega (arith, kept.base)) (omega arith) before after (same_entry-refl t.entry)
+    (kept_from old new index k j refl (omega (arith, is, low)) kept))
+
+-- the comparison may begin behind what is kept
+pub stays_past : (old new : LogValue) (index from : ℕ) → from ≡ max new.base index → IsKept old new index → stays old new ≡ from + common (entries_after old from) (entries_after new from)
+stays_past old new index from is kept = kept_from old new index (from - new.base) from (omega (arith, is)) (omega (arith, is)) kept
+
+pub kept_within : (old new : LogValue) (index : ℕ) → IsKept old new index → max new.base index ≤ last new
+kept_within old new index kept =
+    elim (leb_tells index new.base) as (λ _. max new.base index ≤ last new) [
+      | inl w ↦ omega (arith, w.1)
+      | inr w ↦ (let t = are_there old new index index kept w.1 (omega arith) in omega (arith, w.1, t.low))
+    ]
 
 common_none : (xs : List Entry) → common xs [] ≡ 0
 common_none [] = refl

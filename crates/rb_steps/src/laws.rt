@@ -2,11 +2,15 @@
 
 ghost use Rattle.std.specs.Prelude.{◌≡◌, ◌≤◌, ◌+◌, [], ℕ, List, length, true};
 ghost use Rattle.std.specs.List.{list_all};
+ghost use Rattle.rb_script.specs.Directive.{PlainDirective};
 ghost use Rattle.rb_script.specs.Script.{PlainScript};
 ghost use Rattle.rb_raftlog.specs.Log.{entries_after};
 ghost use Rattle.rb_step.specs.Node.{PlainNode};
+ghost use Rattle.rb_machine.specs.Cluster.{Cluster, empty};
+ghost use Rattle.rb_machine.specs.Outcome.{outcome};
 ghost use Rattle.rb_page.specs.Escapes.{is_inert};
 ghost use Rattle.rb_page.specs.Rows.{Row, rows_text};
+ghost use Rattle.rb_steps.specs.Committed.{AreKept, AreSound};
 ghost use Rattle.rb_steps.specs.Pages.{first_row, steps_text};
 ghost use Rattle.rb_steps.specs.Logs.{stays};
 ghost use Rattle.rb_steps.specs.States.{changed_rows, state_rows};
@@ -19,6 +23,14 @@ pub fn steps_are_rows()
 /// Whatever a script holds, no byte of that text is `<`, `>` or `&`, or past ASCII.
 pub fn steps_are_inert()
     ensures { (name bytes heads : List ℕ) (s : PlainScript) → list_all is_inert (steps_text name bytes heads s) ≡ true }
+{}
+
+/// Whatever a directive does, the indexes of each node stay in order, and the entries that the node knew to be committed stay as they are, but
+/// for those that are compacted. So it is enough to look at the others.
+pub fn committed_entries_stay()
+    ensures begun { AreSound empty.nodes }
+    ensures sound { (c : Cluster) (d : PlainDirective) → AreSound c.nodes → AreSound (outcome c d).cluster.nodes }
+    ensures kept { (c : Cluster) (d : PlainDirective) → AreSound c.nodes → AreKept c.nodes (outcome c d).cluster.nodes }
 {}
 
 /// Where nothing has changed there is no row.

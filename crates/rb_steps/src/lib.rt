@@ -16,7 +16,8 @@ mod step;
 mod steps;
 
 pub use laws::{
-    changes_have_few_rows, steps_are_inert, steps_are_rows, what_stands_still_has_no_row,
+    changes_have_few_rows, committed_entries_stay, steps_are_inert, steps_are_rows,
+    what_stands_still_has_no_row,
 };
 pub use page::{FORMAT, Frame, put_page, put_steps};
 pub use steps::steps_of;

@@ -5,6 +5,7 @@ ghost use Rattle.rb_raftlog.specs.Log.{entries_after, last};
 ghost use Rattle.rb_page.specs.ItemRows.{entry_row};
 ghost use Rattle.rb_page.specs.Kept.{texts_of};
 ghost use Rattle.rb_page.specs.Rows.{next_text};
+ghost use Rattle.rb_steps.specs.Committed.{IsKept};
 ghost use Rattle.rb_steps.specs.Logs.{entry_rows, is_same_log, log_changes, log_from, same_entry, stays};
 
 use rb_page::{Cell, keep_row};
@@ -30,22 +31,21 @@ fn entry_at<L: RaftLog>(log: &L, index: u64) -> &Entry
     }
 }
 
-// Up to which index the entries of a log are those of before.
-fn stays<L: RaftLog>(old: &L, new: &L) -> u64
+// Up to which index the entries of a log are those of before, where those up to `kept` are. Only the ones past it are looked at.
+fn stays<L: RaftLog>(old: &L, new: &L, kept: u64) -> u64
+    requires { IsKept (L.plain old.now) (L.plain new.now) kept }
     ensures value { result ≡ stays (L.plain old.now) (L.plain new.now) }
     ensures within { result ≤ last (L.plain new.now) }
 {
     let base = new.first_index() - 1;
-    if base + 1 < old.first_index() {
-        return base;
-    }
+    let from = base.max(kept);
     let last = new.last_index().min(old.last_index());
-    for index in base..last {
+    for index in from..last {
         if is_other(entry_at(old, index + 1), entry_at(new, index + 1)) {
             return index;
         }
     }
-    base.max(last)
+    from.max(last)
 }
 
 // Whether nothing was dropped and nothing came.
@@ -104,18 +104,20 @@ fn keep_entry(texts: &mut Lines, index: u64, entry: &Entry) -> Result<(), AllocE
     keep_row(texts, b"entry", &cells)
 }
 
-/// Adds the rows of a log, where it is not as it was.
+/// Adds the rows of a log, where it is not as it was but for its entries up to `kept`.
 pub(crate) fn keep_log<L: RaftLog>(
     texts: &mut Lines,
     id: u64,
     old: &L,
     new: &L,
+    kept: u64,
 ) -> Result<(), AllocError>
+    requires { IsKept (L.plain old.now) (L.plain new.now) kept }
     ensures { OnOk result (texts.new ≡ texts.old ++ texts_of (log_changes id (L.plain old.now) (L.plain new.now))) }
 {
-    let kept = stays(old, new);
-    if is_same_log(old, new, kept) {
+    let stays = stays(old, new, kept);
+    if is_same_log(old, new, stays) {
         return Ok(());
     }
-    keep_log_from(texts, id, new, kept)
+    keep_log_from(texts, id, new, stays)
 }

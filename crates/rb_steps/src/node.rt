@@ -3,6 +3,8 @@
 ghost use Rattle.std.specs.Prelude.{◌≡◌, ◌<◌, ◌∷◌, [], ◌++◌, IfOk, OnOk, MatchOption, None, Some, length, slice_get};
 ghost use Rattle.rb_texts.specs.States.{progress_state_text};
 ghost use Rattle.rb_page.specs.Kept.{texts_of};
+ghost use Rattle.rb_step.specs.Node.{PlainNode};
+ghost use Rattle.rb_steps.specs.Committed.{AreKept, IsKept};
 ghost use Rattle.rb_steps.specs.Rows.{new_rows};
 ghost use Rattle.rb_steps.specs.States.{added_rows, changed_rows, config_row, gone_of, gone_rows, no_view_row, node_row, node_rows, standing, state_rows, view_row, view_rows};
 
@@ -151,18 +153,19 @@ fn keep_restated<L: RaftLog>(
     Ok(())
 }
 
-// Adds what of a node is not as it was.
+// Adds what of a node is not as it was. What it knew to be committed is.
 fn keep_changed<L: RaftLog>(
     alloc: Global,
     texts: &mut Lines,
     old: &State<L>,
     new: &State<L>,
 ) -> Result<(), AllocError>
+    requires { IsKept old.now.log new.now.log old.now.commit }
     ensures { OnOk result (texts.new ≡ texts.old ++ texts_of (changed_rows old.now new.now)) }
 {
     keep_restated(alloc, texts, old, new)?;
     keep_gone(texts, new.id, &old.tracker, &new.tracker)?;
-    keep_log(texts, new.id, &old.log, &new.log)
+    keep_log(texts, new.id, &old.log, &new.log, old.commit)
 }
 
 // The node at an index, where there is one.
@@ -188,6 +191,7 @@ fn keep_either<L: RaftLog>(
     index: usize,
     new: &Node<L>,
 ) -> Result<(), AllocError>
+    requires { (old : PlainNode) → slice_get olds.now index ≡ Some old → IsKept old.log new.now.log old.commit }
     ensures { OnOk result (texts.new ≡ texts.old ++ texts_of (node_rows (slice_get olds.now index) new.now)) }
 {
     match old_at(olds, index) {
@@ -196,13 +200,14 @@ fn keep_either<L: RaftLog>(
     }
 }
 
-/// Adds what of the nodes is not as it was, where these were before.
+/// Adds what of the nodes is not as it was, where these were before, and what each of them knew to be committed is.
 pub(crate) fn keep_states<L: RaftLog>(
     alloc: Global,
     texts: &mut Lines,
     olds: &[Node<L>],
     news: &[Node<L>],
 ) -> Result<(), AllocError>
+    requires { AreKept olds.now news.now }
     ensures { OnOk result (texts.new ≡ texts.old ++ texts_of (state_rows olds.now news.now)) }
 {
     for i in 0..news.len() {

@@ -4,6 +4,7 @@ ghost use Rattle.std.specs.Prelude.{◌≡◌, ◌++◌, IfOk, OnOk};
 ghost use Rattle.rb_script.specs.Reading.{directive_of};
 ghost use Rattle.rb_page.specs.Kept.{texts_of};
 ghost use Rattle.rb_machine.specs.Outcome.{happened, outcome};
+ghost use Rattle.rb_steps.specs.Committed.{AreKept, AreSound};
 ghost use Rattle.rb_steps.specs.States.{state_rows};
 ghost use Rattle.rb_steps.specs.Steps.{step, step_texts};
 
@@ -43,6 +44,7 @@ fn keep_changes<L: RaftLog>(
     before: &Cluster<L>,
     after: &Cluster<L>,
 ) -> Result<(), AllocError>
+    requires { AreKept before.now.nodes after.now.nodes }
     ensures { OnOk result (texts.new ≡ texts.old ++ texts_of (state_rows before.now.nodes after.now.nodes)) }
 {
     keep_states(alloc, texts, before.nodes(), after.nodes())?;
@@ -57,6 +59,7 @@ pub(crate) fn keep_step<L: RaftLog>(
     block: &Block,
     line: usize,
 ) -> Result<Cluster<L>, AllocError>
+    requires { AreSound cluster.now.nodes }
     ensures texts { OnOk result (texts.new ≡ texts.old ++ step_texts (step line cluster.now block.now)) }
     ensures cluster { IfOk result (λ after. after ≡ (outcome cluster.now (directive_of block.now)).cluster) }
 {

@@ -11,5 +11,5 @@ invariant-loop-index g l =
     let new = g.L.RaftLog.plain l.new in
     record {
       so_far : stays old new ≡ l.index + common (entries_after old l.index) (entries_after new l.index);
-      within : l.index ≤ max l.base l.last;
+      within : l.index ≤ max l.from l.last;
     }

@@ -4,9 +4,13 @@ use Rattle.std.proofs.lemmas.List.{drop_all}
 use Rattle.rb_page.specs.Kept.{texts_of}
 use Rattle.rb_page.specs.Rows.{Row}
 use Rattle.rb_steps.specs.States.{node_rows, state_rows}
+use Rattle.rb_steps.proofs.CommittedLaws.{kept_at}
 use Rattle.rb_steps.proofs.KeepLaws.{one_part, texts_append}
 use Rattle.rb_steps.proofs.StateLaws.{state_more, state_done}
 use Rattle.rb_steps.proofs.node.keep_states.Goals as goal
+
+pub keep_either-requires : goal.keep_either-requires
+keep_either-requires g c = λ old was. kept_at c.args.olds.now c.args.news.now c.loop-i.i old c.node_at.result.now was c.node_at.ensures c.requires
 
 pub loop-i-preserved : goal.loop-i-preserved
 loop-i-preserved g c =

@@ -1,9 +1,17 @@
-use Rattle.std.proofs.Common.{◌∙◌, ◌++◌, List, ap}
+use Rattle.std.proofs.Common.{◌∙◌, ◌++◌, List, ap, sym, subst}
 use Rattle.rb_script.specs.Lines.{Line}
+use Rattle.rb_script.specs.Reading.{directive_of}
+use Rattle.rb_machine.specs.Cluster.{Cluster}
 use Rattle.rb_page.specs.Kept.{texts_of}
+use Rattle.rb_steps.specs.Committed.{AreKept}
 use Rattle.rb_steps.specs.Steps.{script_rows}
+use Rattle.rb_steps.proofs.CommittedLaws.{are_kept}
 use Rattle.rb_steps.proofs.StepLaws.{step_kept}
 use Rattle.rb_steps.proofs.step.keep_step.Goals as goal
+
+pub keep_changes-requires : goal.keep_changes-requires
+keep_changes-requires g c =
+    subst (λ (d : Cluster). AreKept c.args.cluster.now.nodes d.nodes) (sym c.in_ok-after.ensures.cluster) (are_kept c.args.cluster.now (directive_of c.args.block.now) c.requires)
 
 pub returns-clause-texts : goal.returns-clause-texts
 returns-clause-texts g c =

@@ -1,15 +1,20 @@
-use Rattle.std.proofs.Common.{◌∙◌, ◌++◌, List, drop, ap, sym, append-nil, arith}
+use Rattle.std.proofs.Common.{◌∙◌, ◌++◌, List, drop, ap, sym, subst, append-nil, arith}
 use Rattle.std.proofs.lemmas.List.{drop_all}
 use Rattle.std.specs.List.{flat_map}
+use Rattle.rb_script.specs.Reading.{directive_of}
 use Rattle.rb_machine.specs.Cluster.{Cluster}
+use Rattle.rb_steps.specs.Committed.{AreSound}
 use Rattle.rb_steps.specs.Steps.{Step, step, step_texts, steps_from}
+use Rattle.rb_steps.proofs.CommittedLaws.{begin_sound, stay_sound}
 use Rattle.rb_steps.proofs.KeepLaws.{one_part}
 use Rattle.rb_steps.proofs.StepLaws.{steps_more, steps_end}
 use Rattle.rb_steps.proofs.steps.keep_directives.Goals as goal
 
 pub loop-i-init : goal.loop-i-init
-loop-i-init g c =
-    ap (λ (d : Cluster). c.args.texts.now ++ flat_map step_texts (steps_from c.args.heads.now d c.args.session.now.script.blocks)) c.in_ok-cluster.ensures
+loop-i-init g c = record {
+  rows = ap (λ (d : Cluster). c.args.texts.now ++ flat_map step_texts (steps_from c.args.heads.now d c.args.session.now.script.blocks)) c.in_ok-cluster.ensures;
+  sound = subst (λ (d : Cluster). AreSound d.nodes) (sym c.in_ok-cluster.ensures) begin_sound;
+}
 
 pub loop-i-preserved : goal.loop-i-preserved
 loop-i-preserved g c =
@@ -19,9 +24,12 @@ loop-i-preserved g c =
     let b = c.block_at-block.result.now in
     let line = c.number_at.result in
     let before = c.loop-i.cluster in
-    one_part c.loop-i.texts c.keep_step.new.texts (step_texts (step line before b)) _ _ _
-    (steps_more heads bs i line b before c.in_ok-after.after c.number_at.ensures c.block_at-block.ensures c.in_ok-after.ensures.cluster)
-    c.in_ok-after.ensures.texts c.loop-i.invariant
+    record {
+      rows = one_part c.loop-i.texts c.keep_step.new.texts (step_texts (step line before b)) _ _ _
+          (steps_more heads bs i line b before c.in_ok-after.after c.number_at.ensures c.block_at-block.ensures c.in_ok-after.ensures.cluster)
+          c.in_ok-after.ensures.texts c.loop-i.invariant.rows;
+      sound = subst (λ (d : Cluster). AreSound d.nodes) (sym c.in_ok-after.ensures.cluster) (stay_sound before (directive_of b) c.loop-i.invariant.sound);
+    }
 
 pub returns : goal.returns
 returns g c =
@@ -30,4 +38,4 @@ returns g c =
     let heads = drop i c.args.heads.now in
     let bs = drop i c.args.session.now.script.blocks in
     let none = drop_all i c.args.session.now.script.blocks (omega (arith, c.loop-i-test.false, c.len-i-end.ensures.len)) in
-    sym (append-nil t) ∙ ap (λ (ss : List Step). t ++ flat_map step_texts ss) (sym (steps_end heads c.loop-i.cluster bs none)) ∙ c.loop-i.invariant
+    sym (append-nil t) ∙ ap (λ (ss : List Step). t ++ flat_map step_texts ss) (sym (steps_end heads c.loop-i.cluster bs none)) ∙ c.loop-i.invariant.rows

@@ -1,9 +1,12 @@
 -- The rows so far, and those of the directives that are left.
 use Rattle.std.proofs.Common.{◌≡◌, ◌++◌, drop}
 use Rattle.std.specs.List.{flat_map}
+use Rattle.rb_steps.specs.Committed.{AreSound}
 use Rattle.rb_steps.specs.Steps.{step_texts, steps, steps_from}
 use Rattle.rb_steps.proofs.steps.keep_directives.Given as goal
 
 abbrev pub invariant-loop-i : goal.invariant-loop-i
-invariant-loop-i g l =
-    l.texts ++ flat_map step_texts (steps_from (drop l.i l.heads) l.cluster (drop l.i l.session.script.blocks)) ≡ l.initial.texts ++ flat_map step_texts (steps l.heads l.session.script)
+invariant-loop-i g l = record {
+  rows : l.texts ++ flat_map step_texts (steps_from (drop l.i l.heads) l.cluster (drop l.i l.session.script.blocks)) ≡ l.initial.texts ++ flat_map step_texts (steps l.heads l.session.script);
+  sound : AreSound l.cluster.nodes;
+}

@@ -1,0 +1,23 @@
+-- What a directive keeps of logs: what a node knows to be committed is never changed, whatever becomes of it. (Ongaro's thesis, section 3.5:
+-- entries that are committed are durable, and are applied by all nodes in the end.)
+use Rattle.std.specs.Prelude.{◌≡◌, ℕ, ◌<◌, ◌≤◌, List, [], ◌∷◌}
+use Rattle.std.specs.List.{AllByRecursion}
+use Rattle.rb_raftlog.specs.Log.{LogValue, entry_at, last}
+use Rattle.rb_step.specs.Node.{PlainNode}
+use Rattle.rb_node_laws.specs.Sound.{IsSound}
+
+-- the indexes of each node are in order
+abbrev pub AreSound : List PlainNode → Type 0
+AreSound nodes = AllByRecursion IsSound nodes
+
+-- the entries of a log up to an index that it has are those of before, but for what was compacted
+pub record IsKept (old new : LogValue) (index : ℕ) : Type 0 where
+  pub base : old.base ≤ new.base
+  pub held : index ≤ last old
+  pub entries : (i : ℕ) → i ≤ index → new.base < i → entry_at new i ≡ entry_at old i
+
+-- those of each node, up to what it knew to be committed
+abbrev pub AreKept : List PlainNode → List PlainNode → Type 0
+AreKept [] news = Unit {0}
+AreKept (old ∷ olds) [] = Unit {0}
+AreKept (old ∷ olds) (new ∷ news) = IsKept old.log new.log old.commit × AreKept olds news
