@@ -1,5 +1,5 @@
 -- A text that is written in pieces.
-use Rattle.std.proofs.Common.{◌≡◌, ℕ, ◌+◌, Bool, cond, List, [], ◌∷◌, ◌++◌, drop, Option, Some, Result, Ok, Err, ap, sym, subst, ◌∙◌, append_assoc, append-nil}
+use Rattle.std.proofs.Common.{◌≡◌, ℕ, ◌+◌, Bool, cond, List, [], ◌∷◌, ◌++◌, drop, Option, Some, Result, Ok, Err, refl, ap, sym, subst, ◌∙◌, append_assoc, append-nil}
 use Rattle.std.specs.Prelude.{IsErr, slice_get, codes, decimal}
 use Rattle.std.specs.Io.KnownBytes.{Appends}
 use Rattle.std.proofs.KnownBytes.{Appends-nil, Appends-trans}
@@ -50,6 +50,14 @@ piece_exit (Err d) new a rest is s f = piece_front new a rest s f
 pub piece_last : {X : Type 0} {old mid : Option (List ℕ)} {text : List ℕ} (r : Result X WriteFault) (new : Option (List ℕ)) (a : List ℕ) → Sent old mid text a → Writes r mid new a → Writes r old new text
 piece_last {old = old} {mid = mid} (Ok x) new a s h = subst (λ (l : List ℕ). Appends old new l) (sym s.parts) (Appends-trans old mid new s.front a s.appended h)
 piece_last {old = old} {mid = mid} {text = text} (Err d) new a s h = piece_front new a [] (subst (λ (l : List ℕ). Sent old mid text l) (sym (append-nil a)) s) h
+
+-- a piece went out, and then what another write answered
+pub and_then : {X : Type 0} (old mid new : Option (List ℕ)) (a rest : List ℕ) (r : Result X WriteFault) → Appends old mid a → Writes r mid new rest → Writes r old new (a ++ rest)
+and_then old mid new a rest r h w = piece_last r new rest (sent_piece mid a rest (sent_none old (a ++ rest) (a ++ rest) refl) h) w
+
+-- the write of a piece failed
+pub no_more : {X : Type 0} (old new : Option (List ℕ)) (a rest : List ℕ) (r : Result X WriteFault) → IsErr r → AppendsFront old new a → Writes r old new (a ++ rest)
+no_more old new a rest r failed h = piece_exit r new a rest failed (sent_none old (a ++ rest) (a ++ rest) refl) h
 
 -- all went out
 pub sent_all : {old new : Option (List ℕ)} {text rest : List ℕ} → rest ≡ [] → Sent old new text rest → Appends old new text

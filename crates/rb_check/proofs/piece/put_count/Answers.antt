@@ -1,32 +1,18 @@
-use Rattle.std.proofs.Common.{◌++◌, decimal}
-use Rattle.std.specs.Prelude.{codes}
-use Rattle.rb_check.specs.Pieces.{count_text}
-use Rattle.rb_check.proofs.PieceLaws.{sent_none, sent_piece, piece_exit, piece_last, count_some}
+use Rattle.std.proofs.Common.{sym}
+use Rattle.rb_check.proofs.PieceLaws.{and_then, no_more, writes_along, count_some}
 use Rattle.rb_check.proofs.piece.put_count.Goals as goal
 
 pub returns-in_err-put-clause-wrote : goal.returns-in_err-put-clause-wrote
 returns-in_err-put-clause-wrote g c =
-    let held = g.S.Sink.held in
-    let n = c.args.n in
-    let word = c.args.word.now in
-    let s0 = sent_none (held c.args.sink.now) (count_text n word) (codes ", " ++ (decimal n ++ word)) (count_some n word c.if-n-eq0.false) in
-    piece_exit c.from_residual.result (held c.put.new.self) (codes ", ") (decimal n ++ word) c.from_residual.ensures.0 s0 c.in_err-put.ensures.wrote
+    let is = count_some c.args.n c.args.word.now c.if-n-eq0.false in
+    writes_along _ _ _ _ _ (sym is) (no_more _ _ _ _ _ c.from_residual.ensures.0 c.in_err-put.ensures.wrote)
 
 pub returns-in_err-put_number-clause-wrote : goal.returns-in_err-put_number-clause-wrote
 returns-in_err-put_number-clause-wrote g c =
-    let held = g.S.Sink.held in
-    let n = c.args.n in
-    let word = c.args.word.now in
-    let s0 = sent_none (held c.args.sink.now) (count_text n word) (codes ", " ++ (decimal n ++ word)) (count_some n word c.if-n-eq0.false) in
-    let s1 = sent_piece (held c.put.new.self) (codes ", ") (decimal n ++ word) s0 c.in_ok-put.ensures.wrote in
-    piece_exit c.from_residual-in_err-put_number.result (held c.put_number.new.sink) (decimal n) word c.from_residual-in_err-put_number.ensures.0 s1 c.in_err-put_number.ensures.wrote
+    let is = count_some c.args.n c.args.word.now c.if-n-eq0.false in
+    writes_along _ _ _ _ _ (sym is) (and_then _ _ _ _ _ _ c.in_ok-put.ensures.wrote (no_more _ _ _ _ _ c.from_residual-in_err-put_number.ensures.0 c.in_err-put_number.ensures.wrote))
 
 pub returns-clause-wrote : goal.returns-clause-wrote
 returns-clause-wrote g c =
-    let held = g.S.Sink.held in
-    let n = c.args.n in
-    let word = c.args.word.now in
-    let s0 = sent_none (held c.args.sink.now) (count_text n word) (codes ", " ++ (decimal n ++ word)) (count_some n word c.if-n-eq0.false) in
-    let s1 = sent_piece (held c.put.new.self) (codes ", ") (decimal n ++ word) s0 c.in_ok-put.ensures.wrote in
-    let s2 = sent_piece (held c.put_number.new.sink) (decimal n) word s1 c.in_ok-put_number.ensures.wrote in
-    piece_last c.put-2.result (held c.put-2.new.self) word s2 c.put-2.ensures.wrote
+    let is = count_some c.args.n c.args.word.now c.if-n-eq0.false in
+    writes_along _ _ _ _ _ (sym is) (and_then _ _ _ _ _ _ c.in_ok-put.ensures.wrote (and_then _ _ _ _ _ _ c.in_ok-put_number.ensures.wrote c.put-2.ensures.wrote))
