@@ -1,5 +1,6 @@
 """A client of the language server, without an editor: frames messages, and reads what comes. (LSP 3.17, base protocol.)"""
 import json
+import resource
 import subprocess
 
 MOST_SECONDS = 120
@@ -44,10 +45,11 @@ def changed(uri, version, *changes):
 
 
 class Client:
-    """A server that runs, and the conversation with it. As a context it is ended behind the block."""
+    """A server that runs, and the conversation with it. As a context it is ended behind the block. It may have so many bytes of addresses."""
 
-    def __init__(self, program):
-        self.server = subprocess.Popen([program, "lsp"], stdin=subprocess.PIPE, stdout=subprocess.PIPE, stderr=subprocess.PIPE)
+    def __init__(self, program, addresses=None):
+        narrow = addresses and (lambda: resource.setrlimit(resource.RLIMIT_AS, (addresses, addresses)))
+        self.server = subprocess.Popen([program, "lsp"], stdin=subprocess.PIPE, stdout=subprocess.PIPE, stderr=subprocess.PIPE, preexec_fn=narrow)
 
     def __enter__(self):
         return self

@@ -1,5 +1,5 @@
 -- What holds of what an editor is told. (This project's.)
-use Rattle.std.specs.Prelude.{◌≡◌, ◌⊎◌, ℕ, ◌≤◌, true, false, List, [], ◌∷◌, ◌++◌, length, take, drop, slice_index, Option}
+use Rattle.std.specs.Prelude.{◌≡◌, ◌⊎◌, ℕ, ◌≤◌, Bool, true, false, List, [], ◌∷◌, ◌++◌, length, take, drop, slice_index, Option}
 use Rattle.std.specs.List.{AllByRecursion}
 use Rattle.serde_json.specs.Data.{Data}
 use Rattle.rb_script.specs.Lines.{Line}
@@ -21,10 +21,12 @@ use Rattle.rb_actions.specs.Extents.{extent_of}
 use Rattle.rb_actions.specs.Actions.{all_but_new_errors, form, is_accepted}
 use Rattle.rb_actions.specs.Meanings.{meaning}
 
--- whatever was sent before: what goes out for a notification is what one fresh run of a document's text gives, as the text then stands
+-- Whatever was sent before: what goes out for a notification is what one fresh run of a document's text gives, as the text then stands, or, where
+-- memory is refused for it, the one diagnostic that says so.
 abbrev pub TextsHaveOneRun : Type 0
-TextsHaveOneRun = (server next : PlainServer) (method : List ℕ) (params : Option Data)
-    → turned_by server (notification method params) ≡ On next → (told_of meaning server (notification method params) ≡ []) ⊎ Publishes meaning next (told_of meaning server (notification method params))
+TextsHaveOneRun = (no_memory : Bool) (server next : PlainServer) (method : List ℕ) (params : Option Data)
+    → turned_by server (notification method params) ≡ On next
+    → (told_of meaning no_memory server (notification method params) ≡ []) ⊎ Publishes meaning no_memory next (told_of meaning no_memory server (notification method params))
 
 -- a directive expects its output where that is accepted, and else what it did, as `check --accept` has it
 abbrev pub AcceptsAsCheckDoes : Type 0

@@ -3,4 +3,5 @@ pub mod ReplyLaws
 pub mod TalkLaws
 pub mod OneLaws
 pub mod NoticeLaws
+pub mod RefusalLaws
 pub mod DocumentLaws

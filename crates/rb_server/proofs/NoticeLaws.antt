@@ -33,27 +33,27 @@ notice_is (Running encoding) method None = tt
 notice_is (Running encoding) method (Some d) = taken_is (is_of_documents method) encoding method d (text_below (codes "textDocument") (codes "uri") d)
 notice_is Stopped method params = tt
 
-one_is : (meaning : Meaning) (next : PlainServer) (notice : Option Notice) → IsOf next.phase notice → (notice_text meaning notice next.documents ≡ []) ⊎ Publishes meaning next (notice_text meaning notice next.documents)
-one_is meaning next None is = inl refl
-one_is meaning next (Some n) is = inr (record { encoding = n.encoding; uri = n.uri; version = number_below (codes "textDocument") (codes "version") n.given; running = is; text_is = refl })
+one_is : (meaning : Meaning) (no_memory : Bool) (next : PlainServer) (notice : Option Notice) → IsOf next.phase notice → (notice_text meaning no_memory notice next.documents ≡ []) ⊎ Publishes meaning no_memory next (notice_text meaning no_memory notice next.documents)
+one_is meaning no_memory next None is = inl refl
+one_is meaning no_memory next (Some n) is = inr (record { encoding = n.encoding; uri = n.uri; version = number_below (codes "textDocument") (codes "version") n.given; running = is; text_is = refl })
 
 -- a notification that is no `exit`
-after_is : (meaning : Meaning) (server next : PlainServer) (method : Method) (params : Option Data) → On (with_notice server method params) ≡ On next
-    → (notice_text meaning (notice_of server.phase method params) (with_notice server method params).documents ≡ [])
-    ⊎ Publishes meaning next (notice_text meaning (notice_of server.phase method params) (with_notice server method params).documents)
-after_is meaning server next method params e =
+after_is : (meaning : Meaning) (no_memory : Bool) (server next : PlainServer) (method : Method) (params : Option Data) → On (with_notice server method params) ≡ On next
+    → (notice_text meaning no_memory (notice_of server.phase method params) (with_notice server method params).documents ≡ [])
+    ⊎ Publishes meaning no_memory next (notice_text meaning no_memory (notice_of server.phase method params) (with_notice server method params).documents)
+after_is meaning no_memory server next method params e =
     let is : with_notice server method params ≡ next = cc in
-    let text = notice_text meaning (notice_of server.phase method params) (with_notice server method params).documents in
-    subst (λ (s : PlainServer). (text ≡ []) ⊎ Publishes meaning s text) is
-    (one_is meaning (with_notice server method params) (notice_of server.phase method params) (notice_is server.phase method params))
+    let text = notice_text meaning no_memory (notice_of server.phase method params) (with_notice server method params).documents in
+    subst (λ (s : PlainServer). (text ≡ []) ⊎ Publishes meaning no_memory s text) is
+    (one_is meaning no_memory (with_notice server method params) (notice_of server.phase method params) (notice_is server.phase method params))
 
-pub diagnosed : (meaning : Meaning) (server next : PlainServer) (method : Method) (params : Option Data) → noticed_by server method params ≡ On next
-    → (published meaning server method params ≡ []) ⊎ Publishes meaning next (published meaning server method params)
-diagnosed meaning server next Initialize params e = after_is meaning server next Initialize params e
-diagnosed meaning server next Shutdown params e = after_is meaning server next Shutdown params e
-diagnosed meaning server next Exit params e = inl refl
-diagnosed meaning server next DidOpen params e = after_is meaning server next DidOpen params e
-diagnosed meaning server next DidChange params e = after_is meaning server next DidChange params e
-diagnosed meaning server next DidClose params e = after_is meaning server next DidClose params e
-diagnosed meaning server next (Asks question) params e = after_is meaning server next (Asks question) params e
-diagnosed meaning server next Unknown params e = after_is meaning server next Unknown params e
+pub diagnosed : (meaning : Meaning) (no_memory : Bool) (server next : PlainServer) (method : Method) (params : Option Data) → noticed_by server method params ≡ On next
+    → (published meaning no_memory server method params ≡ []) ⊎ Publishes meaning no_memory next (published meaning no_memory server method params)
+diagnosed meaning no_memory server next Initialize params e = after_is meaning no_memory server next Initialize params e
+diagnosed meaning no_memory server next Shutdown params e = after_is meaning no_memory server next Shutdown params e
+diagnosed meaning no_memory server next Exit params e = inl refl
+diagnosed meaning no_memory server next DidOpen params e = after_is meaning no_memory server next DidOpen params e
+diagnosed meaning no_memory server next DidChange params e = after_is meaning no_memory server next DidChange params e
+diagnosed meaning no_memory server next DidClose params e = after_is meaning no_memory server next DidClose params e
+diagnosed meaning no_memory server next (Asks question) params e = after_is meaning no_memory server next (Asks question) params e
+diagnosed meaning no_memory server next Unknown params e = after_is meaning no_memory server next Unknown params e

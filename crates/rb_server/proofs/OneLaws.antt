@@ -1,5 +1,5 @@
 -- Bytes have one conversation.
-use Rattle.std.proofs.Common.{◌≡◌, ℕ, ◌≤◌, ◌⊎◌, inl, inr, List, [], ◌++◌, Option, Some, None, length, refl, ap, sym, subst, ◌∙◌, arith, append_assoc, append-nil, length-append}
+use Rattle.std.proofs.Common.{◌≡◌, ℕ, ◌≤◌, ◌⊎◌, inl, inr, Bool, false, List, [], ◌++◌, Option, Some, None, length, refl, ap, sym, subst, ◌∙◌, arith, append_assoc, append-nil, length-append}
 use Rattle.httparse.specs.Grammar.{LineEnd, crlf, lf, print_end}
 use Rattle.serde_json.specs.Read.{read}
 use Rattle.rb_rpc.specs.Messages.{IsMessage, HasNoMessage, NeverHasMessage}
@@ -54,7 +54,7 @@ pub record Exits (meaning : Meaning) (server : PlainServer) (all text : List ℕ
   pub message : IsMessage all body rest
   pub hears : Hears body heard
   pub over : goes server heard ≡ Over status
-  pub text_is : text ≡ told meaning server heard
+  pub text_is : text ≡ told meaning false server heard
 
 abbrev pub IsEnd : Meaning → PlainServer → List ℕ → List ℕ → Type 0
 IsEnd meaning server all text = (HasNoMessage all × (text ≡ [])) ⊎ Exits meaning server all text
@@ -70,7 +70,7 @@ one_end meaning server all x y (inl a) (inl b) = a.1 ∙ sym b.1
 one_end meaning server all x y (inl a) (inr e) = absurd (a.0 e.body e.rest e.message)
 one_end meaning server all x y (inr e) (inl b) = absurd (b.0 e.body e.rest e.message)
 one_end meaning server all x y (inr e) (inr f) =
-    e.text_is ∙ ap (told meaning server) (heard_one all e.body f.body e.rest f.rest e.heard f.heard e.message f.message e.hears f.hears).0 ∙ sym f.text_is
+    e.text_is ∙ ap (told meaning false server) (heard_one all e.body f.body e.rest f.rest e.heard f.heard e.message f.message e.hears f.hears).0 ∙ sym f.text_is
 
 -- where a message is answered and the server goes on, it doesn't end
 no_end : (meaning : Meaning) (server next : PlainServer) (all body rest text : List ℕ) (heard : Option Said) → IsMessage all body rest → Hears body heard → goes server heard ≡ On next → IsEnd meaning server all text → ⊥
@@ -82,20 +82,23 @@ no_end meaning server next all body rest text heard m h on (inr e) =
 
 -- ---- all of it
 
-one_text : (meaning : Meaning) {server last other : PlainServer} {all left more a b : List ℕ} (x y : List ℕ) → Begins meaning server all last left a → IsEnd meaning last left x → Begins meaning server all other more b → IsEnd meaning other more y → a ++ x ≡ b ++ y
-one_text meaning x y (stands server all) e (stands server' all') f = one_end meaning server all x y e f
-one_text meaning x y (stands server all) e (goes_on server' next last all' body rest left text heard m h on b) f = absurd (no_end meaning server next all body rest x heard m h on e)
-one_text meaning x y (goes_on server next last all body rest left text heard m h on b) e (stands server' all') f = absurd (no_end meaning server next all body rest y heard m h on f)
-one_text meaning x y (goes_on server next last all body rest left text heard m h on b) e (goes_on server' next' last' all' body' rest' left' text' heard' m' h' on' b') f =
+one_text : (meaning : Meaning) {server last other : PlainServer} {all left more a b : List ℕ} {r s : List Bool} (x y : List ℕ) → r ≡ s → Begins meaning server all r last left a → IsEnd meaning last left x → Begins meaning server all s other more b → IsEnd meaning other more y → a ++ x ≡ b ++ y
+one_text meaning x y same_refusals (stands server all) e (stands server' all') f = one_end meaning server all x y e f
+one_text meaning x y same_refusals (stands server all) e (goes_on server' next last all' body rest left text heard none later m h on b) f = absurd (no_end meaning server next all body rest x heard m h on e)
+one_text meaning x y same_refusals (goes_on server next last all body rest left text heard none later m h on b) e (stands server' all') f = absurd (no_end meaning server next all body rest y heard m h on f)
+one_text meaning x y same_refusals (goes_on server next last all body rest left text heard none later m h on b) e (goes_on server' next' last' all' body' rest' left' text' heard' none' later' m' h' on' b') f =
+    let memory : none ≡ none' = cc in
+    let laters : later ≡ later' = cc in
     let same = heard_one all body body' rest rest' heard heard' m m' h h' in
     let both : On next ≡ On next' = sym on ∙ ap (goes server) same.0 ∙ on' in
     let nexts : next ≡ next' = cc in
-    let moved = subst (λ (p : PlainServer). Begins meaning p rest last' left' text') (sym nexts) (subst (λ (l : List ℕ). Begins meaning next' l last' left' text') (sym same.1) b') in
-    let later : text ++ x ≡ text' ++ y = one_text meaning x y b e moved f in
-    append_assoc (told meaning server heard) text x
-    ∙ ap (λ (l : List ℕ). told meaning server heard ++ l) later
-    ∙ ap (λ (o : Option Said). told meaning server o ++ (text' ++ y)) same.0
-    ∙ sym (append_assoc (told meaning server heard') text' y)
+    let moved = subst (λ (p : PlainServer). Begins meaning p rest later' last' left' text') (sym nexts) (subst (λ (l : List ℕ). Begins meaning next' l later' last' left' text') (sym same.1) b') in
+    let rests : text ++ x ≡ text' ++ y = one_text meaning x y laters b e moved f in
+    append_assoc (told meaning none server heard) text x
+    ∙ ap (λ (l : List ℕ). told meaning none server heard ++ l) rests
+    ∙ ap (λ (o : Option Said). told meaning none server o ++ (text' ++ y)) same.0
+    ∙ ap (λ (n : Bool). told meaning n server heard' ++ (text' ++ y)) memory
+    ∙ sym (append_assoc (told meaning none' server heard') text' y)
 
-pub one_conversation : (meaning : Meaning) (all : List ℕ) (s t : Status) (x y : List ℕ) → Talks meaning all s x → Talks meaning all t y → x ≡ y
-one_conversation meaning all s t x y a b = a.text_is ∙ one_text meaning a.ending b.ending a.begins (end_of a.ends) b.begins (end_of b.ends) ∙ sym b.text_is
+pub one_conversation : (meaning : Meaning) (all : List ℕ) (refusals : List Bool) (s t : Status) (x y : List ℕ) → Talks meaning all refusals s x → Talks meaning all refusals t y → x ≡ y
+one_conversation meaning all refusals s t x y a b = a.text_is ∙ one_text meaning a.ending b.ending refl a.begins (end_of a.ends) b.begins (end_of b.ends) ∙ sym b.text_is

@@ -1,10 +1,10 @@
 -- Each answer to a request has its id, and is a function of the text of the document that is named.
-use Rattle.std.proofs.Common.{◌≡◌, List, ℕ, Option, Some, None, refl, ap, ◌∙◌}
+use Rattle.std.proofs.Common.{◌≡◌, List, ℕ, Bool, true, false, Option, Some, None, refl, ap, ◌∙◌}
 use Rattle.std.specs.Prelude.{codes, option_and_then}
 use Rattle.serde_json.specs.Data.{Data, null}
 use Rattle.rb_document.specs.declared.position.Encoding.{Encoding}
 use Rattle.rb_rpc.specs.Answers.{failure}
-use Rattle.rb_rpc.specs.declared.answer.ErrorCode.TheVariants.{InvalidRequest, MethodNotFound, InvalidParams, ServerNotInitialized}
+use Rattle.rb_rpc.specs.declared.answer.ErrorCode.TheVariants.{InvalidRequest, MethodNotFound, InvalidParams, InternalError, ServerNotInitialized}
 use Rattle.rb_server.specs.declared.asked.Asked.{Asked}
 use Rattle.rb_server.specs.declared.phase.Phase.{Phase}
 use Rattle.rb_server.specs.declared.phase.Phase.TheVariants.{Fresh, Running, Stopped}
@@ -14,7 +14,7 @@ use Rattle.rb_server.specs.declared.method.Method.TheVariants.{Initialize, Shutd
 use Rattle.rb_server.specs.Beginnings.{chosen_encoding, initialized}
 use Rattle.rb_server.specs.Documents.{PlainDocument, text_of}
 use Rattle.rb_server.specs.Meanings.{Meaning}
-use Rattle.rb_server.specs.Questions.{asked_of, body_text, named_text, not_open, of_text, question_body, unfit, uri_of, with_asked}
+use Rattle.rb_server.specs.Questions.{asked_of, body_text, named_text, no_memory_for, not_open, of_text, question_body, unfit, uri_of, with_asked}
 use Rattle.rb_server.specs.Replies.{PlainServer, answer_body, body_in, initialize_answer}
 use Rattle.rb_server.specs.Laws.{Answers, done, refused, answered}
 
@@ -28,22 +28,27 @@ unfit_answers : (meaning : Meaning) (server : PlainServer) (id : Data) → Answe
 unfolding unfit
 unfit_answers meaning server id = refused id InvalidParams (codes "the method takes other params")
 
-text_answers : (meaning : Meaning) (server : PlainServer) (encoding : Encoding) (asked : Asked) (uri : List ℕ) (id : Data) (text : Option (List ℕ)) → server.phase ≡ Running encoding
-    → text_of uri server.documents ≡ text → Answers meaning server id (of_text meaning encoding asked uri id text)
+no_memory_answers : (meaning : Meaning) (server : PlainServer) (id : Data) → Answers meaning server id (body_text (no_memory_for id))
+unfolding no_memory_for
+no_memory_answers meaning server id = refused id InternalError (codes "no memory for an answer")
+
+text_answers : (meaning : Meaning) (no_memory : Bool) (server : PlainServer) (encoding : Encoding) (asked : Asked) (uri : List ℕ) (id : Data) (text : Option (List ℕ)) → server.phase ≡ Running encoding
+    → text_of uri server.documents ≡ text → Answers meaning server id (of_text meaning no_memory encoding asked uri id text)
 unfolding not_open
-text_answers meaning server encoding asked uri id None running is = refused id InvalidParams (codes "the document isn't open")
-text_answers meaning server encoding asked uri id (Some text) running is = answered id encoding asked uri text running is
+text_answers meaning no_memory server encoding asked uri id None running is = refused id InvalidParams (codes "the document isn't open")
+text_answers meaning true server encoding asked uri id (Some text) running is = no_memory_answers meaning server id
+text_answers meaning false server encoding asked uri id (Some text) running is = answered id encoding asked uri text running is
 
-asked_answers : (meaning : Meaning) (server : PlainServer) (encoding : Encoding) (id : Data) (uri : Option (List ℕ)) (asked : Option Asked) → server.phase ≡ Running encoding
-    → Answers meaning server id (with_asked meaning encoding server.documents id uri asked)
-asked_answers meaning server encoding id None asked running = unfit_answers meaning server id
-asked_answers meaning server encoding id (Some uri) None running = unfit_answers meaning server id
-asked_answers meaning server encoding id (Some uri) (Some asked) running = text_answers meaning server encoding asked uri id (text_of uri server.documents) running refl
+asked_answers : (meaning : Meaning) (no_memory : Bool) (server : PlainServer) (encoding : Encoding) (id : Data) (uri : Option (List ℕ)) (asked : Option Asked) → server.phase ≡ Running encoding
+    → Answers meaning server id (with_asked meaning no_memory encoding server.documents id uri asked)
+asked_answers meaning no_memory server encoding id None asked running = unfit_answers meaning server id
+asked_answers meaning no_memory server encoding id (Some uri) None running = unfit_answers meaning server id
+asked_answers meaning no_memory server encoding id (Some uri) (Some asked) running = text_answers meaning no_memory server encoding asked uri id (text_of uri server.documents) running refl
 
-question_answers : (meaning : Meaning) (server : PlainServer) (encoding : Encoding) (question : Question) (params : Option Data) (id : Data) → server.phase ≡ Running encoding
-    → Answers meaning server id (question_body meaning encoding server.documents question params id)
-question_answers meaning server encoding question None id running = unfit_answers meaning server id
-question_answers meaning server encoding question (Some d) id running = asked_answers meaning server encoding id (uri_of d) (asked_of question d) running
+question_answers : (meaning : Meaning) (no_memory : Bool) (server : PlainServer) (encoding : Encoding) (question : Question) (params : Option Data) (id : Data) → server.phase ≡ Running encoding
+    → Answers meaning server id (question_body meaning no_memory encoding server.documents question params id)
+question_answers meaning no_memory server encoding question None id running = unfit_answers meaning server id
+question_answers meaning no_memory server encoding question (Some d) id running = asked_answers meaning no_memory server encoding id (uri_of d) (asked_of question d) running
 
 too_early : (meaning : Meaning) (server : PlainServer) (id : Data) → Answers meaning server id (body_text (failure id ServerNotInitialized (codes "initialize comes first")))
 too_early meaning server id = refused id ServerNotInitialized (codes "initialize comes first")
@@ -51,56 +56,56 @@ too_early meaning server id = refused id ServerNotInitialized (codes "initialize
 no_method : (meaning : Meaning) (server : PlainServer) (id : Data) → Answers meaning server id (body_text (failure id MethodNotFound (codes "there is no such method")))
 no_method meaning server id = refused id MethodNotFound (codes "there is no such method")
 
-body_has_id : (meaning : Meaning) (server : PlainServer) (phase : Phase) (method : Method) (params : Option Data) (id : Data) → server.phase ≡ phase
-    → Answers meaning server id (body_in meaning server.documents phase method params id)
-body_has_id meaning server Fresh Initialize params id is = beginning_answers meaning server (chosen_encoding params) id
-body_has_id meaning server Fresh Shutdown params id is = too_early meaning server id
-body_has_id meaning server Fresh Exit params id is = too_early meaning server id
-body_has_id meaning server Fresh DidOpen params id is = too_early meaning server id
-body_has_id meaning server Fresh DidChange params id is = too_early meaning server id
-body_has_id meaning server Fresh DidClose params id is = too_early meaning server id
-body_has_id meaning server Fresh (Asks question) params id is = too_early meaning server id
-body_has_id meaning server Fresh Unknown params id is = too_early meaning server id
-body_has_id meaning server (Running encoding) Initialize params id is = refused id InvalidRequest (codes "initialize came before")
-body_has_id meaning server (Running encoding) Shutdown params id is = done id null
-body_has_id meaning server (Running encoding) Exit params id is = no_method meaning server id
-body_has_id meaning server (Running encoding) DidOpen params id is = no_method meaning server id
-body_has_id meaning server (Running encoding) DidChange params id is = no_method meaning server id
-body_has_id meaning server (Running encoding) DidClose params id is = no_method meaning server id
-body_has_id meaning server (Running encoding) (Asks question) params id is = question_answers meaning server encoding question params id is
-body_has_id meaning server (Running encoding) Unknown params id is = no_method meaning server id
-body_has_id meaning server Stopped method params id is = refused id InvalidRequest (codes "shutdown came before")
+body_has_id : (meaning : Meaning) (no_memory : Bool) (server : PlainServer) (phase : Phase) (method : Method) (params : Option Data) (id : Data) → server.phase ≡ phase
+    → Answers meaning server id (body_in meaning no_memory server.documents phase method params id)
+body_has_id meaning no_memory server Fresh Initialize params id is = beginning_answers meaning server (chosen_encoding params) id
+body_has_id meaning no_memory server Fresh Shutdown params id is = too_early meaning server id
+body_has_id meaning no_memory server Fresh Exit params id is = too_early meaning server id
+body_has_id meaning no_memory server Fresh DidOpen params id is = too_early meaning server id
+body_has_id meaning no_memory server Fresh DidChange params id is = too_early meaning server id
+body_has_id meaning no_memory server Fresh DidClose params id is = too_early meaning server id
+body_has_id meaning no_memory server Fresh (Asks question) params id is = too_early meaning server id
+body_has_id meaning no_memory server Fresh Unknown params id is = too_early meaning server id
+body_has_id meaning no_memory server (Running encoding) Initialize params id is = refused id InvalidRequest (codes "initialize came before")
+body_has_id meaning no_memory server (Running encoding) Shutdown params id is = done id null
+body_has_id meaning no_memory server (Running encoding) Exit params id is = no_method meaning server id
+body_has_id meaning no_memory server (Running encoding) DidOpen params id is = no_method meaning server id
+body_has_id meaning no_memory server (Running encoding) DidChange params id is = no_method meaning server id
+body_has_id meaning no_memory server (Running encoding) DidClose params id is = no_method meaning server id
+body_has_id meaning no_memory server (Running encoding) (Asks question) params id is = question_answers meaning no_memory server encoding question params id is
+body_has_id meaning no_memory server (Running encoding) Unknown params id is = no_method meaning server id
+body_has_id meaning no_memory server Stopped method params id is = refused id InvalidRequest (codes "shutdown came before")
 
-pub answer_has_id : (meaning : Meaning) (server : PlainServer) (method : Method) (params : Option Data) (id : Data) → Answers meaning server id (answer_body meaning server method params id)
-answer_has_id meaning server method params id = body_has_id meaning server server.phase method params id refl
+pub answer_has_id : (meaning : Meaning) (no_memory : Bool) (server : PlainServer) (method : Method) (params : Option Data) (id : Data) → Answers meaning server id (answer_body meaning no_memory server method params id)
+answer_has_id meaning no_memory server method params id = body_has_id meaning no_memory server server.phase method params id refl
 
 -- ---- the text that is named
 
-same_asked : (meaning : Meaning) (encoding : Encoding) (ds es : List PlainDocument) (id : Data) (uri : Option (List ℕ)) (asked : Option Asked)
-    → option_and_then (λ (u : List ℕ). text_of u ds) uri ≡ option_and_then (λ (u : List ℕ). text_of u es) uri → with_asked meaning encoding ds id uri asked ≡ with_asked meaning encoding es id uri asked
-same_asked meaning encoding ds es id None asked same = refl
-same_asked meaning encoding ds es id (Some uri) None same = refl
-same_asked meaning encoding ds es id (Some uri) (Some asked) same = ap (of_text meaning encoding asked uri id) same
+same_asked : (meaning : Meaning) (no_memory : Bool) (encoding : Encoding) (ds es : List PlainDocument) (id : Data) (uri : Option (List ℕ)) (asked : Option Asked)
+    → option_and_then (λ (u : List ℕ). text_of u ds) uri ≡ option_and_then (λ (u : List ℕ). text_of u es) uri → with_asked meaning no_memory encoding ds id uri asked ≡ with_asked meaning no_memory encoding es id uri asked
+same_asked meaning no_memory encoding ds es id None asked same = refl
+same_asked meaning no_memory encoding ds es id (Some uri) None same = refl
+same_asked meaning no_memory encoding ds es id (Some uri) (Some asked) same = ap (of_text meaning no_memory encoding asked uri id) same
 
-same_question : (meaning : Meaning) (encoding : Encoding) (ds es : List PlainDocument) (question : Question) (params : Option Data) (id : Data)
-    → named_text params ds ≡ named_text params es → question_body meaning encoding ds question params id ≡ question_body meaning encoding es question params id
-same_question meaning encoding ds es question None id same = refl
-same_question meaning encoding ds es question (Some d) id same = same_asked meaning encoding ds es id (uri_of d) (asked_of question d) same
+same_question : (meaning : Meaning) (no_memory : Bool) (encoding : Encoding) (ds es : List PlainDocument) (question : Question) (params : Option Data) (id : Data)
+    → named_text params ds ≡ named_text params es → question_body meaning no_memory encoding ds question params id ≡ question_body meaning no_memory encoding es question params id
+same_question meaning no_memory encoding ds es question None id same = refl
+same_question meaning no_memory encoding ds es question (Some d) id same = same_asked meaning no_memory encoding ds es id (uri_of d) (asked_of question d) same
 
-same_body : (meaning : Meaning) (ds es : List PlainDocument) (phase : Phase) (method : Method) (params : Option Data) (id : Data)
-    → named_text params ds ≡ named_text params es → body_in meaning ds phase method params id ≡ body_in meaning es phase method params id
-same_body meaning ds es Fresh method params id same = refl
-same_body meaning ds es (Running encoding) Initialize params id same = refl
-same_body meaning ds es (Running encoding) Shutdown params id same = refl
-same_body meaning ds es (Running encoding) Exit params id same = refl
-same_body meaning ds es (Running encoding) DidOpen params id same = refl
-same_body meaning ds es (Running encoding) DidChange params id same = refl
-same_body meaning ds es (Running encoding) DidClose params id same = refl
-same_body meaning ds es (Running encoding) (Asks question) params id same = same_question meaning encoding ds es question params id same
-same_body meaning ds es (Running encoding) Unknown params id same = refl
-same_body meaning ds es Stopped method params id same = refl
+same_body : (meaning : Meaning) (no_memory : Bool) (ds es : List PlainDocument) (phase : Phase) (method : Method) (params : Option Data) (id : Data)
+    → named_text params ds ≡ named_text params es → body_in meaning no_memory ds phase method params id ≡ body_in meaning no_memory es phase method params id
+same_body meaning no_memory ds es Fresh method params id same = refl
+same_body meaning no_memory ds es (Running encoding) Initialize params id same = refl
+same_body meaning no_memory ds es (Running encoding) Shutdown params id same = refl
+same_body meaning no_memory ds es (Running encoding) Exit params id same = refl
+same_body meaning no_memory ds es (Running encoding) DidOpen params id same = refl
+same_body meaning no_memory ds es (Running encoding) DidChange params id same = refl
+same_body meaning no_memory ds es (Running encoding) DidClose params id same = refl
+same_body meaning no_memory ds es (Running encoding) (Asks question) params id same = same_question meaning no_memory encoding ds es question params id same
+same_body meaning no_memory ds es (Running encoding) Unknown params id same = refl
+same_body meaning no_memory ds es Stopped method params id same = refl
 
-pub same_answer : (meaning : Meaning) (server other : PlainServer) (method : Method) (params : Option Data) (id : Data) → server.phase ≡ other.phase
-    → named_text params server.documents ≡ named_text params other.documents → answer_body meaning server method params id ≡ answer_body meaning other method params id
-same_answer meaning server other method params id phase same =
-    ap (λ (p : Phase). body_in meaning server.documents p method params id) phase ∙ same_body meaning server.documents other.documents other.phase method params id same
+pub same_answer : (meaning : Meaning) (no_memory : Bool) (server other : PlainServer) (method : Method) (params : Option Data) (id : Data) → server.phase ≡ other.phase
+    → named_text params server.documents ≡ named_text params other.documents → answer_body meaning no_memory server method params id ≡ answer_body meaning no_memory other method params id
+same_answer meaning no_memory server other method params id phase same =
+    ap (λ (p : Phase). body_in meaning no_memory server.documents p method params id) phase ∙ same_body meaning no_memory server.documents other.documents other.phase method params id same

@@ -1,19 +1,23 @@
 -- One turn after another.
-use Rattle.std.proofs.Common.{◌≡◌, ◌≢◌, ℕ, List, [], ◌++◌, Option, Some, None, refl, ap, sym, subst, ◌∙◌, append_assoc, append-nil}
+use Rattle.std.proofs.Common.{◌≡◌, ◌≢◌, ℕ, Bool, false, List, [], ◌∷◌, ◌++◌, Option, Some, None, refl, ap, sym, subst, ◌∙◌, append_assoc, append-nil}
 use Rattle.std.specs.Prelude.{IfSome, IfOk, OnOk, OnErr, Result, Ok, Err, ⊤}
 use Rattle.std.specs.Io.KnownBytes.{Appends, IsAtEnd}
 use Rattle.std.proofs.KnownBytes.{Appends-nil, Appends-trans}
 use Rattle.rb_script.specs.Writes.{AppendsFront}
 use Rattle.rb_rpc.specs.Messages.{HasNoMessage, NeverHasMessage}
 use Rattle.rb_rpc.specs.Reading.{LosesMessage}
-use Rattle.rb_rpc.specs.Said.{Said}
+use Rattle.rb_rpc.specs.Said.{Said, request, notification, response, invalid}
+use Rattle.serde_json.specs.Data.{Data}
 use Rattle.rb_server.specs.declared.fault.ServeFault.{ServeFault}
 use Rattle.rb_server.specs.declared.phase.Status.{Status}
 use Rattle.rb_server.specs.declared.phase.Status.TheVariants.{Closed, CutOff, NoMessage}
 use Rattle.rb_server.specs.Meanings.{Meaning}
-use Rattle.rb_server.specs.Replies.{PlainServer, Turned, On, Over, fresh}
+use Rattle.rb_server.specs.Methods.{method_of}
+use Rattle.rb_server.specs.declared.method.Method.{Method}
+use Rattle.rb_server.specs.declared.method.Method.TheVariants.{Initialize, Shutdown, Exit, DidOpen, DidChange, DidClose, Asks, Unknown}
+use Rattle.rb_server.specs.Replies.{PlainServer, Turned, On, Over, fresh, noticed_by, published}
 use Rattle.rb_server.specs.Talk.{Hears, told, goes, Begins, stands, goes_on, exits, closes, cuts_off, strays, nothing, answer, waits, comes}
-use Rattle.rb_server.specs.Serves.{Responds, StartsAnswer, TurnsOut, TurnBreaks, Served, BreaksOff, turned_of}
+use Rattle.rb_server.specs.Serves.{Responds, StartsAnswer, StartsTelling, Tells, TurnsOut, TurnBreaks, Served, BreaksOff, turned_of}
 
 -- ---- writes
 
@@ -30,43 +34,69 @@ then_front old mid new text next wrote front = record {
   appended = Appends-trans old mid new text front.front wrote front.appended;
 }
 
--- a beginning of the text went out, whatever was answered
-pub front_err : {X E : Type 0} (r : Result X E) (old new : Option (List ℕ)) (text : List ℕ) → AppendsFront old new text → OnErr r (AppendsFront old new text)
-front_err (Ok x) old new text front = tt
-front_err (Err e) old new text front = front
+-- what a message has to have went out
+pub tells_by : (meaning : Meaning) (no_memory : Bool) (server : PlainServer) (heard : Option Said) (old new : Option (List ℕ)) (text : List ℕ) → text ≡ told meaning no_memory server heard → Appends old new text → Tells meaning server heard old new
+tells_by meaning no_memory server heard old new text is wrote = record { no_memory = no_memory; wrote = subst (λ (l : List ℕ). Appends old new l) is wrote }
 
-pub none_err : {X E : Type 0} (r : Result X E) (held : Option (List ℕ)) (text : List ℕ) → OnErr r (AppendsFront held held text)
-none_err r held text = front_err r held held text (front_none held text)
+-- a beginning of it, whatever was answered
+pub starts_err : {X E : Type 0} (r : Result X E) (meaning : Meaning) (no_memory : Bool) (server : PlainServer) (heard : Option Said) (old new : Option (List ℕ)) (text : List ℕ)
+    → text ≡ told meaning no_memory server heard → AppendsFront old new text → OnErr r (StartsTelling meaning server heard old new)
+starts_err (Ok x) meaning no_memory server heard old new text is front = tt
+starts_err (Err e) meaning no_memory server heard old new text is front = record { no_memory = no_memory; wrote = subst (λ (l : List ℕ). AppendsFront old new l) is front }
+
+-- and nothing, where it didn't come to that
+pub none_err : {X E : Type 0} (r : Result X E) (meaning : Meaning) (server : PlainServer) (heard : Option Said) (held : Option (List ℕ)) → OnErr r (StartsTelling meaning server heard held held)
+none_err (Ok x) meaning server heard held = tt
+none_err (Err e) meaning server heard held = record { no_memory = false; wrote = front_none held (told meaning false server heard) }
 
 -- ---- a message
 
 pub responds_by : (meaning : Meaning) (server then : PlainServer) (body : List ℕ) (heard : Option Said) (old new : Option (List ℕ)) (r : Result (Option Status) ServeFault) → Hears body heard
-    → IfOk r (λ over. turned_of over then ≡ goes server heard) → OnOk r (Appends old new (told meaning server heard)) → IfOk r (λ over. Responds meaning server body (turned_of over then) old new)
-responds_by meaning server then body heard old new (Ok over) hears is wrote = record { heard = heard; hears = hears; turned_is = is; wrote = wrote }
-responds_by meaning server then body heard old new (Err fault) hears is wrote = tt
+    → IfOk r (λ over. turned_of over then ≡ goes server heard) → OnOk r (Tells meaning server heard old new) → IfOk r (λ over. Responds meaning server body (turned_of over then) old new)
+responds_by meaning server then body heard old new (Ok over) hears is tells = record { heard = heard; hears = hears; turned_is = is; tells = tells }
+responds_by meaning server then body heard old new (Err fault) hears is tells = tt
 
 pub fails_by : (meaning : Meaning) (server : PlainServer) (body : List ℕ) (heard : Option Said) (old new : Option (List ℕ)) (r : Result (Option Status) ServeFault) → Hears body heard
-    → OnErr r (AppendsFront old new (told meaning server heard)) → OnErr r (StartsAnswer meaning server body old new)
-fails_by meaning server body heard old new (Ok turned) hears wrote = tt
-fails_by meaning server body heard old new (Err fault) hears wrote = record { text = told meaning server heard; may = answer server body heard hears; wrote = wrote }
+    → OnErr r (StartsTelling meaning server heard old new) → OnErr r (StartsAnswer meaning server body old new)
+fails_by meaning server body heard old new (Ok turned) hears s = tt
+fails_by meaning server body heard old new (Err fault) hears s = record { text = told meaning s.no_memory server heard; may = answer server body heard s.no_memory hears; wrote = s.wrote }
 
 pub says_nothing : (meaning : Meaning) (server : PlainServer) (body : List ℕ) (held : Option (List ℕ)) → StartsAnswer meaning server body held held
 says_nothing meaning server body held = record { text = []; may = nothing server body; wrote = front_none held [] }
 
 -- ---- a turn
 
+-- where a message ends the server, what goes out doesn't depend on memory
+published_over : (meaning : Meaning) (no_memory : Bool) (server : PlainServer) (method : Method) (params : Option Data) (status : Status) → noticed_by server method params ≡ Over status
+    → published meaning no_memory server method params ≡ published meaning false server method params
+published_over meaning no_memory server Initialize params status over = absurd cc
+published_over meaning no_memory server Shutdown params status over = absurd cc
+published_over meaning no_memory server Exit params status over = refl
+published_over meaning no_memory server DidOpen params status over = absurd cc
+published_over meaning no_memory server DidChange params status over = absurd cc
+published_over meaning no_memory server DidClose params status over = absurd cc
+published_over meaning no_memory server (Asks question) params status over = absurd cc
+published_over meaning no_memory server Unknown params status over = absurd cc
+
+told_over : (meaning : Meaning) (no_memory : Bool) (server : PlainServer) (heard : Option Said) (status : Status) → goes server heard ≡ Over status → told meaning no_memory server heard ≡ told meaning false server heard
+told_over meaning no_memory server None status over = refl
+told_over meaning no_memory server (Some (request id method params)) status over = absurd cc
+told_over meaning no_memory server (Some (notification method params)) status over = published_over meaning no_memory server (method_of method) params status over
+told_over meaning no_memory server (Some response) status over = refl
+told_over meaning no_memory server (Some invalid) status over = refl
+
 takes_by : (meaning : Meaning) (server : PlainServer) (turned : Turned) (before left old new : Option (List ℕ)) (body : List ℕ) → LosesMessage before left body → Responds meaning server body turned old new
     → TurnsOut meaning server turned before left old new
 takes_by meaning server (On next) None left old new body loses r = tt
 takes_by meaning server (On next) (Some all) None old new body loses r = absurd loses
 takes_by meaning server (On next) (Some all) (Some rest) old new body loses r =
-    record { body = body; rest = rest; heard = r.heard; left_is = refl; message = loses; hears = r.hears; next_is = sym r.turned_is; wrote = r.wrote }
+    record { body = body; rest = rest; heard = r.heard; left_is = refl; message = loses; hears = r.hears; next_is = sym r.turned_is; tells = r.tells }
 takes_by meaning server (Over status) None left old new body loses r = tt
 takes_by meaning server (Over status) (Some all) None old new body loses r = absurd loses
 takes_by meaning server (Over status) (Some all) (Some rest) old new body loses r = record {
-  text = told meaning server r.heard;
+  text = told meaning false server r.heard;
   ends = exits server status all body rest r.heard loses r.hears (sym r.turned_is);
-  wrote = r.wrote;
+  wrote = subst (λ (l : List ℕ). Appends old new l) (told_over meaning r.tells.no_memory server r.heard status (sym r.turned_is)) r.tells.wrote;
 }
 
 -- a message came
@@ -112,14 +142,18 @@ stray_by meaning server (Some all) left held never = record { text = []; ends = 
 
 -- what was answered so far begins a conversation over all, whatever follows
 pub record SoFar (meaning : Meaning) (all : List ℕ) (server : PlainServer) (left old new : Option (List ℕ)) : Type 0 where
+  pub refusals : List Bool
   pub text : List ℕ
   pub rest : List ℕ
   pub left_is : left ≡ Some rest
   pub wrote : Appends old new text
-  pub begins : (last : PlainServer) (end more : List ℕ) → Begins meaning server rest last end more → Begins meaning fresh all last end (text ++ more)
+  pub begins : (later : List Bool) (last : PlainServer) (end more : List ℕ) → Begins meaning server rest later last end more → Begins meaning fresh all (refusals ++ later) last end (text ++ more)
 
-begun : (meaning : Meaning) (all : List ℕ) (server : PlainServer) (left old new : Option (List ℕ)) (far : SoFar meaning all server left old new) → Begins meaning fresh all server far.rest far.text
-begun meaning all server left old new far = subst (λ (l : List ℕ). Begins meaning fresh all server far.rest l) (append-nil far.text) (far.begins server far.rest [] (stands server far.rest))
+begun : (meaning : Meaning) (all : List ℕ) (server : PlainServer) (left old new : Option (List ℕ)) (far : SoFar meaning all server left old new) → Begins meaning fresh all far.refusals server far.rest far.text
+begun meaning all server left old new far =
+    let whole = far.begins [] server far.rest [] (stands server far.rest) in
+    subst (λ (l : List ℕ). Begins meaning fresh all far.refusals server far.rest l) (append-nil far.text)
+    (subst (λ (r : List Bool). Begins meaning fresh all r server far.rest (far.text ++ [])) (append-nil far.refusals) whole)
 
 abbrev pub Far : Meaning → Option (List ℕ) → PlainServer → Option (List ℕ) → Option (List ℕ) → Option (List ℕ) → Type 0
 Far meaning None server left old new = ⊤
@@ -127,25 +161,29 @@ Far meaning (Some all) server left old new = SoFar meaning all server left old n
 
 pub far_none : (meaning : Meaning) (first left held : Option (List ℕ)) → left ≡ first → Far meaning first fresh left held held
 far_none meaning None left held is = tt
-far_none meaning (Some all) left held is = record { text = []; rest = all; left_is = is; wrote = Appends-nil held; begins = λ last end more b. b }
+far_none meaning (Some all) left held is = record { refusals = []; text = []; rest = all; left_is = is; wrote = Appends-nil held; begins = λ later last end more b. b }
 
 pub far_more : (meaning : Meaning) (first left after old mid new : Option (List ℕ)) (server next : PlainServer) → Far meaning first server left old mid → TurnsOut meaning server (On next) left after mid new → Far meaning first next after old new
 far_more meaning None left after old mid new server next far turned = tt
 far_more meaning (Some all) left after old mid new server next far turned =
     let t = subst (λ (l : Option (List ℕ)). TurnsOut meaning server (On next) l after mid new) far.left_is turned in
-    let piece = told meaning server t.heard in record {
+    let none = t.tells.no_memory in
+    let piece = told meaning none server t.heard in record {
+      refusals = far.refusals ++ none ∷ [];
       text = far.text ++ piece;
       rest = t.rest;
       left_is = t.left_is;
-      wrote = Appends-trans old mid new far.text piece far.wrote t.wrote;
-      begins = λ last end more b. subst (λ (l : List ℕ). Begins meaning fresh all last end l) (sym (append_assoc far.text piece more))
-          (far.begins last end (piece ++ more) (goes_on server next last far.rest t.body t.rest end more t.heard t.message t.hears t.next_is b));
+      wrote = Appends-trans old mid new far.text piece far.wrote t.tells.wrote;
+      begins = λ later last end more b. subst (λ (l : List ℕ). Begins meaning fresh all ((far.refusals ++ none ∷ []) ++ later) last end l) (sym (append_assoc far.text piece more))
+          (subst (λ (r : List Bool). Begins meaning fresh all r last end (far.text ++ (piece ++ more))) (sym (append_assoc far.refusals (none ∷ []) later))
+          (far.begins (none ∷ later) last end (piece ++ more) (goes_on server next last far.rest t.body t.rest end more t.heard none later t.message t.hears t.next_is b)));
     }
 
 pub far_over : (meaning : Meaning) (first left after old mid new : Option (List ℕ)) (server : PlainServer) (status : Status) → Far meaning first server left old mid → TurnsOut meaning server (Over status) left after mid new → Served meaning first status old new
 far_over meaning None left after old mid new server status far turned = tt
 far_over meaning (Some all) left after old mid new server status far turned =
     let e = subst (λ (l : Option (List ℕ)). TurnsOut meaning server (Over status) l after mid new) far.left_is turned in record {
+      refusals = far.refusals;
       text = far.text ++ e.text;
       talks = record { last = server; left = far.rest; answers = far.text; ending = e.text; begins = begun meaning all server left old mid far; ends = e.ends; text_is = refl };
       wrote = Appends-trans old mid new far.text e.text far.wrote e.wrote;
@@ -155,6 +193,7 @@ pub far_broken : (meaning : Meaning) (first left old mid new : Option (List ℕ)
 far_broken meaning None left old mid new server far broken = tt
 far_broken meaning (Some all) left old mid new server far broken =
     let s = subst (λ (l : Option (List ℕ)). TurnBreaks meaning server l mid new) far.left_is broken in record {
+      refusals = far.refusals;
       last = server;
       left = far.rest;
       answers = far.text;

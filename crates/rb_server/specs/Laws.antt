@@ -1,10 +1,10 @@
 -- What holds of all answers, of what is published, and of conversations.
-use Rattle.std.specs.Prelude.{◌≡◌, ◌⊎◌, ℕ, List, [], Option, Some, None}
+use Rattle.std.specs.Prelude.{◌≡◌, ◌⊎◌, ℕ, Bool, true, false, List, [], Option, Some, None}
 use Rattle.serde_json.specs.Data.{Data}
 use Rattle.serde_json.specs.Written.{compact_text}
 use Rattle.rb_document.specs.declared.position.Encoding.{Encoding}
 use Rattle.rb_rpc.specs.Messages.{frame}
-use Rattle.rb_rpc.specs.Said.{request, notification, response}
+use Rattle.rb_rpc.specs.Said.{Said, request, notification, response}
 use Rattle.rb_rpc.specs.Answers.{success, failure}
 use Rattle.rb_rpc.specs.declared.answer.ErrorCode.{ErrorCode}
 use Rattle.rb_server.specs.declared.phase.Phase.TheVariants.{Running}
@@ -12,8 +12,8 @@ use Rattle.rb_server.specs.declared.phase.Status.{Status}
 use Rattle.rb_server.specs.declared.asked.Asked.{Asked}
 use Rattle.rb_server.specs.Documents.{text_of}
 use Rattle.rb_server.specs.Meanings.{Meaning}
-use Rattle.rb_server.specs.Questions.{answer_text, body_text, named_text}
-use Rattle.rb_server.specs.Notices.{publication}
+use Rattle.rb_server.specs.Questions.{answer_text, body_text, named_text, no_memory_for}
+use Rattle.rb_server.specs.Notices.{list_publication, no_memory_list, publication}
 use Rattle.rb_server.specs.Replies.{PlainServer, On, reply, told_of, turned_by}
 use Rattle.rb_server.specs.Talk.{Talks}
 
@@ -26,38 +26,48 @@ pub data Answers (meaning : Meaning) (server : PlainServer) : Data → List ℕ 
 
 -- each request has one answer
 abbrev pub RequestsHaveOneAnswer : Type 0
-RequestsHaveOneAnswer = (meaning : Meaning) (server : PlainServer) (id : Data) (method : List ℕ) (params : Option Data)
-    → (answer : List ℕ) × (reply meaning server (request id method params) ≡ Some answer) × Answers meaning server id answer
+RequestsHaveOneAnswer = (meaning : Meaning) (no_memory : Bool) (server : PlainServer) (id : Data) (method : List ℕ) (params : Option Data)
+    → (answer : List ℕ) × (reply meaning no_memory server (request id method params) ≡ Some answer) × Answers meaning server id answer
 
 -- a notification has none, and neither has an answer
 abbrev pub NotificationsHaveNoAnswer : Type 0
-NotificationsHaveNoAnswer = (meaning : Meaning) (server : PlainServer)
-    → ((method : List ℕ) (params : Option Data) → reply meaning server (notification method params) ≡ None) × (reply meaning server response ≡ None)
+NotificationsHaveNoAnswer = (meaning : Meaning) (no_memory : Bool) (server : PlainServer)
+    → ((method : List ℕ) (params : Option Data) → reply meaning no_memory server (notification method params) ≡ None) × (reply meaning no_memory server response ≡ None)
 
 -- whatever was sent before, and whatever else is open: what is answered to a request depends on where the server stands, and on the text, as it
 -- stands, of the document that the request names
 abbrev pub TextsAreAnswered : Type 0
-TextsAreAnswered = (meaning : Meaning) (server other : PlainServer) (id : Data) (method : List ℕ) (params : Option Data)
+TextsAreAnswered = (meaning : Meaning) (no_memory : Bool) (server other : PlainServer) (id : Data) (method : List ℕ) (params : Option Data)
     → server.phase ≡ other.phase → named_text params server.documents ≡ named_text params other.documents
-    → told_of meaning server (request id method params) ≡ told_of meaning other (request id method params)
+    → told_of meaning no_memory server (request id method params) ≡ told_of meaning no_memory other (request id method params)
 
 -- the text of an answer, whose result is the text of a value, is that of an answer with the value
 abbrev pub ResultsStandInAnswers : Type 0
 ResultsStandInAnswers = (id result : Data) → answer_text id (compact_text result) ≡ body_text (success id result)
 
--- the diagnostics of a document's text as it stands go out, and nothing else
-pub record Publishes (meaning : Meaning) (server : PlainServer) (text : List ℕ) : Type 0 where
+-- the diagnostics of a document's text as it stands go out, or the one that says that memory was refused, where it was, and nothing else
+pub record Publishes (meaning : Meaning) (no_memory : Bool) (server : PlainServer) (text : List ℕ) : Type 0 where
   pub encoding : Encoding
   pub uri : List ℕ
   pub version : Option ℕ
   pub running : server.phase ≡ Running encoding
-  pub text_is : text ≡ frame (publication meaning encoding uri version (text_of uri server.documents))
+  pub text_is : text ≡ frame (publication meaning no_memory encoding uri version (text_of uri server.documents))
 
 -- whatever was sent before: what goes out for a notification are the diagnostics of a text as it then stands
 abbrev pub TextsAreDiagnosed : Type 0
-TextsAreDiagnosed = (meaning : Meaning) (server next : PlainServer) (method : List ℕ) (params : Option Data)
-    → turned_by server (notification method params) ≡ On next → (told_of meaning server (notification method params) ≡ []) ⊎ Publishes meaning next (told_of meaning server (notification method params))
+TextsAreDiagnosed = (meaning : Meaning) (no_memory : Bool) (server next : PlainServer) (method : List ℕ) (params : Option Data)
+    → turned_by server (notification method params) ≡ On next
+    → (told_of meaning no_memory server (notification method params) ≡ []) ⊎ Publishes meaning no_memory next (told_of meaning no_memory server (notification method params))
 
--- what is written depends on the bytes alone
+-- What goes out says that memory was refused: for a notification the one diagnostic of a document, and for a request an error with its id.
+pub data TellsRefusal : Said → List ℕ → Type 0 where
+  of_document : (method : List ℕ) (params : Option Data) (uri : List ℕ) (version : Option ℕ) → TellsRefusal (notification method params) (frame (list_publication uri version no_memory_list))
+  of_request : (id : Data) (method : List ℕ) (params : Option Data) → TellsRefusal (request id method params) (frame (body_text (no_memory_for id)))
+
+-- where memory is refused for what a message asks of a text, that is said, and nothing else changes
+abbrev pub RefusalsAreTold : Type 0
+RefusalsAreTold = (meaning : Meaning) (server : PlainServer) (what : Said) → (told_of meaning true server what ≡ told_of meaning false server what) ⊎ TellsRefusal what (told_of meaning true server what)
+
+-- what is written depends on the bytes alone, and on the messages for which memory was refused
 abbrev pub ConversationsAreOne : Type 0
-ConversationsAreOne = (meaning : Meaning) (all : List ℕ) (s t : Status) (x y : List ℕ) → Talks meaning all s x → Talks meaning all t y → x ≡ y
+ConversationsAreOne = (meaning : Meaning) (all : List ℕ) (refusals : List Bool) (s t : Status) (x y : List ℕ) → Talks meaning all refusals s x → Talks meaning all refusals t y → x ≡ y

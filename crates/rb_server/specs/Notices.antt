@@ -1,6 +1,6 @@
 -- Notifications of documents, and what is published of each: the diagnostics of its text as it stands. (LSP 3.17, "PublishDiagnostics
 -- Notification".)
-use Rattle.std.specs.Prelude.{ℕ, if◌then◌else◌, List, [], ◌++◌, Option, Some, None, codes, decimal}
+use Rattle.std.specs.Prelude.{ℕ, Bool, if◌then◌else◌, List, [], ◌++◌, Option, Some, None, codes, decimal}
 use Rattle.std.specs.List.{flat_map}
 use Rattle.serde_json.specs.Data.{Data}
 use Rattle.rb_document.specs.declared.position.Encoding.{Encoding}
@@ -22,17 +22,25 @@ unfoldable pub middle_text : Option ℕ → List ℕ
 middle_text None = codes ",\"diagnostics\":"
 middle_text (Some n) = codes ",\"version\":" ++ (decimal n ++ codes ",\"diagnostics\":")
 
--- those of the text of a document that is open, and else none
-abbrev pub list_text : Meaning → Encoding → List ℕ → Option (List ℕ) → List ℕ
-list_text meaning encoding uri None = codes "[]"
-list_text meaning encoding uri (Some text) = meaning.diagnose encoding uri text
+-- one of the whole first line, which says that memory was refused (LSP 3.17, "Diagnostic"; the code and the sentence are this project's)
+unfoldable pub no_memory_list : List ℕ
+no_memory_list =
+    codes "[{\"range\":{\"start\":{\"line\":0,\"character\":0},\"end\":{\"line\":1,\"character\":0}},\"severity\":1,\"code\":\"no-memory\",\"source\":\"raftbench\",\"message\":\"no memory for a run of this script\"}]"
+
+-- Those of the text of a document that is open, or the one that says that memory was refused, where it was; and else none.
+abbrev pub list_text : Meaning → Bool → Encoding → List ℕ → Option (List ℕ) → List ℕ
+list_text meaning no_memory encoding uri None = codes "[]"
+list_text meaning no_memory encoding uri (Some text) = if no_memory then no_memory_list else meaning.diagnose encoding uri text
 
 unfoldable pub head_text : List ℕ → List ℕ
 head_text uri = codes "{\"jsonrpc\":\"2.0\",\"method\":\"textDocument/publishDiagnostics\",\"params\":{\"uri\":\"" ++ (flat_map escaped uri ++ codes "\"")
 
-unfoldable pub publication : Meaning → Encoding → List ℕ → Option ℕ → Option (List ℕ) → List ℕ
-publication meaning encoding uri version text =
-    head_text uri ++ (middle_text version ++ (list_text meaning encoding uri text ++ codes "}}"))
+-- with this list
+unfoldable pub list_publication : List ℕ → Option ℕ → List ℕ → List ℕ
+list_publication uri version list = head_text uri ++ (middle_text version ++ (list ++ codes "}}"))
+
+abbrev pub publication : Meaning → Bool → Encoding → List ℕ → Option ℕ → Option (List ℕ) → List ℕ
+publication meaning no_memory encoding uri version text = list_publication uri version (list_text meaning no_memory encoding uri text)
 
 -- ---- a notification
 
@@ -59,7 +67,7 @@ documents_after None ds = ds
 documents_after (Some n) ds = kept n.uri (text_after n.encoding n.method n.given (text_of n.uri ds)) (closed n.uri ds)
 
 -- what goes out, where these are the documents after it
-abbrev pub notice_text : Meaning → Option Notice → List PlainDocument → List ℕ
-notice_text meaning None ds = []
-notice_text meaning (Some n) ds =
-    frame (publication meaning n.encoding n.uri (number_below (codes "textDocument") (codes "version") n.given) (text_of n.uri ds))
+abbrev pub notice_text : Meaning → Bool → Option Notice → List PlainDocument → List ℕ
+notice_text meaning no_memory None ds = []
+notice_text meaning no_memory (Some n) ds =
+    frame (publication meaning no_memory n.encoding n.uri (number_below (codes "textDocument") (codes "version") n.given) (text_of n.uri ds))

@@ -1,12 +1,12 @@
 -- What is asked of a document, and what is answered. (LSP 3.17, "Language Features"; JSON-RPC 2.0, section 5. The sentences are this
 -- project's.)
-use Rattle.std.specs.Prelude.{ℕ, List, ◌++◌, Option, Some, None, codes, option_map, option_and_then}
+use Rattle.std.specs.Prelude.{ℕ, Bool, if◌then◌else◌, List, ◌++◌, Option, Some, None, codes, option_map, option_and_then}
 use Rattle.serde_json.specs.Data.{Data}
 use Rattle.serde_json.specs.Written.{compact_text}
 use Rattle.rb_document.specs.declared.position.Encoding.{Encoding}
 use Rattle.rb_rpc.specs.Answers.{failure}
 use Rattle.rb_rpc.specs.Params.{position_at, range_at, text_below}
-use Rattle.rb_rpc.specs.declared.answer.ErrorCode.TheVariants.{InvalidParams}
+use Rattle.rb_rpc.specs.declared.answer.ErrorCode.TheVariants.{InvalidParams, InternalError}
 use Rattle.rb_server.specs.declared.asked.Asked.{Asked}
 use Rattle.rb_server.specs.declared.asked.Asked.TheVariants as asks
 use Rattle.rb_server.specs.declared.method.Question.{Question}
@@ -45,21 +45,26 @@ unfit id = failure id InvalidParams (codes "the method takes other params")
 unfoldable pub not_open : Data → Data
 not_open id = failure id InvalidParams (codes "the document isn't open")
 
+-- where memory is refused for it
+unfoldable pub no_memory_for : Data → Data
+no_memory_for id = failure id InternalError (codes "no memory for an answer")
+
 -- of a document, whose text this is where it is open
-abbrev pub of_text : Meaning → Encoding → Asked → List ℕ → Data → Option (List ℕ) → List ℕ
-of_text meaning encoding asked uri id None = body_text (not_open id)
-of_text meaning encoding asked uri id (Some text) = answer_text id (meaning.answer encoding asked uri text)
+abbrev pub of_text : Meaning → Bool → Encoding → Asked → List ℕ → Data → Option (List ℕ) → List ℕ
+of_text meaning no_memory encoding asked uri id None = body_text (not_open id)
+of_text meaning no_memory encoding asked uri id (Some text) =
+    if no_memory then body_text (no_memory_for id) else answer_text id (meaning.answer encoding asked uri text)
 
 -- of the document that is named, and what is asked of it
-abbrev pub with_asked : Meaning → Encoding → List PlainDocument → Data → Option (List ℕ) → Option Asked → List ℕ
-with_asked meaning encoding ds id None asked = body_text (unfit id)
-with_asked meaning encoding ds id (Some uri) None = body_text (unfit id)
-with_asked meaning encoding ds id (Some uri) (Some asked) = of_text meaning encoding asked uri id (text_of uri ds)
+abbrev pub with_asked : Meaning → Bool → Encoding → List PlainDocument → Data → Option (List ℕ) → Option Asked → List ℕ
+with_asked meaning no_memory encoding ds id None asked = body_text (unfit id)
+with_asked meaning no_memory encoding ds id (Some uri) None = body_text (unfit id)
+with_asked meaning no_memory encoding ds id (Some uri) (Some asked) = of_text meaning no_memory encoding asked uri id (text_of uri ds)
 
 -- of what is given to the method
-abbrev pub question_body : Meaning → Encoding → List PlainDocument → Question → Option Data → Data → List ℕ
-question_body meaning encoding ds question None id = body_text (unfit id)
-question_body meaning encoding ds question (Some d) id = with_asked meaning encoding ds id (uri_of d) (asked_of question d)
+abbrev pub question_body : Meaning → Bool → Encoding → List PlainDocument → Question → Option Data → Data → List ℕ
+question_body meaning no_memory encoding ds question None id = body_text (unfit id)
+question_body meaning no_memory encoding ds question (Some d) id = with_asked meaning no_memory encoding ds id (uri_of d) (asked_of question d)
 
 -- the text of the document that is named, where it is open
 abbrev pub named_text : Option Data → List PlainDocument → Option (List ℕ)

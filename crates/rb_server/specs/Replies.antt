@@ -1,6 +1,6 @@
 -- What a server answers and publishes, and where it stands after that. (LSP 3.17, "Server lifecycle"; JSON-RPC 2.0, section 5.1. The
 -- sentences are this project's.)
-use Rattle.std.specs.Prelude.{ℕ, List, [], Option, Some, None, codes}
+use Rattle.std.specs.Prelude.{ℕ, Bool, List, [], Option, Some, None, codes}
 use Rattle.serde_json.specs.Data.{Data, null}
 use Rattle.rb_document.specs.declared.position.Encoding.{Encoding}
 use Rattle.rb_rpc.specs.Messages.{frame}
@@ -58,19 +58,19 @@ unfoldable pub no_json : Data
 no_json = failure null ParseError (codes "this is no JSON")
 
 -- to a request: of a document, between `initialize` and `shutdown`, or of none
-abbrev pub body_in : Meaning → List PlainDocument → Phase → Method → Option Data → Data → List ℕ
-body_in meaning ds (Running encoding) (Asks question) params id = question_body meaning encoding ds question params id
-body_in meaning ds phase method params id = body_text (answer_to phase method params id)
+abbrev pub body_in : Meaning → Bool → List PlainDocument → Phase → Method → Option Data → Data → List ℕ
+body_in meaning no_memory ds (Running encoding) (Asks question) params id = question_body meaning no_memory encoding ds question params id
+body_in meaning no_memory ds phase method params id = body_text (answer_to phase method params id)
 
-abbrev pub answer_body : Meaning → PlainServer → Method → Option Data → Data → List ℕ
-answer_body meaning server method params id = body_in meaning server.documents server.phase method params id
+abbrev pub answer_body : Meaning → Bool → PlainServer → Method → Option Data → Data → List ℕ
+answer_body meaning no_memory server method params id = body_in meaning no_memory server.documents server.phase method params id
 
 -- to a request one answer, to a notification none
-abbrev pub reply : Meaning → PlainServer → Said → Option (List ℕ)
-reply meaning server (request id method params) = Some (answer_body meaning server (method_of method) params id)
-reply meaning server (notification method params) = None
-reply meaning server response = None
-reply meaning server invalid = Some (body_text no_message)
+abbrev pub reply : Meaning → Bool → PlainServer → Said → Option (List ℕ)
+reply meaning no_memory server (request id method params) = Some (answer_body meaning no_memory server (method_of method) params id)
+reply meaning no_memory server (notification method params) = None
+reply meaning no_memory server response = None
+reply meaning no_memory server invalid = Some (body_text no_message)
 
 -- what goes out
 unfoldable pub sent : Option (List ℕ) → List ℕ
@@ -127,10 +127,12 @@ turned_by server invalid = On server
 -- ---- what goes out
 
 -- of a notification: what it makes of a document is published
-abbrev pub published : Meaning → PlainServer → Method → Option Data → List ℕ
-published meaning server Exit params = []
-published meaning server method params = notice_text meaning (notice_of server.phase method params) (with_notice server method params).documents
+abbrev pub published : Meaning → Bool → PlainServer → Method → Option Data → List ℕ
+published meaning no_memory server Exit params = []
+published meaning no_memory server method params =
+    notice_text meaning no_memory (notice_of server.phase method params) (with_notice server method params).documents
 
-abbrev pub told_of : Meaning → PlainServer → Said → List ℕ
-told_of meaning server (notification method params) = published meaning server (method_of method) params
-told_of meaning server what = sent (reply meaning server what)
+-- Of any message, where memory is refused for what it asks of a text, or isn't. Where the server stands then is the same.
+abbrev pub told_of : Meaning → Bool → PlainServer → Said → List ℕ
+told_of meaning no_memory server (notification method params) = published meaning no_memory server (method_of method) params
+told_of meaning no_memory server what = sent (reply meaning no_memory server what)

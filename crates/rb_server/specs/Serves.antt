@@ -1,5 +1,5 @@
 -- What goes out of a conversation. (This project's.)
-use Rattle.std.specs.Prelude.{◌≡◌, ℕ, List, ◌++◌, Option, Some, None, IfSome}
+use Rattle.std.specs.Prelude.{◌≡◌, ℕ, Bool, List, ◌++◌, Option, Some, None, IfSome}
 use Rattle.std.specs.Io.KnownBytes.{Appends}
 use Rattle.rb_script.specs.Writes.{AppendsFront}
 use Rattle.rb_rpc.specs.Messages.{IsMessage}
@@ -16,14 +16,22 @@ turned_of (Some status) server = Over status
 
 -- ---- one message
 
--- what it has to have goes out
+-- what it has to have goes out, where memory was refused for it, or wasn't
+pub record Tells (meaning : Meaning) (server : PlainServer) (heard : Option Said) (old new : Option (List ℕ)) : Type 0 where
+  pub no_memory : Bool
+  pub wrote : Appends old new (told meaning no_memory server heard)
+
 pub record Responds (meaning : Meaning) (server : PlainServer) (body : List ℕ) (turned : Turned) (old new : Option (List ℕ)) : Type 0 where
   pub heard : Option Said
   pub hears : Hears body heard
   pub turned_is : turned ≡ goes server heard
-  pub wrote : Appends old new (told meaning server heard)
+  pub tells : Tells meaning server heard old new
 
 -- a beginning of it went out
+pub record StartsTelling (meaning : Meaning) (server : PlainServer) (heard : Option Said) (old new : Option (List ℕ)) : Type 0 where
+  pub no_memory : Bool
+  pub wrote : AppendsFront old new (told meaning no_memory server heard)
+
 pub record StartsAnswer (meaning : Meaning) (server : PlainServer) (body : List ℕ) (old new : Option (List ℕ)) : Type 0 where
   pub text : List ℕ
   pub may : MayAnswer meaning server body text
@@ -40,7 +48,7 @@ pub record Takes (meaning : Meaning) (server next : PlainServer) (all : List ℕ
   pub message : IsMessage all body rest
   pub hears : Hears body heard
   pub next_is : goes server heard ≡ On next
-  pub wrote : Appends old new (told meaning server heard)
+  pub tells : Tells meaning server heard old new
 
 -- the end of a conversation goes out
 pub record GoesOut (meaning : Meaning) (server : PlainServer) (all : List ℕ) (status : Status) (old new : Option (List ℕ)) : Type 0 where
@@ -65,8 +73,9 @@ TurnBreaks meaning server before old new = IfSome before (λ all. Starts meaning
 -- ---- all
 
 pub record TalksOut (meaning : Meaning) (all : List ℕ) (status : Status) (old new : Option (List ℕ)) : Type 0 where
+  pub refusals : List Bool
   pub text : List ℕ
-  pub talks : Talks meaning all status text
+  pub talks : Talks meaning all refusals status text
   pub wrote : Appends old new text
 
 -- the whole conversation over the bytes that come in goes out
@@ -75,11 +84,12 @@ Served meaning before status old new = IfSome before (λ all. TalksOut meaning a
 
 -- a beginning of it: what some messages have to have, and a beginning of that for the next
 pub record StartsOut (meaning : Meaning) (all : List ℕ) (old new : Option (List ℕ)) : Type 0 where
+  pub refusals : List Bool
   pub last : PlainServer
   pub left : List ℕ
   pub answers : List ℕ
   pub next : List ℕ
-  pub begins : Begins meaning fresh all last left answers
+  pub begins : Begins meaning fresh all refusals last left answers
   pub may : MayCome meaning last left next
   pub wrote : AppendsFront old new (answers ++ next)
 

@@ -3,6 +3,7 @@
 ghost use Rattle.std.specs.Prelude.{◌≡◌, false, IfOk, option_map};
 ghost use Rattle.serde_json.specs.View.{view};
 ghost use Rattle.serde_json.specs.Written.{has_float};
+ghost use Rattle.rb_rpc.specs.Messages.{frame};
 ghost use Rattle.rb_server.specs.Questions.{body_text};
 ghost use Rattle.rb_server.specs.Replies.{after, answer_to, body_in, fresh_answer, initialize_answer, no_json, no_message, running_answer};
 
@@ -10,8 +11,9 @@ use crate::beginning::{chosen_encoding, initialized};
 use crate::documents::Documents;
 use crate::method::Method;
 use crate::phase::Phase;
-use crate::question::{body_text, question_body};
+use crate::question::question_told;
 use crate::service::Service;
+use crate::told::{Told, framed_answer};
 use rb_document::Encoding;
 use rb_rpc::{ErrorCode, failure, success};
 use serde_json::Value;
@@ -89,8 +91,8 @@ fn answer_to(
     }
 }
 
-/// The text of the answer to a request, where these documents are open.
-pub(crate) fn answer_body<V: Service>(
+/// The answer to a request, where these documents are open.
+pub(crate) fn answer_told<V: Service>(
     alloc: Global,
     service: &mut V,
     documents: &Documents,
@@ -98,20 +100,20 @@ pub(crate) fn answer_body<V: Service>(
     method: Method,
     params: Option<&Value>,
     id: &Value,
-) -> Result<Vec<u8>, AllocError>
+) -> Result<Told, AllocError>
     requires { has_float (view id.now) ≡ false }
-    ensures { IfOk result (λ body. body.items ≡ body_in V.meaning documents.now phase method (option_map (λ v. view v.now) params.entry) (view id.now)) }
+    ensures { IfOk result (λ told. told.out.items ≡ frame (body_in V.meaning told.has_no_memory documents.now phase method (option_map (λ v. view v.now) params.entry) (view id.now))) }
 {
     match (phase, method) {
-        (Phase::Running(encoding), Method::Asks(question)) => question_body(
+        (Phase::Running(encoding), Method::Asks(question)) => question_told(
             alloc, service, documents, encoding, question, params, id,
         ),
-        _ => own_body(alloc, phase, method, params, id),
+        _ => Ok(Told::whole(own_answer(alloc, phase, method, params, id)?)),
     }
 }
 
-// The text of the answer to a request of no document.
-fn own_body(
+// The answer to a request of no document, as it goes out.
+fn own_answer(
     alloc: Global,
     phase: Phase,
     method: Method,
@@ -119,10 +121,10 @@ fn own_body(
     id: &Value,
 ) -> Result<Vec<u8>, AllocError>
     requires { has_float (view id.now) ≡ false }
-    ensures { IfOk result (λ body. body.items ≡ body_text (answer_to phase method (option_map (λ v. view v.now) params.entry) (view id.now))) }
+    ensures { IfOk result (λ out. out.items ≡ frame (body_text (answer_to phase method (option_map (λ v. view v.now) params.entry) (view id.now)))) }
 {
     let answer = answer_to(alloc, phase, method, params, id)?;
-    body_text(alloc, &answer)
+    framed_answer(alloc, &answer)
 }
 
 /// Where a server stands after a request.

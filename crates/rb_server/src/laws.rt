@@ -1,6 +1,6 @@
 //! Laws of answers, of what is published, and of conversations, for whoever reads the contracts. No call does anything.
 
-ghost use Rattle.rb_server.specs.Laws.{ConversationsAreOne, NotificationsHaveNoAnswer, RequestsHaveOneAnswer, ResultsStandInAnswers, TextsAreAnswered, TextsAreDiagnosed};
+ghost use Rattle.rb_server.specs.Laws.{ConversationsAreOne, NotificationsHaveNoAnswer, RefusalsAreTold, RequestsHaveOneAnswer, ResultsStandInAnswers, TextsAreAnswered, TextsAreDiagnosed};
 
 /// Wherever the server stands, a request has one answer, which has the request's id.
 pub fn requests_have_one_answer()
@@ -23,12 +23,18 @@ pub fn results_stand_in_answers()
     ensures { ResultsStandInAnswers }
 {}
 
-/// Bytes have one conversation: whatever pieces they come in, the same is written.
+/// Where memory is refused for what a message asks of a text, one diagnostic or an error says so, and nothing else changes.
+pub fn refusals_are_told()
+    ensures { RefusalsAreTold }
+{}
+
+/// Bytes have one conversation: whatever pieces they come in, the same is written, where memory is refused for the same messages.
 pub fn conversations_are_one()
     ensures { ConversationsAreOne }
 {}
 
-/// Whatever was sent before: what goes out for a notification are the diagnostics of a document's text as it then stands.
+/// Whatever was sent before: what goes out for a notification are the diagnostics of a document's text as it then stands, or the one that
+/// says that memory was refused for them.
 pub fn texts_are_diagnosed()
     ensures { TextsAreDiagnosed }
 {}

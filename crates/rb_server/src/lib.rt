@@ -5,6 +5,8 @@
 //! open, publishes the diagnostics of each as it changes, and answers what is [`Asked`] of one. What documents mean, a [`Service`] knows. What
 //! each message is answered, what is published for it, and where the server stands then, depends on the message and on where it stood before.
 //!
+//! Where memory is refused for what is said of a text, that is said: by one diagnostic, or by an error for a request. The server goes on.
+//!
 //! [`Source`]: rb_line::Source
 //! [`Sink`]: rb_script::Sink
 #![tactic(auto)]
@@ -24,12 +26,13 @@ mod question;
 mod server;
 mod service;
 mod serving;
+mod told;
 
 pub use asked::Asked;
 pub use fault::ServeFault;
 pub use laws::{
-    conversations_are_one, notifications_have_no_answer, requests_have_one_answer,
-    results_stand_in_answers, texts_are_answered, texts_are_diagnosed,
+    conversations_are_one, notifications_have_no_answer, refusals_are_told,
+    requests_have_one_answer, results_stand_in_answers, texts_are_answered, texts_are_diagnosed,
 };
 pub use limits::{MAX_DOCUMENTS, limits_are};
 pub use phase::Status;

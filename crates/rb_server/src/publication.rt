@@ -3,9 +3,10 @@
 ghost use Rattle.std.specs.Prelude.{◌≡◌, ◌≤◌, ◌++◌, IfOk, IfSome, OnOk, length, option_map};
 ghost use Rattle.rb_document.specs.declared.limits.TheConstants.{MAX_TEXT};
 ghost use Rattle.rb_rpc.specs.Messages.{frame};
-ghost use Rattle.rb_server.specs.Notices.{head_text, list_text, middle_text, publication};
+ghost use Rattle.rb_server.specs.Notices.{head_text, list_publication, middle_text, no_memory_list, publication};
 
 use crate::service::Service;
+use crate::told::{Told, framed};
 use rb_document::Encoding;
 use rb_json::{Piece, add_pieces};
 use std::alloc::{AllocError, Global};
@@ -44,27 +45,55 @@ fn add_middle(out: &mut Vec<u8>, version: Option<u64>) -> Result<(), AllocError>
     }
 }
 
-fn add_list<V: Service>(
+// With this list, as it goes out.
+#[tactic(auto, unfolding(crate::specs::Notices::list_publication))]
+fn with_list(
+    alloc: Global,
+    uri: &[u8],
+    version: Option<u64>,
+    list: &[u8],
+) -> Result<Vec<u8>, AllocError>
+    ensures { IfOk result (λ out. out.items ≡ frame (list_publication uri.now version list.now)) }
+{
+    let mut body = Vec::new(alloc);
+    add_head(&mut body, uri)?;
+    add_middle(&mut body, version)?;
+    body.extend_from_slice(list)?;
+    body.extend_from_slice(b"}}")?;
+    framed(alloc, body.as_slice())
+}
+
+// With the diagnostics that the service gives of a text, as it goes out.
+#[tactic(auto, unfolding(crate::specs::Notices::list_publication))]
+fn diagnosed<V: Service>(
+    alloc: Global,
     service: &mut V,
     encoding: Encoding,
     uri: &[u8],
-    text: Option<&[u8]>,
-    out: &mut Vec<u8>,
-) -> Result<(), AllocError>
-    requires { IfSome text (λ text. length text.now ≤ MAX_TEXT) }
-    ensures { OnOk result (out.new.items ≡ out.old.items ++ list_text V.meaning encoding uri.now (option_map (λ text. text.now) text.entry)) }
+    version: Option<u64>,
+    text: &[u8],
+) -> Result<Vec<u8>, AllocError>
+    requires { length text.now ≤ MAX_TEXT }
+    ensures { IfOk result (λ out. out.items ≡ frame (list_publication uri.now version ((V.meaning).diagnose encoding uri.now text.now))) }
 {
-    match text {
-        Some(text) => service.add_diagnostics(encoding, uri, text, out),
-        None => {
-            service.forget(uri);
-            out.extend_from_slice(b"[]")
-        }
-    }
+    let mut body = Vec::new(alloc);
+    add_head(&mut body, uri)?;
+    add_middle(&mut body, version)?;
+    service.add_diagnostics(encoding, uri, text, &mut body)?;
+    body.extend_from_slice(b"}}")?;
+    framed(alloc, body.as_slice())
 }
 
-/// What is published of the document with this URI: the diagnostics of its text; none, where it isn't open.
-#[tactic(auto, unfolding(crate::specs::Notices::publication))]
+// One diagnostic, of the whole first line.
+#[tactic(auto, unfolding(crate::specs::Notices::no_memory_list))]
+fn no_memory_list() -> &'static [u8]
+    ensures { result.now ≡ no_memory_list }
+{
+    b"[{\"range\":{\"start\":{\"line\":0,\"character\":0},\"end\":{\"line\":1,\"character\":0}},\"severity\":1,\"code\":\"no-memory\",\"source\":\"raftbench\",\"message\":\"no memory for a run of this script\"}]"
+}
+
+/// What is published of the document with this URI: the diagnostics of its text, or that there was no memory for them; none, where it isn't
+/// open. Where memory was refused the service forgets the document first, so that what it kept of it is there for what is said.
 pub(crate) fn publication<V: Service>(
     alloc: Global,
     service: &mut V,
@@ -72,26 +101,25 @@ pub(crate) fn publication<V: Service>(
     uri: &[u8],
     version: Option<u64>,
     text: Option<&[u8]>,
-) -> Result<Vec<u8>, AllocError>
+) -> Result<Told, AllocError>
     requires { IfSome text (λ text. length text.now ≤ MAX_TEXT) }
-    ensures { IfOk result (λ out. out.items ≡ publication V.meaning encoding uri.now version (option_map (λ text. text.now) text.entry)) }
+    ensures { IfOk result (λ told. told.out.items ≡ frame (publication V.meaning told.has_no_memory encoding uri.now version (option_map (λ text. text.now) text.entry))) }
 {
-    let mut out = Vec::new(alloc);
-    add_head(&mut out, uri)?;
-    add_middle(&mut out, version)?;
-    add_list(service, encoding, uri, text, &mut out)?;
-    out.extend_from_slice(b"}}")?;
-    Ok(out)
-}
-
-/// The message with this body, as it goes out.
-pub(crate) fn framed(alloc: Global, body: &[u8]) -> Result<Vec<u8>, AllocError>
-    ensures { IfOk result (λ message. message.items ≡ frame body.now) }
-{
-    let mut message = Vec::new(alloc);
-    message.extend_from_slice(b"Content-Length: ")?;
-    add_pieces(&mut message, &[Piece::Number(body.len() as u64)])?;
-    message.extend_from_slice(b"\r\n\r\n")?;
-    message.extend_from_slice(body)?;
-    Ok(message)
+    let Some(text) = text else {
+        service.forget(uri);
+        return Ok(Told::whole(with_list(alloc, uri, version, b"[]")?));
+    };
+    match diagnosed(alloc, service, encoding, uri, version, text) {
+        Ok(out) => Ok(Told {
+            out,
+            has_no_memory: false,
+        }),
+        Err(AllocError) => {
+            service.forget(uri);
+            Ok(Told {
+                out: with_list(alloc, uri, version, no_memory_list())?,
+                has_no_memory: true,
+            })
+        }
+    }
 }

@@ -1,30 +1,22 @@
 //! What is answered to what is asked of a document.
 
-ghost use Rattle.std.specs.Prelude.{◌≡◌, ◌≤◌, ◌++◌, false, IfOk, OnOk, length, option_map};
+ghost use Rattle.std.specs.Prelude.{◌≡◌, ◌≤◌, ◌++◌, Some, false, IfOk, OnOk, length, option_map};
 ghost use Rattle.serde_json.specs.View.{view};
 ghost use Rattle.serde_json.specs.Written.{compact_text, has_float};
 ghost use Rattle.rb_document.specs.declared.limits.TheConstants.{MAX_TEXT};
+ghost use Rattle.rb_rpc.specs.Messages.{frame};
 ghost use Rattle.rb_server.specs.Documents.{text_of};
-ghost use Rattle.rb_server.specs.Questions.{answer_text, asked_of, body_text, not_open, of_text, question_body, unfit, with_asked};
+ghost use Rattle.rb_server.specs.Questions.{answer_text, asked_of, body_text, no_memory_for, not_open, of_text, question_body, unfit, with_asked};
 
 use crate::asked::{Asked, asked_of};
 use crate::documents::Documents;
 use crate::method::Question;
 use crate::service::Service;
+use crate::told::{Told, framed, framed_answer};
 use rb_document::Encoding;
 use rb_rpc::{ErrorCode, failure, text_below, text_of};
 use serde_json::Value;
 use std::alloc::{AllocError, Global};
-
-/// The text of an answer.
-#[tactic(auto, unfolding(crate::specs::Questions::body_text))]
-pub(crate) fn body_text(alloc: Global, answer: &Value) -> Result<Vec<u8>, AllocError>
-    requires { has_float (view answer.now) ≡ false }
-    ensures { IfOk result (λ body. body.items ≡ body_text (view answer.now)) }
-{
-    let text = text_of(alloc, answer)?;
-    Vec::from_slice(alloc, text.as_bytes())
-}
 
 // Refuses what isn't what the method takes.
 #[tactic(auto, unfolding(crate::specs::Questions::unfit))]
@@ -56,20 +48,43 @@ fn not_open(alloc: Global, id: &Value) -> Result<Value, AllocError>
     )
 }
 
-fn unfit_body(alloc: Global, id: &Value) -> Result<Vec<u8>, AllocError>
+// Refuses a request for whose answer memory was refused.
+#[tactic(auto, unfolding(crate::specs::Questions::no_memory_for))]
+fn no_memory_for(alloc: Global, id: &Value) -> Result<Value, AllocError>
     requires { has_float (view id.now) ≡ false }
-    ensures { IfOk result (λ body. body.items ≡ body_text (unfit (view id.now))) }
+    ensures value { IfOk result (λ answer. view answer ≡ no_memory_for (view id.now)) }
+    ensures plain { IfOk result (λ answer. has_float (view answer) ≡ false) }
 {
-    let answer = unfit(alloc, id)?;
-    body_text(alloc, &answer)
+    failure(
+        alloc,
+        id,
+        ErrorCode::InternalError,
+        "no memory for an answer",
+    )
 }
 
-fn closed_body(alloc: Global, id: &Value) -> Result<Vec<u8>, AllocError>
+fn unfit_told(alloc: Global, id: &Value) -> Result<Told, AllocError>
     requires { has_float (view id.now) ≡ false }
-    ensures { IfOk result (λ body. body.items ≡ body_text (not_open (view id.now))) }
+    ensures { IfOk result (λ told. told.out.items ≡ frame (body_text (unfit (view id.now)))) }
+{
+    let answer = unfit(alloc, id)?;
+    Ok(Told::whole(framed_answer(alloc, &answer)?))
+}
+
+fn closed_told(alloc: Global, id: &Value) -> Result<Told, AllocError>
+    requires { has_float (view id.now) ≡ false }
+    ensures { IfOk result (λ told. told.out.items ≡ frame (body_text (not_open (view id.now)))) }
 {
     let answer = not_open(alloc, id)?;
-    body_text(alloc, &answer)
+    Ok(Told::whole(framed_answer(alloc, &answer)?))
+}
+
+fn no_memory_out(alloc: Global, id: &Value) -> Result<Vec<u8>, AllocError>
+    requires { has_float (view id.now) ≡ false }
+    ensures { IfOk result (λ out. out.items ≡ frame (body_text (no_memory_for (view id.now)))) }
+{
+    let answer = no_memory_for(alloc, id)?;
+    framed_answer(alloc, &answer)
 }
 
 // Adds an id.
@@ -81,7 +96,7 @@ fn add_id(alloc: Global, out: &mut Vec<u8>, id: &Value) -> Result<(), AllocError
     out.extend_from_slice(text.as_bytes())
 }
 
-// The answer whose result the service gives.
+// The answer whose result the service gives, as it goes out.
 #[tactic(auto, unfolding(crate::specs::Questions::answer_text))]
 fn answered<V: Service>(
     alloc: Global,
@@ -94,7 +109,7 @@ fn answered<V: Service>(
 ) -> Result<Vec<u8>, AllocError>
     requires plain { has_float (view id.now) ≡ false }
     requires bounded { length text.now ≤ MAX_TEXT }
-    ensures { IfOk result (λ body. body.items ≡ answer_text (view id.now) ((V.meaning).answer encoding asked uri.now text.now)) }
+    ensures { IfOk result (λ out. out.items ≡ frame (answer_text (view id.now) ((V.meaning).answer encoding asked uri.now text.now))) }
 {
     let mut body = Vec::new(alloc);
     body.extend_from_slice(b"{\"id\":")?;
@@ -102,7 +117,33 @@ fn answered<V: Service>(
     body.extend_from_slice(b",\"jsonrpc\":\"2.0\",\"result\":")?;
     service.add_answer(encoding, asked, uri, text, &mut body)?;
     body.extend_from_slice(b"}")?;
-    Ok(body)
+    framed(alloc, body.as_slice())
+}
+
+// The answer to what is asked of the text of a document that is open, or that there was no memory for it.
+fn of_text<V: Service>(
+    alloc: Global,
+    service: &mut V,
+    encoding: Encoding,
+    asked: Asked,
+    uri: &[u8],
+    text: &[u8],
+    id: &Value,
+) -> Result<Told, AllocError>
+    requires plain { has_float (view id.now) ≡ false }
+    requires bounded { length text.now ≤ MAX_TEXT }
+    ensures { IfOk result (λ told. told.out.items ≡ frame (of_text V.meaning told.has_no_memory encoding asked uri.now (view id.now) (Some text.now))) }
+{
+    match answered(alloc, service, encoding, asked, uri, text, id) {
+        Ok(out) => Ok(Told {
+            out,
+            has_no_memory: false,
+        }),
+        Err(AllocError) => Ok(Told {
+            out: no_memory_out(alloc, id)?,
+            has_no_memory: true,
+        }),
+    }
 }
 
 // The answer to what is asked of the document with this URI.
@@ -114,18 +155,18 @@ fn of_document<V: Service>(
     asked: Asked,
     uri: &[u8],
     id: &Value,
-) -> Result<Vec<u8>, AllocError>
+) -> Result<Told, AllocError>
     requires { has_float (view id.now) ≡ false }
-    ensures { IfOk result (λ body. body.items ≡ of_text V.meaning encoding asked uri.now (view id.now) (text_of uri.now documents.now)) }
+    ensures { IfOk result (λ told. told.out.items ≡ frame (of_text V.meaning told.has_no_memory encoding asked uri.now (view id.now) (text_of uri.now documents.now))) }
 {
     match documents.text(uri) {
-        Some(text) => answered(alloc, service, encoding, asked, uri, text, id),
-        None => closed_body(alloc, id),
+        Some(text) => of_text(alloc, service, encoding, asked, uri, text, id),
+        None => closed_told(alloc, id),
     }
 }
 
 /// The answer to what is asked of a document, by what is given to the method.
-pub(crate) fn question_body<V: Service>(
+pub(crate) fn question_told<V: Service>(
     alloc: Global,
     service: &mut V,
     documents: &Documents,
@@ -133,18 +174,18 @@ pub(crate) fn question_body<V: Service>(
     question: Question,
     params: Option<&Value>,
     id: &Value,
-) -> Result<Vec<u8>, AllocError>
+) -> Result<Told, AllocError>
     requires { has_float (view id.now) ≡ false }
-    ensures { IfOk result (λ body. body.items ≡ question_body V.meaning encoding documents.now question (option_map (λ v. view v.now) params.entry) (view id.now)) }
+    ensures { IfOk result (λ told. told.out.items ≡ frame (question_body V.meaning told.has_no_memory encoding documents.now question (option_map (λ v. view v.now) params.entry) (view id.now))) }
 {
     let Some(params) = params else {
-        return unfit_body(alloc, id);
+        return unfit_told(alloc, id);
     };
     let Some(uri) = text_below(params, "textDocument", "uri") else {
-        return unfit_body(alloc, id);
+        return unfit_told(alloc, id);
     };
     let Some(asked) = asked_of(question, params) else {
-        return unfit_body(alloc, id);
+        return unfit_told(alloc, id);
     };
     of_document(
         alloc,

@@ -13,14 +13,14 @@ ghost use Rattle.rb_server.specs.Questions.{body_text};
 ghost use Rattle.rb_server.specs.Replies.{after, answer_body, no_json, noticed_by, published, sent, told_of, turned_by, with_phase};
 ghost use Rattle.rb_server.specs.Serves.{turned_of};
 
-use crate::answers::{after, answer_body, no_json, no_message};
+use crate::answers::{after, answer_told, no_json, no_message};
 use crate::changes::document_after;
 use crate::documents::Documents;
 use crate::method::{Method, is_of_documents, method_of};
 use crate::phase::{Phase, Status, status_of};
-use crate::publication::{framed, publication};
-use crate::question::body_text;
+use crate::publication::publication;
 use crate::service::Service;
+use crate::told::{Told, framed_answer};
 use rb_document::Encoding;
 use rb_rpc::{Incoming, incoming_of, number_below, text_below};
 use serde_json::Value;
@@ -57,10 +57,11 @@ impl Server {
     }
 }
 
-/// What goes out for a message, and how the server ends, if it does.
+/// What goes out for a message, whether memory was refused for what it asks of a text, and how the server ends, if it does.
 #[derive(Drop)]
 pub(crate) struct Heard {
     pub(crate) out: Vec<u8>,
+    pub(crate) has_no_memory: bool,
     pub(crate) over: Option<Status>,
 }
 
@@ -71,28 +72,13 @@ fn silent(alloc: Global, over: Option<Status>) -> Heard
 {
     Heard {
         out: Vec::new(alloc),
+        has_no_memory: false,
         over,
     }
 }
 
-// An answer with this text, as it goes out.
-#[tactic(auto, unfolding(crate::specs::Replies::sent))]
-fn sent(alloc: Global, body: &[u8]) -> Result<Vec<u8>, AllocError>
-    ensures { IfOk result (λ out. out.items ≡ sent (Some body.now)) }
-{
-    framed(alloc, body)
-}
-
-// An answer of the server's own, as it goes out.
-fn sent_answer(alloc: Global, answer: &Value) -> Result<Vec<u8>, AllocError>
-    requires { has_float (view answer.now) ≡ false }
-    ensures { IfOk result (λ out. out.items ≡ sent (Some (body_text (view answer.now)))) }
-{
-    let body = body_text(alloc, answer)?;
-    sent(alloc, body.as_slice())
-}
-
 // Hears a request.
+#[tactic(auto, unfolding(crate::specs::Replies::sent))]
 fn hear_request<V: Service>(
     alloc: Global,
     service: &mut V,
@@ -102,11 +88,11 @@ fn hear_request<V: Service>(
     params: Option<&Value>,
 ) -> Result<Heard, AllocError>
     requires { has_float (view id.now) ≡ false }
-    ensures out { IfOk result (λ heard. heard.out.items ≡ sent (Some (answer_body V.meaning server.old method (option_map (λ v. view v.now) params.entry) (view id.now)))) }
+    ensures out { IfOk result (λ heard. heard.out.items ≡ sent (Some (answer_body V.meaning heard.has_no_memory server.old method (option_map (λ v. view v.now) params.entry) (view id.now)))) }
     ensures over { IfOk result (λ heard. heard.over ≡ None) }
     ensures server { OnOk result (server.new ≡ with_phase server.old (after server.old.phase method (option_map (λ v. view v.now) params.entry))) }
 {
-    let body = answer_body(
+    let told = answer_told(
         alloc,
         service,
         &server.documents,
@@ -115,9 +101,12 @@ fn hear_request<V: Service>(
         params,
         id,
     )?;
-    let out = sent(alloc, body.as_slice())?;
     server.phase = after(server.phase, method, params);
-    Ok(Heard { out, over: None })
+    Ok(Heard {
+        out: told.out,
+        has_no_memory: told.has_no_memory,
+        over: None,
+    })
 }
 
 // Takes a notification of the document with this URI.
@@ -129,16 +118,15 @@ fn notice<V: Service>(
     method: Method,
     params: &Value,
     uri: &[u8],
-) -> Result<Vec<u8>, AllocError>
+) -> Result<Told, AllocError>
     ensures documents { OnOk result (documents.new ≡ kept uri.now (text_after encoding method (view params.now) (text_of uri.now documents.old)) (closed uri.now documents.old)) }
-    ensures out { IfOk result (λ out. out.items ≡ frame (publication V.meaning encoding uri.now (number_below (codes "textDocument") (codes "version") (view params.now)) (text_of uri.now documents.new))) }
+    ensures out { IfOk result (λ told. told.out.items ≡ frame (publication V.meaning told.has_no_memory encoding uri.now (number_below (codes "textDocument") (codes "version") (view params.now)) (text_of uri.now documents.new))) }
 {
     let old = documents.take(uri);
     let new = document_after(alloc, encoding, method, params, old)?;
     documents.keep(uri, new)?;
     let version = number_below(params, "textDocument", "version");
-    let body = publication(alloc, service, encoding, uri, version, documents.text(uri))?;
-    framed(alloc, body.as_slice())
+    publication(alloc, service, encoding, uri, version, documents.text(uri))
 }
 
 // Takes a notification.
@@ -148,22 +136,22 @@ fn take_notice<V: Service>(
     server: &mut Server,
     method: Method,
     params: Option<&Value>,
-) -> Result<Vec<u8>, AllocError>
+) -> Result<Told, AllocError>
     ensures phase { server.new.phase ≡ server.old.phase }
     ensures documents { OnOk result (server.new.documents ≡ documents_after (notice_of server.old.phase method (option_map (λ v. view v.now) params.entry)) server.old.documents) }
-    ensures out { IfOk result (λ out. out.items ≡ notice_text V.meaning (notice_of server.old.phase method (option_map (λ v. view v.now) params.entry)) server.new.documents) }
+    ensures out { IfOk result (λ told. told.out.items ≡ notice_text V.meaning told.has_no_memory (notice_of server.old.phase method (option_map (λ v. view v.now) params.entry)) server.new.documents) }
 {
     let Phase::Running(encoding) = server.phase else {
-        return Ok(Vec::new(alloc));
+        return Ok(Told::whole(Vec::new(alloc)));
     };
     let Some(params) = params else {
-        return Ok(Vec::new(alloc));
+        return Ok(Told::whole(Vec::new(alloc)));
     };
     if !is_of_documents(method) {
-        return Ok(Vec::new(alloc));
+        return Ok(Told::whole(Vec::new(alloc)));
     }
     let Some(uri) = text_below(params, "textDocument", "uri") else {
-        return Ok(Vec::new(alloc));
+        return Ok(Told::whole(Vec::new(alloc)));
     };
     notice(
         alloc,
@@ -184,24 +172,29 @@ fn hear_notification<V: Service>(
     method: Method,
     params: Option<&Value>,
 ) -> Result<Heard, AllocError>
-    ensures out { IfOk result (λ heard. heard.out.items ≡ published V.meaning server.old method (option_map (λ v. view v.now) params.entry)) }
+    ensures out { IfOk result (λ heard. heard.out.items ≡ published V.meaning heard.has_no_memory server.old method (option_map (λ v. view v.now) params.entry)) }
     ensures turned { IfOk result (λ heard. turned_of heard.over server.new ≡ noticed_by server.old method (option_map (λ v. view v.now) params.entry)) }
 {
     if matches!(method, Method::Exit) {
         return Ok(silent(alloc, Some(status_of(server.phase))));
     }
-    let out = take_notice(alloc, service, server, method, params)?;
-    Ok(Heard { out, over: None })
+    let told = take_notice(alloc, service, server, method, params)?;
+    Ok(Heard {
+        out: told.out,
+        has_no_memory: told.has_no_memory,
+        over: None,
+    })
 }
 
 /// Hears a message: what goes out for it, and where the server stands then.
+#[tactic(auto, unfolding(crate::specs::Replies::sent))]
 pub(crate) fn hear<V: Service>(
     alloc: Global,
     service: &mut V,
     server: &mut Server,
     message: &Value,
 ) -> Result<Heard, AllocError>
-    ensures out { IfOk result (λ heard. heard.out.items ≡ told_of V.meaning server.old (said (view message.now))) }
+    ensures out { IfOk result (λ heard. heard.out.items ≡ told_of V.meaning heard.has_no_memory server.old (said (view message.now))) }
     ensures turned { IfOk result (λ heard. turned_of heard.over server.new ≡ turned_by server.old (said (view message.now))) }
 {
     match incoming_of(message) {
@@ -213,16 +206,18 @@ pub(crate) fn hear<V: Service>(
         }
         Incoming::Response => Ok(silent(alloc, None)),
         Incoming::Invalid => Ok(Heard {
-            out: sent_answer(alloc, &no_message(alloc)?)?,
+            out: framed_answer(alloc, &no_message(alloc)?)?,
+            has_no_memory: false,
             over: None,
         }),
     }
 }
 
 /// What goes out for what is no JSON.
+#[tactic(auto, unfolding(crate::specs::Replies::sent))]
 pub(crate) fn refused(alloc: Global) -> Result<Vec<u8>, AllocError>
     ensures { IfOk result (λ out. out.items ≡ sent (Some (body_text no_json))) }
 {
     let answer = no_json(alloc)?;
-    sent_answer(alloc, &answer)
+    framed_answer(alloc, &answer)
 }

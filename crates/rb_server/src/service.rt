@@ -13,7 +13,7 @@ pub trait Service {
     // what is said of a text, and what is answered of it
     ghost meaning: { Meaning };
 
-    /// Forgets the document with this URI, which isn't open any more.
+    /// Forgets the document with this URI, which isn't open any more, or for which memory was refused.
     fn forget(&mut self, _uri: &[u8]) {}
 
     /// Adds the diagnostics of the text of a document. They depend on what is handed in alone.

@@ -6,8 +6,8 @@ ghost use Rattle.serde_json.specs.View.{view};
 ghost use Rattle.rb_script.specs.Writes.{AppendsFront};
 ghost use Rattle.rb_rpc.specs.Reading.{left_of};
 ghost use Rattle.rb_rpc.specs.Said.{said};
-ghost use Rattle.rb_server.specs.Talk.{goes, told};
-ghost use Rattle.rb_server.specs.Serves.{BreaksOff, Responds, Served, StartsAnswer, TurnBreaks, TurnsOut, turned_of};
+ghost use Rattle.rb_server.specs.Talk.{goes};
+ghost use Rattle.rb_server.specs.Serves.{BreaksOff, Responds, Served, StartsAnswer, StartsTelling, Tells, TurnBreaks, TurnsOut, turned_of};
 
 use crate::fault::ServeFault;
 use crate::phase::Status;
@@ -24,7 +24,7 @@ use std::alloc::Global;
 /// # Errors
 ///
 /// `Io` at the first error of the source or the sink, an interrupted call too, and where [`MAX_CALLS`] calls of the source were made;
-/// `OutOfMemory` where memory was refused.
+/// `OutOfMemory` where memory was refused for anything but what is said of a text.
 pub fn serve<V: Service, S: Source, W: Sink>(
     alloc: Global,
     service: &mut V,
@@ -95,8 +95,8 @@ fn respond_to<V: Service, W: Sink>(
     sink: &mut W,
 ) -> Result<Option<Status>, ServeFault>
     ensures turned { IfOk result (λ over. turned_of over server.new ≡ goes server.old (Some (said (view message.now)))) }
-    ensures wrote { OnOk result (Appends (W.held sink.old) (W.held sink.new) (told V.meaning server.old (Some (said (view message.now))))) }
-    ensures failed { OnErr result (AppendsFront (W.held sink.old) (W.held sink.new) (told V.meaning server.old (Some (said (view message.now))))) }
+    ensures tells { OnOk result (Tells V.meaning server.old (Some (said (view message.now))) (W.held sink.old) (W.held sink.new)) }
+    ensures failed { OnErr result (StartsTelling V.meaning server.old (Some (said (view message.now))) (W.held sink.old) (W.held sink.new)) }
 {
     let heard = hear(alloc, service, server, message)?;
     sink.put(heard.out.as_slice())?;
@@ -110,8 +110,8 @@ fn refuse<V: Service, W: Sink>(
     sink: &mut W,
 ) -> Result<Option<Status>, ServeFault>
     ensures turned { IfOk result (λ over. turned_of over server.new ≡ goes server.old None) }
-    ensures wrote { OnOk result (Appends (W.held sink.old) (W.held sink.new) (told V.meaning server.old None)) }
-    ensures failed { OnErr result (AppendsFront (W.held sink.old) (W.held sink.new) (told V.meaning server.old None)) }
+    ensures tells { OnOk result (Tells V.meaning server.old None (W.held sink.old) (W.held sink.new)) }
+    ensures failed { OnErr result (StartsTelling V.meaning server.old None (W.held sink.old) (W.held sink.new)) }
 {
     let out = refused(alloc)?;
     sink.put(out.as_slice())?;

@@ -1,5 +1,7 @@
 //! What a server answers, by examples: codes are those of JSON-RPC 2.0 and of the language server protocol.
 
+ghost use Rattle.std.specs.Prelude.{◌≡◌, ◌++◌, OnOk};
+
 use rb_document::Encoding;
 use rb_rpc::framed;
 use rb_script::Through;
@@ -8,9 +10,19 @@ use std::alloc::{AllocError, Global};
 use std::process::Abort;
 use std::test::Fail;
 
-// What it says of a text is that text, and what it answers too.
+// What it says of a text is that text, and what it answers too. It has no memory for one that begins with `!`.
 #[derive(Drop)]
 struct Echo;
+
+// Adds a text, if there is memory for it.
+fn add_text(out: &mut Vec<u8>, text: &[u8]) -> Result<(), AllocError>
+    ensures { OnOk result (out.new.items ≡ out.old.items ++ text.now) }
+{
+    if text.first() == Some(&b'!') {
+        return Err(AllocError);
+    }
+    out.extend_from_slice(text)
+}
 
 impl Service for Echo {
     ghost meaning = { record { diagnose = λ encoding uri text. text; answer = λ encoding asked uri text. text } };
@@ -22,7 +34,7 @@ impl Service for Echo {
         text: &[u8],
         out: &mut Vec<u8>,
     ) -> Result<(), AllocError> {
-        out.extend_from_slice(text)
+        add_text(out, text)
     }
 
     fn add_answer(
@@ -33,7 +45,7 @@ impl Service for Echo {
         text: &[u8],
         out: &mut Vec<u8>,
     ) -> Result<(), AllocError> {
-        out.extend_from_slice(text)
+        add_text(out, text)
     }
 }
 
@@ -185,6 +197,33 @@ fn questions(rt: HostRuntime) -> Result<(), Fail> {
             r#"{"error":{"code":-32602,"message":"the document isn't open"},"id":5,"jsonrpc":"2.0"}"#,
             r#"{"id":6,"jsonrpc":"2.0","result":null}"#,
             r#"{"error":{"code":-32600,"message":"shutdown came before"},"id":7,"jsonrpc":"2.0"}"#,
+        ],
+        Status::Closed,
+    )
+}
+
+#[test]
+fn want_of_memory(rt: HostRuntime) -> Result<(), Fail> {
+    answers(
+        &rt,
+        rt.alloc(),
+        &[
+            r#"{"jsonrpc":"2.0","id":1,"method":"initialize","params":{"capabilities":{"general":{"positionEncodings":["utf-8"]}}}}"#,
+            r#"{"jsonrpc":"2.0","method":"textDocument/didOpen","params":{"textDocument":{"uri":"a","languageId":"","version":1,"text":"![1]"}}}"#,
+            r#"{"jsonrpc":"2.0","method":"textDocument/didOpen","params":{"textDocument":{"uri":"b","languageId":"","version":1,"text":"[2]"}}}"#,
+            r#"{"jsonrpc":"2.0","id":2,"method":"textDocument/formatting","params":{"textDocument":{"uri":"a"},"options":{}}}"#,
+            r#"{"jsonrpc":"2.0","id":3,"method":"textDocument/formatting","params":{"textDocument":{"uri":"b"},"options":{}}}"#,
+            r#"{"jsonrpc":"2.0","method":"textDocument/didChange","params":{"textDocument":{"uri":"a","version":2},"contentChanges":[{"range":{"start":{"line":0,"character":0},"end":{"line":0,"character":1}},"text":""}]}}"#,
+            r#"{"jsonrpc":"2.0","id":4,"method":"textDocument/formatting","params":{"textDocument":{"uri":"a"},"options":{}}}"#,
+        ],
+        &[
+            r#"{"id":1,"jsonrpc":"2.0","result":{"capabilities":{"codeActionProvider":true,"completionProvider":{},"documentFormattingProvider":true,"documentSymbolProvider":true,"foldingRangeProvider":true,"hoverProvider":true,"positionEncoding":"utf-8","textDocumentSync":{"change":2,"openClose":true}},"serverInfo":{"name":"raftbench"}}}"#,
+            r#"{"jsonrpc":"2.0","method":"textDocument/publishDiagnostics","params":{"uri":"a","version":1,"diagnostics":[{"range":{"start":{"line":0,"character":0},"end":{"line":1,"character":0}},"severity":1,"code":"no-memory","source":"raftbench","message":"no memory for a run of this script"}]}}"#,
+            r#"{"jsonrpc":"2.0","method":"textDocument/publishDiagnostics","params":{"uri":"b","version":1,"diagnostics":[2]}}"#,
+            r#"{"error":{"code":-32603,"message":"no memory for an answer"},"id":2,"jsonrpc":"2.0"}"#,
+            r#"{"id":3,"jsonrpc":"2.0","result":[2]}"#,
+            r#"{"jsonrpc":"2.0","method":"textDocument/publishDiagnostics","params":{"uri":"a","version":2,"diagnostics":[1]}}"#,
+            r#"{"id":4,"jsonrpc":"2.0","result":[1]}"#,
         ],
         Status::Closed,
     )

@@ -4,4 +4,4 @@ use Rattle.rb_actions.specs.Meanings.{meaning}
 use Rattle.rb_actions.proofs.laws.texts_have_one_run.Goals as goal
 
 pub returns : goal.returns
-returns c = λ server next method params goes. diagnosed meaning server next (method_of method) params goes
+returns c = λ no_memory server next method params goes. diagnosed meaning no_memory server next (method_of method) params goes

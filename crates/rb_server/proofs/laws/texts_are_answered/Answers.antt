@@ -5,4 +5,4 @@ use Rattle.rb_server.proofs.ReplyLaws.{same_answer}
 use Rattle.rb_server.proofs.laws.texts_are_answered.Goals as goal
 
 pub returns : goal.returns
-returns c = λ meaning server other id method params phase same. ap (λ (body : List ℕ). sent (Some body)) (same_answer meaning server other (method_of method) params id phase same)
+returns c = λ meaning no_memory server other id method params phase same. ap (λ (body : List ℕ). sent (Some body)) (same_answer meaning no_memory server other (method_of method) params id phase same)

@@ -9,4 +9,4 @@ hear_request-requires g c = id_is_plain_of (view c.args.message.now) _ _ _ c.in-
 
 pub returns-in-Response-clause-out : goal.returns-in-Response-clause-out
 unfolding sent
-returns-in-Response-clause-out g c = c.silent.ensures.out ∙ ap (told_of g.V.Service.meaning c.args.server.now) c.in-Response.ensures
+returns-in-Response-clause-out g c = c.silent.ensures.out ∙ ap (told_of g.V.Service.meaning c.silent.result.has_no_memory c.args.server.now) c.in-Response.ensures
