@@ -5,8 +5,8 @@ ghost use Rattle.rb_script.specs.Joined.{body};
 ghost use Rattle.rb_offers.specs.declared.part.Part.TheVariants.{Lead};
 ghost use Rattle.rb_offers.specs.Above.{behind_lines, head_in, head_to, kept, line_begin};
 
-use crate::lines::lines_of;
 use crate::part::Part;
+use rb_checked::lines_of;
 use rb_script::{Lines, is_space};
 use std::alloc::{AllocError, Global};
 

@@ -12,7 +12,6 @@ mod completion;
 mod folds;
 mod formatting;
 mod laws;
-mod lines;
 mod offer;
 mod part;
 mod symbols;

@@ -8,8 +8,8 @@ ghost use Rattle.rb_offers.specs.Symbols.{first_characters, name_of, name_text, 
 ghost use Rattle.rb_offers.specs.Texts.{listed};
 
 use crate::block_lines::{BlockLines, blocks_of};
-use crate::lines::lines_of;
 use crate::writing::{add_range, start_of};
+use rb_checked::lines_of;
 use rb_document::{Encoding, LineTable, Position, is_within};
 use rb_json::{Piece, add_pieces};
 use rb_script::{Lines, without_front};
