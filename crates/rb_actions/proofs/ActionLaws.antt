@@ -1,11 +1,9 @@
 -- Edits, directive by directive, and what is accepted.
-use Rattle.std.proofs.Common.{◌≡◌, ◌∙◌, ℕ, ◌+◌, Bool, true, false, List, [], ◌∷◌, ◌++◌, drop, Option, Some, None, Err, refl, ap, sym}
+use Rattle.std.proofs.Common.{◌≡◌, ◌∙◌, ℕ, ◌+◌, Bool, true, false, List, [], ◌∷◌, ◌++◌, drop, Option, Some, None, refl, ap, sym}
 use Rattle.std.specs.Prelude.{if◌then◌else◌, ◌&&◌, ◌||◌, not, slice_get, codes}
-use Rattle.rb_script.specs.declared.fault.ScriptFault.{ScriptFault}
 use Rattle.rb_script.specs.Lines.{Line, lines}
 use Rattle.rb_script.specs.Script.{PlainBlock, PlainScript}
 use Rattle.rb_script.specs.Reads.{Reads}
-use Rattle.rb_script.specs.Reading.{read_of}
 use Rattle.rb_script.proofs.ScriptLaws.{read_complete}
 use Rattle.rb_replay.specs.Report.{same_lines}
 use Rattle.rb_replay.proofs.DifferingLaws.{same_lines-Decides}
@@ -15,6 +13,7 @@ use Rattle.rb_checked.specs.Errors.{is_unexpected}
 use Rattle.rb_document.specs.declared.position.Encoding.{Encoding}
 use Rattle.rb_document.specs.declared.position.Range.{Range}
 use Rattle.rb_actions.specs.declared.extent.Span.{Span}
+use Rattle.rb_actions.specs.Layouts.{IsNoScript}
 use Rattle.rb_actions.specs.Actions.{actions, actions_of, all_but_new_errors, actions_text, edits_of, edits_text, is_accepted, is_wanted, one_edit, span_of}
 
 -- one directive more
@@ -41,9 +40,9 @@ unfolding actions
 of_read encoding range uri text s reads = ap (actions_of encoding range uri text) (sym (read_complete text s reads))
 
 -- of what is none
-pub of_fault : (encoding : Encoding) (range : Range) (uri text : List ℕ) (fault : ScriptFault) → read_of text ≡ Err fault → codes "[]" ≡ actions encoding range uri text
+pub of_none : (encoding : Encoding) (range : Range) (uri text : List ℕ) → IsNoScript text → codes "[]" ≡ actions encoding range uri text
 unfolding actions
-of_fault encoding range uri text fault is = ap (actions_of encoding range uri text) (sym is)
+of_none encoding range uri text (fault, is) = ap (actions_of encoding range uri text) (sym is)
 
 -- ---- what is accepted
 

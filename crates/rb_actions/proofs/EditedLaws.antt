@@ -57,6 +57,7 @@ input_len_of (line ∷ ls) after separator all is =
 extent_is : (ls : List Line) (line : ℕ) (b : PlainBlock) (head h n expected : ℕ) (d : Bool) (end : ℕ) → within ls (line - 1) ≡ head → head_len (drop head ls) ≡ h → input_len (drop (head + h) ls) ≡ n
     → within ls (head + h + n + 1) ≡ expected → is_rule_there (slice_get ls expected) ≡ d → within ls (expected + expectation_len d (length b.expected)) ≡ end
     → extent_of ls line b ≡ record { head = head; expected = expected; end = end; is_double = d }
+unfolding extent_of
 extent_is ls line b head h n expected d end first second third fourth fifth sixth =
     ap (λ (k : ℕ). extent_below ls k (within ls (separator_from ls (below_head ls k) + 1)) b) first
     ∙ ap (λ (k : ℕ). extent_below ls head (within ls (separator_from ls (head + k) + 1)) b) second

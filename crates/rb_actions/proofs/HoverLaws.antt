@@ -1,11 +1,9 @@
 -- What is shown of a line, directive by directive.
-use Rattle.std.proofs.Common.{◌≡◌, ◌∙◌, ℕ, ◌+◌, Bool, true, false, List, [], ◌∷◌, drop, Err, refl, ap, sym}
+use Rattle.std.proofs.Common.{◌≡◌, ◌∙◌, ℕ, ◌+◌, Bool, true, false, List, [], ◌∷◌, drop, refl, ap, sym}
 use Rattle.std.specs.Prelude.{if◌then◌else◌, slice_get, Some, codes}
-use Rattle.rb_script.specs.declared.fault.ScriptFault.{ScriptFault}
 use Rattle.rb_script.specs.Lines.{Line, lines}
 use Rattle.rb_script.specs.Script.{PlainBlock, PlainScript}
 use Rattle.rb_script.specs.Reads.{Reads}
-use Rattle.rb_script.specs.Reading.{read_of}
 use Rattle.rb_script.proofs.ScriptLaws.{read_complete}
 use Rattle.rb_replay.specs.Run.{outputs}
 use Rattle.rb_look.specs.Looks.{looked}
@@ -15,7 +13,7 @@ use Rattle.rb_document.specs.declared.position.Position.{Position}
 use Rattle.rb_offers.specs.Heads.{heads_of}
 use Rattle.rb_actions.specs.declared.extent.Extent.{Extent}
 use Rattle.rb_actions.specs.Extents.{extent_of, has_line}
-use Rattle.rb_actions.specs.Layouts.{line_at}
+use Rattle.rb_actions.specs.Layouts.{IsNoScript, line_at}
 use Rattle.rb_actions.specs.Hovers.{hover, hover_in, hover_of, hover_text, shown}
 
 -- one directive more
@@ -71,6 +69,6 @@ unfolding hover
 of_read encoding position text s reads = ap (hover_of encoding position text) (sym (read_complete text s reads))
 
 -- of what is none
-pub of_fault : (encoding : Encoding) (position : Position) (text : List ℕ) (fault : ScriptFault) → read_of text ≡ Err fault → codes "null" ≡ hover encoding position text
+pub of_none : (encoding : Encoding) (position : Position) (text : List ℕ) → IsNoScript text → codes "null" ≡ hover encoding position text
 unfolding hover
-of_fault encoding position text fault is = ap (hover_of encoding position text) (sym is)
+of_none encoding position text (fault, is) = ap (hover_of encoding position text) (sym is)

@@ -17,7 +17,7 @@ use Rattle.rb_document.specs.declared.position.Encoding.{Encoding}
 use Rattle.rb_document.specs.declared.position.Range.{Range}
 use Rattle.rb_document.specs.Tables.{start_of}
 use Rattle.rb_offers.specs.Heads.{heads_of}
-use Rattle.rb_diagnostics.specs.Texts.{range_text}
+use Rattle.rb_offers.specs.Texts.{range_member}
 use Rattle.rb_actions.specs.declared.extent.Extent.{Extent}
 use Rattle.rb_actions.specs.declared.extent.Span.{Span}
 use Rattle.rb_actions.specs.Layouts.{line_at}
@@ -36,7 +36,7 @@ abbrev pub is_among : Option Span → Extent → Bool
 is_among None e = not false
 is_among (Some span) e = has_line span.first span.last e
 
-abbrev pub is_wanted : Option Span → List Line → ℕ → PlainBlock → List Line → Bool
+unfoldable pub is_wanted : Option Span → List Line → ℕ → PlainBlock → List Line → Bool
 is_wanted span ls line b output = is_accepted ls line b output && is_among span (extent_of ls line b)
 
 -- ---- the edit of one expectation
@@ -59,12 +59,12 @@ form is_double output = if is_double then rule ∷ output ++ rule ∷ rule ∷ [
 
 -- What comes in the place of an expectation: it stays in its form. Each output can be shown in the plain one, since none of its lines is
 -- blank or a rule.
-abbrev pub new_text : List ℕ → List Line → Extent → List Line → List ℕ
+unfoldable pub new_text : List ℕ → List Line → Extent → List Line → List ℕ
 new_text text ls e output = end_above text ls e ++ text_of (form e.is_double output)
 
 unfoldable pub edit_text : Encoding → List ℕ → Extent → List ℕ → List ℕ
 edit_text encoding text e new =
-    range_text (start_of encoding e.expected text) (start_of encoding e.end text) ++ (codes "},\"newText\":\"" ++ (flat_map escaped new ++ codes "\"}"))
+    range_member (start_of encoding e.expected text) (start_of encoding e.end text) ++ (codes ",\"newText\":\"" ++ (flat_map escaped new ++ codes "\"}"))
 
 -- ---- the edits of some
 
@@ -73,7 +73,7 @@ abbrev pub comma_if : Bool → List ℕ
 comma_if later = if later then codes "," else []
 
 -- of a directive, if it is wanted
-abbrev pub one_edit : Encoding → List ℕ → Option Span → Bool → ℕ → PlainBlock → List Line → List ℕ
+unfoldable pub one_edit : Encoding → List ℕ → Option Span → Bool → ℕ → PlainBlock → List Line → List ℕ
 one_edit encoding text span later line b output =
     if is_wanted span (lines text) line b output
     then comma_if later ++ edit_text encoding text (extent_of (lines text) line b) (new_text text (lines text) (extent_of (lines text) line b) output)

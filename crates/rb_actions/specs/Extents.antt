@@ -46,7 +46,7 @@ abbrev pub extent_below : List Line → ℕ → ℕ → PlainBlock → Extent
 extent_below ls head expected b = extent_from ls head expected (is_rule_there (slice_get ls expected)) b
 
 -- of the directive whose head begins on this line
-abbrev pub extent_of : List Line → ℕ → PlainBlock → Extent
+unfoldable pub extent_of : List Line → ℕ → PlainBlock → Extent
 extent_of ls line b =
     extent_below ls (within ls (line - 1)) (within ls (separator_from ls (below_head ls (within ls (line - 1))) + 1)) b
 

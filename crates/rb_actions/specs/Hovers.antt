@@ -13,7 +13,7 @@ use Rattle.rb_document.specs.declared.position.Encoding.{Encoding}
 use Rattle.rb_document.specs.declared.position.Position.{Position}
 use Rattle.rb_document.specs.Tables.{start_of}
 use Rattle.rb_offers.specs.Heads.{heads_of}
-use Rattle.rb_diagnostics.specs.Texts.{range_text}
+use Rattle.rb_offers.specs.Texts.{range_member}
 use Rattle.rb_actions.specs.declared.extent.Extent.{Extent}
 use Rattle.rb_actions.specs.Layouts.{line_at}
 use Rattle.rb_actions.specs.Extents.{extent_of, has_line}
@@ -25,7 +25,7 @@ shown output seen = text_of output ++ (10 ∷ text_of seen)
 -- a text for the lines of a directive
 unfoldable pub hover_text : Encoding → List ℕ → Extent → List ℕ → List ℕ
 hover_text encoding text e shown =
-    range_text (start_of encoding e.head text) (start_of encoding e.end text) ++ (codes "},\"contents\":{\"kind\":\"plaintext\",\"value\":\"" ++ (flat_map escaped shown ++ codes "\"}}"))
+    range_member (start_of encoding e.head text) (start_of encoding e.end text) ++ (codes ",\"contents\":{\"kind\":\"plaintext\",\"value\":\"" ++ (flat_map escaped shown ++ codes "\"}}"))
 
 -- of the directives of a script, behind n others, the first that has the line; nothing, where none has it
 abbrev pub hover_in : Encoding → List ℕ → PlainScript → ℕ → ℕ → List ℕ → List PlainBlock → List (List Line) → List ℕ

@@ -1,6 +1,8 @@
 -- A script's lines, as they are. (docs/SCRIPT-FORMAT.md.)
-use Rattle.std.specs.Prelude.{◌≡◌, ℕ, ◌==◌, List, length, take, count_by}
+use Rattle.std.specs.Prelude.{◌≡◌, ℕ, ◌==◌, List, length, take, count_by, Err}
+use Rattle.rb_script.specs.declared.fault.ScriptFault.{ScriptFault}
 use Rattle.rb_script.specs.Lines.{lines}
+use Rattle.rb_script.specs.Reading.{read_of}
 use Rattle.rb_script.specs.Script.{PlainScript}
 use Rattle.rb_document.specs.declared.position.Encoding.{Encoding}
 use Rattle.rb_document.specs.declared.position.Position.{Position}
@@ -15,6 +17,10 @@ pub record IsLayout (encoding : Encoding) (bytes : List ℕ) (s : PlainScript) (
   pub heads_are : layout.heads.items ≡ heads_of bytes s
   pub count : length layout.heads.items ≡ length s.blocks
   pub table : IsTable encoding bytes layout.table
+
+-- bytes that are no script
+abbrev pub IsNoScript : List ℕ → Type 0
+IsNoScript bytes = (fault : ScriptFault) × (read_of bytes ≡ Err fault)
 
 -- the line of a script on which a position of an editor stands, counted from 0: so many lines end before it
 abbrev pub line_at : Encoding → Position → List ℕ → ℕ

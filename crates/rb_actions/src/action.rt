@@ -13,12 +13,13 @@ ghost use Rattle.rb_actions.specs.Actions.{action_head, action_if, action_text, 
 use crate::extent::{Extent, Span, extent_of, has_line};
 use crate::layout::{Layout, layout_of, line_at};
 use crate::replacement::new_text;
+use crate::run::fresh_run;
 use rb_checked::{block_at, is_unexpected, number_at, output_at};
-use rb_diagnostics::add_range;
 use rb_document::{Encoding, LineTable, Range};
 use rb_json::{Piece, add_pieces};
 use rb_machine::{Count, Machine};
-use rb_replay::{Session, StartFault};
+use rb_offers::add_range_member;
+use rb_replay::Session;
 use rb_script::{Block, Lines};
 use std::alloc::{AllocError, Global};
 
@@ -45,6 +46,7 @@ fn is_among(span: Option<Span>, extent: Extent) -> bool
     }
 }
 
+#[tactic(auto, unfolding(crate::specs::Actions::is_wanted))]
 fn is_wanted(span: Option<Span>, lines: &Lines, line: usize, block: &Block, output: &Lines) -> bool
     ensures { result ≡ is_wanted span lines.now line block.now output.now }
 {
@@ -66,11 +68,11 @@ fn add_edit(
 {
     let start = table.start_of(extent.expected);
     let end = table.start_of(extent.end);
-    add_range(out, start, end)?;
+    add_range_member(out, start, end)?;
     add_pieces(
         out,
         &[
-            Piece::Bytes(b"},\"newText\":\""),
+            Piece::Bytes(b",\"newText\":\""),
             Piece::Escaped(new),
             Piece::Bytes(b"\"}"),
         ],
@@ -84,6 +86,7 @@ fn comma_if(later: bool) -> &'static [u8]
 }
 
 // Adds the edit of a directive, if it is wanted, behind others.
+#[tactic(auto, unfolding(crate::specs::Actions::one_edit))]
 fn add_one(
     alloc: Global,
     out: &mut Vec<u8>,
@@ -236,7 +239,7 @@ fn add_of_session<M: Machine>(
 }
 
 /// Adds the actions for a range of a text: none where it is no script.
-#[tactic(auto, using(crate::proofs::ActionLaws::of_read, crate::proofs::ActionLaws::of_fault))]
+#[tactic(auto, using(crate::proofs::ActionLaws::of_read, crate::proofs::ActionLaws::of_none))]
 pub(crate) fn add_actions<M: Machine>(
     alloc: Global,
     out: &mut Vec<u8>,
@@ -250,9 +253,8 @@ pub(crate) fn add_actions<M: Machine>(
     requires meter { M.Meter.count_of meter.old ≤ 2 ^ 62 }
     ensures { OnOk result (out.new.items ≡ out.old.items ++ actions encoding range uri.now text.now) }
 {
-    match Session::<M>::run_once(alloc, text, meter) {
-        Ok(session) => add_of_session(alloc, out, encoding, range, uri, text, &session),
-        Err(StartFault::Script(_)) => out.extend_from_slice(b"[]"),
-        Err(_) => Err(AllocError),
+    match fresh_run::<M>(alloc, text, meter)? {
+        Some(session) => add_of_session(alloc, out, encoding, range, uri, text, &session),
+        None => out.extend_from_slice(b"[]"),
     }
 }

@@ -70,6 +70,7 @@ fn behind(lines: &Lines, expected: usize, is_double: bool, count: usize) -> usiz
 }
 
 /// Where the directive stands whose head begins on this line, which counts from 1.
+#[tactic(auto, unfolding(crate::specs::Extents::extent_of))]
 pub(crate) fn extent_of(lines: &Lines, line: usize, block: &Block) -> Extent
     ensures { result ≡ extent_of lines.now line block.now }
 {

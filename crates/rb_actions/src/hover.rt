@@ -13,13 +13,14 @@ ghost use Rattle.rb_actions.specs.Hovers.{hover, hover_in, hover_text, shown};
 
 use crate::extent::{Extent, Span, extent_of, has_line};
 use crate::layout::{Layout, layout_of, line_at};
+use crate::run::fresh_run;
 use rb_checked::{block_at, number_at, output_at};
-use rb_diagnostics::add_range;
 use rb_document::{Encoding, LineTable, Position};
 use rb_json::{Piece, add_pieces};
 use rb_look::{Nodes, look};
 use rb_machine::{Count, Machine};
-use rb_replay::{Session, StartFault};
+use rb_offers::add_range_member;
+use rb_replay::Session;
 use rb_script::{Lines, Script};
 use std::alloc::{AllocError, Global};
 
@@ -58,11 +59,11 @@ fn add_hover_text(
 {
     let start = table.start_of(extent.head);
     let end = table.start_of(extent.end);
-    add_range(out, start, end)?;
+    add_range_member(out, start, end)?;
     add_pieces(
         out,
         &[
-            Piece::Bytes(b"},\"contents\":{\"kind\":\"plaintext\",\"value\":\""),
+            Piece::Bytes(b",\"contents\":{\"kind\":\"plaintext\",\"value\":\""),
             Piece::Escaped(shown),
             Piece::Bytes(b"\"}}"),
         ],
@@ -146,7 +147,7 @@ fn add_position<M: Nodes>(
 }
 
 /// Adds what is shown of a position in a text: `null` where no directive stands there, and where the text is no script.
-#[tactic(auto, using(crate::proofs::HoverLaws::of_read, crate::proofs::HoverLaws::of_fault))]
+#[tactic(auto, using(crate::proofs::HoverLaws::of_read, crate::proofs::HoverLaws::of_none))]
 pub(crate) fn add_hover<M: Nodes>(
     alloc: Global,
     out: &mut Vec<u8>,
@@ -159,9 +160,8 @@ pub(crate) fn add_hover<M: Nodes>(
     requires meter { M.Meter.count_of meter.old ≤ 2 ^ 61 }
     ensures { OnOk result (out.new.items ≡ out.old.items ++ hover encoding position text.now) }
 {
-    match Session::<M>::run_once(alloc, text, meter) {
-        Ok(session) => add_position(alloc, out, encoding, position, text, &session, meter),
-        Err(StartFault::Script(_)) => out.extend_from_slice(b"null"),
-        Err(_) => Err(AllocError),
+    match fresh_run::<M>(alloc, text, meter)? {
+        Some(session) => add_position(alloc, out, encoding, position, text, &session, meter),
+        None => out.extend_from_slice(b"null"),
     }
 }

@@ -130,7 +130,7 @@ fn of_script<M: Machine>(
     Ok(list)
 }
 
-/// What is to be said of the text of a document: what [`rb_diagnostics::diagnostics_of`] says of it, by the document's session.
+/// What is to be said of the text of a document, as one fresh run of it has it, by the document's session.
 ///
 /// # Errors
 ///

@@ -14,6 +14,7 @@ mod kept;
 mod laws;
 mod layout;
 mod replacement;
+mod run;
 
 pub use bench::lsp;
 pub use laws::{accepts_as_check_does, edited_lines_read, edits_replace_lines, texts_have_one_run};

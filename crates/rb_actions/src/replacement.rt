@@ -42,6 +42,7 @@ fn add_formed(new: &mut Vec<u8>, is_double: bool, output: &Lines) -> Result<(), 
 }
 
 /// What comes in the place of the expectation that stands there in the text.
+#[tactic(auto, unfolding(crate::specs::Actions::new_text))]
 pub(crate) fn new_text(
     alloc: Global,
     text: &[u8],

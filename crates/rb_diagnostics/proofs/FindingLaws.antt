@@ -12,7 +12,7 @@ use Rattle.rb_diagnostics.specs.Diagnostics.{PlainDiagnostic}
 use Rattle.rb_diagnostics.specs.Findings.{before, diagnostics_of, finding, findings, of_reading, of_script, refused}
 
 -- one directive more
-pub findings-step : (ls : List Line) (heads : List ℕ) (bs : List PlainBlock) (os : List (List Line)) (i line : ℕ) (b : PlainBlock) (o : List Line)
+findings-step : (ls : List Line) (heads : List ℕ) (bs : List PlainBlock) (os : List (List Line)) (i line : ℕ) (b : PlainBlock) (o : List Line)
     → slice_get heads i ≡ Some line → slice_get bs i ≡ Some b → slice_get os i ≡ Some o
     → findings ls (drop i heads) (drop i bs) (drop i os) ≡ before (finding ls line b o) (findings ls (drop (i + 1) heads) (drop (i + 1) bs) (drop (i + 1) os))
 findings-step ls heads bs os i line b o head block output =
@@ -26,9 +26,20 @@ findings-done ls [] bs os none = refl
 findings-done ls (line ∷ heads) bs os none = absurd cc
 
 -- one behind others and before others
-pub between : (list rest : List PlainDiagnostic) (found : Option PlainDiagnostic) → (list ++ before found []) ++ rest ≡ list ++ before found rest
+between : (list rest : List PlainDiagnostic) (found : Option PlainDiagnostic) → (list ++ before found []) ++ rest ≡ list ++ before found rest
 between list rest None = ap (λ (l : List PlainDiagnostic). l ++ rest) (append-nil list)
 between list rest (Some d) = append_assoc list (d ∷ []) rest
+
+-- what is said of one directive more, behind what was said so far
+pub said_more : (ls : List Line) (heads : List ℕ) (bs : List PlainBlock) (os : List (List Line)) (i line : ℕ) (b : PlainBlock) (o : List Line) (list new : List PlainDiagnostic) (found : Option PlainDiagnostic) (total : List PlainDiagnostic)
+    → slice_get heads i ≡ Some line → slice_get bs i ≡ Some b → slice_get os i ≡ Some o → new ≡ list ++ before found [] → found ≡ finding ls line b o
+    → list ++ findings ls (drop i heads) (drop i bs) (drop i os) ≡ total → new ++ findings ls (drop (i + 1) heads) (drop (i + 1) bs) (drop (i + 1) os) ≡ total
+said_more ls heads bs os i line b o list new found total head block output more is far =
+    ap (λ (l : List PlainDiagnostic). l ++ findings ls (drop (i + 1) heads) (drop (i + 1) bs) (drop (i + 1) os)) more
+    ∙ between list (findings ls (drop (i + 1) heads) (drop (i + 1) bs) (drop (i + 1) os)) found
+    ∙ ap (λ (d : Option PlainDiagnostic). list ++ before d (findings ls (drop (i + 1) heads) (drop (i + 1) bs) (drop (i + 1) os))) is
+    ∙ ap (λ (l : List PlainDiagnostic). list ++ l) (sym (findings-step ls heads bs os i line b o head block output))
+    ∙ far
 
 -- ---- of a text
 

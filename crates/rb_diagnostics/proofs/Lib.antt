@@ -1,3 +1,2 @@
 pub mod FindingLaws
-pub mod WritingLaws
 pub mod QuietLaws

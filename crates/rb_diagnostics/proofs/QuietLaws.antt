@@ -1,17 +1,19 @@
 -- A script of which nothing is said.
-use Rattle.std.proofs.Common.{◌≡◌, ◌∙◌, ℕ, ◌+◌, Bool, true, false, List, [], ◌∷◌, refl, ap, sym}
-use Rattle.std.specs.Prelude.{◌&&◌, ◌||◌, not, codes, Option, None}
+use Rattle.std.proofs.Common.{◌≡◌, ◌∙◌, ℕ, ◌+◌, min, Bool, true, false, List, [], ◌∷◌, refl, ap, sym, arith}
+use Rattle.std.proofs.lemmas.Bool.{eqb-true}
+use Rattle.std.specs.Prelude.{◌==◌, ◌&&◌, ◌||◌, not, codes, length, Option, None}
 use Rattle.std.specs.List.{list_any}
 use Rattle.rb_script.specs.Lines.{Line, lines}
-use Rattle.rb_script.specs.Script.{PlainBlock}
+use Rattle.rb_script.specs.Script.{PlainBlock, PlainScript}
 use Rattle.rb_document.specs.declared.position.Encoding.{Encoding}
 use Rattle.rb_replay.specs.Run.{outputs}
-use Rattle.rb_replay.specs.Report.{same_lines, differing}
-use Rattle.rb_checked.specs.Errors.{is_error, is_unexpected, says_error}
+use Rattle.rb_replay.specs.Report.{same_lines, differing, mismatches}
+use Rattle.rb_checked.specs.Errors.{is_error, is_unexpected, marked, says_error}
 use Rattle.rb_diagnostics.specs.Diagnostics.{PlainDiagnostic}
 use Rattle.rb_offers.specs.Heads.{heads_of}
-use Rattle.rb_diagnostics.specs.Findings.{before, diagnostics_of, finding, findings}
-use Rattle.rb_diagnostics.specs.Texts.{list_text, listed}
+use Rattle.rb_offers.specs.Texts.{list_text, listed}
+use Rattle.rb_diagnostics.specs.Findings.{before, diagnostics_of, finding, findings, is_quiet, of_script}
+use Rattle.rb_diagnostics.specs.Texts.{diagnostic_text}
 use Rattle.rb_diagnostics.specs.Published.{diagnose}
 use Rattle.rb_diagnostics.specs.Laws.{IsQuietText}
 use Rattle.rb_diagnostics.proofs.FindingLaws.{of_read}
@@ -40,10 +42,41 @@ quiet ls (line ∷ heads) (b ∷ bs) (o ∷ os) p same none =
     ap (λ (found : Option PlainDiagnostic). before found (findings ls heads bs os)) (nothing_found ls line b o yes unnamed) ∙ quiet ls heads bs os (p + 1) later no.1)
     (λ other. let first : p ∷ differing (p + 1) bs os ≡ [] = rw other at same in absurd cc)
 
-empty_list : (encoding : Encoding) (text : List ℕ) (ds : List PlainDiagnostic) → ds ≡ [] → list_text encoding text ds ≡ codes "[]"
+empty_list : (text : PlainDiagnostic → List ℕ) (ds : List PlainDiagnostic) → ds ≡ [] → list_text text ds ≡ codes "[]"
 unfolding list_text listed
-empty_list encoding text ds none = ap (list_text encoding text) none
+empty_list text ds none = ap (list_text text) none
+
+-- ---- without its text
+
+alone : (t : Bool) → (t && true) ≡ t
+alone true = refl
+alone false = refl
+
+pub nothing_above : (o : List Line) → is_unexpected o 0 o ≡ is_error o
+nothing_above o =
+    let above : min 0 (length o) ≡ 0 = omega arith in
+    ap (λ (n : ℕ). is_error o && not (marked o n)) above ∙ alone (is_error o)
+
+both : (t u : Bool) → (t && u) ≡ true → (t ≡ true) × (u ≡ true)
+both true u h = (refl, h)
+both false u h = absurd cc
+
+no_length : {X : Type 0} (xs : List X) → (length xs == 0) ≡ true → xs ≡ []
+no_length [] none = refl
+no_length (x ∷ xs) none = let len : length (x ∷ xs) ≡ 0 = eqb-true (length (x ∷ xs)) 0 none in absurd (omega (arith, len))
+
+not_so : (t : Bool) → not t ≡ true → t ≡ false
+not_so true h = absurd cc
+not_so false h = refl
+
+pub nothing_said : (bytes : List ℕ) (s : PlainScript) → is_quiet s ≡ true → [] ≡ of_script bytes s
+nothing_said bytes s is =
+    let p = both (length (mismatches s) == 0) (not (list_any is_error (outputs s))) is in
+    sym (quiet (lines bytes) (heads_of bytes s) s.blocks (outputs s) 1 (no_length (mismatches s) p.0) (not_so (list_any is_error (outputs s)) p.1))
+
+pub none_listed : (text : PlainDiagnostic → List ℕ) (ds : List PlainDiagnostic) → (length ds == 0) ≡ true → codes "[]" ≡ list_text text ds
+none_listed text ds none = sym (empty_list text ds (no_length ds none))
 
 pub quiet_text : (encoding : Encoding) (uri text : List ℕ) → IsQuietText text → diagnose encoding uri text ≡ codes "[]"
 quiet_text encoding uri text q =
-    empty_list encoding text (diagnostics_of text) (sym (of_read text q.script q.reads) ∙ quiet (lines text) (heads_of text q.script) q.script.blocks (outputs q.script) 1 q.same q.no_error)
+    empty_list (diagnostic_text encoding text) (diagnostics_of text) (sym (of_read text q.script q.reads) ∙ quiet (lines text) (heads_of text q.script) q.script.blocks (outputs q.script) 1 q.same q.no_error)

@@ -1,16 +1,17 @@
 -- What is to be said of a text: of each directive of one fresh run, or of what is no script. (This project's.)
-use Rattle.std.specs.Prelude.{ℕ, ◌-◌, if◌then◌else◌, List, [], ◌∷◌, length, take, Option, Some, None, Result, Ok, Err}
+use Rattle.std.specs.Prelude.{ℕ, ◌-◌, ◌==◌, Bool, ◌&&◌, not, if◌then◌else◌, List, [], ◌∷◌, length, take, Option, Some, None, Result, Ok, Err}
+use Rattle.std.specs.List.{list_any}
 use Rattle.rb_script.specs.declared.fault.ScriptFault.{ScriptFault}
 use Rattle.rb_script.specs.Lines.{Line, lines}
 use Rattle.rb_script.specs.Script.{PlainBlock, PlainScript}
 use Rattle.rb_script.specs.Reading.{read_of}
 use Rattle.rb_replay.specs.Run.{outputs}
-use Rattle.rb_replay.specs.Report.{same_lines}
+use Rattle.rb_replay.specs.Report.{mismatches, same_lines}
 use Rattle.rb_check.specs.declared.colors.Colors.TheVariants.{Off}
 use Rattle.rb_check.specs.Refusals.{sentence, fault_line}
 use Rattle.rb_check.specs.Diffs.{parts}
 use Rattle.rb_check.specs.Folds.{folded_text}
-use Rattle.rb_checked.specs.Errors.{first_line, is_unexpected}
+use Rattle.rb_checked.specs.Errors.{first_line, is_error, is_unexpected}
 use Rattle.rb_diagnostics.specs.declared.diagnostic.Kind.TheVariants.{Mismatch, ErrorOutput, NoScript}
 use Rattle.rb_offers.specs.Heads.{heads_of}
 use Rattle.rb_diagnostics.specs.Diagnostics.{PlainDiagnostic}
@@ -45,6 +46,10 @@ findings ls [] bs os = []
 findings ls (line ∷ heads) [] os = []
 findings ls (line ∷ heads) (b ∷ bs) [] = []
 findings ls (line ∷ heads) (b ∷ bs) (output ∷ os) = before (finding ls line b output) (findings ls heads bs os)
+
+-- of a script that has no such directive, which is seen without its text
+abbrev pub is_quiet : PlainScript → Bool
+is_quiet s = (length (mismatches s) == 0) && not (list_any is_error (outputs s))
 
 -- the first line, where a fault names none
 abbrev pub or_first : Option ℕ → ℕ

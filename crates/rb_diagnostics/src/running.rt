@@ -1,18 +1,19 @@
-//! What is to be said of a text, by one fresh run of it.
+//! What is to be said of a script that ran, and of what is none.
 
-ghost use Rattle.std.specs.Prelude.{◌≡◌, ◌≤◌, ◌^◌, ◌++◌, [], ◌∷◌, IfOk, OnOk, length};
+ghost use Rattle.std.specs.Prelude.{◌≡◌, ◌++◌, [], ◌∷◌, IfOk, OnOk, length};
 ghost use Rattle.rb_script.specs.Lines.{lines};
 ghost use Rattle.rb_script.specs.Reads.{Reads};
 ghost use Rattle.rb_replay.specs.Run.{outputs};
 ghost use Rattle.rb_offers.specs.Heads.{heads_of};
-ghost use Rattle.rb_diagnostics.specs.Findings.{before, diagnostics_of, findings, of_script, or_first, refused};
+ghost use Rattle.rb_diagnostics.specs.Findings.{before, findings, of_script, or_first, refused};
 
 use crate::diagnostic::{Diagnostic, Kind};
 use crate::finding::finding;
+use crate::quiet::is_quiet;
 use rb_check::{Table, fault_line, sentence};
 use rb_checked::{block_at, lines_of, number_at, output_at};
 use rb_machine::Machine;
-use rb_replay::{MAX_SPACING, Session, StartFault};
+use rb_replay::Session;
 use rb_script::{Lines, ScriptFault, head_lines};
 use std::alloc::{AllocError, Global};
 
@@ -70,6 +71,7 @@ pub fn heads_of<M: Machine>(
 /// # Errors
 ///
 /// Where memory was refused.
+#[tactic(auto, using(crate::proofs::QuietLaws::nothing_said))]
 pub fn of_bytes<M: Machine>(
     alloc: Global,
     table: &mut Table,
@@ -79,6 +81,9 @@ pub fn of_bytes<M: Machine>(
     requires { Reads bytes.now session.now.script }
     ensures { IfOk result (λ list. list.items ≡ of_script bytes.now session.now.script) }
 {
+    if is_quiet(session) {
+        return Ok(Vec::new(alloc));
+    }
     let heads = heads_of(alloc, session, bytes)?;
     let text = lines_of(alloc, bytes)?;
     of_session(alloc, table, session, &text, heads.as_slice())
@@ -112,26 +117,4 @@ fn or_first(line: Option<usize>) -> usize
     ensures { result ≡ or_first line }
 {
     line.unwrap_or(1)
-}
-
-/// What is to be said of a text: where it is a script, of one run of it from the empty cluster, and else why it is none.
-///
-/// # Errors
-///
-/// Where memory was refused.
-#[tactic(auto, using(crate::proofs::FindingLaws::of_read, crate::proofs::FindingLaws::of_fault))]
-pub fn diagnostics_of<M: Machine>(
-    alloc: Global,
-    table: &mut Table,
-    meter: &mut M::Meter,
-    bytes: &[u8],
-) -> Result<Vec<Diagnostic>, AllocError>
-    requires { M.Meter.count_of meter.old ≤ 2 ^ 62 }
-    ensures { IfOk result (λ list. list.items ≡ diagnostics_of bytes.now) }
-{
-    match Session::<M>::start(alloc, bytes, MAX_SPACING, meter) {
-        Ok(session) => of_bytes(alloc, table, &session, bytes),
-        Err(StartFault::Script(fault)) => of_fault(alloc, fault),
-        Err(_) => Err(AllocError),
-    }
 }

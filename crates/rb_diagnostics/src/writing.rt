@@ -3,39 +3,14 @@
 ghost use Rattle.std.specs.Prelude.{◌≡◌, ◌≤◌, ◌++◌, [], OnOk, length};
 ghost use Rattle.rb_document.specs.Tables.{IsTable};
 ghost use Rattle.rb_document.specs.declared.limits.TheConstants.{MAX_TEXT};
-ghost use Rattle.rb_diagnostics.specs.Texts.{diagnostic_text, kind_text, list_text, listed, position_text, range_text};
+ghost use Rattle.rb_offers.specs.Texts.{list_text, listed, range_member};
+ghost use Rattle.rb_diagnostics.specs.Texts.{diagnostic_text, kind_text};
 
 use crate::diagnostic::{Diagnostic, Kind};
-use rb_document::{Encoding, LineTable, Position};
+use rb_document::{Encoding, LineTable};
 use rb_json::{Piece, add_pieces};
+use rb_offers::add_range_member;
 use std::alloc::{AllocError, Global};
-
-#[tactic(auto, unfolding(crate::specs::Texts::position_text))]
-fn add_position(out: &mut Vec<u8>, position: Position) -> Result<(), AllocError>
-    ensures { OnOk result (out.new.items ≡ out.old.items ++ position_text position) }
-{
-    add_pieces(
-        out,
-        &[
-            Piece::Bytes(b"{\"line\":"),
-            Piece::Number(position.line),
-            Piece::Bytes(b",\"character\":"),
-            Piece::Number(position.character),
-            Piece::Bytes(b"}"),
-        ],
-    )
-}
-
-/// Adds the beginning of an object, with a range as its first member, whose own end is left out.
-#[tactic(auto, unfolding(crate::specs::Texts::range_text))]
-pub fn add_range(out: &mut Vec<u8>, start: Position, end: Position) -> Result<(), AllocError>
-    ensures { OnOk result (out.new.items ≡ out.old.items ++ range_text start end) }
-{
-    out.extend_from_slice(b"{\"range\":{\"start\":")?;
-    add_position(out, start)?;
-    out.extend_from_slice(b",\"end\":")?;
-    add_position(out, end)
-}
 
 // How grave it is, and its code.
 #[tactic(auto, unfolding(crate::specs::Texts::kind_text))]
@@ -44,13 +19,13 @@ fn kind_text(kind: Kind) -> &'static [u8]
 {
     match kind {
         Kind::Mismatch => {
-            b"},\"severity\":1,\"code\":\"mismatch\",\"source\":\"raftbench\",\"message\":\""
+            b",\"severity\":1,\"code\":\"mismatch\",\"source\":\"raftbench\",\"message\":\""
         }
         Kind::ErrorOutput => {
-            b"},\"severity\":2,\"code\":\"error-output\",\"source\":\"raftbench\",\"message\":\""
+            b",\"severity\":2,\"code\":\"error-output\",\"source\":\"raftbench\",\"message\":\""
         }
         Kind::NoScript => {
-            b"},\"severity\":1,\"code\":\"no-script\",\"source\":\"raftbench\",\"message\":\""
+            b",\"severity\":1,\"code\":\"no-script\",\"source\":\"raftbench\",\"message\":\""
         }
     }
 }
@@ -69,7 +44,7 @@ fn add_diagnostic(
 {
     let start = table.start_of(diagnostic.line.saturating_sub(1));
     let end = table.start_of(diagnostic.line);
-    add_range(out, start, end)?;
+    add_range_member(out, start, end)?;
     add_pieces(
         out,
         &[
@@ -89,7 +64,7 @@ fn add_all(
     list: &[Diagnostic],
 ) -> Result<(), AllocError>
     requires { IsTable encoding text.now table.now }
-    ensures { OnOk result (out.new.items ≡ out.old.items ++ listed encoding text.now [] list.now) }
+    ensures { OnOk result (out.new.items ≡ out.old.items ++ listed (diagnostic_text encoding text.now) [] list.now) }
 {
     let mut lead: &[u8] = b"";
     for diagnostic in list {
@@ -102,7 +77,7 @@ fn add_all(
 }
 
 /// Adds the diagnostics of a text, as a list.
-#[tactic(auto, unfolding(crate::specs::Texts::list_text))]
+#[tactic(auto, unfolding(rb_offers::specs::Texts::list_text), using(crate::proofs::QuietLaws::none_listed))]
 pub fn add_list(
     alloc: Global,
     out: &mut Vec<u8>,
@@ -111,8 +86,11 @@ pub fn add_list(
     list: &[Diagnostic],
 ) -> Result<(), AllocError>
     requires { length text.now ≤ MAX_TEXT }
-    ensures { OnOk result (out.new.items ≡ out.old.items ++ list_text encoding text.now list.now) }
+    ensures { OnOk result (out.new.items ≡ out.old.items ++ list_text (diagnostic_text encoding text.now) list.now) }
 {
+    if list.is_empty() {
+        return out.extend_from_slice(b"[]");
+    }
     let table = LineTable::new(alloc, encoding, text)?;
     out.extend_from_slice(b"[")?;
     add_all(out, encoding, text, &table, list)

@@ -8,6 +8,10 @@ position_text p = codes "{\"line\":" ++ (decimal p.line ++ (codes ",\"character\
 unfoldable pub range_text : Position → Position → List ℕ
 range_text start end = codes "{\"start\":" ++ (position_text start ++ (codes ",\"end\":" ++ (position_text end ++ codes "}")))
 
+-- the beginning of an object whose first member is a range
+unfoldable pub range_member : Position → Position → List ℕ
+range_member start end = codes "{\"range\":" ++ range_text start end
+
 -- some, each by its text, of which the first stands behind `lead`, and the others behind commas
 unfoldable pub listed : {X : Type 0} → (X → List ℕ) → List ℕ → List X → List ℕ
 listed text lead [] = codes "]"

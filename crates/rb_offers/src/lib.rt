@@ -27,3 +27,4 @@ pub use laws::{
     values_are_those_of_the_option,
 };
 pub use symbols::{MAX_NAME, add_symbols};
+pub use writing::add_range_member;

@@ -2,7 +2,7 @@
 
 ghost use Rattle.std.specs.Prelude.{◌≡◌, ◌++◌, OnOk};
 ghost use Rattle.rb_document.specs.Tables.{IsTable, start_of};
-ghost use Rattle.rb_offers.specs.Texts.{position_text, range_text};
+ghost use Rattle.rb_offers.specs.Texts.{position_text, range_member, range_text};
 
 use rb_document::{Encoding, LineTable, Position};
 use rb_json::{Piece, add_pieces};
@@ -35,6 +35,19 @@ pub(crate) fn add_range(out: &mut Vec<u8>, start: Position, end: Position) -> Re
     add_position(out, end)?;
     out.extend_from_slice(b"}")?;
     Ok(())
+}
+
+/// Adds the beginning of an object whose first member is the range between two positions.
+///
+/// # Errors
+///
+/// Where memory was refused. A part of it may have been added then.
+#[tactic(auto, unfolding(crate::specs::Texts::range_member))]
+pub fn add_range_member(out: &mut Vec<u8>, start: Position, end: Position) -> Result<(), AllocError>
+    ensures { OnOk result (out.new.items ≡ out.old.items ++ range_member start end) }
+{
+    out.extend_from_slice(b"{\"range\":")?;
+    add_range(out, start, end)
 }
 
 /// Where a line of a text begins, whose lines stand in the table.

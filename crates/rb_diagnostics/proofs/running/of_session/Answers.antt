@@ -1,24 +1,16 @@
 use Rattle.std.proofs.Common.{◌∙◌, ◌+◌, ◌≤◌, List, ◌++◌, length, drop, ap, sym, append-nil, arith}
-use Rattle.std.specs.Prelude.{Option}
 use Rattle.std.proofs.lemmas.List.{drop_all}
 use Rattle.rb_replay.specs.Run.{outputs}
 use Rattle.rb_diagnostics.specs.Diagnostics.{PlainDiagnostic}
-use Rattle.rb_diagnostics.specs.Findings.{before, findings}
-use Rattle.rb_diagnostics.proofs.FindingLaws.{between, findings-done, findings-step}
+use Rattle.rb_diagnostics.specs.Findings.{findings}
+use Rattle.rb_diagnostics.proofs.FindingLaws.{findings-done, said_more}
 use Rattle.rb_diagnostics.proofs.running.of_session.Goals as goal
 
 pub loop-i-preserved : goal.loop-i-preserved
 loop-i-preserved g c =
-    let s = c.args.session.now.script in
-    let ls = c.args.text.now in
-    let i = c.loop-i.i in
-    let rest = findings ls (drop (i + 1) c.args.heads.now) (drop (i + 1) s.blocks) (drop (i + 1) (outputs s)) in
-    let next = findings-step ls c.args.heads.now s.blocks (outputs s) i c.number_at-line.result c.block_at-block.result.now c.output_at-output.result.now c.number_at-line.ensures c.block_at-block.ensures c.output_at-output.ensures in
-    ap (λ (l : List PlainDiagnostic). l ++ rest) c.in_ok-keep.ensures
-    ∙ between c.loop-i.list.items rest _
-    ∙ ap (λ (found : Option PlainDiagnostic). c.loop-i.list.items ++ before found rest) c.in_ok-found.ensures
-    ∙ ap (λ (l : List PlainDiagnostic). c.loop-i.list.items ++ l) (sym next)
-    ∙ c.loop-i.invariant
+    said_more c.args.text.now c.args.heads.now c.args.session.now.script.blocks (outputs c.args.session.now.script) c.loop-i.i c.number_at-line.result c.block_at-block.result.now
+    c.output_at-output.result.now c.loop-i.list.items c.keep.new.list.items c.in_ok-found.found _ c.number_at-line.ensures c.block_at-block.ensures c.output_at-output.ensures
+    c.in_ok-keep.ensures c.in_ok-found.ensures c.loop-i.invariant
 
 pub returns : goal.returns
 returns g c =

@@ -1,0 +1,30 @@
+use Rattle.std.proofs.Common.{◌∙◌, ◌+◌, ◌≤◌, Bool, List, drop, length, ap, sym, arith}
+use Rattle.std.specs.Prelude.{◌||◌}
+use Rattle.std.specs.List.{list_any}
+use Rattle.std.proofs.lemmas.List.{drop_all}
+use Rattle.rb_script.specs.Lines.{Line}
+use Rattle.rb_replay.specs.Run.{outputs}
+use Rattle.rb_replay.proofs.RunLaws.{length-outputs}
+use Rattle.rb_checked.specs.Errors.{is_error}
+use Rattle.rb_checked.proofs.ShownLaws.{any-step}
+use Rattle.rb_diagnostics.proofs.quiet.has_errors.Goals as goal
+
+pub returns-then-is_error : goal.returns-then-is_error
+returns-then-is_error g c =
+    let os = outputs c.args.session.now.script in
+    let o = c.output_at.result.now in
+    let next = any-step os c.loop-i.i o c.output_at.ensures in
+    sym (next ∙ ap (λ (t : Bool). t || list_any is_error (drop (c.loop-i.i + 1) os)) (sym c.is_error.ensures ∙ c.if-is_error.true)) ∙ c.loop-i.invariant
+
+pub loop-i-preserved : goal.loop-i-preserved
+loop-i-preserved g c =
+    let os = outputs c.args.session.now.script in
+    let o = c.output_at.result.now in
+    let next = any-step os c.loop-i.i o c.output_at.ensures in
+    sym (next ∙ ap (λ (t : Bool). t || list_any is_error (drop (c.loop-i.i + 1) os)) (sym c.is_error.ensures ∙ c.if-is_error.false)) ∙ c.loop-i.invariant
+
+pub returns : goal.returns
+returns g c =
+    let os = outputs c.args.session.now.script in
+    let past : length os ≤ c.loop-i.i = omega (arith, c.loop-i-test.false, c.len-i-end.ensures.len, length-outputs c.args.session.now.script) in
+    sym (ap (λ (outs : List (List Line)). list_any is_error outs) (drop_all c.loop-i.i os past)) ∙ c.loop-i.invariant
