@@ -1,1 +1,3 @@
 pub mod ChoiceLaws
+pub mod CommandLaws
+pub mod RuleLaws

@@ -11,19 +11,29 @@ use Rattle.rb_args.specs.declared.choice.CheckChoice.{CheckChoice}
 use Rattle.rb_args.specs.declared.choice.ChoiceFault.{ChoiceFault}
 use Rattle.rb_args.specs.declared.choice.ChoiceFault.TheVariants.{Refused, OutOfMemory}
 
--- the subcommand of this name
-abbrev pub named_by : Text → Option Subcommand
-named_by name =
+-- the subcommand of this name that shows what a script does
+abbrev pub of_one_view : Text → Option Subcommand
+of_one_view name =
+    if bytes_eq name (codes "look") then Some Look
+    else if bytes_eq name (codes "page") then Some Page
+    else if bytes_eq name (codes "chart") then Some Chart
+    else None
+
+-- the subcommand of this name that takes FILE
+abbrev pub of_one_script : Text → Option Subcommand
+of_one_script name =
     if bytes_eq name (codes "run") then Some Run
     else if bytes_eq name (codes "rewrite") then Some Rewrite
     else if bytes_eq name (codes "session") then Some Session
-    else if bytes_eq name (codes "check") then Some Check
-    else if bytes_eq name (codes "look") then Some Look
-    else if bytes_eq name (codes "page") then Some Page
-    else if bytes_eq name (codes "chart") then Some Chart
+    else of_one_view name
+
+-- the subcommand of this name
+abbrev pub named_by : Text → Option Subcommand
+named_by name =
+    if bytes_eq name (codes "check") then Some Check
     else if bytes_eq name (codes "directives") then Some Directives
     else if bytes_eq name (codes "lsp") then Some Lsp
-    else None
+    else of_one_script name
 
 -- what is said by the text that clap gives a flag
 abbrev pub is_set : Option Text → Bool

@@ -3,7 +3,7 @@
 ghost use Rattle.std.specs.Prelude.{◌≡◌, [], Some, None, IfOk, IfErr, map, true, option_map, string_bytes, unwrap_or};
 ghost use Rattle.clap.specs.Words.{all_of, fault_of, first_of, found_of, rows_of, subcommand_of, subcommand_rows_of, takes};
 ghost use Rattle.rb_args.specs.CommandLine.{command_line};
-ghost use Rattle.rb_args.specs.Chosen.{IsCheckOf, IsChoiceOf, IsRefusal, RefusedFor, is_set, named_by};
+ghost use Rattle.rb_args.specs.Chosen.{IsCheckOf, IsChoiceOf, IsRefusal, RefusedFor, is_set, named_by, of_one_script, of_one_view};
 
 use crate::commands::raftbench_command;
 use crate::{CheckChoice, Choice, ChoiceFault, Subcommand};
@@ -132,24 +132,42 @@ fn check_choice(alloc: Global, inner: &ArgMatches<'_>) -> Result<CheckChoice, Al
 fn named_by(name: &str) -> Option<Subcommand>
     ensures { result ≡ named_by name.now }
 {
+    if name == "check" {
+        Some(Subcommand::Check)
+    } else if name == "directives" {
+        Some(Subcommand::Directives)
+    } else if name == "lsp" {
+        Some(Subcommand::Lsp)
+    } else {
+        of_one_script(name)
+    }
+}
+
+// The subcommand of this name that takes FILE.
+fn of_one_script(name: &str) -> Option<Subcommand>
+    ensures { result ≡ of_one_script name.now }
+{
     if name == "run" {
         Some(Subcommand::Run)
     } else if name == "rewrite" {
         Some(Subcommand::Rewrite)
     } else if name == "session" {
         Some(Subcommand::Session)
-    } else if name == "check" {
-        Some(Subcommand::Check)
-    } else if name == "look" {
+    } else {
+        of_one_view(name)
+    }
+}
+
+// The subcommand of this name that shows what a script does.
+fn of_one_view(name: &str) -> Option<Subcommand>
+    ensures { result ≡ of_one_view name.now }
+{
+    if name == "look" {
         Some(Subcommand::Look)
     } else if name == "page" {
         Some(Subcommand::Page)
     } else if name == "chart" {
         Some(Subcommand::Chart)
-    } else if name == "directives" {
-        Some(Subcommand::Directives)
-    } else if name == "lsp" {
-        Some(Subcommand::Lsp)
     } else {
         None
     }

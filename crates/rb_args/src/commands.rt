@@ -1,9 +1,9 @@
 //! The command line, made for `clap`.
 
 ghost use Rattle.std.specs.Prelude.{◌≡◌, IfOk, codes, false};
-ghost use Rattle.clap.specs.Words.{app_of, new_app, rule_of, with_rule, with_subcommand};
+ghost use Rattle.clap.specs.Words.{App, Rule, app_of, new_app, rule_of, with_rule, with_subcommand};
 ghost use Rattle.clap.specs.declared.builder.command.Command.TheViews.{out-Command};
-ghost use Rattle.rb_args.specs.CommandLine.{command_line, subcommand_line, chart_line, check_line, directives_line, plain_line, server_line, with_accepting, with_amounts, with_choices, with_files, with_help, with_version, with_views, with_words, every_rule, until_rule, flag_rule, letter_rule, many_rule, name_rule, option_rule, path_rule};
+ghost use Rattle.rb_args.specs.CommandLine.{IsMade, command_line, check_line, directives_line, file_line, server_line, with_accepting, with_amounts, with_choices, with_files, with_help, with_option, with_version, with_views, file_rule, flag_rule, letter_rule, many_rule, name_rule, option_rule, path_rule, value_rule};
 
 use clap::{Arg, ArgAction, Command};
 use std::alloc::{AllocError, Global};
@@ -11,292 +11,288 @@ use std::alloc::{AllocError, Global};
 /// What `--version` tells behind the program's name: its version, and the toolchain that it was proved with.
 pub const VERSION: &str = "0.1.0, proved with rattle-kit-13f logic dac8208d650f15bf";
 
-const EVERY_HELP: &str = "Directives from one checkpoint to the next, 1 to 64 [default: 16]";
+// What help says of an option with a value.
+#[derive(Clone, Copy)]
+struct OptionWords<'a> {
+    name: &'a str,
+    value_name: &'a str,
+    help: &'a str,
+}
+
+// What help says of a subcommand that takes FILE.
+#[derive(Clone, Copy)]
+struct FileWords<'a> {
+    name: &'a str,
+    about: &'a str,
+    usage: &'a str,
+    after: &'a str,
+}
+
+// A command, where there was memory for it.
+type Made<'a> = Result<Command<'a>, AllocError>;
 
 // raftbench, with its subcommands.
-pub(crate) fn raftbench_command<'a>(alloc: Global) -> Result<Command<'a>, AllocError>
+pub(crate) fn raftbench_command<'a>(alloc: Global) -> Made<'a>
     ensures { IfOk result (λ command. app_of command ≡ command_line) }
 {
-    let check = check_command(alloc)?;
-    let command = with_files(bare_command(alloc).subcommand(check)?, alloc)?;
-    with_help(with_views(command, alloc)?, alloc)
+    let command = with_subcommand(Ok(bare_command(alloc)), check_command(alloc));
+    let command = with_files(command, alloc);
+    let command = with_views(command, alloc);
+    with_help(command, alloc)
 }
 
 // raftbench, without a subcommand.
 fn bare_command<'a>(alloc: Global) -> Command<'a>
-    ensures { app_of result ≡ with_version (new_app (codes "raftbench")) }
+    ensures app { app_of result ≡ with_version (new_app (codes "raftbench")) }
+    ensures local { (out-Command result).has_globals ≡ false }
 {
-    Command::new(alloc, "raftbench")
-        .about(
-            "Runs scripts of Raft directives on a cluster in memory, and shows where their outputs differ",
-        )
-        .version(VERSION)
+    described(
+        alloc,
+        "raftbench",
+        "Runs scripts of Raft directives on a cluster in memory, and shows where their outputs differ",
+    )
+    .version(VERSION)
 }
 
-// The subcommands of one script.
-fn with_files<'a>(command: Command<'a>, alloc: Global) -> Result<Command<'a>, AllocError>
-    ensures { IfOk result (λ made. app_of made ≡ with_files (app_of command.entry)) }
+fn described<'a>(alloc: Global, name: &'a str, about: &'a str) -> Command<'a>
+    ensures app { app_of result ≡ new_app name.entry.now }
+    ensures local { (out-Command result).has_globals ≡ false }
 {
-    let command = with_file(
-        command,
-        alloc,
-        "run",
-        "Runs a script and reports where its output differs from what it expects",
-        "raftbench run [OPTIONS] <FILE>",
-        "FILE is a script's file; - is standard input",
-    )?;
-    let command = with_file(
-        command,
-        alloc,
-        "rewrite",
-        "Runs a script and writes it with the output that it gives",
-        "raftbench rewrite [OPTIONS] <FILE>",
-        "FILE is a script's file; - is standard input",
-    )?;
-    with_file(
-        command,
-        alloc,
-        "session",
-        "Keeps a script and answers the edits that standard input asks for",
-        "raftbench session [OPTIONS] <FILE>",
-        "FILE is a script's file",
-    )
+    Command::new(alloc, name).about(about)
+}
+
+// One subcommand more.
+fn with_subcommand<'a>(command: Made<'a>, one: Made<'a>) -> Made<'a>
+    ensures { (line : App) (sub : App) → IsMade command.entry line → IsMade one.entry sub → IsMade result (with_subcommand line sub.top) }
+{
+    let one = one?;
+    let command = command?;
+    command.subcommand(one)
+}
+
+// One argument more.
+fn with_argument<'a>(command: Made<'a>, one: Arg<'a>) -> Made<'a>
+    requires { one.global ≡ false }
+    ensures { (line : App) (rule : Rule) → IsMade command.entry line → rule_of one.entry ≡ rule → IsMade result (with_rule line rule) }
+{
+    let command = command?;
+    command.arg(one)
+}
+
+// The subcommands that run one script.
+fn with_files<'a>(command: Made<'a>, alloc: Global) -> Made<'a>
+    ensures { (line : App) → IsMade command.entry line → IsMade result (with_files line) }
+{
+    let run = FileWords {
+        name: "run",
+        about: "Runs a script and reports where its output differs from what it expects",
+        usage: "raftbench run [OPTIONS] <FILE>",
+        after: "FILE is a script's file; - is standard input",
+    };
+    let rewrite = FileWords {
+        name: "rewrite",
+        about: "Runs a script and writes it with the output that it gives",
+        usage: "raftbench rewrite [OPTIONS] <FILE>",
+        after: "FILE is a script's file; - is standard input",
+    };
+    let session = FileWords {
+        name: "session",
+        about: "Keeps a script and answers the edits that standard input asks for",
+        usage: "raftbench session [OPTIONS] <FILE>",
+        after: "FILE is a script's file",
+    };
+    let command = with_subcommand(command, with_every(file_command(alloc, run), alloc));
+    let command = with_subcommand(command, with_every(file_command(alloc, rewrite), alloc));
+    with_subcommand(command, with_every(file_command(alloc, session), alloc))
 }
 
 // The subcommands that show what a script does.
-fn with_views<'a>(command: Command<'a>, alloc: Global) -> Result<Command<'a>, AllocError>
-    ensures { IfOk result (λ made. app_of made ≡ with_views (app_of command.entry)) }
+fn with_views<'a>(command: Made<'a>, alloc: Global) -> Made<'a>
+    ensures { (line : App) → IsMade command.entry line → IsMade result (with_views line) }
 {
-    let command = with_view(
-        command,
-        alloc,
-        "look",
-        "Shows each node, its log and the messages on their way after a directive",
-        "raftbench look <FILE:LINE>",
-        "FILE:LINE is a script's file and the line of a directive in it",
-    )?;
-    let command = with_file(
-        command,
-        alloc,
-        "page",
-        "Runs a script and writes a page that shows what it does, step by step",
-        "raftbench page [OPTIONS] <FILE>",
-        "FILE is a script's file; - is standard input",
-    )?;
-    command.subcommand(chart_command(alloc)?)
+    let look = FileWords {
+        name: "look",
+        about: "Shows each node, its log and the messages on their way after a directive",
+        usage: "raftbench look <FILE:LINE>",
+        after: "FILE:LINE is a script's file and the line of a directive in it",
+    };
+    let page = FileWords {
+        name: "page",
+        about: "Runs a script and writes a page that shows what it does, step by step",
+        usage: "raftbench page [OPTIONS] <FILE>",
+        after: "FILE is a script's file; - is standard input",
+    };
+    let chart = FileWords {
+        name: "chart",
+        about: "Runs a script and writes a picture of what it does, as SVG",
+        usage: "raftbench chart [OPTIONS] <FILE>",
+        after: "FILE is a script's file; - is standard input",
+    };
+    let command = with_subcommand(command, file_command(alloc, look));
+    let command = with_subcommand(command, with_every(file_command(alloc, page), alloc));
+    with_subcommand(command, with_until(file_command(alloc, chart), alloc))
 }
 
 // The subcommands of no script.
-fn with_help<'a>(command: Command<'a>, alloc: Global) -> Result<Command<'a>, AllocError>
-    ensures { IfOk result (λ made. app_of made ≡ with_help (app_of command.entry)) }
+fn with_help<'a>(command: Made<'a>, alloc: Global) -> Made<'a>
+    ensures { (line : App) → IsMade command.entry line → IsMade result (with_help line) }
 {
-    command
-        .subcommand(directives_command(alloc)?)?
-        .subcommand(server_command(alloc))
+    let command = with_subcommand(command, directives_command(alloc));
+    with_subcommand(command, server_command(alloc))
 }
 
-// One subcommand of a script.
-fn with_file<'a>(
-    command: Command<'a>,
-    alloc: Global,
-    name: &'a str,
-    about: &'a str,
-    usage: &'a str,
-    file_help: &'a str,
-) -> Result<Command<'a>, AllocError>
-    ensures { IfOk result (λ made. app_of made ≡ with_subcommand (app_of command.entry) (subcommand_line name.entry.now).top) }
+// A subcommand that takes FILE.
+fn file_command<'a>(alloc: Global, words: FileWords<'a>) -> Made<'a>
+    ensures { IsMade result (file_line words.entry.name.now) }
 {
-    command.subcommand(file_command(alloc, name, about, usage, file_help)?)
+    let command = described(alloc, words.name, words.about)
+        .override_usage(words.usage)
+        .after_help(words.after);
+    with_argument(Ok(command), file_argument(alloc))
 }
 
-fn file_command<'a>(
-    alloc: Global,
-    name: &'a str,
-    about: &'a str,
-    usage: &'a str,
-    file_help: &'a str,
-) -> Result<Command<'a>, AllocError>
-    ensures app { IfOk result (λ command. app_of command ≡ subcommand_line name.entry.now) }
-    ensures local { IfOk result (λ command. (out-Command command).has_globals ≡ false) }
+fn with_every<'a>(command: Made<'a>, alloc: Global) -> Made<'a>
+    ensures { (line : App) → IsMade command.entry line → IsMade result (with_option (codes "every") line) }
 {
-    view_command(alloc, name, about, usage, file_help)?.arg(every_argument(alloc))
+    let words = OptionWords {
+        name: "every",
+        value_name: "K",
+        help: "Directives from one checkpoint to the next, 1 to 64 [default: 16]",
+    };
+    with_argument(command, option_argument(alloc, words))
 }
 
-// One subcommand of a script, without an option.
-fn with_view<'a>(
-    command: Command<'a>,
-    alloc: Global,
-    name: &'a str,
-    about: &'a str,
-    usage: &'a str,
-    file_help: &'a str,
-) -> Result<Command<'a>, AllocError>
-    ensures { IfOk result (λ made. app_of made ≡ with_subcommand (app_of command.entry) (plain_line name.entry.now).top) }
+fn with_until<'a>(command: Made<'a>, alloc: Global) -> Made<'a>
+    ensures { (line : App) → IsMade command.entry line → IsMade result (with_option (codes "until") line) }
 {
-    command.subcommand(view_command(alloc, name, about, usage, file_help)?)
+    let words = OptionWords {
+        name: "until",
+        value_name: "LINE",
+        help: "Shows the directives up to the one at this line",
+    };
+    with_argument(command, option_argument(alloc, words))
 }
 
-fn view_command<'a>(
-    alloc: Global,
-    name: &'a str,
-    about: &'a str,
-    usage: &'a str,
-    file_help: &'a str,
-) -> Result<Command<'a>, AllocError>
-    ensures app { IfOk result (λ command. app_of command ≡ plain_line name.entry.now) }
-    ensures local { IfOk result (λ command. (out-Command command).has_globals ≡ false) }
+fn check_command<'a>(alloc: Global) -> Made<'a>
+    ensures { IsMade result check_line }
 {
-    // The program itself says that FILE is missing, so to clap it isn't required; help says that it is.
-    let file = Arg::new(alloc, "file").value_name("FILE").hide(true);
-    Command::new(alloc, name)
-        .about(about)
-        .override_usage(usage)
-        .after_help(file_help)
-        .arg(file)
+    let command = with_accepting(command_of_paths(alloc), alloc);
+    let command = with_argument(command, filter_argument(alloc));
+    with_choices(with_amounts(command, alloc), alloc)
 }
 
-// chart [FILE] [--until LINE]
-fn chart_command<'a>(alloc: Global) -> Result<Command<'a>, AllocError>
-    ensures app { IfOk result (λ command. app_of command ≡ chart_line) }
-    ensures local { IfOk result (λ command. (out-Command command).has_globals ≡ false) }
+fn command_of_paths<'a>(alloc: Global) -> Made<'a>
+    ensures { IsMade result (with_rule (new_app (codes "check")) path_rule) }
 {
-    view_command(
+    let command = described(
         alloc,
-        "chart",
-        "Runs a script and writes a picture of what it does, as SVG",
-        "raftbench chart [OPTIONS] <FILE>",
-        "FILE is a script's file; - is standard input",
-    )?
-    .arg(until_argument(alloc))
-}
-
-fn check_command<'a>(alloc: Global) -> Result<Command<'a>, AllocError>
-    ensures app { IfOk result (λ command. app_of command ≡ check_line) }
-    ensures local { IfOk result (λ command. (out-Command command).has_globals ≡ false) }
-{
-    with_words(with_accepting(command_of_paths(alloc)?, alloc)?, alloc)
+        "check",
+        "Checks scripts and folders of scripts, and shows each line that differs",
+    );
+    with_argument(Ok(command), path_argument(alloc))
 }
 
 // The options of `check` that write into scripts.
-fn with_accepting<'a>(command: Command<'a>, alloc: Global) -> Result<Command<'a>, AllocError>
-    ensures app { IfOk result (λ made. app_of made ≡ with_accepting (app_of command.entry)) }
-    ensures local { (out-Command command.entry).has_globals ≡ false → IfOk result (λ made. (out-Command made).has_globals ≡ false) }
+fn with_accepting<'a>(command: Made<'a>, alloc: Global) -> Made<'a>
+    ensures { (line : App) → IsMade command.entry line → IsMade result (with_accepting line) }
 {
-    let command = with_flag(
-        command,
+    let accept = flag_argument(
         alloc,
         "accept",
         "Writes the outputs that came into the scripts, but new errors; of FILE:LINE that of one directive",
-    )?;
-    let command = with_flag(command, alloc, "accept-errors", "Accepts new errors too")?;
-    let command = with_flag(
-        command,
+    );
+    let errors = flag_argument(alloc, "accept-errors", "Accepts new errors too");
+    let force = flag_argument(
         alloc,
         "force",
         "Accepts outputs of a script that has warnings too",
-    )?;
-    with_flag(
-        command,
+    );
+    let review = flag_argument(
         alloc,
         "review",
         "Asks about each output that differs, on a terminal, and accepts those that you say",
-    )
+    );
+    let command = with_argument(with_argument(command, accept), errors);
+    with_argument(with_argument(command, force), review)
 }
 
 // The options of `check` that change how much is shown.
-fn with_amounts<'a>(command: Command<'a>, alloc: Global) -> Result<Command<'a>, AllocError>
-    ensures app { IfOk result (λ made. app_of made ≡ with_amounts (app_of command.entry)) }
-    ensures local { (out-Command command.entry).has_globals ≡ false → IfOk result (λ made. (out-Command made).has_globals ≡ false) }
+fn with_amounts<'a>(command: Made<'a>, alloc: Global) -> Made<'a>
+    ensures { (line : App) → IsMade command.entry line → IsMade result (with_amounts line) }
 {
-    let command = command.arg(letter_argument(
+    let verbose = letter_argument(
         alloc,
         'v',
         "verbose",
         "Shows each directive with its output",
-    ))?;
-    let command = with_flag(
-        command,
+    );
+    let first = flag_argument(
         alloc,
         "first",
         "Shows the first mismatch of each script alone",
-    )?;
-    let command = with_flag(
-        command,
+    );
+    let brief = flag_argument(
         alloc,
         "brief",
         "Shows one line for each script that differs",
-    )?;
-    command.arg(letter_argument(
+    );
+    let quiet = letter_argument(
         alloc,
         'q',
         "quiet",
         "Shows nothing: the status tells whether all match",
-    ))
-}
-
-fn command_of_paths<'a>(alloc: Global) -> Result<Command<'a>, AllocError>
-    ensures app { IfOk result (λ command. app_of command ≡ with_rule (new_app (codes "check")) path_rule) }
-    ensures local { IfOk result (λ command. (out-Command command).has_globals ≡ false) }
-{
-    Command::new(alloc, "check")
-        .about("Checks scripts and folders of scripts, and shows each line that differs")
-        .arg(path_argument(alloc))
-}
-
-// The options of `check` that change what is looked at and what is shown.
-fn with_words<'a>(command: Command<'a>, alloc: Global) -> Result<Command<'a>, AllocError>
-    ensures app { IfOk result (λ made. app_of made ≡ with_words (app_of command.entry)) }
-    ensures local { (out-Command command.entry).has_globals ≡ false → IfOk result (λ made. (out-Command made).has_globals ≡ false) }
-{
-    let command = command.arg(filter_argument(alloc))?;
-    with_choices(with_amounts(command, alloc)?, alloc)
+    );
+    let command = with_argument(with_argument(command, verbose), first);
+    with_argument(with_argument(command, brief), quiet)
 }
 
 // The options of `check` that have a value.
-fn with_choices<'a>(command: Command<'a>, alloc: Global) -> Result<Command<'a>, AllocError>
-    ensures app { IfOk result (λ made. app_of made ≡ with_choices (app_of command.entry)) }
-    ensures local { (out-Command command.entry).has_globals ≡ false → IfOk result (λ made. (out-Command made).has_globals ≡ false) }
+fn with_choices<'a>(command: Made<'a>, alloc: Global) -> Made<'a>
+    ensures { (line : App) → IsMade command.entry line → IsMade result (with_choices line) }
 {
-    let command = with_option(command, alloc, "every", "K", EVERY_HELP)?;
-    let command = with_option(
-        command,
-        alloc,
-        "color",
-        "WHEN",
-        "Shows colours: auto (on a terminal), always or never [default: auto]",
-    )?;
-    with_option(
-        command,
-        alloc,
-        "format",
-        "FORMAT",
-        "Writes what differs as text, json or github (workflow commands) [default: text]",
-    )
+    let color = OptionWords {
+        name: "color",
+        value_name: "WHEN",
+        help: "Shows colours: auto (on a terminal), always or never [default: auto]",
+    };
+    let format = OptionWords {
+        name: "format",
+        value_name: "FORMAT",
+        help: "Writes what differs as text, json or github (workflow commands) [default: text]",
+    };
+    let command = with_argument(with_every(command, alloc), option_argument(alloc, color));
+    with_argument(command, option_argument(alloc, format))
 }
 
-fn with_option<'a>(
-    command: Command<'a>,
-    alloc: Global,
-    name: &'a str,
-    value_name: &'a str,
-    help: &'a str,
-) -> Result<Command<'a>, AllocError>
-    ensures app { IfOk result (λ made. app_of made ≡ with_rule (app_of command.entry) (option_rule name.entry.now)) }
-    ensures local { (out-Command command.entry).has_globals ≡ false → IfOk result (λ made. (out-Command made).has_globals ≡ false) }
+// directives [NAME]
+fn directives_command<'a>(alloc: Global) -> Made<'a>
+    ensures { IsMade result directives_line }
 {
-    command.arg(option_argument(alloc, name, value_name, help))
+    let command = described(
+        alloc,
+        "directives",
+        "Shows the directives of scripts, or one of them with what it takes and an example",
+    );
+    with_argument(Ok(command), name_argument(alloc))
 }
 
-fn with_flag<'a>(
-    command: Command<'a>,
-    alloc: Global,
-    name: &'a str,
-    help: &'a str,
-) -> Result<Command<'a>, AllocError>
-    ensures app { IfOk result (λ made. app_of made ≡ with_rule (app_of command.entry) (flag_rule name.entry.now)) }
-    ensures local { (out-Command command.entry).has_globals ≡ false → IfOk result (λ made. (out-Command made).has_globals ≡ false) }
+// lsp
+fn server_command<'a>(alloc: Global) -> Made<'a>
+    ensures { IsMade result server_line }
 {
-    command.arg(flag_argument(alloc, name, help))
+    Ok(described(
+        alloc,
+        "lsp",
+        "Answers an editor on standard input and output, by the Language Server Protocol",
+    ))
+}
+
+// FILE. The program itself says that it is missing, so to clap it isn't required; help says that it is.
+fn file_argument<'a>(alloc: Global) -> Arg<'a>
+    ensures rule { rule_of result ≡ file_rule }
+    ensures local { result.global ≡ false }
+{
+    positional(alloc, "file", "FILE").hide(true)
 }
 
 // PATH, one or more
@@ -304,31 +300,10 @@ fn path_argument<'a>(alloc: Global) -> Arg<'a>
     ensures rule { rule_of result ≡ path_rule }
     ensures local { result.global ≡ false }
 {
-    Arg::new(alloc, "path")
-        .value_name("PATH")
+    positional(alloc, "path", "PATH")
         .required(true)
         .action(ArgAction::Append)
         .help("Script, or folder whose *.txt and those of its folders are the scripts")
-}
-
-// directives [NAME]
-fn directives_command<'a>(alloc: Global) -> Result<Command<'a>, AllocError>
-    ensures app { IfOk result (λ command. app_of command ≡ directives_line) }
-    ensures local { IfOk result (λ command. (out-Command command).has_globals ≡ false) }
-{
-    Command::new(alloc, "directives")
-        .about("Shows the directives of scripts, or one of them with what it takes and an example")
-        .arg(name_argument(alloc))
-}
-
-// lsp
-fn server_command<'a>(alloc: Global) -> Command<'a>
-    ensures app { app_of result ≡ server_line }
-    ensures local { (out-Command result).has_globals ≡ false }
-{
-    Command::new(alloc, "lsp").about(
-        "Answers an editor on standard input and output, by the Language Server Protocol",
-    )
 }
 
 // NAME
@@ -336,9 +311,15 @@ fn name_argument<'a>(alloc: Global) -> Arg<'a>
     ensures rule { rule_of result ≡ name_rule }
     ensures local { result.global ≡ false }
 {
-    Arg::new(alloc, "name")
-        .value_name("NAME")
-        .help("Directive to show")
+    positional(alloc, "name", "NAME").help("Directive to show")
+}
+
+// A value that stands by itself.
+fn positional<'a>(alloc: Global, name: &'a str, value_name: &'a str) -> Arg<'a>
+    ensures rule { rule_of result ≡ value_rule name.entry.now }
+    ensures local { result.global ≡ false }
+{
+    Arg::new(alloc, name).value_name(value_name)
 }
 
 // --filter WORD, any number of times
@@ -346,45 +327,22 @@ fn filter_argument<'a>(alloc: Global) -> Arg<'a>
     ensures rule { rule_of result ≡ many_rule (codes "filter") }
     ensures local { result.global ≡ false }
 {
-    Arg::new(alloc, "filter")
-        .long("filter")
-        .value_name("WORD")
-        .action(ArgAction::Append)
-        .help(
-            "Keeps the paths that have WORD in them, or with !WORD those that don't; given several times, each holds",
-        )
-}
-
-// --every K
-fn every_argument<'a>(alloc: Global) -> Arg<'a>
-    ensures rule { rule_of result ≡ every_rule }
-    ensures local { result.global ≡ false }
-{
-    option_argument(alloc, "every", "K", EVERY_HELP)
-}
-
-// --until LINE
-fn until_argument<'a>(alloc: Global) -> Arg<'a>
-    ensures rule { rule_of result ≡ until_rule }
-    ensures local { result.global ≡ false }
-{
-    option_argument(
-        alloc,
-        "until",
-        "LINE",
-        "Shows the directives up to the one at this line",
-    )
+    let words = OptionWords {
+        name: "filter",
+        value_name: "WORD",
+        help: "Keeps the paths that have WORD in them, or with !WORD those that don't; given several times, each holds",
+    };
+    option_argument(alloc, words).action(ArgAction::Append)
 }
 
 // --NAME VALUE
-fn option_argument<'a>(alloc: Global, name: &'a str, value_name: &'a str, help: &'a str) -> Arg<'a>
-    ensures rule { rule_of result ≡ option_rule name.entry.now }
+fn option_argument<'a>(alloc: Global, words: OptionWords<'a>) -> Arg<'a>
+    ensures rule { rule_of result ≡ option_rule words.entry.name.now }
     ensures local { result.global ≡ false }
 {
-    Arg::new(alloc, name)
-        .long(name)
-        .value_name(value_name)
-        .help(help)
+    positional(alloc, words.name, words.value_name)
+        .long(words.name)
+        .help(words.help)
 }
 
 // --NAME, or -N
