@@ -22,10 +22,10 @@ pub(crate) fn accept<M: Machine, R: Files + AllocGlobal, W: Write + Drop, E: Wri
     wanted: Wanted<'_>,
     ran: Ran<'_>,
     session: &Session<M>,
-    text: Text,
+    text: &Text,
     report: &mut Report<W, E>,
 )
-    requires { Reads text.bytes.items session.now.script }
+    requires { Reads text.now.bytes.items session.now.script }
 {
     let alloc = rt.alloc();
     match accepted(alloc, session, &text.bytes, wanted) {
@@ -34,7 +34,7 @@ pub(crate) fn accept<M: Machine, R: Files + AllocGlobal, W: Write + Drop, E: Wri
                 report.leave(ran.path, wanted.picked, &made.left);
                 tell_left(alloc, session, &text.bytes, ran.path, wanted, report);
             }
-            keep(rt, ran, &made, text.seen, report);
+            keep(rt, ran, &made, &text.seen, report);
         }
         Err(fault) => fail(alloc, ran, fault, report),
     }
@@ -71,7 +71,7 @@ fn keep<R: Files + AllocGlobal, W: Write + Drop, E: Write + Drop>(
     rt: &R,
     ran: Ran<'_>,
     made: &Accepted,
-    seen: Metadata,
+    seen: &Metadata,
     report: &mut Report<W, E>,
 ) {
     if made.left.len() >= ran.mismatches {
@@ -90,11 +90,20 @@ fn write<R: Files + AllocGlobal, W: Write + Drop, E: Write + Drop>(
     rt: &R,
     path: &str,
     text: &[u8],
-    seen: Metadata,
+    seen: &Metadata,
     report: &mut Report<W, E>,
 ) -> Result<(), Trouble> {
-    let mut place = Beside::new(rt, path, seen)?;
-    match replace(&mut place, text) {
+    let mut place = Beside::new(rt, path, seen.clone()?)?;
+    put(&mut place, text, report)
+}
+
+// A new file that could be neither used nor removed is told.
+fn put<R: Files + AllocGlobal, W: Write + Drop, E: Write + Drop>(
+    place: &mut Beside<'_, R>,
+    text: &[u8],
+    report: &mut Report<W, E>,
+) -> Result<(), Trouble> {
+    match replace(place, text) {
         Ok(()) => Ok(()),
         Err(why) => {
             if let Some(left) = place.left() {

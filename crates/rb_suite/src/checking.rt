@@ -45,7 +45,7 @@ pub(crate) fn check_script<
     report: &mut Report<W, E>,
 ) {
     match read(rt, path) {
-        Ok(text) => run(rt, runner, asked, path, text, review, report),
+        Ok(text) => run(rt, runner, asked, path, &text, review, report),
         Err(trouble) => report.fail(path.as_bytes(), trouble),
     }
 }
@@ -65,16 +65,29 @@ fn run<T: Runner, R: Files + Input + AllocGlobal, W: Write + Drop, E: Write + Dr
     runner: &mut T,
     asked: Asked<'_>,
     path: &str,
-    text: Text,
+    text: &Text,
     review: &mut Review,
     report: &mut Report<W, E>,
 ) {
-    let session = match runner.run(rt.alloc(), &text.bytes) {
-        Ok(session) => session,
-        Err(StartFault::Script(fault)) => return report.refused(path, fault),
-        Err(_) => return report.fail(path.as_bytes(), Trouble::alone(Failure::OutOfMemory)),
-    };
-    match answer(rt, asked, path, text, &session, review, report) {
+    match runner.run(rt.alloc(), &text.bytes) {
+        Ok(session) => look_at(rt, asked, path, text, &session, review, report),
+        Err(StartFault::Script(fault)) => report.refused(path, fault),
+        Err(_) => report.fail(path.as_bytes(), Trouble::alone(Failure::OutOfMemory)),
+    }
+}
+
+fn look_at<M: Machine, R: Files + Input + AllocGlobal, W: Write + Drop, E: Write + Drop>(
+    rt: &R,
+    asked: Asked<'_>,
+    path: &str,
+    text: &Text,
+    session: &Session<M>,
+    review: &mut Review,
+    report: &mut Report<W, E>,
+)
+    requires { Reads text.now.bytes.items session.now.script }
+{
+    match answer(rt, asked, path, text, session, review, report) {
         Ok(()) => {}
         Err(trouble) => report.fail(path.as_bytes(), trouble),
     }
@@ -85,20 +98,16 @@ fn answer<M: Machine, R: Files + Input + AllocGlobal, W: Write + Drop, E: Write 
     rt: &R,
     asked: Asked<'_>,
     path: &str,
-    text: Text,
+    text: &Text,
     session: &Session<M>,
     review: &mut Review,
     report: &mut Report<W, E>,
 ) -> Result<(), Trouble>
-    requires { Reads text.bytes.items session.now.script }
+    requires { Reads text.now.bytes.items session.now.script }
 {
     let alloc = rt.alloc();
     let bytes = text.bytes.as_slice();
-    let warnings = warnings_of(alloc, session, bytes)?;
-    let may_accept = asked.accepts && !session.mismatches().is_empty();
-    if may_accept || shows_warnings(asked.shown) {
-        report.warn(path, &warnings);
-    }
+    let has_warnings = warn(alloc, session, bytes, asked, path, report)?;
     let told = show(alloc, session, bytes, asked, path, report)?;
     let ran = Ran {
         path,
@@ -106,54 +115,100 @@ fn answer<M: Machine, R: Files + Input + AllocGlobal, W: Write + Drop, E: Write 
         mismatches: session.mismatches().len(),
         told,
     };
-    if !asked.accepts {
-        report.ran(alloc, ran);
-        return Ok(());
-    }
-    let heads = picked_heads(alloc, asked.targets, session, bytes, path, report)?;
-    if !may_accept {
-        report.ran(alloc, ran);
-    } else if asked.is_forced || warnings.is_empty() {
-        accept_picked(rt, asked, ran, heads, session, text, review, report)?;
+    if asked.accepts {
+        settle(rt, asked, ran, session, text, has_warnings, review, report)
     } else {
         report.ran(alloc, ran);
-        report.refuse_to_accept(path);
+        Ok(())
     }
-    Ok(())
 }
 
-// Accepts outputs of the directives whose heads begin on these lines, or of all: those that are said yes to, where that is asked.
-fn accept_picked<M: Machine, R: Files + Input + AllocGlobal, W: Write + Drop, E: Write + Drop>(
+// Shows the lines that look like a slip, where they are wanted, and answers whether there are any.
+fn warn<M: Machine, W: Write + Drop, E: Write + Drop>(
+    alloc: Global,
+    session: &Session<M>,
+    bytes: &[u8],
+    asked: Asked<'_>,
+    path: &str,
+    report: &mut Report<W, E>,
+) -> Result<bool, AllocError>
+    requires { Reads bytes.now session.now.script }
+{
+    let warnings = warnings_of(alloc, session, bytes)?;
+    let may_accept = asked.accepts && !session.mismatches().is_empty();
+    if may_accept || shows_warnings(asked.shown) {
+        report.warn(path, &warnings);
+    }
+    Ok(!warnings.is_empty())
+}
+
+// Accepts what is named.
+fn settle<M: Machine, R: Files + Input + AllocGlobal, W: Write + Drop, E: Write + Drop>(
     rt: &R,
     asked: Asked<'_>,
     ran: Ran<'_>,
-    heads: Option<Vec<usize>>,
     session: &Session<M>,
-    text: Text,
+    text: &Text,
+    has_warnings: bool,
     review: &mut Review,
     report: &mut Report<W, E>,
 ) -> Result<(), Trouble>
-    requires { Reads text.bytes.items session.now.script }
+    requires { Reads text.now.bytes.items session.now.script }
 {
+    let bytes = text.bytes.as_slice();
+    let heads = picked_heads(rt.alloc(), asked.targets, session, bytes, ran.path, report)?;
     let picked = match &heads {
         Some(heads) => Picked::Heads(heads.as_slice()),
         None => Picked::All,
     };
-    if asked.reviews {
-        let bytes = text.bytes.as_slice();
-        let said = reviewed(rt, asked, session, bytes, ran.path, picked, review, report)?;
-        let wanted = Wanted {
-            picked: Picked::Heads(said.as_slice()),
-            errors: true,
-        };
-        accept(rt, wanted, ran, session, text, report);
+    if has_warnings && !asked.is_forced {
+        leave(rt.alloc(), ran, report);
+        Ok(())
     } else {
+        accept_picked(rt, asked, ran, picked, session, text, review, report)
+    }
+}
+
+// A script with warnings stays as it is.
+fn leave<W: Write + Drop, E: Write + Drop>(alloc: Global, ran: Ran<'_>, report: &mut Report<W, E>) {
+    report.ran(alloc, ran);
+    if ran.mismatches > 0 {
+        report.refuse_to_accept(ran.path);
+    }
+}
+
+// Accepts outputs of the directives that are picked: those that are said yes to, where that is asked.
+fn accept_picked<M: Machine, R: Files + Input + AllocGlobal, W: Write + Drop, E: Write + Drop>(
+    rt: &R,
+    asked: Asked<'_>,
+    ran: Ran<'_>,
+    picked: Picked<'_>,
+    session: &Session<M>,
+    text: &Text,
+    review: &mut Review,
+    report: &mut Report<W, E>,
+) -> Result<(), Trouble>
+    requires { Reads text.now.bytes.items session.now.script }
+{
+    if ran.mismatches == 0 {
+        report.ran(rt.alloc(), ran);
+        return Ok(());
+    }
+    if !asked.reviews {
         let wanted = Wanted {
             picked,
             errors: asked.accepts_errors,
         };
         accept(rt, wanted, ran, session, text, report);
+        return Ok(());
     }
+    let bytes = text.bytes.as_slice();
+    let said = reviewed(rt, asked, session, bytes, ran.path, picked, review, report)?;
+    let wanted = Wanted {
+        picked: Picked::Heads(said.as_slice()),
+        errors: true,
+    };
+    accept(rt, wanted, ran, session, text, report);
     Ok(())
 }
 

@@ -1,6 +1,7 @@
 //! `raftbench check`: scripts, and folders of scripts.
 
-ghost use Rattle.std.specs.Prelude.{◌≢◌, IfOk};
+ghost use Rattle.std.specs.Prelude.{◌≡◌, ◌≢◌, IfOk, IfErr};
+ghost use Rattle.std.specs.IoError.{error_kind};
 
 use crate::asked::Asked;
 use crate::checking::check_script;
@@ -12,7 +13,7 @@ use rb_check::{Failure, Status};
 use rb_checked::Shown;
 use rb_files::{Found, Trouble, find};
 use std::io;
-use std::io::Write;
+use std::io::{ErrorKind, Write};
 use std::rt::Files;
 use std::time::Clock;
 
@@ -28,7 +29,8 @@ pub fn check<T: Runner, R: Files + Input + Print + Clock + AllocGlobal, E: Write
     errors: E,
 ) -> io::Result<Status>
     // What was asked for was right.
-    ensures { IfOk result (λ status. status ≢ Status.BadUsage) }
+    ensures right { IfOk result (λ status. status ≢ Status.BadUsage) }
+    ensures begins { IfErr result (λ error. error_kind error ≡ ErrorKind.OutOfMemory) }
 {
     let mut progress = Progress::from_now(rt, asked.wants_progress);
     let mut report = Report::new(
@@ -38,27 +40,64 @@ pub fn check<T: Runner, R: Files + Input + Print + Clock + AllocGlobal, E: Write
         asked.is_quiet,
         asked.format,
     )?;
+    check_found(rt, runner, asked, &mut progress, &mut report);
+    Ok(report.status())
+}
+
+// Finds the scripts and checks them.
+fn check_found<T: Runner, R: Files + Input + Clock + AllocGlobal, W: Write + Drop, E: Write + Drop>(
+    rt: &R,
+    runner: &mut T,
+    asked: Asked<'_>,
+    progress: &mut Progress,
+    report: &mut Report<W, E>,
+) {
     let found = find(rt, asked.targets, asked.filters);
-    tell_lost(&found, &mut report);
+    tell_lost(&found, report);
+    let scripts = found.scripts.as_slice();
+    check_each(rt, runner, asked, scripts, progress, report);
+    end(
+        asked.shown,
+        scripts.len(),
+        milliseconds(progress, rt),
+        report,
+    );
+}
+
+fn end<W: Write + Drop, E: Write + Drop>(
+    shown: Shown,
+    scripts: usize,
+    milliseconds: u64,
+    report: &mut Report<W, E>,
+) {
+    if scripts == 0 {
+        return report.fail(b"raftbench", Trouble::alone(Failure::NoScripts));
+    }
+    if scripts > 1 && shown != Shown::Brief {
+        report.list_differing();
+    }
+    report.end(milliseconds);
+}
+
+// Checks one script after another, until a review is over.
+fn check_each<T: Runner, R: Files + Input + Clock + AllocGlobal, W: Write + Drop, E: Write + Drop>(
+    rt: &R,
+    runner: &mut T,
+    asked: Asked<'_>,
+    scripts: &[String],
+    progress: &mut Progress,
+    report: &mut Report<W, E>,
+) {
     let mut review = Review::Each;
-    for (done, path) in found.scripts.iter().enumerate() {
+    for (done, path) in scripts.iter().enumerate() {
         if progress.is_due(rt) {
-            report.show_progress(done, found.scripts.len());
+            report.show_progress(done, scripts.len());
         }
-        check_script(rt, runner, asked, path.as_str(), &mut review, &mut report);
+        check_script(rt, runner, asked, path.as_str(), &mut review, report);
         if review == Review::Over {
             break;
         }
     }
-    if found.scripts.is_empty() {
-        report.fail(b"raftbench", Trouble::alone(Failure::NoScripts));
-    } else {
-        if found.scripts.len() > 1 && asked.shown != Shown::Brief {
-            report.list_differing();
-        }
-        report.end(milliseconds(&progress, rt));
-    }
-    Ok(report.status())
 }
 
 fn tell_lost<W: Write + Drop, E: Write + Drop>(found: &Found, report: &mut Report<W, E>) {

@@ -30,10 +30,22 @@ pub(crate) fn picked_heads<M: Machine, W: Write + Drop, E: Write + Drop>(
         Some(lines) => lines,
         None => return Ok(None),
     };
-    let Ok(heads) = head_lines(alloc, bytes) else {
-        return Err(Trouble::alone(Failure::OutOfMemory));
-    };
-    Ok(Some(heads_at(alloc, &lines, &heads, session, path, report)?))
+    Ok(Some(heads_of(alloc, &lines, session, bytes, path, report)?))
+}
+
+// The heads that the lines name.
+fn heads_of<M: Machine, W: Write + Drop, E: Write + Drop>(
+    alloc: Global,
+    lines: &[usize],
+    session: &Session<M>,
+    bytes: &[u8],
+    path: &str,
+    report: &mut Report<W, E>,
+) -> Result<Vec<usize>, Trouble> {
+    match head_lines(alloc, bytes) {
+        Ok(heads) => heads_at(alloc, lines, &heads, session, path, report),
+        Err(_) => Err(Trouble::alone(Failure::OutOfMemory)),
+    }
 }
 
 // The lines that are named of the script; none where all of it is.

@@ -8,7 +8,7 @@ const FIRST_MILLISECONDS: u64 = 1_000;
 const MILLISECONDS_APART: u64 = 100;
 
 /// When it is time to show how far a check is.
-#[derive(Clone, Copy, Debug)]
+#[derive(Clone, Copy)]
 pub(crate) struct Progress {
     // None where the clock can't be read
     start: Option<Instant>,

@@ -3,7 +3,9 @@
 //! What is found out about scripts goes to standard output, failures and how far the work is to standard error. Where standard output fails,
 //! that is told once, and the work goes on without it.
 
-ghost use Rattle.std.specs.Prelude.{◌≢◌};
+ghost use Rattle.std.specs.Prelude.{◌≡◌, ◌≢◌, IfErr};
+ghost use Rattle.std.specs.IoError.{error_kind};
+ghost use Rattle.rb_suite.specs.Counts.{counted_as};
 
 use rb_check::{
     Failure, Outcome, Status, Totals, doubt_sentence, failure_sentence, fault_line, put_accepted,
@@ -16,13 +18,13 @@ use rb_number::put_number;
 use rb_script::{ScriptFault, Sink, Through, WriteFault};
 use std::alloc::{AllocError, Global};
 use std::io;
-use std::io::{BufWriter, Write};
+use std::io::{BufWriter, ErrorKind, Write};
 
 // Takes the cursor back to the line's first column, and clears the line (ECMA-48).
 const CLEARED: &[u8] = b"\r\x1b[K";
 
 /// A script that ran.
-#[derive(Clone, Copy, Debug)]
+#[derive(Clone, Copy)]
 pub(crate) struct Ran<'a> {
     pub(crate) path: &'a str,
     pub(crate) directives: usize,
@@ -63,7 +65,9 @@ impl<W: Write + Drop, E: Write + Drop> Report<W, E> {
         errors: E,
         is_quiet: bool,
         format: Option<Format>,
-    ) -> io::Result<Report<W, E>> {
+    ) -> io::Result<Report<W, E>>
+        ensures { IfErr result (λ error. error_kind error ≡ ErrorKind.OutOfMemory) }
+    {
         Ok(Report {
             alloc,
             output: Through(BufWriter::new(alloc, output)?),
@@ -90,11 +94,20 @@ impl<W: Write + Drop, E: Write + Drop> Report<W, E> {
 
     /// Where the report of a script is written; None where nothing goes to standard output.
     pub(crate) fn sink(&mut self) -> Option<&mut Through<BufWriter<W>>> {
+        if self.is_open() {
+            Some(&mut self.output)
+        } else {
+            None
+        }
+    }
+
+    // Whether something can be written on standard output. How far the work is stands there no more then.
+    fn is_open(&mut self) -> bool {
         if self.is_lost {
-            return None;
+            return false;
         }
         self.clear();
-        Some(&mut self.output)
+        true
     }
 
     /// Hands on what was written, and takes note of what came of it.
@@ -129,8 +142,8 @@ impl<W: Write + Drop, E: Write + Drop> Report<W, E> {
 
     /// Writes the text on standard output.
     pub(crate) fn put(&mut self, text: &[u8]) {
-        if let Some(sink) = self.sink() {
-            let written = sink.put(text);
+        if self.is_open() {
+            let written = self.output.put(text);
             self.wrote(written);
         }
     }
@@ -145,12 +158,7 @@ impl<W: Write + Drop, E: Write + Drop> Report<W, E> {
 
     /// A script that ran, and in which nothing was written.
     pub(crate) fn ran(&mut self, alloc: Global, ran: Ran<'_>) {
-        self.totals.add(Outcome::Ran {
-            directives: ran.directives,
-            mismatches: ran.mismatches,
-            accepted: 0,
-            errors: ran.told.errors,
-        });
+        self.totals.add(counted_as(ran, ran.mismatches));
         if self.keep(alloc, ran).is_err() {
             self.fail(ran.path.as_bytes(), Trouble::alone(Failure::OutOfMemory));
         }
@@ -173,12 +181,7 @@ impl<W: Write + Drop, E: Write + Drop> Report<W, E> {
     /// A script that ran, and whose outputs were written into it, but those of the heads on these lines.
     pub(crate) fn accepted(&mut self, alloc: Global, ran: Ran<'_>, left: &[usize]) {
         let accepted = ran.mismatches.saturating_sub(left.len());
-        self.totals.add(Outcome::Ran {
-            directives: ran.directives,
-            mismatches: left.len(),
-            accepted,
-            errors: ran.told.errors,
-        });
+        self.totals.add(counted_as(ran, left.len()));
         let now = Ran {
             mismatches: left.len(),
             told: Told {
@@ -202,8 +205,8 @@ impl<W: Write + Drop, E: Write + Drop> Report<W, E> {
             }
             return;
         }
-        if let Some(sink) = self.sink() {
-            let written = put_accepted(sink, path.as_bytes(), accepted);
+        if self.is_open() {
+            let written = put_accepted(&mut self.output, path.as_bytes(), accepted);
             self.wrote(written);
         }
     }
@@ -230,8 +233,8 @@ impl<W: Write + Drop, E: Write + Drop> Report<W, E> {
         if self.is_for_programs() {
             return self.notify(path.as_bytes(), Some(line), Kind::Left, message);
         }
-        if let Some(sink) = self.sink() {
-            let written = put_note(sink, path.as_bytes(), line, message);
+        if self.is_open() {
+            let written = put_note(&mut self.output, path.as_bytes(), line, message);
             self.wrote(written);
         }
     }
@@ -248,8 +251,8 @@ impl<W: Write + Drop, E: Write + Drop> Report<W, E> {
             let message = doubt_sentence(warning.doubt);
             return self.notify(path, Some(warning.line), Kind::Warning, message);
         }
-        if let Some(sink) = self.sink() {
-            let written = put_warning(sink, path, warning.line, warning.doubt);
+        if self.is_open() {
+            let written = put_warning(&mut self.output, path, warning.line, warning.doubt);
             self.wrote(written);
         }
     }
@@ -261,8 +264,8 @@ impl<W: Write + Drop, E: Write + Drop> Report<W, E> {
                 b"nothing was accepted, since it has warnings; --force accepts all the same";
             return self.notify(path.as_bytes(), None, Kind::Left, message);
         }
-        if let Some(sink) = self.sink() {
-            let written = put_unaccepted(sink, path.as_bytes());
+        if self.is_open() {
+            let written = put_unaccepted(&mut self.output, path.as_bytes());
             self.wrote(written);
         }
     }
@@ -301,8 +304,8 @@ impl<W: Write + Drop, E: Write + Drop> Report<W, E> {
                 sentence(fault),
             );
         }
-        if let Some(sink) = self.sink() {
-            let written = put_refusal(sink, path.as_bytes(), fault);
+        if self.is_open() {
+            let written = put_refusal(&mut self.output, path.as_bytes(), fault);
             self.wrote(written);
         }
     }
@@ -333,17 +336,15 @@ impl<W: Write + Drop, E: Write + Drop> Report<W, E> {
     /// A new file that could be neither used nor removed. That it came to this is counted where it is told why.
     pub(crate) fn tell_left(&mut self, path: &str) {
         self.clear();
-        let _ = writeln!(self.errors.0, "{path}: this new file could not be removed");
+        let _ = put_left_file(&mut self.errors, path.as_bytes());
         let _ = self.errors.0.flush();
     }
 
     /// Where the output is that no script can expect.
     pub(crate) fn tell_bad_output(&mut self, path: &str, line: usize) {
         self.clear();
-        let _ = writeln!(
-            self.errors.0,
-            "{path}:{line}: this output has a line of more than 65,536 bytes, which no script can expect"
-        );
+        let note = b"this output has a line of more than 65,536 bytes, which no script can expect";
+        let _ = put_note(&mut self.errors, path.as_bytes(), line, note);
         let _ = self.errors.0.flush();
     }
 
@@ -377,11 +378,23 @@ impl<W: Write + Drop, E: Write + Drop> Report<W, E> {
         if self.is_for_programs() {
             return self.clear();
         }
-        if let Some(sink) = self.sink() {
-            let written = put_totals(sink, &totals, milliseconds);
+        if self.is_open() {
+            let written = put_totals(&mut self.output, &totals, milliseconds);
             self.wrote(written);
         }
         self.clear();
+    }
+}
+
+// What the script is counted as, where so many outputs that differ are left, and the others accepted.
+fn counted_as(ran: Ran<'_>, left: usize) -> Outcome
+    ensures { result ≡ counted_as ran.entry left }
+{
+    Outcome::Ran {
+        directives: ran.directives,
+        mismatches: left,
+        accepted: ran.mismatches.saturating_sub(left),
+        errors: ran.told.errors,
     }
 }
 
@@ -397,6 +410,11 @@ fn put_note<S: Sink>(
     sink.put(b": ")?;
     sink.put(note)?;
     sink.put(b"\n")
+}
+
+fn put_left_file<S: Sink>(sink: &mut S, path: &[u8]) -> Result<(), WriteFault> {
+    sink.put(path)?;
+    sink.put(b": this new file could not be removed\n")
 }
 
 // Whether nobody reads any more: who has read enough need not be told.

@@ -22,7 +22,7 @@ const HELP: &[u8] =
     b"y  accepts this output\nn  leaves what is expected\na  accepts this one and all that follow in this script, but new errors; with --accept-errors these too\nq  leaves this one and all that follow, and ends\n?  shows this\n";
 
 /// What is still to be asked.
-#[derive(Clone, Copy, Debug, PartialEq, Eq)]
+#[derive(Clone, Copy, PartialEq, Eq)]
 pub(crate) enum Review {
     /// Each mismatch.
     Each,
@@ -33,12 +33,22 @@ pub(crate) enum Review {
 }
 
 // What was answered.
-#[derive(Clone, Copy, Debug, PartialEq, Eq)]
+#[derive(Clone, Copy)]
 enum Answer {
     Yes,
     No,
     All,
     Quit,
+}
+
+// What came from the terminal.
+#[derive(Clone, Copy)]
+enum Heard {
+    Answer(Answer),
+    /// Something else.
+    Else,
+    /// Nothing more comes.
+    End,
 }
 
 fn answer_of(line: &str) -> Option<Answer> {
@@ -66,21 +76,43 @@ pub(crate) fn reviewed<M: Machine, R: Input + AllocGlobal, W: Write + Drop, E: W
 {
     let layout = layout_of(rt.alloc(), bytes)?;
     let mut said = Vec::new(rt.alloc());
+    let gone_over = go_over(
+        rt, asked, session, bytes, path, &layout, picked, &mut said, review, report,
+    );
+    if *review == Review::Rest {
+        *review = Review::Each;
+    }
+    gone_over?;
+    Ok(said)
+}
+
+// Asks about each directive whose output differs and that is picked, as far as it is still to be asked.
+fn go_over<M: Machine, R: Input + AllocGlobal, W: Write + Drop, E: Write + Drop>(
+    rt: &R,
+    asked: Asked<'_>,
+    session: &Session<M>,
+    bytes: &[u8],
+    path: &str,
+    layout: &Layout,
+    picked: Picked<'_>,
+    said: &mut Vec<usize>,
+    review: &mut Review,
+    report: &mut Report<W, E>,
+) -> Result<(), Trouble>
+    requires { Reads bytes.now session.now.script }
+{
     for index in 0..session.len() {
-        let Some(head) = differing_head(session, &layout, picked, index) else {
+        let Some(head) = differing_head(session, layout, picked, index) else {
             continue;
         };
         if *review == Review::Each {
             show(rt.alloc(), asked, session, bytes, path, index, report)?;
-            *review = answered(rt, &mut said, head, report)?;
-        } else if *review == Review::Rest && takes(asked, session, &layout, index, head) {
-            push(&mut said, head)?;
+            *review = answered(rt, said, head, report)?;
+        } else if *review == Review::Rest && takes(asked, session, layout, index, head) {
+            push(said, head)?;
         }
     }
-    if *review == Review::Rest {
-        *review = Review::Each;
-    }
-    Ok(said)
+    Ok(())
 }
 
 // The line of the head of the directive at the index, where its output differs and it is picked.
@@ -179,17 +211,24 @@ fn ask<R: Input + AllocGlobal, W: Write + Drop, E: Write + Drop>(
         if !report.say(QUESTION) {
             break;
         }
-        let mut line = String::new(rt.alloc());
-        match rt.read_line(&mut line) {
-            Ok(count) if count > 0 => {}
-            _ => break,
-        }
-        match answer_of(line.as_str()) {
-            Some(answer) => return answer,
-            None => {
+        match hear(rt) {
+            Heard::Answer(answer) => return answer,
+            Heard::Else => {
                 report.say(HELP);
             }
+            Heard::End => break,
         }
     }
     Answer::Quit
+}
+
+fn hear<R: Input + AllocGlobal>(rt: &R) -> Heard {
+    let mut line = String::new(rt.alloc());
+    match rt.read_line(&mut line) {
+        Ok(count) if count > 0 => match answer_of(line.as_str()) {
+            Some(answer) => Heard::Answer(answer),
+            None => Heard::Else,
+        },
+        _ => Heard::End,
+    }
 }

@@ -1,7 +1,10 @@
 //! What runs scripts.
 
-ghost use Rattle.std.specs.Prelude.{IfOk};
+ghost use Rattle.std.specs.Prelude.{◌≡◌, ◌≢◌, IfOk, IfErr, Err};
+ghost use Rattle.rb_script.specs.Script.{PlainScript};
 ghost use Rattle.rb_script.specs.Reads.{Reads};
+ghost use Rattle.rb_script.specs.Reading.{read_of};
+ghost use Rattle.rb_replay.specs.Start.{TellsStartFault};
 
 use rb_machine::Machine;
 use rb_replay::{Session, StartFault};
@@ -18,5 +21,11 @@ pub trait Runner {
     ///
     /// The fault of bytes that are no script; or that memory was refused.
     fn run(&mut self, alloc: Global, bytes: &[u8]) -> Result<Session<Self::Machine>, StartFault>
-        ensures { IfOk result (λ session. Reads bytes.now session.script) };
+        ensures script { IfOk result (λ session. Reads bytes.now session.script) }
+        // What is a script is run, unless memory runs out.
+        ensures only { (s : PlainScript) → Reads bytes.now s → IfErr result (λ fault. fault ≡ StartFault.OutOfMemory) }
+        // Which fault of reading it is.
+        ensures refused { IfErr result (λ fault. TellsStartFault fault (read_of bytes.now)) }
+        // How often clusters are kept is the runner's own.
+        ensures spaced { result ≢ Err StartFault.BadSpacing };
 }
