@@ -36,12 +36,12 @@ steps_end (line ∷ heads) c [] e = refl
 steps_end (line ∷ heads) c (b ∷ bs) e = absurd cc
 
 -- what one directive adds
-pub step_kept : (line : ℕ) (c after : Cluster) (b : PlainBlock) (output rows t0 t1 t2 t3 : List Line) → output ≡ (outcome c (directive_of b)).output → rows ≡ happened c (directive_of b) → after ≡ (outcome c (directive_of b)).cluster
-    → t1 ≡ t0 ++ texts_of (script_rows line b.expected output) → t2 ≡ t1 ++ rows → t3 ≡ t2 ++ texts_of (state_rows c.nodes after.nodes) → t3 ≡ t0 ++ step_texts (step line c b)
-step_kept line c after b output rows t0 t1 t2 t3 printed did next first second third =
-    three_parts t0 t1 t2 t3 (texts_of (script_rows line b.expected output)) rows (texts_of (state_rows c.nodes after.nodes)) first second third
-    ∙ ap (λ (o : List Line). t0 ++ (texts_of (script_rows line b.expected o) ++ (rows ++ texts_of (state_rows c.nodes after.nodes)))) printed
-    ∙ both (λ (h : List Line) (d : Cluster). t0 ++ (texts_of (script_rows line b.expected (outcome c (directive_of b)).output) ++ (h ++ texts_of (state_rows c.nodes d.nodes)))) did next
+pub step_kept : (line : ℕ) (c after : Cluster) (b : PlainBlock) (output t0 t1 t2 t3 : List Line) → output ≡ (outcome c (directive_of b)).output → after ≡ (outcome c (directive_of b)).cluster
+    → t1 ≡ t0 ++ texts_of (script_rows line b.expected output) → t2 ≡ t1 ++ happened c (directive_of b) → t3 ≡ t2 ++ texts_of (state_rows c.nodes after.nodes) → t3 ≡ t0 ++ step_texts (step line c b)
+step_kept line c after b output t0 t1 t2 t3 printed next first second third =
+    let did = happened c (directive_of b) in
+    three_parts t0 t1 t2 t3 (texts_of (script_rows line b.expected output)) did (texts_of (state_rows c.nodes after.nodes)) first second third
+    ∙ both (λ (o : List Line) (d : Cluster). t0 ++ (texts_of (script_rows line b.expected o) ++ (did ++ texts_of (state_rows c.nodes d.nodes)))) printed next
 
 -- ---- texts that are of rows
 

@@ -24,8 +24,7 @@ fn run<L: RaftLog>(cluster: &Cluster<L>, block: &Block) -> Result<(Cluster<L>, L
 {
     let copy = Machine::try_copy(cluster)?;
     let mut meter = Meter::new();
-    let (after, output) = copy.run(block.directive(), &mut meter)?;
-    Ok((after, output))
+    copy.run(block.directive(), &mut meter)
 }
 
 // What a directive does, as rows.
@@ -35,6 +34,18 @@ fn happened<L: RaftLog>(cluster: &Cluster<L>, block: &Block) -> Result<Lines, Al
     let directive = block.directive();
     let texts = cluster.happened(&directive)?;
     Ok(texts)
+}
+
+// Adds what a directive does.
+fn keep_happened<L: RaftLog>(
+    texts: &mut Lines,
+    cluster: &Cluster<L>,
+    block: &Block,
+) -> Result<(), AllocError>
+    ensures { OnOk result (texts.new ≡ texts.old ++ happened cluster.now (directive_of block.now)) }
+{
+    let rows = happened(cluster, block)?;
+    keep_texts(texts, &rows)
 }
 
 // Adds what stands in one cluster that didn't stand so in the other.
@@ -63,10 +74,9 @@ pub(crate) fn keep_step<L: RaftLog>(
     ensures texts { OnOk result (texts.new ≡ texts.old ++ step_texts (step line cluster.now block.now)) }
     ensures cluster { IfOk result (λ after. after ≡ (outcome cluster.now (directive_of block.now)).cluster) }
 {
-    let rows = happened(cluster, block)?;
     let (after, output) = run(cluster, block)?;
     keep_script(texts, line, block.expected(), &output)?;
-    keep_texts(texts, &rows)?;
+    keep_happened(texts, cluster, block)?;
     keep_changes(alloc, texts, cluster, &after)?;
     Ok(after)
 }

@@ -15,8 +15,8 @@ keep_changes-requires g c =
 
 pub returns-clause-texts : goal.returns-clause-texts
 returns-clause-texts g c =
-    step_kept c.args.line c.args.cluster.now c.in_ok-after.after c.args.block.now c.in_ok-after.output c.in_ok-rows.rows
-    c.args.texts.now c.keep_script.new.texts c.keep_texts.new.texts c.keep_changes.new.texts
-    c.in_ok-after.ensures.output c.in_ok-rows.ensures c.in_ok-after.ensures.cluster
+    step_kept c.args.line c.args.cluster.now c.in_ok-after.after c.args.block.now c.in_ok-after.output
+    c.args.texts.now c.keep_script.new.texts c.keep_happened.new.texts c.keep_changes.new.texts
+    c.in_ok-after.ensures.output c.in_ok-after.ensures.cluster
     (c.in_ok-keep_script.ensures ∙ ap (λ (ls : List Line). c.args.texts.now ++ texts_of (script_rows c.args.line ls c.in_ok-after.output)) c.expected.ensures)
-    c.in_ok-keep_texts.ensures c.in_ok-keep_changes.ensures
+    c.in_ok-keep_happened.ensures c.in_ok-keep_changes.ensures
