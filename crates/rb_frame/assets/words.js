@@ -47,8 +47,9 @@ function shortLabel(message) {
 
 function messageText(message) {
   const term = message.term ? ` term ${message.term}` : "";
-  const [prevTerm, prev, commit] = message.said;
-  const more = message.type === "MsgApp" ? ` after ${prevTerm}/${prev}, commit ${commit}, ${message.said[3]} entries` : "";
+  const [prevTerm, prev, commit, count] = message.said;
+  const entries = count === 1 ? "1 entry" : `${count} entries`;
+  const more = message.type === "MsgApp" ? ` after ${prevTerm}/${prev}, commit ${commit}, ${entries}` : "";
   return `${message.from}→${message.to} ${message.type}${term} ${more || SAID[message.type](message.said)}`.trim();
 }
 

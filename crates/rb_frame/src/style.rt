@@ -6,7 +6,7 @@ pub(crate) const STYLE: &[u8] = b"\
 \n\
 :root {\n\
 \x20 color-scheme: light dark;\n\
-\x20 --paper: #ffffff;\n\
+\x20 --background: #ffffff;\n\
 \x20 --panel: #f7f8fa;\n\
 \x20 --ink: #1b1f24;\n\
 \x20 --faint: #5d6672;\n\
@@ -14,9 +14,9 @@ pub(crate) const STYLE: &[u8] = b"\
 \x20 --chosen: #e9f0fe;\n\
 \x20 --accent: #2461d8;\n\
 \x20 --bad: #c0261c;\n\
-\x20 --bad-paper: #fdeeec;\n\
+\x20 --bad-background: #fdeeec;\n\
 \x20 --good: #1a7f43;\n\
-\x20 --good-paper: #e8f6ed;\n\
+\x20 --good-background: #e8f6ed;\n\
 \x20 --leader: #218a4b;\n\
 \x20 --candidate: #d08a12;\n\
 \x20 --precandidate: #b39a2e;\n\
@@ -32,7 +32,7 @@ pub(crate) const STYLE: &[u8] = b"\
 \n\
 @media (prefers-color-scheme: dark) {\n\
 \x20 :root {\n\
-\x20   --paper: #14171c;\n\
+\x20   --background: #14171c;\n\
 \x20   --panel: #1b1f26;\n\
 \x20   --ink: #e4e7eb;\n\
 \x20   --faint: #98a2af;\n\
@@ -40,9 +40,9 @@ pub(crate) const STYLE: &[u8] = b"\
 \x20   --chosen: #1d2b47;\n\
 \x20   --accent: #7ba7ff;\n\
 \x20   --bad: #ff8278;\n\
-\x20   --bad-paper: #3a1f1e;\n\
+\x20   --bad-background: #3a1f1e;\n\
 \x20   --good: #63cf8b;\n\
-\x20   --good-paper: #17301f;\n\
+\x20   --good-background: #17301f;\n\
 \x20   --leader: #3fae6b;\n\
 \x20   --candidate: #d99a2b;\n\
 \x20   --precandidate: #b8a244;\n\
@@ -68,7 +68,7 @@ body {\n\
 body {\n\
 \x20 display: flex;\n\
 \x20 flex-direction: column;\n\
-\x20 background: var(--paper);\n\
+\x20 background: var(--background);\n\
 \x20 color: var(--ink);\n\
 \x20 font: 13px/1.45 var(--sans);\n\
 }\n\
@@ -220,11 +220,11 @@ section:focus-visible,\n\
 }\n\
 \n\
 .block .removed {\n\
-\x20 background: var(--bad-paper);\n\
+\x20 background: var(--bad-background);\n\
 }\n\
 \n\
 .block .added {\n\
-\x20 background: var(--good-paper);\n\
+\x20 background: var(--good-background);\n\
 }\n\
 \n\
 .block .text {\n\
@@ -338,7 +338,7 @@ section:focus-visible,\n\
 }\n\
 \n\
 #drawing .ground {\n\
-\x20 fill: var(--paper);\n\
+\x20 fill: var(--background);\n\
 \x20 fill-opacity: 0.78;\n\
 }\n\
 \n\
@@ -475,7 +475,7 @@ svg .tip {\n\
 \x20 border: 1px solid var(--rule);\n\
 \x20 border-left: 4px solid var(--follower);\n\
 \x20 border-radius: 6px;\n\
-\x20 background: var(--paper);\n\
+\x20 background: var(--background);\n\
 }\n\
 \n\
 .node.leader {\n\
@@ -501,7 +501,7 @@ svg .tip {\n\
 \x20 padding: 0 7px;\n\
 \x20 border-radius: 9px;\n\
 \x20 background: var(--follower);\n\
-\x20 color: var(--paper);\n\
+\x20 color: var(--background);\n\
 \x20 font-size: 11px;\n\
 \x20 font-weight: 600;\n\
 \x20 line-height: 17px;\n\
@@ -558,7 +558,7 @@ svg .tip {\n\
 \n\
 .log .committed {\n\
 \x20 border-color: var(--good);\n\
-\x20 background: var(--good-paper);\n\
+\x20 background: var(--good-background);\n\
 }\n\
 \n\
 .log .applied {\n\

@@ -53,8 +53,9 @@ function shortLabel(message) {\n\
 \n\
 function messageText(message) {\n\
 \x20 const term = message.term ? ` term ${message.term}` : \"\";\n\
-\x20 const [prevTerm, prev, commit] = message.said;\n\
-\x20 const more = message.type === \"MsgApp\" ? ` after ${prevTerm}/${prev}, commit ${commit}, ${message.said[3]} entries` : \"\";\n\
+\x20 const [prevTerm, prev, commit, count] = message.said;\n\
+\x20 const entries = count === 1 ? \"1 entry\" : `${count} entries`;\n\
+\x20 const more = message.type === \"MsgApp\" ? ` after ${prevTerm}/${prev}, commit ${commit}, ${entries}` : \"\";\n\
 \x20 return `${message.from}\xe2\x86\x92${message.to} ${message.type}${term} ${more || SAID[message.type](message.said)}`.trim();\n\
 }\n\
 \n\
