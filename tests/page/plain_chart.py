@@ -22,10 +22,10 @@ from plain_steps import rows_of  # noqa: E402
 
 # Sizes, in pixels. A row is its heading, a slot for each thing that happens in it, and a little room.
 SLOT, ROW_TOP, ROW_BOTTOM, HEADING = 18, 25, 8, 34
-FIRST, GAP, RIGHT, LEAD, OUT = 268, 184, 192, 134, 40
+FIRST, GAP, RIGHT, LEAD, OUT = 268, 184, 208, 134, 40
 HALF_BAND = 5
 HALVES = {"leader": HALF_BAND, "candidate": 4, "precandidate": 4, "follower": 3}
-MOST_HEAD, MOST_NOTE, MOST_LABEL, MOST_MARK = 32, 36, 24, 25
+MOST_HEAD, MOST_NOTE, MOST_LABEL, MOST_MARK = 32, 36, 27, 29
 KINDS = {
     "MsgVote": "vote", "MsgPreVote": "vote", "MsgVoteResp": "vote", "MsgPreVoteResp": "vote", "MsgTimeoutNow": "vote", "MsgApp": "append",
     "MsgAppResp": "append", "MsgHeartbeat": "heartbeat", "MsgHeartbeatResp": "heartbeat", "MsgSnap": "snapshot", "MsgProp": "proposal",
@@ -329,7 +329,7 @@ def svg_lines(chart):
     yield f'<title id="title">{escape(chart.title)}</title>'
     yield f'<desc id="what">{escape("".join(f"{sentence}{chr(10)}" for sentence in chart.told))}</desc>'
     yield STYLE.rstrip("\n")
-    yield '<rect class="paper" width="100%" height="100%"/>'
+    yield '<rect class="background" width="100%" height="100%"/>'
     yield from chart.under
     yield from chart.over
     yield from chart.texts

@@ -18,13 +18,13 @@ pub record PlainChart : Type 0 where
   pub texts : List Shape
   pub words : List Line
 
--- what stands before the shapes: the size, the title, what is told, how all looks, and the paper
+-- what stands before the shapes: the size, the title and what is told as they stand in texts of XML, how all looks, and the background
 abbrev pub front_text : List ℕ → ℕ → ℕ → List ℕ → List ℕ → List ℕ
 front_text style width height title told =
     codes "<svg xmlns=\"http://www.w3.org/2000/svg\" role=\"img\" aria-labelledby=\"title what\" viewBox=\"0 0 "
     ++ (decimal width ++ (codes " " ++ (decimal height ++ (codes "\" width=\"" ++ (decimal width ++ (codes "\" height=\"" ++ (decimal height
-    ++ (codes "\">\n<title id=\"title\">" ++ (flat_map escaped title ++ (codes "</title>\n<desc id=\"what\">" ++ (flat_map escaped told
-    ++ (codes "</desc>\n" ++ (style ++ codes "<rect class=\"paper\" width=\"100%\" height=\"100%\"/>\n")))))))))))))
+    ++ (codes "\">\n<title id=\"title\">" ++ (title ++ (codes "</title>\n<desc id=\"what\">" ++ (told
+    ++ (codes "</desc>\n" ++ (style ++ codes "<rect class=\"background\" width=\"100%\" height=\"100%\"/>\n")))))))))))))
 
 -- the shapes, layer by layer
 abbrev pub layers_text : List Line → List Shape → List Shape → List Shape → List ℕ
@@ -32,4 +32,5 @@ layers_text words under over texts = shapes_text words under ++ (shapes_text wor
 
 -- a picture, where this is how it looks
 abbrev pub chart_text : List ℕ → PlainChart → List ℕ
-chart_text style c = front_text style c.width c.height c.title c.told ++ (layers_text c.words c.under c.over c.texts ++ codes "</svg>\n")
+chart_text style c =
+    front_text style c.width c.height (flat_map escaped c.title) (flat_map escaped c.told) ++ (layers_text c.words c.under c.over c.texts ++ codes "</svg>\n")

@@ -1,5 +1,4 @@
 pub mod Escapes
-pub mod Pieces
 pub mod Shapes
 pub mod Charts
 pub mod Titles

@@ -72,10 +72,11 @@ loop_text kind fate x y out to_y =
 abbrev pub cross_text : ℕ → ℕ → List ℕ
 cross_text x y = codes "<path class=\"cross\" d=\"M" ++ (decimal x ++ (codes " " ++ (decimal y ++ codes "m-4 -4l8 8m0 -8l-8 8\"/>\n")))
 
+-- words, as they stand in a text of XML
 abbrev pub words_text : Look → ℕ → ℕ → List ℕ → List ℕ
-words_text look x y words =
+words_text look x y shown =
     codes "<text class=\"" ++ (look_text look ++ (codes "\" x=\"" ++ (decimal x ++ (codes "\" y=\"" ++ (decimal y
-    ++ (codes "\">" ++ (flat_map escaped words ++ codes "</text>\n")))))))
+    ++ (codes "\">" ++ (shown ++ codes "</text>\n")))))))
 
 -- no words where there are none at that place
 abbrev pub given : Option Line → Line
@@ -89,7 +90,7 @@ shape_text words (shapes.Band role x y width height) = band_text role x y width 
 shape_text words (shapes.Arrow kind fate x y bend to_x to_y) = arrow_text kind fate x y bend to_x to_y
 shape_text words (shapes.Loop kind fate x y out to_y) = loop_text kind fate x y out to_y
 shape_text words (shapes.Cross x y) = cross_text x y
-shape_text words (shapes.Words look x y at) = words_text look x y (given (slice_get words at))
+shape_text words (shapes.Words look x y at) = words_text look x y (flat_map escaped (given (slice_get words at)))
 
 abbrev pub shapes_text : List Line → List Shape → List ℕ
 shapes_text words ss = flat_map (shape_text words) ss

@@ -1,34 +1,39 @@
 //! Bytes as they stand in a text of XML.
 
-ghost use Rattle.std.specs.Prelude.{◌≡◌, IsOk};
+ghost use Rattle.std.specs.Prelude.{◌≡◌, ◌++◌, IfOk, OnOk};
 ghost use Rattle.std.specs.List.{flat_map};
-ghost use Rattle.rb_script.specs.Writes.{Writes};
 ghost use Rattle.rb_chart.specs.Escapes.{escaped};
 
-use rb_script::{Sink, WriteFault};
+use std::alloc::{AllocError, Global};
 
-fn put_byte<S: Sink>(sink: &mut S, b: u8) -> Result<(), WriteFault>
-    ensures wrote { Writes result (S.held sink.old) (S.held sink.new) (escaped b) }
-    ensures all { S.takes_all sink.old → IsOk result × S.takes_all sink.new }
+fn add_byte(text: &mut Vec<u8>, b: u8) -> Result<(), AllocError>
+    ensures { OnOk result (text.new.items ≡ text.old.items ++ escaped b) }
 {
     if b == b'&' {
-        sink.put(b"&amp;")
+        text.extend_from_slice(b"&amp;")
     } else if b == b'<' {
-        sink.put(b"&lt;")
+        text.extend_from_slice(b"&lt;")
     } else if b == b'>' {
-        sink.put(b"&gt;")
+        text.extend_from_slice(b"&gt;")
     } else {
-        sink.put(&[b])
+        text.extend_from_slice(&[b])
     }
 }
 
-/// Writes the bytes, each as it stands in a text of XML.
-pub(crate) fn put_escaped<S: Sink>(sink: &mut S, bytes: &[u8]) -> Result<(), WriteFault>
-    ensures wrote { Writes result (S.held sink.old) (S.held sink.new) (flat_map escaped bytes.now) }
-    ensures all { S.takes_all sink.old → IsOk result × S.takes_all sink.new }
+fn add_escaped(text: &mut Vec<u8>, bytes: &[u8]) -> Result<(), AllocError>
+    ensures { OnOk result (text.new.items ≡ text.old.items ++ flat_map escaped bytes.now) }
 {
     for b in bytes {
-        put_byte(sink, *b)?;
+        add_byte(text, *b)?;
     }
     Ok(())
+}
+
+/// The bytes, each as it stands in a text of XML.
+pub(crate) fn escaped(alloc: Global, bytes: &[u8]) -> Result<Vec<u8>, AllocError>
+    ensures { IfOk result (λ text. text.items ≡ flat_map escaped bytes.now) }
+{
+    let mut text = Vec::with_capacity(alloc, bytes.len())?;
+    add_escaped(&mut text, bytes)?;
+    Ok(text)
 }

@@ -95,9 +95,9 @@ pub(crate) fn line_of(message: &Message<'_>, y: u64, ending: Ending) -> Shape {
 
 /// The cross where it is lost; `None` where it isn't.
 pub(crate) fn cross_of(message: &Message<'_>, y: u64, ending: Ending) -> Option<Shape> {
-    if ending.fate() != Fate::Lost {
+    let Fate::Lost = ending.fate() else {
         return None;
-    }
+    };
     if message.to == message.from {
         return Some(Shape::Cross {
             x: loop_x(message),

@@ -1,8 +1,8 @@
 //! The picture of a script's run alone, as a document of SVG that stands without scripts (docs/PAGE.md).
 //!
 //! [`chart_of`] reads the rows of a run, and places what they say: nodes side by side, time downwards, messages as
-//! arrows. [`put_chart`] writes the picture. What is written is the definition's text of its shapes, in which each text of a script stands
-//! as a text of XML; where things stand is tested beside another program.
+//! arrows. [`svg_of`] gives the document. It is the definition's text of the picture's shapes, in which each text of a script stands as a
+//! text of XML; where things stand is tested beside another program.
 #![tactic(auto)]
 
 mod chart;
@@ -19,7 +19,6 @@ mod marks;
 mod messages;
 mod names;
 mod painting;
-mod piece;
 mod row;
 mod sentence;
 mod shape;
@@ -36,4 +35,4 @@ pub use laws::{words_have_no_brackets, words_read_back};
 pub use look::{Fate, Kind, Look};
 pub use shape::Shape;
 pub use style::STYLE;
-pub use writing::put_chart;
+pub use writing::svg_of;

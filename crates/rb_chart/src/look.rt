@@ -4,7 +4,7 @@ ghost use Rattle.std.specs.Prelude.{◌≡◌, codes, ◌++◌};
 ghost use Rattle.rb_chart.specs.Shapes.{fate_text, kind_text, look_text};
 
 /// What kind of message it is.
-#[derive(Clone, Copy, Debug, PartialEq, Eq)]
+#[derive(Clone, Copy)]
 pub enum Kind {
     /// Of elections.
     Vote,
@@ -45,7 +45,7 @@ impl Kind {
 }
 
 /// What became of a message.
-#[derive(Clone, Copy, Debug, PartialEq, Eq)]
+#[derive(Clone, Copy)]
 pub enum Fate {
     /// It is on its way.
     Waiting,
@@ -68,7 +68,7 @@ impl Fate {
 }
 
 /// How words look.
-#[derive(Clone, Copy, Debug, PartialEq, Eq)]
+#[derive(Clone, Copy)]
 pub enum Look {
     LineNumber,
     /// A directive.

@@ -1,14 +1,17 @@
 //! What a picture is made of. Places and sizes are in pixels, from the upper left corner on.
 
-ghost use Rattle.std.specs.Prelude.{◌≡◌, IsOk, slice_get};
-ghost use Rattle.rb_script.specs.Writes.{Writes};
-ghost use Rattle.rb_chart.specs.Shapes.{arrow_text, band_text, cross_text, edge_text, given, loop_text, shape_text, shapes_text, words_text};
+ghost use Rattle.std.specs.Prelude.{◌≡◌, ◌++◌, OnOk, slice_get};
+ghost use Rattle.std.specs.List.{flat_map};
+ghost use Rattle.rb_chart.specs.Escapes.{escaped};
+ghost use Rattle.rb_chart.specs.Shapes.{arrow_text, band_text, given, loop_text, shape_text, shapes_text, words_text};
 
+use crate::escape::escaped;
 use crate::look::{Fate, Kind, Look};
-use crate::piece::{Piece, put_pieces};
+use rb_json::{Piece, add_pieces};
 use rb_message::Role;
 use rb_page::role_name;
-use rb_script::{Lines, Sink, WriteFault};
+use rb_script::Lines;
+use std::alloc::AllocError;
 
 /// A shape.
 #[derive(Clone, Copy)]
@@ -58,33 +61,18 @@ pub enum Shape {
     },
 }
 
-fn put_edge<S: Sink>(sink: &mut S, y: u64) -> Result<(), WriteFault>
-    ensures wrote { Writes result (S.held sink.old) (S.held sink.new) (edge_text y) }
-    ensures all { S.takes_all sink.old → IsOk result × S.takes_all sink.new }
-{
-    put_pieces(
-        sink,
-        &[
-            Piece::Bytes(b"<rect class=\"edge\" y=\""),
-            Piece::Number(y),
-            Piece::Bytes(b"\" width=\"100%\" height=\"1\"/>\n"),
-        ],
-    )
-}
-
-fn put_band<S: Sink>(
-    sink: &mut S,
+fn add_band(
+    svg: &mut Vec<u8>,
     role: Role,
     x: u64,
     y: u64,
     width: u64,
     height: u64,
-) -> Result<(), WriteFault>
-    ensures wrote { Writes result (S.held sink.old) (S.held sink.new) (band_text role x y width height) }
-    ensures all { S.takes_all sink.old → IsOk result × S.takes_all sink.new }
+) -> Result<(), AllocError>
+    ensures { OnOk result (svg.new.items ≡ svg.old.items ++ band_text role x y width height) }
 {
-    put_pieces(
-        sink,
+    add_pieces(
+        svg,
         &[
             Piece::Bytes(b"<rect class=\""),
             Piece::Bytes(role_name(role)),
@@ -101,8 +89,8 @@ fn put_band<S: Sink>(
     )
 }
 
-fn put_arrow<S: Sink>(
-    sink: &mut S,
+fn add_arrow(
+    svg: &mut Vec<u8>,
     kind: Kind,
     fate: Fate,
     x: u64,
@@ -110,12 +98,11 @@ fn put_arrow<S: Sink>(
     bend: u64,
     to_x: u64,
     to_y: u64,
-) -> Result<(), WriteFault>
-    ensures wrote { Writes result (S.held sink.old) (S.held sink.new) (arrow_text kind fate x y bend to_x to_y) }
-    ensures all { S.takes_all sink.old → IsOk result × S.takes_all sink.new }
+) -> Result<(), AllocError>
+    ensures { OnOk result (svg.new.items ≡ svg.old.items ++ arrow_text kind fate x y bend to_x to_y) }
 {
-    put_pieces(
-        sink,
+    add_pieces(
+        svg,
         &[
             Piece::Bytes(b"<path class=\"arrow "),
             Piece::Bytes(kind.name()),
@@ -136,20 +123,19 @@ fn put_arrow<S: Sink>(
     )
 }
 
-fn put_loop<S: Sink>(
-    sink: &mut S,
+fn add_loop(
+    svg: &mut Vec<u8>,
     kind: Kind,
     fate: Fate,
     x: u64,
     y: u64,
     out: u64,
     to_y: u64,
-) -> Result<(), WriteFault>
-    ensures wrote { Writes result (S.held sink.old) (S.held sink.new) (loop_text kind fate x y out to_y) }
-    ensures all { S.takes_all sink.old → IsOk result × S.takes_all sink.new }
+) -> Result<(), AllocError>
+    ensures { OnOk result (svg.new.items ≡ svg.old.items ++ loop_text kind fate x y out to_y) }
 {
-    put_pieces(
-        sink,
+    add_pieces(
+        svg,
         &[
             Piece::Bytes(b"<path class=\"arrow "),
             Piece::Bytes(kind.name()),
@@ -176,34 +162,12 @@ fn put_loop<S: Sink>(
     )
 }
 
-fn put_cross<S: Sink>(sink: &mut S, x: u64, y: u64) -> Result<(), WriteFault>
-    ensures wrote { Writes result (S.held sink.old) (S.held sink.new) (cross_text x y) }
-    ensures all { S.takes_all sink.old → IsOk result × S.takes_all sink.new }
+// Adds words, as they stand in a text of XML.
+fn add_shown(svg: &mut Vec<u8>, look: Look, x: u64, y: u64, shown: &[u8]) -> Result<(), AllocError>
+    ensures { OnOk result (svg.new.items ≡ svg.old.items ++ words_text look x y shown.now) }
 {
-    put_pieces(
-        sink,
-        &[
-            Piece::Bytes(b"<path class=\"cross\" d=\"M"),
-            Piece::Number(x),
-            Piece::Bytes(b" "),
-            Piece::Number(y),
-            Piece::Bytes(b"m-4 -4l8 8m0 -8l-8 8\"/>\n"),
-        ],
-    )
-}
-
-fn put_words<S: Sink>(
-    sink: &mut S,
-    look: Look,
-    x: u64,
-    y: u64,
-    words: &[u8],
-) -> Result<(), WriteFault>
-    ensures wrote { Writes result (S.held sink.old) (S.held sink.new) (words_text look x y words.now) }
-    ensures all { S.takes_all sink.old → IsOk result × S.takes_all sink.new }
-{
-    put_pieces(
-        sink,
+    add_pieces(
+        svg,
         &[
             Piece::Bytes(b"<text class=\""),
             Piece::Bytes(look.name()),
@@ -212,10 +176,18 @@ fn put_words<S: Sink>(
             Piece::Bytes(b"\" y=\""),
             Piece::Number(y),
             Piece::Bytes(b"\">"),
-            Piece::Escaped(words),
+            Piece::Bytes(shown),
             Piece::Bytes(b"</text>\n"),
         ],
     )
+}
+
+fn add_words(svg: &mut Vec<u8>, look: Look, x: u64, y: u64, words: &[u8]) -> Result<(), AllocError>
+    ensures { OnOk result (svg.new.items ≡ svg.old.items ++ words_text look x y (flat_map escaped words.now)) }
+{
+    let alloc = *svg.allocator();
+    let shown = escaped(alloc, words)?;
+    add_shown(svg, look, x, y, shown.as_slice())
 }
 
 // The words at a position; none where it is none.
@@ -229,19 +201,25 @@ fn words_at(words: &Lines, at: usize) -> &[u8]
     }
 }
 
-fn put_shape<S: Sink>(sink: &mut S, words: &Lines, shape: Shape) -> Result<(), WriteFault>
-    ensures wrote { Writes result (S.held sink.old) (S.held sink.new) (shape_text words.now shape) }
-    ensures all { S.takes_all sink.old → IsOk result × S.takes_all sink.new }
+fn add_shape(svg: &mut Vec<u8>, words: &Lines, shape: Shape) -> Result<(), AllocError>
+    ensures { OnOk result (svg.new.items ≡ svg.old.items ++ shape_text words.now shape) }
 {
     match shape {
-        Shape::Edge { y } => put_edge(sink, y),
+        Shape::Edge { y } => add_pieces(
+            svg,
+            &[
+                Piece::Bytes(b"<rect class=\"edge\" y=\""),
+                Piece::Number(y),
+                Piece::Bytes(b"\" width=\"100%\" height=\"1\"/>\n"),
+            ],
+        ),
         Shape::Band {
             role,
             x,
             y,
             width,
             height,
-        } => put_band(sink, role, x, y, width, height),
+        } => add_band(svg, role, x, y, width, height),
         Shape::Arrow {
             kind,
             fate,
@@ -250,7 +228,7 @@ fn put_shape<S: Sink>(sink: &mut S, words: &Lines, shape: Shape) -> Result<(), W
             bend,
             to_x,
             to_y,
-        } => put_arrow(sink, kind, fate, x, y, bend, to_x, to_y),
+        } => add_arrow(svg, kind, fate, x, y, bend, to_x, to_y),
         Shape::Loop {
             kind,
             fate,
@@ -258,23 +236,31 @@ fn put_shape<S: Sink>(sink: &mut S, words: &Lines, shape: Shape) -> Result<(), W
             y,
             out,
             to_y,
-        } => put_loop(sink, kind, fate, x, y, out, to_y),
-        Shape::Cross { x, y } => put_cross(sink, x, y),
-        Shape::Words { look, x, y, at } => put_words(sink, look, x, y, words_at(words, at)),
+        } => add_loop(svg, kind, fate, x, y, out, to_y),
+        Shape::Cross { x, y } => add_pieces(
+            svg,
+            &[
+                Piece::Bytes(b"<path class=\"cross\" d=\"M"),
+                Piece::Number(x),
+                Piece::Bytes(b" "),
+                Piece::Number(y),
+                Piece::Bytes(b"m-4 -4l8 8m0 -8l-8 8\"/>\n"),
+            ],
+        ),
+        Shape::Words { look, x, y, at } => add_words(svg, look, x, y, words_at(words, at)),
     }
 }
 
-/// Writes the shapes, where these are the words of all.
-pub(crate) fn put_shapes<S: Sink>(
-    sink: &mut S,
+/// Adds the shapes, where these are the words of all.
+pub(crate) fn add_shapes(
+    svg: &mut Vec<u8>,
     words: &Lines,
     shapes: &[Shape],
-) -> Result<(), WriteFault>
-    ensures wrote { Writes result (S.held sink.old) (S.held sink.new) (shapes_text words.now shapes.now) }
-    ensures all { S.takes_all sink.old → IsOk result × S.takes_all sink.new }
+) -> Result<(), AllocError>
+    ensures { OnOk result (svg.new.items ≡ svg.old.items ++ shapes_text words.now shapes.now) }
 {
     for shape in shapes {
-        put_shape(sink, words, *shape)?;
+        add_shape(svg, words, *shape)?;
     }
     Ok(())
 }

@@ -13,7 +13,7 @@ const FIRST: u64 = 268;
 
 const GAP: u64 = 184;
 
-const RIGHT: u64 = 192;
+const RIGHT: u64 = 208;
 /// How far a message goes level, along its label.
 pub(crate) const LEAD: u64 = 134;
 /// How far a message of a node to itself goes.
@@ -25,9 +25,9 @@ pub(crate) const MOST_HEAD: usize = 32;
 
 pub(crate) const MOST_NOTE: usize = 36;
 
-pub(crate) const MOST_LABEL: usize = 24;
+pub(crate) const MOST_LABEL: usize = 27;
 
-pub(crate) const MOST_MARK: usize = 25;
+pub(crate) const MOST_MARK: usize = 29;
 
 /// Where the middle of a node's band is.
 pub(crate) fn middle(id: u64) -> u64 {

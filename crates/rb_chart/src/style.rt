@@ -4,15 +4,15 @@
 #[rattlefmt::skip]
 pub const STYLE: &[u8] = b"\
 <style>\n\
-svg { --paper: #fff; --ink: #1b1f24; --faint: #5d6672; --rule: #dfe3e8; --bad: #c0261c; --good: #1a7f43; --leader: #218a4b;\n\
+svg { --background: #fff; --ink: #1b1f24; --faint: #5d6672; --rule: #dfe3e8; --bad: #c0261c; --good: #1a7f43; --leader: #218a4b;\n\
 \x20 --candidate: #d08a12; --precandidate: #b39a2e; --follower: #a3abb6; --vote: #a85a06; --append: #2461d8; --heartbeat: #69727e;\n\
 \x20 --snapshot: #8237bd; --proposal: #0a7a75; font: 11.5px system-ui, \"Segoe UI\", \"DejaVu Sans\", Arial, sans-serif; }\n\
-@media (prefers-color-scheme: dark) { svg { --paper: #14171c; --ink: #e4e7eb; --faint: #98a2af; --rule: #2e343d; --bad: #ff8278;\n\
+@media (prefers-color-scheme: dark) { svg { --background: #14171c; --ink: #e4e7eb; --faint: #98a2af; --rule: #2e343d; --bad: #ff8278;\n\
 \x20 --good: #63cf8b; --leader: #3fae6b; --candidate: #d99a2b; --precandidate: #b8a244; --follower: #656e7a; --vote: #e0a050;\n\
 \x20 --append: #7ba7ff; --heartbeat: #98a2af; --snapshot: #c58df0; --proposal: #4fc4bd; } }\n\
-.paper { fill: var(--paper); }\n\
+.background { fill: var(--background); }\n\
 .edge { fill: var(--rule); }\n\
-text { fill: var(--ink); paint-order: stroke; stroke: var(--paper); stroke-width: 4px; stroke-linejoin: round; }\n\
+text { fill: var(--ink); paint-order: stroke; stroke: var(--background); stroke-width: 4px; stroke-linejoin: round; }\n\
 .name { font-weight: 600; text-anchor: middle; }\n\
 .line { fill: var(--faint); text-anchor: end; }\n\
 .end { text-anchor: end; }\n\
@@ -20,7 +20,8 @@ text { fill: var(--ink); paint-order: stroke; stroke: var(--paper); stroke-width
 .quiet { fill: var(--faint); }\n\
 .bad { fill: var(--bad); }\n\
 .won, .moved { fill: var(--good); font-weight: 600; }\n\
-.turn, .change, .installed { font-weight: 600; }\n\
+.turn { font-weight: 600; }\n\
+.change, .installed { fill: var(--snapshot); font-weight: 600; }\n\
 .leader { fill: var(--leader); }\n\
 .candidate { fill: var(--candidate); }\n\
 .precandidate { fill: var(--precandidate); }\n\

@@ -1,21 +1,21 @@
 //! The picture of a script.
 
-ghost use Rattle.std.specs.Prelude.{◌≡◌, ◌≢◌, ◌≤◌, ℕ, List, length, Err, IsOk, IfSome, OnOk};
+ghost use Rattle.std.specs.Prelude.{◌≡◌, ◌≢◌, ◌≤◌, ℕ, List, length, Err, IsOk, IfOk, IfSome, OnOk};
 ghost use Rattle.std.specs.Io.KnownBytes.{Consumes};
 ghost use Rattle.rb_line.specs.Asked.{AsksFor, Fails};
 ghost use Rattle.rb_script.specs.Reading.{early_fault};
 ghost use Rattle.rb_script.specs.Writes.{Writes};
 ghost use Rattle.rb_bench.specs.Handed.{IsHandedOn};
 ghost use Rattle.rb_bench.specs.Runs.{most_read};
-ghost use Rattle.rb_chart.specs.Charts.{chart_text};
+ghost use Rattle.rb_chart.specs.Charts.{PlainChart, chart_text};
 ghost use Rattle.rb_pages.specs.Drawn.{Draws, DrawsOver};
 
 use crate::script_steps::read_steps;
 use rb_bench::{BenchFault, Outlet, Status};
-use rb_chart::{Chart, STYLE, chart_of, put_chart};
+use rb_chart::{STYLE, chart_of, svg_of};
 use rb_line::{Source, read_up_to};
-use rb_script::{MAX_SCRIPT, WriteFault};
-use std::alloc::Global;
+use rb_script::{Lines, MAX_SCRIPT, Sink, WriteFault};
+use std::alloc::{AllocError, Global};
 
 /// Reads a script, runs it and writes the picture of its run, under this name; of its directives up to the one at line `until`, where that is
 /// given. The answer is the program's status: `Done`, or `Mismatches` where there are some.
@@ -66,22 +66,36 @@ pub fn chart_bytes<W: Outlet>(
     ensures io { W.takes_all writer.old → result ≢ Err BenchFault.Io }
 {
     let steps = read_steps(alloc, bytes)?;
-    let Ok(chart) = chart_of(alloc, name, bytes, &steps.texts, until) else {
+    let Ok(svg) = drawn(alloc, name, bytes, &steps.texts, until) else {
         return Err(BenchFault::OutOfMemory);
     };
-    match draw_out(writer, &chart) {
+    match put_out(writer, svg.as_slice()) {
         Ok(()) => Ok(steps.status),
         Err(_) => Err(BenchFault::Io),
     }
 }
 
-// Writes a picture, and hands it on.
-fn draw_out<W: Outlet>(writer: &mut W, chart: &Chart) -> Result<(), WriteFault>
-    ensures wrote { Writes result (W.held writer.old) (W.held writer.new) (chart_text STYLE.now chart.now) }
+// The document of a picture.
+fn drawn(
+    alloc: Global,
+    name: &[u8],
+    bytes: &[u8],
+    steps: &Lines,
+    until: Option<u64>,
+) -> Result<Vec<u8>, AllocError>
+    ensures { IfOk result (λ svg. (chart : PlainChart) × (svg.items ≡ chart_text STYLE.now chart)) }
+{
+    let chart = chart_of(alloc, name, bytes, steps, until)?;
+    svg_of(alloc, &chart)
+}
+
+// Writes the bytes, and hands them on.
+fn put_out<W: Outlet>(writer: &mut W, bytes: &[u8]) -> Result<(), WriteFault>
+    ensures wrote { Writes result (W.held writer.old) (W.held writer.new) bytes.now }
     ensures handed { OnOk result (IsHandedOn (W.handed writer.new) (W.held writer.new)) }
     ensures all { W.takes_all writer.old → IsOk result × W.takes_all writer.new }
 {
-    match put_chart(writer, chart) {
+    match writer.put(bytes) {
         Ok(()) => writer.flush(),
         Err(fault) => Err(fault),
     }
