@@ -1,5 +1,6 @@
 -- Edits, directive by directive, and what is accepted.
-use Rattle.std.proofs.Common.{◌≡◌, ◌∙◌, ℕ, ◌+◌, Bool, true, false, List, [], ◌∷◌, ◌++◌, drop, Option, Some, None, refl, ap, sym}
+use Rattle.std.proofs.Common.{◌≡◌, ◌∙◌, ℕ, ◌+◌, ◌≤◌, Bool, true, false, List, [], ◌∷◌, ◌++◌, length, drop, Option, Some, None, refl, ap, sym, append_assoc, append-nil}
+use Rattle.std.proofs.lemmas.List.{drop_all}
 use Rattle.std.specs.Prelude.{if◌then◌else◌, ◌&&◌, ◌||◌, not, slice_get, codes}
 use Rattle.rb_script.specs.Lines.{Line, lines}
 use Rattle.rb_script.specs.Script.{PlainBlock, PlainScript}
@@ -17,7 +18,7 @@ use Rattle.rb_actions.specs.Layouts.{IsNoScript}
 use Rattle.rb_actions.specs.Actions.{actions, actions_of, all_but_new_errors, actions_text, edits_of, edits_text, is_accepted, is_wanted, one_edit, span_of}
 
 -- one directive more
-pub edits-step : (encoding : Encoding) (text : List ℕ) (span : Option Span) (later : Bool) (heads : List ℕ) (bs : List PlainBlock) (os : List (List Line)) (i line : ℕ) (b : PlainBlock) (o : List Line)
+edits-step : (encoding : Encoding) (text : List ℕ) (span : Option Span) (later : Bool) (heads : List ℕ) (bs : List PlainBlock) (os : List (List Line)) (i line : ℕ) (b : PlainBlock) (o : List Line)
     → slice_get heads i ≡ Some line → slice_get bs i ≡ Some b → slice_get os i ≡ Some o
     → edits_text encoding text span later (drop i heads) (drop i bs) (drop i os)
     ≡ one_edit encoding text span later line b o ++ edits_text encoding text span (later || is_wanted span (lines text) line b o) (drop (i + 1) heads) (drop (i + 1) bs) (drop (i + 1) os)
@@ -27,9 +28,26 @@ edits-step encoding text span later heads bs os i line b o there block output =
     ∙ ap (λ (outs : List (List Line)). edits_text encoding text span later (line ∷ drop (i + 1) heads) (b ∷ drop (i + 1) bs) outs) (drop-get os i o output)
 
 -- there are no more
-pub edits-done : (encoding : Encoding) (text : List ℕ) (span : Option Span) (later : Bool) (heads : List ℕ) (bs : List PlainBlock) (os : List (List Line)) → heads ≡ [] → edits_text encoding text span later heads bs os ≡ []
+edits-done : (encoding : Encoding) (text : List ℕ) (span : Option Span) (later : Bool) (heads : List ℕ) (bs : List PlainBlock) (os : List (List Line)) → heads ≡ [] → edits_text encoding text span later heads bs os ≡ []
 edits-done encoding text span later [] bs os none = refl
 edits-done encoding text span later (line ∷ heads) bs os none = absurd cc
+
+-- the edit of one directive more went out, behind those so far
+pub edits_more : (encoding : Encoding) (text : List ℕ) (span : Option Span) (later : Bool) (heads : List ℕ) (bs : List PlainBlock) (os : List (List Line)) (i line : ℕ) (b : PlainBlock) (o : List Line) (out new total : List ℕ) (behind : Bool)
+    → slice_get heads i ≡ Some line → slice_get bs i ≡ Some b → slice_get os i ≡ Some o → new ≡ out ++ one_edit encoding text span later line b o → behind ≡ (later || is_wanted span (lines text) line b o)
+    → out ++ edits_text encoding text span later (drop i heads) (drop i bs) (drop i os) ≡ total → new ++ edits_text encoding text span behind (drop (i + 1) heads) (drop (i + 1) bs) (drop (i + 1) os) ≡ total
+edits_more encoding text span later heads bs os i line b o out new total behind there block output more is far =
+    ap (λ (l : List ℕ). l ++ edits_text encoding text span behind (drop (i + 1) heads) (drop (i + 1) bs) (drop (i + 1) os)) more
+    ∙ append_assoc out (one_edit encoding text span later line b o) (edits_text encoding text span behind (drop (i + 1) heads) (drop (i + 1) bs) (drop (i + 1) os))
+    ∙ ap (λ (x : Bool). out ++ (one_edit encoding text span later line b o ++ edits_text encoding text span x (drop (i + 1) heads) (drop (i + 1) bs) (drop (i + 1) os))) is
+    ∙ ap (λ (l : List ℕ). out ++ l) (sym (edits-step encoding text span later heads bs os i line b o there block output))
+    ∙ far
+
+-- all of them went out
+pub edits_last : (encoding : Encoding) (text : List ℕ) (span : Option Span) (later : Bool) (heads : List ℕ) (bs : List PlainBlock) (os : List (List Line)) (i : ℕ) (out total : List ℕ) → length heads ≤ i
+    → out ++ edits_text encoding text span later (drop i heads) (drop i bs) (drop i os) ≡ total → out ≡ total
+edits_last encoding text span later heads bs os i out total past far =
+    sym (append-nil out) ∙ ap (λ (l : List ℕ). out ++ l) (sym (edits-done encoding text span later (drop i heads) (drop i bs) (drop i os) (drop_all i heads past))) ∙ far
 
 -- ---- of a text
 

@@ -1,5 +1,6 @@
 -- What is shown of a line, directive by directive.
-use Rattle.std.proofs.Common.{◌≡◌, ◌∙◌, ℕ, ◌+◌, Bool, true, false, List, [], ◌∷◌, drop, refl, ap, sym}
+use Rattle.std.proofs.Common.{◌≡◌, ◌∙◌, ℕ, ◌+◌, ◌≤◌, Bool, true, false, List, [], ◌∷◌, ◌++◌, length, drop, refl, ap, sym}
+use Rattle.std.proofs.lemmas.List.{drop_all}
 use Rattle.std.specs.Prelude.{if◌then◌else◌, slice_get, Some, codes}
 use Rattle.rb_script.specs.Lines.{Line, lines}
 use Rattle.rb_script.specs.Script.{PlainBlock, PlainScript}
@@ -17,7 +18,7 @@ use Rattle.rb_actions.specs.Layouts.{IsNoScript, line_at}
 use Rattle.rb_actions.specs.Hovers.{hover, hover_in, hover_of, hover_text, shown}
 
 -- one directive more
-pub hover-step : (encoding : Encoding) (text : List ℕ) (s : PlainScript) (line n : ℕ) (heads : List ℕ) (bs : List PlainBlock) (os : List (List Line)) (i head : ℕ) (b : PlainBlock) (o : List Line)
+hover-step : (encoding : Encoding) (text : List ℕ) (s : PlainScript) (line n : ℕ) (heads : List ℕ) (bs : List PlainBlock) (os : List (List Line)) (i head : ℕ) (b : PlainBlock) (o : List Line)
     → slice_get heads i ≡ Some head → slice_get bs i ≡ Some b → slice_get os i ≡ Some o
     → hover_in encoding text s line n (drop i heads) (drop i bs) (drop i os)
     ≡ (if has_line line line (extent_of (lines text) head b) then hover_text encoding text (extent_of (lines text) head b) (shown o (looked s (n + 1)))
@@ -28,7 +29,7 @@ hover-step encoding text s line n heads bs os i head b o there block output =
     ∙ ap (λ (outs : List (List Line)). hover_in encoding text s line n (head ∷ drop (i + 1) heads) (b ∷ drop (i + 1) bs) outs) (drop-get os i o output)
 
 -- there are no more
-pub hover-done : (encoding : Encoding) (text : List ℕ) (s : PlainScript) (line n : ℕ) (heads : List ℕ) (bs : List PlainBlock) (os : List (List Line)) → heads ≡ [] → hover_in encoding text s line n heads bs os ≡ codes "null"
+hover-done : (encoding : Encoding) (text : List ℕ) (s : PlainScript) (line n : ℕ) (heads : List ℕ) (bs : List PlainBlock) (os : List (List Line)) → heads ≡ [] → hover_in encoding text s line n heads bs os ≡ codes "null"
 hover-done encoding text s line n [] bs os none = refl
 hover-done encoding text s line n (head ∷ heads) bs os none = absurd cc
 
@@ -46,7 +47,7 @@ looked_at encoding text s line i head b o ls e t u total there block output line
     ∙ far
 
 -- it has the line
-pub hover_here : (encoding : Encoding) (text : List ℕ) (s : PlainScript) (line i head : ℕ) (b : PlainBlock) (o ls : List Line) (e : Extent) (t : Bool) (total : List ℕ)
+hover_here : (encoding : Encoding) (text : List ℕ) (s : PlainScript) (line i head : ℕ) (b : PlainBlock) (o ls : List Line) (e : Extent) (t : Bool) (total : List ℕ)
     → slice_get (heads_of text s) i ≡ Some head → slice_get s.blocks i ≡ Some b → slice_get (outputs s) i ≡ Some o → ls ≡ lines text → e ≡ extent_of ls head b → t ≡ has_line line line e → t ≡ true
     → hover_in encoding text s line i (drop i (heads_of text s)) (drop i s.blocks) (drop i (outputs s)) ≡ total → hover_text encoding text e (shown o (looked s (i + 1))) ≡ total
 hover_here encoding text s line i head b o ls e t total there block output lines_are extent test is far =
@@ -59,6 +60,25 @@ pub hover_next : (encoding : Encoding) (text : List ℕ) (s : PlainScript) (line
     → hover_in encoding text s line (i + 1) (drop (i + 1) (heads_of text s)) (drop (i + 1) s.blocks) (drop (i + 1) (outputs s)) ≡ total
 hover_next encoding text s line i head b o ls e t total there block output lines_are extent test is far =
     looked_at encoding text s line i head b o ls e t false total there block output lines_are extent test is far
+
+-- it has the line, and its text went out
+pub hover_went : (encoding : Encoding) (text : List ℕ) (s : PlainScript) (line i head : ℕ) (b : PlainBlock) (o ls : List Line) (e : Extent) (t : Bool) (seen before out new total : List ℕ)
+    → slice_get (heads_of text s) i ≡ Some head → slice_get s.blocks i ≡ Some b → slice_get (outputs s) i ≡ Some o → ls ≡ lines text → e ≡ extent_of ls head b → t ≡ has_line line line e → t ≡ true
+    → hover_in encoding text s line i (drop i (heads_of text s)) (drop i s.blocks) (drop i (outputs s)) ≡ total → new ≡ before ++ hover_text encoding text e seen → before ≡ out → seen ≡ shown o (looked s (i + 1))
+    → new ≡ out ++ total
+hover_went encoding text s line i head b o ls e t seen before out new total there block output lines_are extent test is far went unmoved shows =
+    went
+    ∙ ap (λ (l : List ℕ). l ++ hover_text encoding text e seen) unmoved
+    ∙ ap (λ (l : List ℕ). out ++ hover_text encoding text e l) shows
+    ∙ ap (λ (l : List ℕ). out ++ l) (hover_here encoding text s line i head b o ls e t total there block output lines_are extent test is far)
+
+-- none has it
+pub hover_none : (encoding : Encoding) (text : List ℕ) (s : PlainScript) (line i : ℕ) (heads : List ℕ) (bs : List PlainBlock) (os : List (List Line)) (before out new total : List ℕ) → length heads ≤ i
+    → hover_in encoding text s line i (drop i heads) (drop i bs) (drop i os) ≡ total → new ≡ before ++ codes "null" → before ≡ out → new ≡ out ++ total
+hover_none encoding text s line i heads bs os before out new total past far went unmoved =
+    went
+    ∙ ap (λ (l : List ℕ). l ++ codes "null") unmoved
+    ∙ ap (λ (l : List ℕ). out ++ l) (sym (hover-done encoding text s line i (drop i heads) (drop i bs) (drop i os) (drop_all i heads past)) ∙ far)
 
 -- ---- of a text
 

@@ -1,6 +1,7 @@
 -- What is to be said of directives, one after another.
-use Rattle.std.proofs.Common.{◌≡◌, ◌∙◌, ℕ, ◌+◌, List, [], ◌∷◌, ◌++◌, drop, Option, Some, None, Err, refl, ap, sym, append_assoc, append-nil}
+use Rattle.std.proofs.Common.{◌≡◌, ◌∙◌, ℕ, ◌+◌, ◌≤◌, List, [], ◌∷◌, ◌++◌, length, drop, Option, Some, None, Err, refl, ap, sym, append_assoc, append-nil}
 use Rattle.std.specs.Prelude.{slice_get}
+use Rattle.std.proofs.lemmas.List.{drop_all}
 use Rattle.rb_script.specs.Lines.{Line}
 use Rattle.rb_script.specs.declared.fault.ScriptFault.{ScriptFault}
 use Rattle.rb_script.specs.Script.{PlainBlock, PlainScript}
@@ -21,7 +22,7 @@ findings-step ls heads bs os i line b o head block output =
     ∙ ap (λ (outs : List (List Line)). findings ls (line ∷ drop (i + 1) heads) (b ∷ drop (i + 1) bs) outs) (drop-get os i o output)
 
 -- there are no more
-pub findings-done : (ls : List Line) (heads : List ℕ) (bs : List PlainBlock) (os : List (List Line)) → heads ≡ [] → findings ls heads bs os ≡ []
+findings-done : (ls : List Line) (heads : List ℕ) (bs : List PlainBlock) (os : List (List Line)) → heads ≡ [] → findings ls heads bs os ≡ []
 findings-done ls [] bs os none = refl
 findings-done ls (line ∷ heads) bs os none = absurd cc
 
@@ -40,6 +41,12 @@ said_more ls heads bs os i line b o list new found total head block output more 
     ∙ ap (λ (d : Option PlainDiagnostic). list ++ before d (findings ls (drop (i + 1) heads) (drop (i + 1) bs) (drop (i + 1) os))) is
     ∙ ap (λ (l : List PlainDiagnostic). list ++ l) (sym (findings-step ls heads bs os i line b o head block output))
     ∙ far
+
+-- all is said
+pub said_last : (ls : List Line) (heads : List ℕ) (bs : List PlainBlock) (os : List (List Line)) (i : ℕ) (list total : List PlainDiagnostic) → length heads ≤ i
+    → list ++ findings ls (drop i heads) (drop i bs) (drop i os) ≡ total → list ≡ total
+said_last ls heads bs os i list total past far =
+    sym (append-nil list) ∙ ap (λ (l : List PlainDiagnostic). list ++ l) (sym (findings-done ls (drop i heads) (drop i bs) (drop i os) (drop_all i heads past))) ∙ far
 
 -- ---- of a text
 

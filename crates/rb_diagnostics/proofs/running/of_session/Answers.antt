@@ -1,9 +1,6 @@
-use Rattle.std.proofs.Common.{◌∙◌, ◌+◌, ◌≤◌, List, ◌++◌, length, drop, ap, sym, append-nil, arith}
-use Rattle.std.proofs.lemmas.List.{drop_all}
+use Rattle.std.proofs.Common.{arith}
 use Rattle.rb_replay.specs.Run.{outputs}
-use Rattle.rb_diagnostics.specs.Diagnostics.{PlainDiagnostic}
-use Rattle.rb_diagnostics.specs.Findings.{findings}
-use Rattle.rb_diagnostics.proofs.FindingLaws.{findings-done, said_more}
+use Rattle.rb_diagnostics.proofs.FindingLaws.{said_last, said_more}
 use Rattle.rb_diagnostics.proofs.running.of_session.Goals as goal
 
 pub loop-i-preserved : goal.loop-i-preserved
@@ -14,8 +11,5 @@ loop-i-preserved g c =
 
 pub returns : goal.returns
 returns g c =
-    let s = c.args.session.now.script in
-    let i = c.loop-i.i in
-    let past : length c.args.heads.now ≤ i = omega (arith, c.loop-i-test.false, c.len-i-end.ensures.len, c.requires) in
-    let none = findings-done c.args.text.now (drop i c.args.heads.now) (drop i s.blocks) (drop i (outputs s)) (drop_all i c.args.heads.now past) in
-    sym (append-nil c.loop-i.list.items) ∙ ap (λ (l : List PlainDiagnostic). c.loop-i.list.items ++ l) (sym none) ∙ c.loop-i.invariant
+    said_last c.args.text.now c.args.heads.now c.args.session.now.script.blocks (outputs c.args.session.now.script) c.loop-i.i c.loop-i.list.items _
+    (omega (arith, c.loop-i-test.false, c.len-i-end.ensures.len, c.requires)) c.loop-i.invariant
