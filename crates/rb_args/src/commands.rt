@@ -66,6 +66,12 @@ fn with_subcommand<'a>(command: Made<'a>, one: Made<'a>) -> Made<'a>
     ensures { (line : App) (sub : App) → IsMade command.entry line → IsMade one.entry sub → IsMade result (with_subcommand line sub.top) }
 {
     let one = one?;
+    with_one(command, one)
+}
+
+fn with_one<'a>(command: Made<'a>, one: Command<'a>) -> Made<'a>
+    ensures { (line : App) → IsMade command.entry line → (out-Command one.entry).has_globals ≡ false → IsMade result (with_subcommand line (app_of one.entry).top) }
+{
     let command = command?;
     command.subcommand(one)
 }
