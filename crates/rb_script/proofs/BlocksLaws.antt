@@ -1,12 +1,12 @@
 -- Blocks one after the other, as a loop reads them, and the tail.
-use Rattle.std.proofs.Common.{◌≡◌, ℕ, suc, zero, ◌+◌, ◌-◌, ◌<◌, ◌≤◌, Bool, true, false, cond, eqb, List, [], ◌∷◌, ◌++◌, length, map, Result, Ok, Err, refl, ap, sym, subst, ◌∙◌, append_assoc, arith, inl, inr}
+use Rattle.std.proofs.Common.{◌≡◌, ℕ, suc, zero, ◌+◌, ◌-◌, ◌<◌, ◌≤◌, true, false, cond, List, [], ◌∷◌, ◌++◌, length, drop, Result, Ok, Err, refl, ap, sym, subst, ◌∙◌, append_assoc, arith, inl, inr}
 use Rattle.std.specs.List.{list_all}
-use Rattle.std.proofs.lemmas.List.{append-nil}
-use Rattle.std.proofs.lemmas.Bool.{cases_Bool, ne_eqb, not-true}
+use Rattle.std.proofs.lemmas.List.{append-nil, drop_all, drop_more}
+use Rattle.std.proofs.lemmas.Bool.{cases_Bool, not-true}
 use Rattle.rb_script.specs.declared.fault.ScriptFault.{ScriptFault}
 use Rattle.rb_script.specs.declared.fault.ScriptFault.TheVariants as faults
 use Rattle.rb_script.specs.declared.marks.Stop.TheVariants.{Head}
-use Rattle.rb_script.specs.Lines.{Line, lines, cut, in_first, without_returns}
+use Rattle.rb_script.specs.Lines.{Line}
 use Rattle.rb_script.specs.Marks.{is_lead, stops}
 use Rattle.rb_script.specs.Script.{PlainBlock, PlainScript}
 use Rattle.rb_script.specs.Reads.{begins_lead, ReadsBlock, ReadsBlocks}
@@ -25,20 +25,6 @@ with_blocks front read = read >>= λ s. Ok (behind front s)
 regroup : (front : List PlainBlock) (b : PlainBlock) (read : Result PlainScript ScriptFault) → with_blocks front (read >>= λ others. Ok (behind (b ∷ []) others)) ≡ with_blocks (front ++ b ∷ []) read
 regroup front b (Ok s) = ap (λ (bs : List PlainBlock). Ok (record { blocks = bs; tail = s.tail })) (sym (append_assoc front (b ∷ []) s.blocks))
 regroup front b (Err f) = refl
-
--- a byte makes a line
-cut_some : (ls : List Line) (b : ℕ) → is_empty (map without_returns (in_first b ls)) ≡ false
-cut_some [] b = refl
-cut_some (line ∷ ls) b = refl
-
--- whether there are lines can be seen at the bytes
-pub lines_empty : (bytes : List ℕ) → is_empty (lines bytes) ≡ eqb (length bytes) 0
-unfolding lines cut
-lines_empty [] = refl
-lines_empty (b ∷ bytes) =
-    let none : is_empty (map without_returns (cond (eqb b 10) ([] ∷ cut bytes) (in_first b (cut bytes)))) ≡ false =
-    elim (eqb b 10) as (λ t. is_empty (map without_returns (cond t ([] ∷ cut bytes) (in_first b (cut bytes)))) ≡ false) [ true ↦ refl | false ↦ cut_some (cut bytes) b ] in
-    none ∙ sym (ne_eqb (suc (length bytes)) 0 (λ e. omega arith))
 
 -- ---- one block
 
@@ -98,14 +84,17 @@ module _ (most : ℕ) (front : List PlainBlock) (n end : ℕ) (ls : List Line) (
       let none : most - n ≡ 0 = omega arith in
       sym so_far ∙ ap (with_blocks front) (ap (λ (r : ℕ). blocks_at r end ls) none ∙ step_full end ls h)
 
--- the test of the bytes that are left is a test of their lines
-pub tested : (bytes : List ℕ) (ls : List Line) (r t : Bool) → lines bytes ≡ from_head ls → r ≡ eqb (length bytes) 0 → r ≡ t → is_empty (from_head ls) ≡ t
-tested bytes ls r t e told h = ap is_empty (sym e) ∙ lines_empty bytes ∙ sym told ∙ h
+-- no line is left from a position on
+pub left_none : (all ls : List Line) (at : ℕ) → drop at all ≡ from_head ls → length all ≤ at → is_empty (from_head ls) ≡ true
+left_none all ls at e le = ap is_empty (sym e ∙ drop_all at all le)
+
+-- some line is left from a position on
+pub left_some : (all ls : List Line) (at : ℕ) → drop at all ≡ from_head ls → at < length all → is_empty (from_head ls) ≡ false
+left_some all ls at e lt = ap is_empty (sym e ∙ drop_more all at [] lt)
 
 -- the block is read from the same lines
-pub same_block : (end total : ℕ) (lead after ls : List Line) → end ≡ total → lead ≡ lead_of ls → after ≡ from_head ls → block_at end lead after ≡ block_at total (lead_of ls) (from_head ls)
-same_block end total lead after ls e f g =
-    ap (λ (n : ℕ). block_at n lead after) e ∙ ap (λ (l : List Line). block_at total l after) f ∙ ap (λ (l : List Line). block_at total (lead_of ls) l) g
+pub same_block : (end : ℕ) (lead after ls : List Line) → lead ≡ lead_of ls → after ≡ from_head ls → block_at end lead after ≡ block_at end (lead_of ls) (from_head ls)
+same_block end lead after ls f g = ap (λ (l : List Line). block_at end l after) f ∙ ap (λ (l : List Line). block_at end (lead_of ls) l) g
 
 -- ---- all blocks: what is read is in the relation, and what is in the relation is read
 

@@ -1,11 +1,11 @@
 -- Lines in one buffer.
-use Rattle.std.proofs.Common.{◌≡◌, ℕ, ◌+◌, ◌-◌, ◌≤◌, ◌<◌, List, [], ◌∷◌, ◌++◌, length, take, drop, get_or, refl, ap, sym, subst, ◌∙◌, append_assoc, zero, suc, length-append, eqb, true, eq-eqb, arith}
+use Rattle.std.proofs.Common.{◌≡◌, ℕ, ◌+◌, ◌-◌, ◌≤◌, ◌<◌, List, [], ◌∷◌, ◌++◌, length, take, drop, get_or, refl, ap, sym, subst, ◌∙◌, append_assoc, zero, suc, length-append, arith}
 use Rattle.std.specs.Prelude.{slice_get, Option, Some, Result, Ok, Err, OnOk, OnErr}
-use Rattle.std.proofs.lemmas.Bool.{eqb-true}
-use Rattle.std.proofs.lemmas.List.{append-nil}
+use Rattle.std.proofs.lemmas.List.{append-nil, take-append-drop}
 use Rattle.std.proofs.lemmas.List.Concat.{flat_map-append}
 use Rattle.rb_script.specs.Lines.{Line, line_text, text_of}
-use Rattle.rb_script.specs.Flat.{ends_of, parted, line_start, IsFlat}
+use Rattle.rb_script.specs.Flat.{ends_of, parted, line_start, between, IsFlat}
+use Rattle.rb_script.proofs.BetweenLaws.{take_between}
 
 take_front : (a b : List ℕ) → take (length a) (a ++ b) ≡ a
 take_front [] b = refl
@@ -127,13 +127,59 @@ flat_line ends text i flat lt =
     let (line, there) = slice_get_there ls i (let within : i < length ls = omega (arith, parted_len 0 ends text) in within) in
     (line, there, subst (λ (t : List ℕ). LineAt (line_start 0 ends i) (get_or ends i 0) t line) (sym flat.text_is) (subst (λ (k : List ℕ). LineAt (line_start 0 k i) (get_or k i 0) (text_of ls) line) (sym flat.ends_are) (line_there [] ls i line there)))
 
--- there are no lines where there are no ends
-pub empty_is : (from n : ℕ) (ends text : List ℕ) → n ≡ length ends → (eqb n 0 ≡ true → parted from ends text ≡ []) × (parted from ends text ≡ [] → eqb n 0 ≡ true)
-unfolding parted
-empty_is from n [] text e = (λ h. refl, λ h. eq-eqb n 0 e)
-empty_is from n (end ∷ ends) text e = (λ h. absurd (omega (arith, eqb-true n 0 h)), λ h. absurd cc)
+-- line k begins behind the text of those before it
+start_is : (from : ℕ) (ls : List Line) (k : ℕ) → k ≤ length ls → line_start from (ends_of from ls) k ≡ from + length (text_of (take k ls))
+unfolding ends_of
+start_is from ls zero le = let same : from ≡ from + 0 = omega arith in same
+start_is from [] (suc k) le = absurd (omega arith)
+start_is from (line ∷ ls) (suc k) le =
+    let n = from + length line + 1 in
+    let len : length (text_of (take (suc k) (line ∷ ls))) ≡ length line + 1 + length (text_of (take k ls)) =
+    length-append (line_text line) (text_of (take k ls)) ∙ ap (λ (m : ℕ). m + length (text_of (take k ls))) (length-append line (10 ∷ [])) in
+    let whole : n + length (text_of (take k ls)) ≡ from + length (text_of (take (suc k) (line ∷ ls))) = omega (arith, len) in
+    start_next n (ends_of n ls) k ∙ start_is n ls k (omega arith) ∙ whole
+
+-- where some lines stand in the text
+pub record TextBetween (start end : ℕ) (text part : List ℕ) : Type 0 where
+  pub order : start ≤ end
+  pub within : end ≤ length text
+  pub part_is : take (end - start) (drop start text) ≡ part
+
+pub flat_between : (ends text : List ℕ) (from to : ℕ) → IsFlat ends text → from ≤ to → to ≤ length ends → TextBetween (line_start 0 ends from) (line_start 0 ends to) text (text_of (between from to (parted 0 ends text)))
+flat_between ends text from to flat order within =
+    let ls = parted 0 ends text in
+    let a = take from ls in
+    let m = between from to ls in
+    let r = drop (to - from) (drop from ls) in
+    let some : to ≤ length ls = omega (arith, within, parted_len 0 ends text) in
+    let first : from ≤ length ls = omega (arith, some, order) in
+    let parts : text ≡ text_of a ++ (text_of m ++ text_of r) =
+    flat.text_is ∙ ap text_of (sym (take-append-drop from ls)) ∙ text-append a (drop from ls)
+    ∙ ap (λ (l : List Line). text_of a ++ text_of l) (sym (take-append-drop (to - from) (drop from ls)))
+    ∙ ap (λ (t : List ℕ). text_of a ++ t) (text-append m r) in
+    let begins : line_start 0 ends from ≡ 0 + length (text_of a) = ap (λ (e : List ℕ). line_start 0 e from) flat.ends_are ∙ start_is 0 ls from first in
+    let both : length (text_of (take to ls)) ≡ length (text_of a) + length (text_of m) =
+    ap (λ (l : List Line). length (text_of l)) (take_between from to ls order) ∙ ap length (text-append a m) ∙ length-append (text_of a) (text_of m) in
+    let stops : line_start 0 ends to ≡ 0 + length (text_of (take to ls)) = ap (λ (e : List ℕ). line_start 0 e to) flat.ends_are ∙ start_is 0 ls to some in
+    let len : length text ≡ length (text_of a) + (length (text_of m) + length (text_of r)) =
+    ap length parts ∙ length-append (text_of a) (text_of m ++ text_of r) ∙ ap (λ (n : ℕ). length (text_of a) + n) (length-append (text_of m) (text_of r)) in
+    let count : line_start 0 ends to - line_start 0 ends from ≡ length (text_of m) = omega (arith, begins, stops, both) in
+    let front : line_start 0 ends from ≡ length (text_of a) = omega (arith, begins) in
+    record {
+      order = omega (arith, begins, stops, both);
+      within = omega (arith, stops, both, len);
+      part_is =
+          ap (λ (n : ℕ). take n (drop (line_start 0 ends from) text)) count
+          ∙ ap (λ (n : ℕ). take (length (text_of m)) (drop n text)) front
+          ∙ ap (λ (t : List ℕ). take (length (text_of m)) (drop (length (text_of a)) t)) parts
+          ∙ ap (λ (t : List ℕ). take (length (text_of m)) t) (drop_front (text_of a) (text_of m ++ text_of r))
+          ∙ take_front (text_of m) (text_of r);
+    }
 
 pub slice_is : (found : Option Line) (end start first : ℕ) (text : List ℕ) (line : Line) → found ≡ Some line → start ≡ first → LineAt first end text line → found ≡ Some (take (end - 1 - start) (drop start text))
 slice_is found end start first text line there e at =
     let same : end - 1 - start ≡ end - first - 1 = omega arith in
     there ∙ ap (λ (l : Line). Some l) (sym (ap (λ (n : ℕ). take n (drop start text)) same ∙ ap (λ (n : ℕ). take (end - first - 1) (drop n text)) e ∙ at.part))
+
+pub part_is : (start end first last : ℕ) (text part : List ℕ) → start ≡ first → end ≡ last → TextBetween first last text part → TextBetween start end text part
+part_is start end first last text part e f at = subst (λ (n : ℕ). TextBetween n end text part) (sym e) (subst (λ (n : ℕ). TextBetween first n text part) (sym f) at)

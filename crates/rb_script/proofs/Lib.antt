@@ -1,4 +1,6 @@
+pub mod BetweenLaws
 pub mod FlatLaws
+pub mod KeptLaws
 pub mod LineLaws
 pub mod DirectiveLaws
 pub mod MarkLaws

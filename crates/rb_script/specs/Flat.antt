@@ -21,3 +21,7 @@ line_start from ends (suc i) = slice_index ends i
 pub record IsFlat (ends text : List ℕ) : Type 0 where
   pub text_is : text ≡ text_of (parted 0 ends text)
   pub ends_are : ends ≡ ends_of 0 (parted 0 ends text)
+
+-- the lines from one position up to another
+abbrev pub between : ℕ → ℕ → List Line → List Line
+between from to ls = take (to - from) (drop from ls)

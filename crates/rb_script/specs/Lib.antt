@@ -1,6 +1,7 @@
 pub mod Bytes
 pub mod Lines
 pub mod Flat
+pub mod Kept
 pub mod Marks
 pub mod Script
 pub mod Joined
@@ -19,7 +20,7 @@ pub mod Blocks
 pub mod Reading
 pub mod Faults
 pub mod HeadLines
-pub mod Cursor
+pub mod Found
 pub mod Parsed
 pub mod Fronts
 pub mod Told

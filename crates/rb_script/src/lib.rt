@@ -9,11 +9,11 @@
 
 mod argument;
 mod block;
-mod cursor;
 mod directive;
 mod edit;
 mod edits;
 mod fault;
+mod flat;
 mod head_cursor;
 mod heading;
 mod laws;
@@ -22,6 +22,7 @@ mod lines;
 mod marks;
 mod reading;
 mod script;
+mod shared_lines;
 mod sink;
 mod span;
 mod tokens;
@@ -38,7 +39,7 @@ pub use laws::{
     reads_once, refusals_are, separators_are, solid_lines_can_be_expected, text_reads_back,
 };
 pub use limits::{MAX_ARGUMENTS, MAX_DIRECTIVES, MAX_LINE, MAX_SCRIPT, MAX_VALUES, limits_are};
-pub use lines::{Lines, without_returns};
+pub use lines::{Lines, lines_of, without_returns};
 pub use marks::{continues, is_blank, is_rule, is_separator, is_space, without_front};
 pub use script::Script;
 pub use sink::{Sink, Through, WriteFault};

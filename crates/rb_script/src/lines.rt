@@ -1,33 +1,40 @@
-//! Lines of bytes, in one buffer.
+//! Lists of byte lines, and the lines of bytes.
 
 ghost use Rattle.std.specs.Prelude.{◌≡◌, ◌↔◌, ◌+◌, ◌<◌, ◌≤◌, ◌^◌, [], ◌∷◌, ◌++◌, length, slice_get, OnOk, IfOk, OnErr, MatchOption, IfSome, IfNone, IsTrue, Some, ℕ, ◌≢◌, slice_index, vec_capacity};
-ghost use Rattle.smallvec.specs.SmallVec.{small_vec_len};
-ghost use Rattle.rb_script.specs.Flat.{parted, line_start, IsFlat};
-ghost use Rattle.rb_script.specs.Lines.{lines, text_of, line_text, without_returns};
+ghost use Rattle.rb_script.specs.Lines.{lines, text_of, without_returns};
+ghost use Rattle.rb_script.specs.Flat.{between};
+ghost use Rattle.rb_script.specs.Kept.{kept_lines, IsKept};
 
+use crate::flat::FlatLines;
+use crate::shared_lines::SharedLines;
 use memchr::memchr;
-use smallvec::SmallVec;
 use std::alloc::{AllocError, Global};
 use std::marker::Model;
 
 /// A list of byte lines. A line may hold any bytes.
 #[derive(Drop)]
 pub struct Lines {
-    // each line, with one LF after it
-    text: Vec<u8>,
-    // where each line with its LF ends in the text; most lists are short
-    ends: SmallVec<usize, 4>,
+    kept: Kept,
+}
+
+/// Where lines are kept.
+#[derive(Drop)]
+pub(crate) enum Kept {
+    /// In memory of their own.
+    Own(FlatLines),
+    /// As a part of lines that others share: those from the first position up to the second.
+    Part(SharedLines, usize, usize),
 }
 
 impl Model for Lines {
     ghost use Rattle.std.specs.Prelude.{List, ℕ};
-    ghost use Rattle.rb_script.specs.Flat.{parted, IsFlat};
+    ghost use Rattle.rb_script.specs.Kept.{kept_lines, IsKept};
 
     ghost Value = { List (List ℕ) };
 
-    ghost view = { λ a. parted 0 a.ends.items a.text.items };
+    ghost view = { λ a. kept_lines a.kept };
 
-    ghost invariant = { λ a. IsFlat a.ends.items a.text.items };
+    ghost invariant = { λ a. IsKept a.kept };
 }
 
 impl Lines {
@@ -36,9 +43,19 @@ impl Lines {
         ensures { result ≡ [] }
     {
         Lines {
-            text: Vec::new(alloc),
-            ends: SmallVec::new(alloc),
+            kept: Kept::Own(FlatLines::new(alloc)),
         }
+    }
+
+    /// The lines from one position up to another. Nothing is copied.
+    pub(crate) fn part(all: &SharedLines, from: usize, to: usize) -> Result<Self, AllocError>
+        requires order { from ≤ to }
+        requires within { to ≤ length all.now }
+        ensures { IfOk result (λ part. part ≡ between from to all.now) }
+    {
+        Ok(Lines {
+            kept: Kept::Part(all.try_copy()?, from, to),
+        })
     }
 
     /// Adds a line at the end.
@@ -46,7 +63,7 @@ impl Lines {
         ensures ok { OnOk result (self.new ≡ self.old ++ line.now ∷ []) }
         ensures err { OnErr result (self.new ≡ self.old) }
     {
-        append_line(&mut self.text, &mut self.ends, line)
+        self.kept.push(line)
     }
 
     /// An empty text, with room for this many bytes, where the lines have their memory: for a line that is put together of many pieces.
@@ -54,21 +71,24 @@ impl Lines {
         ensures empty { IfOk result (λ text. text.items ≡ []) }
         ensures room { IfOk result (λ text. room ≤ vec_capacity text) }
     {
-        Vec::with_capacity(*self.text.allocator(), room)
+        Vec::with_capacity(self.allocator(), room)
     }
 
     /// How many lines there are.
     pub fn len(&self) -> usize
         ensures { result ≡ length self.now }
     {
-        self.ends.len()
+        match &self.kept {
+            Kept::Own(own) => own.len(),
+            Kept::Part(_, from, to) => *to - *from,
+        }
     }
 
     /// Whether there are no lines.
     pub fn is_empty(&self) -> bool
         ensures { IsTrue result ↔ (self.now ≡ []) }
     {
-        self.ends.is_empty()
+        self.len() == 0
     }
 
     /// The line at position `i`, which counts from 0, without its end.
@@ -76,83 +96,85 @@ impl Lines {
         requires { i < length self.now }
         ensures { slice_get self.now i ≡ Some result.now }
     {
-        line_of(&self.text, self.ends.as_slice(), i)
+        match &self.kept {
+            Kept::Own(own) => own.line(i),
+            Kept::Part(all, from, _) => all.line(*from + i),
+        }
     }
 
     /// The lines as one text, each with one LF.
     pub fn text(&self) -> &[u8]
         ensures { result.now ≡ text_of self.now }
     {
-        self.text.as_slice()
+        match &self.kept {
+            Kept::Own(own) => own.text(),
+            Kept::Part(all, from, to) => all.text_between(*from, *to),
+        }
     }
 
-    /// The same lines, in memory of their own.
+    /// The same lines, in memory of their own or shared.
     pub fn try_copy(&self) -> Result<Lines, AllocError>
         ensures { IfOk result (λ copy. copy ≡ self.now) }
     {
-        let alloc = *self.text.allocator();
-        // Most lists of a script have no line.
-        if self.is_empty() {
-            return Ok(Lines::new(alloc));
-        }
-        Ok(Lines {
-            text: Vec::from_slice(alloc, self.text.as_slice())?,
-            ends: SmallVec::from_slice(alloc, self.ends.as_slice())?,
-        })
+        let kept = match &self.kept {
+            Kept::Own(own) => Kept::Own(own.try_copy()?),
+            Kept::Part(all, from, to) => Kept::Part(all.try_copy()?, *from, *to),
+        };
+        Ok(Lines { kept })
     }
 
     /// Whether these are the same lines.
     pub fn same(&self, other: &Lines) -> bool
         ensures { IsTrue result ↔ (self.now ≡ other.now) }
     {
-        self.ends.as_slice() == other.ends.as_slice()
-            && self.text.as_slice() == other.text.as_slice()
+        if self.len() != other.len() {
+            return false;
+        }
+        for i in 0..self.len() {
+            if !is_same(self.line(i), other.line(i)) {
+                return false;
+            }
+        }
+        true
     }
 
-    /// Takes all lines out, and keeps the memory.
-    pub(crate) fn clear(&mut self)
-        ensures { self.new ≡ [] }
+    // Where the memory is.
+    fn allocator(&self) -> Global {
+        match &self.kept {
+            Kept::Own(own) => own.allocator(),
+            Kept::Part(all, _, _) => all.allocator(),
+        }
+    }
+}
+
+impl Kept {
+    ghost use Rattle.std.specs.Prelude.{◌≡◌, [], ◌∷◌, ◌++◌, OnOk, OnErr};
+    ghost use Rattle.rb_script.specs.Kept.{kept_lines, IsKept};
+
+    // Adds a line at the end. Shared lines stay as they are: they are copied first.
+    fn push(&mut self, line: &[u8]) -> Result<(), AllocError>
+        requires { IsKept self.old }
+        ensures kept { IsKept self.new }
+        ensures ok { OnOk result (kept_lines self.new ≡ kept_lines self.old ++ line.now ∷ []) }
+        ensures err { OnErr result (kept_lines self.new ≡ kept_lines self.old) }
     {
-        self.text.clear();
-        self.ends.clear();
+        match self {
+            Kept::Own(own) => own.push(line),
+            Kept::Part(all, from, to) => {
+                let mut own = all.copy_between(*from, *to)?;
+                own.push(line)?;
+                *self = Kept::Own(own);
+                Ok(())
+            }
+        }
     }
 }
 
-// Adds the line with its LF, and its end. Room comes first, so that a refusal changes nothing.
-fn append_line(
-    text: &mut Vec<u8>,
-    ends: &mut SmallVec<usize, 4>,
-    line: &[u8],
-) -> Result<(), AllocError>
-    ensures text { OnOk result (text.new.items ≡ text.old.items ++ line_text line.now) }
-    ensures ends { OnOk result (ends.new.items ≡ ends.old.items ++ length text.new.items ∷ []) }
-    ensures err { OnErr result ((text.new.items ≡ text.old.items) × (ends.new.items ≡ ends.old.items)) }
+/// Whether the two are the same bytes.
+fn is_same(line: &[u8], other: &[u8]) -> bool
+    ensures { IsTrue result ↔ (line.now ≡ other.now) }
 {
-    ends.reserve(1)?;
-    text.reserve(line.len() + 1)?;
-    text.extend_from_slice(line)?;
-    text.push(b'\n')?;
-    ends.push(text.len())?;
-    Ok(())
-}
-
-// Where a line begins.
-fn start_of(ends: &[usize], i: usize) -> usize
-    requires { i < length ends.now }
-    ensures { result ≡ line_start 0 ends.now i }
-{
-    if i == 0 { 0 } else { ends[i - 1] }
-}
-
-// A line of the text, without its LF.
-fn line_of<'a>(text: &'a [u8], ends: &[usize], i: usize) -> &'a [u8]
-    requires flat { IsFlat ends.now text.now }
-    requires line { i < length ends.now }
-    ensures { slice_get (parted 0 ends.now text.now) i ≡ Some result.now }
-{
-    let start = start_of(ends, i);
-    let end = ends[i] - 1;
-    &text[start..end]
+    line == other
 }
 
 /// The line without the carriage returns at its end, which belong to the end.
@@ -168,6 +190,15 @@ pub fn without_returns(line: &[u8]) -> &[u8]
         front = shorter;
     }
     front
+}
+
+/// The lines of the bytes, without their ends.
+pub fn lines_of(alloc: Global, bytes: &[u8]) -> Result<Lines, AllocError>
+    ensures { IfOk result (λ all. all ≡ lines bytes.now) }
+{
+    Ok(Lines {
+        kept: Kept::Own(FlatLines::of(alloc, bytes)?),
+    })
 }
 
 /// Where the first line feed stands.

@@ -13,64 +13,83 @@ ghost use Rattle.rb_script.specs.Joined.{joined};
 ghost use Rattle.rb_script.specs.Heads.{few_or, head_at};
 ghost use Rattle.rb_script.specs.Blocks.{below_head, block_at, blocks_at};
 ghost use Rattle.rb_script.specs.Reading.{parts_of, block_of, long_line, no_long_line, capped, early_fault, read_of};
-ghost use Rattle.rb_script.specs.Cursor.{seen, end_of};
+ghost use Rattle.rb_script.specs.Found.{seen, pair_seen};
+ghost use Rattle.rb_script.specs.Flat.{between};
 ghost use Rattle.rb_script.specs.Script.{text};
 ghost use Rattle.rb_script.specs.Valid.{IsLine};
 ghost use Rattle.rb_script.specs.Shared.{values, parts_view};
 ghost use Rattle.rb_script.specs.HeadLines.{AreHeadLines, TellsHeads};
 
 use crate::block::{Block, Front};
-use crate::cursor::Cursor;
 use crate::fault::ScriptFault;
+use crate::flat::FlatLines;
 use crate::limits::{MAX_DIRECTIVES, MAX_LINE, MAX_SCRIPT};
-use crate::lines::Lines;
-use crate::marks::{Stop, continues, is_rule};
+use crate::lines::{Lines, next_line};
+use crate::marks::{Stop, continues, is_blank, is_rule};
 use crate::script::Script;
+use crate::shared_lines::SharedLines;
 use crate::tokens::{Tokens, tokens_of};
 use memchr::memrchr;
 use std::alloc::{AllocError, Global};
 use std::rc::Rc;
 
-// Each of these gathers lines in `room`, whose memory serves all, and copies them out at their size.
+// Positions of lines count from 0. Each of these goes from a position on, which may be behind the last line.
 
-/// The lines up to the first at which the run stops, and the lines from it on.
-fn run<'a>(
-    room: &mut Lines,
-    start: Cursor<'a>,
-    stop: Stop,
-) -> Result<(Lines, Cursor<'a>), AllocError>
-    ensures run { IfOk result (λ p. p.0 ≡ upto (stops stop) (lines start.entry.rest.now)) }
-    ensures rest { IfOk result (λ p. lines p.1.rest.now ≡ onward (stops stop) (lines start.entry.rest.now)) }
-    ensures end { IfOk result (λ p. end_of p.1 ≡ end_of start.entry) }
+/// Where the run of lines stops: at the first at which it should, or behind the last.
+fn run(all: &SharedLines, start: usize, stop: Stop) -> usize
+    requires { start ≤ length all.now }
+    ensures order { (start ≤ result) × (result ≤ length all.now) }
+    ensures run { between start result all.now ≡ upto (stops stop) (drop start all.now) }
+    ensures rest { drop result all.now ≡ onward (stops stop) (drop start all.now) }
 {
-    room.clear();
-    let mut at = start;
-    while let Some((line, after)) = at.next() {
-        if stop.at(line) {
-            break;
+    for at in start..all.len() {
+        if stop.at(all.line(at)) {
+            return at;
         }
-        room.push(line)?;
-        at = after;
     }
-    Ok((room.try_copy()?, at))
+    all.len()
 }
 
-/// The first line and those that it asks for, and the lines after them.
-fn head<'a>(room: &mut Lines, start: Cursor<'a>) -> Result<(Lines, Cursor<'a>), AllocError>
-    ensures run { IfOk result (λ p. p.0 ≡ head_of (lines start.entry.rest.now)) }
-    ensures rest { IfOk result (λ p. lines p.1.rest.now ≡ after_head (lines start.entry.rest.now)) }
-    ensures end { IfOk result (λ p. end_of p.1 ≡ end_of start.entry) }
+/// Where the first line and those that it asks for end.
+fn head(all: &SharedLines, start: usize) -> usize
+    requires { start ≤ length all.now }
+    ensures order { (start ≤ result) × (result ≤ length all.now) }
+    ensures run { between start result all.now ≡ head_of (drop start all.now) }
+    ensures rest { drop result all.now ≡ after_head (drop start all.now) }
 {
-    room.clear();
-    let mut at = start;
-    while let Some((line, after)) = at.next() {
-        room.push(line)?;
-        at = after;
-        if !continues(line) {
-            break;
+    for at in start..all.len() {
+        if !continues(all.line(at)) {
+            return at + 1;
         }
     }
-    Ok((room.try_copy()?, at))
+    all.len()
+}
+
+/// The position behind a line ----, if one is there.
+fn after_rule(all: &SharedLines, at: usize) -> Option<usize>
+    requires { at ≤ length all.now }
+    ensures none { IfNone result (begins_rule (drop at all.now) ≡ false) }
+    ensures found { IfSome result (λ after. (begins_rule (drop at all.now) ≡ true) × (after ≡ at + 1)) }
+    ensures within { IfSome result (λ after. after ≤ length all.now) }
+{
+    if at < all.len() && is_rule(all.line(at)) {
+        Some(at + 1)
+    } else {
+        None
+    }
+}
+
+/// The position behind a blank line, if one is there.
+fn after_blank(all: &SharedLines, at: usize) -> usize
+    requires { at ≤ length all.now }
+    ensures rest { drop result all.now ≡ after_blank (drop at all.now) }
+    ensures within { result ≤ length all.now }
+{
+    if at < all.len() && is_blank(all.line(at)) {
+        at + 1
+    } else {
+        at
+    }
 }
 
 /// Whether no line ---- is the last or stands before another.
@@ -88,111 +107,124 @@ pub(crate) fn is_readable(lines: &Lines) -> bool
     !after_rule
 }
 
-/// A plain expectation, and the lines after it.
-fn plain<'a>(room: &mut Lines, start: Cursor<'a>) -> Result<Option<(Lines, Cursor<'a>)>, AllocError>
-    ensures found { IfOk result (λ found. seen found ≡ plain_at (lines start.entry.rest.now)) }
-    ensures end { IfOk result (λ found. IfSome found (λ p. end_of p.1 ≡ end_of start.entry)) }
+/// A plain expectation, and the position behind it.
+fn plain(all: &SharedLines, start: usize) -> Result<Option<(Lines, usize)>, AllocError>
+    requires { start ≤ length all.now }
+    ensures found { IfOk result (λ found. seen all.now found ≡ plain_at (drop start all.now)) }
+    ensures within { IfOk result (λ found. IfSome found (λ p. p.1 ≤ length all.now)) }
 {
-    let (expected, at) = run(room, start, Stop::Blank)?;
+    let end = run(all, start, Stop::Blank);
+    let expected = Lines::part(all, start, end)?;
     if is_readable(&expected) {
-        Ok(Some((expected, at.after_blank())))
+        Ok(Some((expected, after_blank(all, end))))
     } else {
         Ok(None)
     }
 }
 
-/// An expectation in the double form behind its first line ----, and the lines after it.
-fn double<'a>(
-    room: &mut Lines,
-    start: Cursor<'a>,
-) -> Result<Option<(Lines, Cursor<'a>)>, AllocError>
-    ensures found { IfOk result (λ found. seen found ≡ then_blank (to_pair (lines start.entry.rest.now))) }
-    ensures end { IfOk result (λ found. IfSome found (λ p. end_of p.1 ≡ end_of start.entry)) }
+/// Where the first line ---- is that stands before another, and the position behind both.
+fn pair(all: &SharedLines, start: usize) -> Option<(usize, usize)>
+    requires { start ≤ length all.now }
+    ensures found { pair_seen all.now start result ≡ to_pair (drop start all.now) }
+    ensures order { IfSome result (λ p. start ≤ p.0) }
+    ensures within { IfSome result (λ p. (p.0 ≤ length all.now) × (p.1 ≤ length all.now)) }
 {
-    room.clear();
-    let mut at = start;
-    while let Some((line, after)) = at.next() {
-        if is_rule(line) {
-            if let Some(rest) = after.after_rule() {
-                return Ok(Some((room.try_copy()?, rest.after_blank())));
+    for at in start..all.len() {
+        if is_rule(all.line(at)) {
+            if let Some(after) = after_rule(all, at + 1) {
+                return Some((at, after));
             }
         }
-        room.push(line)?;
-        at = after;
     }
-    Ok(None)
+    None
+}
+
+/// An expectation in the double form behind its first line ----, and the position behind it.
+fn double(all: &SharedLines, start: usize) -> Result<Option<(Lines, usize)>, AllocError>
+    requires { start ≤ length all.now }
+    ensures found { IfOk result (λ found. seen all.now found ≡ then_blank (to_pair (drop start all.now))) }
+    ensures within { IfOk result (λ found. IfSome found (λ p. p.1 ≤ length all.now)) }
+{
+    let Some((close, after)) = pair(all, start) else {
+        return Ok(None);
+    };
+    let expected = Lines::part(all, start, close)?;
+    Ok(Some((expected, after_blank(all, after))))
 }
 
 #[tactic(auto, unfolding(crate::specs::Expectations::expectation_at))]
-fn expectation<'a>(
-    room: &mut Lines,
-    start: Cursor<'a>,
-) -> Result<Option<(Lines, Cursor<'a>)>, AllocError>
-    ensures found { IfOk result (λ found. seen found ≡ expectation_at (lines start.entry.rest.now)) }
-    ensures end { IfOk result (λ found. IfSome found (λ p. end_of p.1 ≡ end_of start.entry)) }
+fn expectation(all: &SharedLines, start: usize) -> Result<Option<(Lines, usize)>, AllocError>
+    requires { start ≤ length all.now }
+    ensures found { IfOk result (λ found. seen all.now found ≡ expectation_at (drop start all.now)) }
+    ensures within { IfOk result (λ found. IfSome found (λ p. p.1 ≤ length all.now)) }
 {
-    match start.after_rule() {
-        Some(after) => double(room, after),
-        None => plain(room, start),
+    match after_rule(all, start) {
+        Some(after) => double(all, after),
+        None => plain(all, start),
     }
 }
 
-/// The head, where its tokens stand, and the lines after it.
-fn head_tokens<'a>(
+/// The head that begins at this line, where its tokens stand, and the position behind it.
+fn head_tokens(
     alloc: Global,
-    room: &mut Lines,
-    start: Cursor<'a>,
-) -> Result<(Lines, Tokens, Cursor<'a>), ScriptFault>
-    requires { begins_lead (lines start.rest.now) ≡ false }
-    ensures head { IfOk result (λ p. p.0 ≡ head_of (lines start.entry.rest.now)) }
-    ensures tokens { IfOk result (λ p. ParsesHead p.0 (Ok p.1) (few_or start.entry.number (head_at (joined p.0)))) }
-    ensures rest { IfOk result (λ p. lines p.2.rest.now ≡ after_head (lines start.entry.rest.now)) }
-    ensures end { IfOk result (λ p. end_of p.2 ≡ end_of start.entry) }
-    ensures failed { IfErr result (λ fault. Fails fault (few_or start.entry.number (head_at (joined (head_of (lines start.entry.rest.now)))))) }
-{
-    let number = start.number;
-    let (head, at) = head(room, start)?;
-    let tokens = tokens_of(alloc, &head, number)?;
-    Ok((head, tokens, at))
-}
-
-/// What stands below the head that begins at this line: the input, the expected lines, and the lines after them.
-fn below_head<'a>(
-    room: &mut Lines,
-    start: Cursor<'a>,
+    all: &SharedLines,
+    start: usize,
     number: usize,
-) -> Result<(Lines, Lines, Cursor<'a>), ScriptFault>
-    ensures gives { Gives (λ p. (p.0, p.1, lines p.2.rest.now)) result (below_head (end_of start.entry) number (lines start.entry.rest.now)) }
-    ensures end { IfOk result (λ p. end_of p.2 ≡ end_of start.entry) }
+) -> Result<(Lines, Tokens, usize), ScriptFault>
+    requires start { start ≤ length all.now }
+    requires head { begins_lead (drop start all.now) ≡ false }
+    ensures head { IfOk result (λ p. p.0 ≡ head_of (drop start all.now)) }
+    ensures tokens { IfOk result (λ p. ParsesHead p.0 (Ok p.1) (few_or number (head_at (joined p.0)))) }
+    ensures rest { IfOk result (λ p. drop p.2 all.now ≡ after_head (drop start all.now)) }
+    ensures within { IfOk result (λ p. p.2 ≤ length all.now) }
+    ensures failed { IfErr result (λ fault. Fails fault (few_or number (head_at (joined (head_of (drop start all.now)))))) }
 {
-    let (input, at) = run(room, start, Stop::Separator)?;
-    let separator = at.number;
-    let Some((_, at)) = at.next() else {
-        return Err(ScriptFault::NoSeparator(number));
-    };
-    let Some((expected, at)) = expectation(room, at)? else {
-        return Err(ScriptFault::NotClosed(separator));
-    };
-    Ok((input, expected, at))
+    let end = head(all, start);
+    let head = Lines::part(all, start, end)?;
+    let tokens = tokens_of(alloc, &head, number)?;
+    Ok((head, tokens, end))
 }
 
-/// The block whose lead was read, and the lines after it.
-fn block<'a>(
+/// What stands below the head that begins at this line: the input, the expected lines, and the position behind them.
+fn below_head(
+    all: &SharedLines,
+    start: usize,
+    number: usize,
+) -> Result<(Lines, Lines, usize), ScriptFault>
+    requires { start ≤ length all.now }
+    ensures gives { Gives (λ p. (p.0, p.1, drop p.2 all.now)) result (below_head (1 + length all.now) number (drop start all.now)) }
+    ensures within { IfOk result (λ p. p.2 ≤ length all.now) }
+{
+    let separator = run(all, start, Stop::Separator);
+    if separator == all.len() {
+        return Err(ScriptFault::NoSeparator(number));
+    }
+    let input = Lines::part(all, start, separator)?;
+    let Some((expected, after)) = expectation(all, separator + 1)? else {
+        return Err(ScriptFault::NotClosed(separator + 1));
+    };
+    Ok((input, expected, after))
+}
+
+/// The block whose lead was read and whose head begins at this line, and the position behind it.
+fn block(
     alloc: Global,
-    room: &mut Lines,
+    all: &SharedLines,
     lead: Lines,
-    start: Cursor<'a>,
-) -> Result<(Block, Cursor<'a>), ScriptFault>
+    start: usize,
+    number: usize,
+) -> Result<(Block, usize), ScriptFault>
+    requires start { start ≤ length all.now }
+    requires number { number ≡ start + 1 }
     requires lead { list_all is_lead lead ≡ true }
     requires lead_lines { AllByRecursion IsLine lead }
-    requires lines { AllByRecursion IsLine (lines start.rest.now) }
-    requires head { begins_lead (lines start.rest.now) ≡ false }
-    ensures gives { Gives (λ p. (p.0, lines p.1.rest.now)) result (block_at (end_of start.entry) lead (lines start.entry.rest.now)) }
-    ensures end { IfOk result (λ p. end_of p.1 ≡ end_of start.entry) }
+    requires lines { AllByRecursion IsLine (drop start all.now) }
+    requires head { begins_lead (drop start all.now) ≡ false }
+    ensures gives { Gives (λ p. (p.0, drop p.1 all.now)) result (block_at (1 + length all.now) lead (drop start all.now)) }
+    ensures within { IfOk result (λ p. p.1 ≤ length all.now) }
 {
-    let number = start.number;
-    let (head, tokens, at) = head_tokens(alloc, room, start)?;
-    let (input, expected, at) = below_head(room, at, number)?;
+    let (head, tokens, below) = head_tokens(alloc, all, start, number)?;
+    let (input, expected, after) = below_head(all, below, number)?;
     let front = Rc::new(
         alloc,
         Front {
@@ -203,7 +235,7 @@ fn block<'a>(
             args: tokens.args,
         },
     )?;
-    Ok((Block::new(front, expected), at))
+    Ok((Block::new(front, expected), after))
 }
 
 /// The blocks with the lines on which their heads begin, and the tail.
@@ -215,18 +247,18 @@ struct Parts {
 }
 
 /// The blocks and the tail of the lines.
-fn blocks(alloc: Global, start: Cursor<'_>) -> Result<Parts, ScriptFault>
-    requires { AllByRecursion IsLine (lines start.rest.now) }
-    ensures gives { Gives parts_view result (blocks_at MAX_DIRECTIVES (end_of start.entry) (lines start.entry.rest.now)) }
-    ensures heads { IfOk result (λ p. AreHeadLines start.entry.number (lines start.entry.rest.now) (parts_view p).blocks p.heads.items) }
+fn blocks(alloc: Global, all: &SharedLines) -> Result<Parts, ScriptFault>
+    requires { AllByRecursion IsLine all.now }
+    ensures gives { Gives parts_view result (blocks_at MAX_DIRECTIVES (1 + length all.now) all.now) }
+    ensures heads { IfOk result (λ p. AreHeadLines 1 all.now (parts_view p).blocks p.heads.items) }
 {
-    let mut room = Lines::new(alloc);
     let mut found = Vec::new(alloc);
     let mut heads = Vec::new(alloc);
-    let mut at = start;
+    let mut at = 0;
     loop {
-        let (lead, after) = run(&mut room, at, Stop::Head)?;
-        if after.rest.is_empty() {
+        let start = run(all, at, Stop::Head);
+        let lead = Lines::part(all, at, start)?;
+        if start == all.len() {
             return Ok(Parts {
                 blocks: found,
                 heads,
@@ -236,8 +268,8 @@ fn blocks(alloc: Global, start: Cursor<'_>) -> Result<Parts, ScriptFault>
         if found.len() == MAX_DIRECTIVES {
             return Err(ScriptFault::TooManyDirectives);
         }
-        let number = after.number;
-        let (block, after) = block(alloc, &mut room, lead, after)?;
+        let number = start + 1;
+        let (block, after) = block(alloc, all, lead, start, number)?;
         keep(alloc, &mut found, block)?;
         heads.push(number)?;
         at = after;
@@ -276,23 +308,27 @@ fn has_near_feeds(bytes: &[u8]) -> bool
 }
 
 /// The first line that is too long is a fault.
-fn check_lines(start: Cursor<'_>) -> Result<(), ScriptFault>
-    ensures { result ≡ no_long_line (long_line start.entry.number (lines start.entry.rest.now)) }
+fn check_lines(bytes: &[u8]) -> Result<(), ScriptFault>
+    requires { length bytes.now ≤ MAX_SCRIPT }
+    ensures { result ≡ no_long_line (long_line 1 (lines bytes.now)) }
 {
-    if has_near_feeds(start.rest) {
+    if has_near_feeds(bytes) {
         return Ok(());
     }
-    let mut at = start;
-    while let Some((line, after)) = at.next() {
+    let mut rest = bytes;
+    let mut number = 1;
+    while let Some((line, after)) = next_line(rest) {
         if line.len() > MAX_LINE {
-            return Err(ScriptFault::LineTooLong(at.number));
+            return Err(ScriptFault::LineTooLong(number));
         }
-        at = after;
+        rest = after;
+        number += 1;
     }
     Ok(())
 }
 
-/// The blocks and the tail of the bytes. What is too long is found before any growth.
+/// The blocks and the tail of the bytes. What is too long is found before any growth. Their lines are kept once, and all
+/// that is read is a part of them.
 #[tactic(auto, using(crate::proofs::ValidLaws::checked_lines), unfolding(crate::specs::Reading::parts_of))]
 fn read_parts(alloc: Global, bytes: &[u8]) -> Result<Parts, ScriptFault>
     ensures exact { Gives parts_view result (parts_of bytes.now) }
@@ -302,12 +338,9 @@ fn read_parts(alloc: Global, bytes: &[u8]) -> Result<Parts, ScriptFault>
     if bytes.len() > MAX_SCRIPT {
         return Err(ScriptFault::TooLong);
     }
-    let start = Cursor {
-        rest: bytes,
-        number: 1,
-    };
-    check_lines(start)?;
-    blocks(alloc, start)
+    check_lines(bytes)?;
+    let all = SharedLines::new(alloc, FlatLines::of(alloc, bytes)?)?;
+    blocks(alloc, &all)
 }
 
 /// How long the canonical text is.

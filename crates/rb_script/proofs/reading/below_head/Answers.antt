@@ -1,19 +1,25 @@
-use Rattle.std.proofs.Common.{sym, ap, ◌∙◌}
-use Rattle.rb_script.specs.Lines.{lines}
-use Rattle.rb_script.specs.Cursor.{seen, end_of}
+use Rattle.std.proofs.Common.{◌+◌, [], length, drop, get_or, sym, ap, ◌∙◌, arith}
+use Rattle.std.proofs.lemmas.List.{drop_all, drop_more, length-drop}
+use Rattle.rb_script.specs.Found.{seen}
 use Rattle.rb_script.proofs.BlockLaws.{number_is, below_none, below_open, below_read}
 use Rattle.rb_script.proofs.reading.below_head.Goals as goal
 
+pub returns-then-separator-len-clause-gives : goal.returns-then-separator-len-clause-gives
+returns-then-separator-len-clause-gives c =
+    let all = c.args.all.now in
+    let at = c.run-separator.result in
+    below_none (1 + length all) c.args.number (drop c.args.start all) (drop at all) c.run-separator.ensures.rest (drop_all at all (omega arith))
+
 pub returns-in_default-clause-gives : goal.returns-in_default-clause-gives
 returns-in_default-clause-gives c =
-    below_none (end_of c.args.start) c.args.number (lines c.args.start.rest.now) (lines c.in_ok-input.at.rest.now) c.in_ok-input.ensures.rest c.in_default.ensures.none
-
-pub returns-in_default-2-clause-gives : goal.returns-in_default-2-clause-gives
-returns-in_default-2-clause-gives c =
-    below_open (end_of c.args.start) c.args.number (lines c.args.start.rest.now) (lines c.in_ok-input.at.rest.now) c.in_ok-input.ensures.rest c.in_ok-input.at.number (lines c.in-Some.at.rest.now) c.in-Some.field-0-0.now
-    (number_is c.in_ok-input.at.number (end_of c.args.start) (lines c.in_ok-input.at.rest.now) c.in_ok-input.ensures.end) c.in-Some.ensures.first (ap seen (sym c.in_default-2.is) ∙ c.in_ok-expected.ensures.found)
+    let all = c.args.all.now in
+    let at = c.run-separator.result in
+    below_open (1 + length all) c.args.number (drop c.args.start all) (drop at all) c.run-separator.ensures.rest (at + 1) (drop (at + 1) all) (get_or all at [])
+    (number_is (at + 1) (1 + length all) (drop at all) (omega (arith, length-drop at all))) (drop_more all at [] (omega arith)) (ap (seen all) (sym c.in_default.is) ∙ c.in_ok-expected.ensures.found)
 
 pub returns-clause-gives : goal.returns-clause-gives
 returns-clause-gives c =
-    below_read (end_of c.args.start) c.args.number (lines c.args.start.rest.now) (lines c.in_ok-input.at.rest.now) c.in_ok-input.ensures.rest c.in_ok-input.input (lines c.in-Some.at.rest.now) c.in-Some-2.expected (lines c.in-Some-2.at.rest.now) c.in-Some.field-0-0.now
-    c.in_ok-input.ensures.run c.in-Some.ensures.first (ap seen (sym c.in-Some-2.is) ∙ c.in_ok-expected.ensures.found)
+    let all = c.args.all.now in
+    let at = c.run-separator.result in
+    below_read (1 + length all) c.args.number (drop c.args.start all) (drop at all) c.run-separator.ensures.rest c.in_ok-input.input (drop (at + 1) all) c.in-Some.expected (drop c.in-Some.after all) (get_or all at [])
+    (c.in_ok-input.ensures ∙ c.run-separator.ensures.run) (drop_more all at [] (omega arith)) (ap (seen all) (sym c.in-Some.is) ∙ c.in_ok-expected.ensures.found)

@@ -1,9 +1,7 @@
-use Rattle.std.proofs.Common.{◌≡◌, ◌-◌, ◌≤◌, vec_len}
+use Rattle.std.proofs.Common.{◌≡◌, ◌-◌, ◌+◌, ◌≤◌, drop, length, vec_len}
 use Rattle.std.specs.List.{AllByRecursion}
 use Rattle.rb_script.specs.declared.limits.TheConstants.{MAX_DIRECTIVES}
-use Rattle.rb_script.specs.Lines.{lines}
 use Rattle.rb_script.specs.Valid.{IsLine}
-use Rattle.rb_script.specs.Cursor.{end_of}
 use Rattle.rb_script.specs.Shared.{values}
 use Rattle.rb_script.specs.Blocks.{blocks_at}
 use Rattle.rb_script.proofs.BlocksLaws.{with_blocks}
@@ -12,11 +10,11 @@ use Rattle.rb_script.proofs.reading.blocks.Given as goal
 
 abbrev pub invariant-loop-heads : goal.invariant-loop-heads
 invariant-loop-heads l = record {
-  read : with_blocks (values l.found.items) (blocks_at (MAX_DIRECTIVES - vec_len l.found) (end_of l.start) (lines l.at.rest.now)) ≡ blocks_at MAX_DIRECTIVES (end_of l.start) (lines l.start.rest.now);
-  end : end_of l.at ≡ end_of l.start;
-  lines_left : AllByRecursion IsLine (lines l.at.rest.now);
+  within : l.at ≤ length l.all;
+  read : with_blocks (values l.found.items) (blocks_at (MAX_DIRECTIVES - vec_len l.found) (1 + length l.all) (drop l.at l.all)) ≡ blocks_at MAX_DIRECTIVES (1 + length l.all) l.all;
+  lines_left : AllByRecursion IsLine (drop l.at l.all);
   few : vec_len l.found ≤ MAX_DIRECTIVES;
-  heads : HeadsSoFar l.start.number (lines l.start.rest.now) (values l.found.items) (lines l.at.rest.now) l.heads.items;
+  heads : HeadsSoFar 1 l.all (values l.found.items) (drop l.at l.all) l.heads.items;
 }
 
 abbrev pub decreases-loop-heads : goal.decreases-loop-heads

@@ -1,36 +1,54 @@
-use Rattle.std.proofs.Common.{◌++◌, ap, sym, ◌∙◌}
-use Rattle.rb_script.specs.declared.cursor.Cursor.{Cursor}
-use Rattle.rb_script.specs.Lines.{lines}
+use Rattle.std.proofs.Common.{◌≡◌, ℕ, List, ◌+◌, ◌++◌, drop, sym, ap, ◌∙◌, arith}
+use Rattle.std.proofs.lemmas.List.{drop_all}
+use Rattle.rb_script.specs.Lines.{Line}
+use Rattle.rb_script.specs.Flat.{between}
 use Rattle.rb_script.specs.Runs.{head_of}
-use Rattle.rb_script.proofs.ReadingLaws.{pushed, counted, head_more, after_head_more, head_last, after_head_last, head_nil, after_head_nil, ended}
+use Rattle.rb_script.proofs.BetweenLaws.{between_more}
+use Rattle.rb_script.proofs.ReadingLaws.{drop_found, pushed, head_more, after_head_more, head_last, after_head_last, head_nil, after_head_nil, ended}
 use Rattle.rb_script.proofs.reading.head.Goals as goal
-use Rattle.rb_script.proofs.reading.head.Goals.{in-Some+in_ok-push+then-not-continues, in_default}
 
-pub loop-line-preserved : goal.loop-line-preserved
-loop-line-preserved c =
-    let ls = lines c.loop-line.at.rest.now in
-    let after = lines c.in-Some.after.rest.now in
-    let line = c.in-Some.line.now in
-    let first = c.in-Some.ensures.first in
+pub loop-at-preserved : goal.loop-at-preserved
+loop-at-preserved c =
+    let all = c.args.all.now in
+    let start = c.args.start in
+    let at = c.loop-at.at in
+    let line = c.line.result.now in
+    let first = drop_found all at line c.line.ensures in
     let kept = sym c.continues.ensures ∙ c.if-not-continues.false in
     record {
-      run = pushed c.loop-line.room c.push.new.self line (head_of after) (head_of ls) _ c.in_ok-push.ensures.ok (head_more ls after line first kept) c.loop-line.invariant.run;
-      rest = sym (after_head_more ls after line first kept) ∙ c.loop-line.invariant.rest;
-      number = counted ls after line c.loop-line.at.number c.in-Some.after.number _ first c.in-Some.ensures.number c.loop-line.invariant.number;
+      order = omega (arith, c.loop-at.invariant.order);
+      within = omega arith;
+      run = pushed (between start at all) (between start (at + 1) all) line (head_of (drop (at + 1) all)) (head_of (drop at all)) _ (between_more start at all line c.loop-at.invariant.order c.line.ensures) (head_more (drop at all) (drop (at + 1) all) line first kept) c.loop-at.invariant.run;
+      rest = sym (after_head_more (drop at all) (drop (at + 1) all) line first kept) ∙ c.loop-at.invariant.rest;
     }
+
+pub returns-then-not-continues-clause-run : goal.returns-then-not-continues-clause-run
+returns-then-not-continues-clause-run c =
+    let all = c.args.all.now in
+    let start = c.args.start in
+    let at = c.loop-at.at in
+    let line = c.line.result.now in
+    let last = head_last (drop at all) (drop (at + 1) all) line (drop_found all at line c.line.ensures) (sym c.continues.ensures ∙ c.if-not-continues.true) in
+    between_more start at all line c.loop-at.invariant.order c.line.ensures ∙ ap (λ (l : List Line). between start at all ++ l) (sym last) ∙ c.loop-at.invariant.run
+
+pub returns-then-not-continues-clause-rest : goal.returns-then-not-continues-clause-rest
+returns-then-not-continues-clause-rest c =
+    let all = c.args.all.now in
+    let at = c.loop-at.at in
+    let line = c.line.result.now in
+    sym (after_head_last (drop at all) (drop (at + 1) all) line (drop_found all at line c.line.ensures) (sym c.continues.ensures ∙ c.if-not-continues.true)) ∙ c.loop-at.invariant.rest
 
 pub returns-clause-run : goal.returns-clause-run
 returns-clause-run c =
-    let ls = lines c.loop-line.at.rest.now in
-    elim c.match-next.branch [
-      | in-Some+in_ok-push+then-not-continues w ↦ c.in_ok-try_copy.ensures ∙ w.room-is ∙ w.in_ok-push.ensures.ok ∙ ap (λ l. c.loop-line.room ++ l) (sym (head_last ls (lines w.in-Some.after.rest.now) w.in-Some.line.now w.in-Some.ensures.first (sym w.continues.ensures ∙ w.if-not-continues.true))) ∙ c.loop-line.invariant.run
-      | in_default w ↦ c.in_ok-try_copy.ensures ∙ w.room-is ∙ ended c.loop-line.room (head_of ls) _ (head_nil ls w.in_default.ensures.none) c.loop-line.invariant.run
-    ]
+    let all = c.args.all.now in
+    let start = c.args.start in
+    let at = c.loop-at.at in
+    let same : c.len.result ≡ at = omega (arith, c.len.ensures, c.loop-at.invariant.within) in
+    ap (λ (n : ℕ). between start n all) same ∙ ended (between start at all) (head_of (drop at all)) _ (head_nil (drop at all) (drop_all at all (omega arith))) c.loop-at.invariant.run
 
 pub returns-clause-rest : goal.returns-clause-rest
 returns-clause-rest c =
-    let ls = lines c.loop-line.at.rest.now in
-    elim c.match-next.branch [
-      | in-Some+in_ok-push+then-not-continues w ↦ ap (λ (a : Cursor). lines a.rest.now) w.at-is ∙ sym (after_head_last ls (lines w.in-Some.after.rest.now) w.in-Some.line.now w.in-Some.ensures.first (sym w.continues.ensures ∙ w.if-not-continues.true)) ∙ c.loop-line.invariant.rest
-      | in_default w ↦ ap (λ (a : Cursor). lines a.rest.now) w.at-is ∙ sym (after_head_nil ls w.in_default.ensures.none) ∙ c.loop-line.invariant.rest
-    ]
+    let all = c.args.all.now in
+    let at = c.loop-at.at in
+    let same : c.len.result ≡ at = omega (arith, c.len.ensures, c.loop-at.invariant.within) in
+    ap (λ (n : ℕ). drop n all) same ∙ sym (after_head_nil (drop at all) (drop_all at all (omega arith))) ∙ c.loop-at.invariant.rest

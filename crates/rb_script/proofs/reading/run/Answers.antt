@@ -1,39 +1,57 @@
-use Rattle.std.proofs.Common.{sym, ◌∙◌}
-use Rattle.rb_script.specs.Lines.{lines}
+use Rattle.std.proofs.Common.{◌≡◌, ℕ, ◌+◌, drop, sym, ap, ◌∙◌, arith}
+use Rattle.std.proofs.lemmas.List.{drop_all}
+use Rattle.rb_script.specs.Flat.{between}
 use Rattle.rb_script.specs.Marks.{stops}
 use Rattle.rb_script.specs.Runs.{upto}
-use Rattle.rb_script.proofs.ReadingLaws.{pushed, counted, upto_more, onward_more, upto_stop, onward_stop, upto_nil, onward_nil, ended}
+use Rattle.rb_script.proofs.BetweenLaws.{between_more}
+use Rattle.rb_script.proofs.ReadingLaws.{drop_found, pushed, upto_more, onward_more, upto_stop, onward_stop, upto_nil, onward_nil, ended}
 use Rattle.rb_script.proofs.reading.run.Goals as goal
-use Rattle.rb_script.proofs.reading.run.Goals.{in-Some+then-at, in_default}
 
-pub loop-line-preserved : goal.loop-line-preserved
-loop-line-preserved c =
+pub loop-at-preserved : goal.loop-at-preserved
+loop-at-preserved c =
     let p = stops c.args.stop in
-    let ls = lines c.loop-line.at.rest.now in
-    let after = lines c.in-Some.after.rest.now in
-    let line = c.in-Some.line.now in
-    let first = c.in-Some.ensures.first in
+    let all = c.args.all.now in
+    let start = c.args.start in
+    let at = c.loop-at.at in
+    let line = c.line.result.now in
+    let first = drop_found all at line c.line.ensures in
     let kept = sym c.at.ensures ∙ c.if-at.false in
     record {
-      run = pushed c.loop-line.room c.push.new.self line (upto p after) (upto p ls) _ c.in_ok-push.ensures.ok (upto_more p ls after line first kept) c.loop-line.invariant.run;
-      rest = sym (onward_more p ls after line first kept) ∙ c.loop-line.invariant.rest;
-      number = counted ls after line c.loop-line.at.number c.in-Some.after.number _ first c.in-Some.ensures.number c.loop-line.invariant.number;
+      order = omega (arith, c.loop-at.invariant.order);
+      within = omega arith;
+      run = pushed (between start at all) (between start (at + 1) all) line (upto p (drop (at + 1) all)) (upto p (drop at all)) _ (between_more start at all line c.loop-at.invariant.order c.line.ensures) (upto_more p (drop at all) (drop (at + 1) all) line first kept) c.loop-at.invariant.run;
+      rest = sym (onward_more p (drop at all) (drop (at + 1) all) line first kept) ∙ c.loop-at.invariant.rest;
     }
+
+pub returns-then-at-clause-run : goal.returns-then-at-clause-run
+returns-then-at-clause-run c =
+    let p = stops c.args.stop in
+    let all = c.args.all.now in
+    let at = c.loop-at.at in
+    let line = c.line.result.now in
+    ended (between c.args.start at all) (upto p (drop at all)) _ (upto_stop p (drop at all) (drop (at + 1) all) line (drop_found all at line c.line.ensures) (sym c.at.ensures ∙ c.if-at.true)) c.loop-at.invariant.run
+
+pub returns-then-at-clause-rest : goal.returns-then-at-clause-rest
+returns-then-at-clause-rest c =
+    let p = stops c.args.stop in
+    let all = c.args.all.now in
+    let at = c.loop-at.at in
+    let line = c.line.result.now in
+    sym (onward_stop p (drop at all) (drop (at + 1) all) line (drop_found all at line c.line.ensures) (sym c.at.ensures ∙ c.if-at.true)) ∙ c.loop-at.invariant.rest
 
 pub returns-clause-run : goal.returns-clause-run
 returns-clause-run c =
     let p = stops c.args.stop in
-    let ls = lines c.loop-line.at.rest.now in
-    c.in_ok-try_copy.ensures ∙ elim c.match-next.branch [
-      | in-Some+then-at w ↦ ended c.loop-line.room (upto p ls) _ (upto_stop p ls (lines w.in-Some.after.rest.now) w.in-Some.line.now w.in-Some.ensures.first (sym w.at.ensures ∙ w.if-at.true)) c.loop-line.invariant.run
-      | in_default w ↦ ended c.loop-line.room (upto p ls) _ (upto_nil p ls w.in_default.ensures.none) c.loop-line.invariant.run
-    ]
+    let all = c.args.all.now in
+    let start = c.args.start in
+    let at = c.loop-at.at in
+    let same : c.len.result ≡ at = omega (arith, c.len.ensures, c.loop-at.invariant.within) in
+    ap (λ (n : ℕ). between start n all) same ∙ ended (between start at all) (upto p (drop at all)) _ (upto_nil p (drop at all) (drop_all at all (omega arith))) c.loop-at.invariant.run
 
 pub returns-clause-rest : goal.returns-clause-rest
 returns-clause-rest c =
     let p = stops c.args.stop in
-    let ls = lines c.loop-line.at.rest.now in
-    elim c.match-next.branch [
-      | in-Some+then-at w ↦ sym (onward_stop p ls (lines w.in-Some.after.rest.now) w.in-Some.line.now w.in-Some.ensures.first (sym w.at.ensures ∙ w.if-at.true)) ∙ c.loop-line.invariant.rest
-      | in_default w ↦ sym (onward_nil p ls w.in_default.ensures.none) ∙ c.loop-line.invariant.rest
-    ]
+    let all = c.args.all.now in
+    let at = c.loop-at.at in
+    let same : c.len.result ≡ at = omega (arith, c.len.ensures, c.loop-at.invariant.within) in
+    ap (λ (n : ℕ). drop n all) same ∙ sym (onward_nil p (drop at all) (drop_all at all (omega arith))) ∙ c.loop-at.invariant.rest

@@ -1,15 +1,13 @@
-use Rattle.std.proofs.Common.{◌≡◌, ◌+◌, ◌++◌, length}
-use Rattle.rb_script.specs.Lines.{lines}
+use Rattle.std.proofs.Common.{◌≡◌, ◌≤◌, ◌++◌, drop, length}
+use Rattle.rb_script.specs.Flat.{between}
 use Rattle.rb_script.specs.Marks.{stops}
 use Rattle.rb_script.specs.Runs.{upto, onward}
 use Rattle.rb_script.proofs.reading.run.Given as goal
 
-abbrev pub invariant-loop-line : goal.invariant-loop-line
-invariant-loop-line l = record {
-  run : l.room ++ upto (stops l.stop) (lines l.at.rest.now) ≡ upto (stops l.stop) (lines l.start.rest.now);
-  rest : onward (stops l.stop) (lines l.at.rest.now) ≡ onward (stops l.stop) (lines l.start.rest.now);
-  number : l.at.number + length (lines l.at.rest.now) ≡ l.start.number + length (lines l.start.rest.now);
+abbrev pub invariant-loop-at : goal.invariant-loop-at
+invariant-loop-at l = record {
+  order : l.start ≤ l.at;
+  within : l.at ≤ length l.all;
+  run : between l.start l.at l.all ++ upto (stops l.stop) (drop l.at l.all) ≡ upto (stops l.stop) (drop l.start l.all);
+  rest : onward (stops l.stop) (drop l.at l.all) ≡ onward (stops l.stop) (drop l.start l.all);
 }
-
-abbrev pub decreases-loop-line : goal.decreases-loop-line
-decreases-loop-line l = length l.at.rest.now

@@ -1,6 +1,6 @@
 use Rattle.std.proofs.Common.{arith}
 use Rattle.rb_script.proofs.FlatLaws.{flat_line, slice_is}
-use Rattle.rb_script.proofs.lines.line_of.Goals as goal
+use Rattle.rb_script.proofs.flat.line_of.Goals as goal
 
 pub overflow_sub-end : goal.overflow_sub-end
 overflow_sub-end c =

@@ -1,5 +1,5 @@
 use Rattle.rb_script.proofs.FlatLaws.{flat_nil}
-use Rattle.rb_script.proofs.lines.Lines.new.Goals as goal
+use Rattle.rb_script.proofs.flat.FlatLines.new.Goals as goal
 
 pub invariant_of-result : goal.invariant_of-result
 invariant_of-result c = (flat_nil c.new-2.result.items c.new.result.items c.new-2.ensures.items c.new.ensures.items).0

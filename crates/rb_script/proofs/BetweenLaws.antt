@@ -1,0 +1,35 @@
+-- The lines from one position up to another.
+use Rattle.std.proofs.Common.{◌≡◌, ◌∙◌, ℕ, ◌+◌, ◌-◌, ◌<◌, ◌≤◌, List, [], ◌∷◌, ◌++◌, length, take, drop, get_or, Some, ap, arith}
+use Rattle.std.specs.Prelude.{slice_get}
+use Rattle.std.proofs.Math.Seq.{take-add}
+use Rattle.std.proofs.lemmas.List.{length-take, length-drop, take_more, get_or-take, get_or-drop}
+use Rattle.std.proofs.lemmas.Option.{slice_get-get_or, slice_get_within, get_or_from_slice_get}
+use Rattle.rb_script.specs.Lines.{Line}
+use Rattle.rb_script.specs.Flat.{between}
+
+pub length-between : (from to : ℕ) (ls : List Line) → to ≤ length ls → length (between from to ls) ≡ to - from
+length-between from to ls h = omega (arith, h, length-take (to - from) (drop from ls), length-drop from ls)
+
+pub get-between : (from to i : ℕ) (ls : List Line) (line : Line) → to ≤ length ls → i < to - from → slice_get ls (from + i) ≡ Some line → slice_get (between from to ls) i ≡ Some line
+get-between from to i ls line within h got =
+    let short : i < length (between from to ls) = omega (arith, h, length-between from to ls within) in
+    slice_get-get_or (between from to ls) i line short
+    ∙ ap (λ (l : Line). Some l) (get_or-take (to - from) (drop from ls) i line h ∙ get_or-drop from ls i line ∙ get_or_from_slice_get ls (from + i) line line got)
+
+-- one more
+pub between_more : (from to : ℕ) (ls : List Line) (line : Line) → from ≤ to → slice_get ls to ≡ Some line → between from (to + 1) ls ≡ between from to ls ++ line ∷ []
+between_more from to ls line order got =
+    let within : to < length ls = slice_get_within ls to line got in
+    let n = to - from in
+    let some : n < length (drop from ls) = omega (arith, within, order, length-drop from ls) in
+    let more : (to + 1) - from ≡ n + 1 = omega (arith, order) in
+    let place : from + n ≡ to = omega (arith, order) in
+    ap (λ (k : ℕ). take k (drop from ls)) more
+    ∙ take_more (drop from ls) n line some
+    ∙ ap (λ (l : Line). take n (drop from ls) ++ l ∷ []) (get_or-drop from ls n line ∙ ap (λ (k : ℕ). get_or ls k line) place ∙ get_or_from_slice_get ls to line line got)
+
+-- up to the second position are those up to the first, and those between
+pub take_between : (from to : ℕ) (ls : List Line) → from ≤ to → take to ls ≡ take from ls ++ between from to ls
+take_between from to ls order =
+    let whole : to ≡ from + (to - from) = omega (arith, order) in
+    ap (λ (k : ℕ). take k ls) whole ∙ take-add from (to - from) ls

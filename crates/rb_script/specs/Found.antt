@@ -1,0 +1,15 @@
+-- What the code found, by positions in the lines, as lines. (This project's.)
+use Rattle.std.specs.Prelude.{ℕ, List, drop, Option, Some, None}
+use Rattle.rb_script.specs.Lines.{Line}
+use Rattle.rb_script.specs.Flat.{between}
+use Rattle.rb_script.specs.Expectations.{Expectation}
+
+-- the expected lines, and the position behind them
+abbrev pub seen : List Line → Option (List Line × ℕ) → Expectation
+seen all None = None
+seen all (Some found) = Some (found.0, drop found.1 all)
+
+-- where the first of two lines ---- is, and the position behind both
+abbrev pub pair_seen : List Line → ℕ → Option (ℕ × ℕ) → Expectation
+pair_seen all start None = None
+pair_seen all start (Some found) = Some (between start found.0 all, drop found.1 all)

@@ -1,0 +1,182 @@
+//! Lines of bytes, in one buffer.
+
+ghost use Rattle.std.specs.Prelude.{◌≡◌, ◌↔◌, ◌<◌, ◌≤◌, [], ◌∷◌, ◌++◌, length, slice_get, OnOk, IfOk, OnErr, IsTrue, Some};
+ghost use Rattle.rb_script.specs.Lines.{lines, text_of, line_text};
+ghost use Rattle.rb_script.specs.Flat.{parted, line_start, between, IsFlat};
+
+use crate::lines::next_line;
+use smallvec::SmallVec;
+use std::alloc::{AllocError, Global};
+use std::marker::Model;
+
+/// A list of byte lines in memory of its own. A line may hold any bytes.
+#[derive(Drop)]
+pub(crate) struct FlatLines {
+    // each line, with one LF after it
+    text: Vec<u8>,
+    // where each line with its LF ends in the text; most lists are short
+    ends: SmallVec<usize, 4>,
+}
+
+impl Model for FlatLines {
+    ghost use Rattle.std.specs.Prelude.{List, ℕ};
+    ghost use Rattle.rb_script.specs.Flat.{parted, IsFlat};
+
+    ghost Value = { List (List ℕ) };
+
+    ghost view = { λ a. parted 0 a.ends.items a.text.items };
+
+    ghost invariant = { λ a. IsFlat a.ends.items a.text.items };
+}
+
+impl FlatLines {
+    /// No lines. Takes no memory.
+    pub(crate) fn new(alloc: Global) -> Self
+        ensures { result ≡ [] }
+    {
+        FlatLines {
+            text: Vec::new(alloc),
+            ends: SmallVec::new(alloc),
+        }
+    }
+
+    /// No lines, with room for so many bytes of text.
+    fn with_room(alloc: Global, room: usize) -> Result<Self, AllocError>
+        ensures { IfOk result (λ all. all ≡ []) }
+    {
+        Ok(FlatLines {
+            text: Vec::with_capacity(alloc, room)?,
+            ends: SmallVec::new(alloc),
+        })
+    }
+
+    /// The lines of the bytes, without their ends. The text is at most as long as the bytes and the end of a last line without one.
+    pub(crate) fn of(alloc: Global, bytes: &[u8]) -> Result<Self, AllocError>
+        ensures { IfOk result (λ all. all ≡ lines bytes.now) }
+    {
+        let mut all = FlatLines::with_room(alloc, bytes.len().saturating_add(1))?;
+        let mut rest = bytes;
+        while let Some((line, after)) = next_line(rest) {
+            all.push(line)?;
+            rest = after;
+        }
+        Ok(all)
+    }
+
+    /// Where the memory is.
+    pub(crate) fn allocator(&self) -> Global {
+        *self.text.allocator()
+    }
+
+    /// Adds a line at the end.
+    pub(crate) fn push(&mut self, line: &[u8]) -> Result<(), AllocError>
+        ensures ok { OnOk result (self.new ≡ self.old ++ line.now ∷ []) }
+        ensures err { OnErr result (self.new ≡ self.old) }
+    {
+        append_line(&mut self.text, &mut self.ends, line)
+    }
+
+    /// How many lines there are.
+    pub(crate) fn len(&self) -> usize
+        ensures { result ≡ length self.now }
+    {
+        self.ends.len()
+    }
+
+    /// The line at position `i`, which counts from 0, without its end.
+    pub(crate) fn line(&self, i: usize) -> &[u8]
+        requires { i < length self.now }
+        ensures { slice_get self.now i ≡ Some result.now }
+    {
+        line_of(&self.text, self.ends.as_slice(), i)
+    }
+
+    /// The lines as one text, each with one LF.
+    pub(crate) fn text(&self) -> &[u8]
+        ensures { result.now ≡ text_of self.now }
+    {
+        self.text.as_slice()
+    }
+
+    /// The text of the lines from one position up to another.
+    pub(crate) fn text_between(&self, from: usize, to: usize) -> &[u8]
+        requires order { from ≤ to }
+        requires within { to ≤ length self.now }
+        ensures { result.now ≡ text_of (between from to self.now) }
+    {
+        text_part(&self.text, self.ends.as_slice(), from, to)
+    }
+
+    /// The same lines, in memory of their own.
+    pub(crate) fn try_copy(&self) -> Result<FlatLines, AllocError>
+        ensures { IfOk result (λ copy. copy ≡ self.now) }
+    {
+        let alloc = self.allocator();
+        Ok(FlatLines {
+            text: Vec::from_slice(alloc, self.text.as_slice())?,
+            ends: SmallVec::from_slice(alloc, self.ends.as_slice())?,
+        })
+    }
+
+    /// The lines from one position up to another, in memory of their own.
+    pub(crate) fn copy_between(&self, from: usize, to: usize) -> Result<FlatLines, AllocError>
+        requires order { from ≤ to }
+        requires within { to ≤ length self.now }
+        ensures { IfOk result (λ copy. copy ≡ between from to self.now) }
+    {
+        let mut copy = FlatLines::new(self.allocator());
+        for i in from..to {
+            copy.push(self.line(i))?;
+        }
+        Ok(copy)
+    }
+}
+
+// Adds the line with its LF, and its end. Room comes first, so that a refusal changes nothing.
+fn append_line(
+    text: &mut Vec<u8>,
+    ends: &mut SmallVec<usize, 4>,
+    line: &[u8],
+) -> Result<(), AllocError>
+    ensures text { OnOk result (text.new.items ≡ text.old.items ++ line_text line.now) }
+    ensures ends { OnOk result (ends.new.items ≡ ends.old.items ++ length text.new.items ∷ []) }
+    ensures err { OnErr result ((text.new.items ≡ text.old.items) × (ends.new.items ≡ ends.old.items)) }
+{
+    ends.reserve(1)?;
+    text.reserve(line.len() + 1)?;
+    text.extend_from_slice(line)?;
+    text.push(b'\n')?;
+    ends.push(text.len())?;
+    Ok(())
+}
+
+// Where a line begins, or behind the last where the next would.
+fn start_of(ends: &[usize], i: usize) -> usize
+    requires { i ≤ length ends.now }
+    ensures { result ≡ line_start 0 ends.now i }
+{
+    if i == 0 { 0 } else { ends[i - 1] }
+}
+
+// A line of the text, without its LF.
+fn line_of<'a>(text: &'a [u8], ends: &[usize], i: usize) -> &'a [u8]
+    requires flat { IsFlat ends.now text.now }
+    requires line { i < length ends.now }
+    ensures { slice_get (parted 0 ends.now text.now) i ≡ Some result.now }
+{
+    let start = start_of(ends, i);
+    let end = ends[i] - 1;
+    &text[start..end]
+}
+
+// The text of the lines from one position up to another.
+fn text_part<'a>(text: &'a [u8], ends: &[usize], from: usize, to: usize) -> &'a [u8]
+    requires flat { IsFlat ends.now text.now }
+    requires order { from ≤ to }
+    requires within { to ≤ length ends.now }
+    ensures { result.now ≡ text_of (between from to (parted 0 ends.now text.now)) }
+{
+    let start = start_of(ends, from);
+    let end = start_of(ends, to);
+    &text[start..end]
+}

@@ -1,0 +1,82 @@
+//! Lines that copies share.
+
+ghost use Rattle.std.specs.Prelude.{◌≡◌, ◌<◌, ◌≤◌, length, slice_get, IfOk, Some};
+ghost use Rattle.rb_script.specs.Lines.{text_of};
+ghost use Rattle.rb_script.specs.Flat.{between};
+
+use crate::flat::FlatLines;
+use std::alloc::{AllocError, Global};
+use std::marker::Model;
+use std::rc::Rc;
+
+/// Lines that never change. A copy costs a pointer.
+#[derive(Drop)]
+pub(crate) struct SharedLines {
+    lines: Rc<FlatLines>,
+}
+
+impl Model for SharedLines {
+    ghost use Rattle.std.specs.Prelude.{List, ℕ};
+
+    ghost Value = { List (List ℕ) };
+
+    ghost view = { λ a. a.lines.value };
+}
+
+impl SharedLines {
+    /// These lines, to be shared.
+    pub(crate) fn new(alloc: Global, lines: FlatLines) -> Result<Self, AllocError>
+        ensures { IfOk result (λ all. all ≡ lines) }
+    {
+        Ok(SharedLines {
+            lines: Rc::new(alloc, lines)?,
+        })
+    }
+
+    /// Where the memory is.
+    pub(crate) fn allocator(&self) -> Global {
+        self.lines.allocator()
+    }
+
+    /// How many lines there are.
+    pub(crate) fn len(&self) -> usize
+        ensures { result ≡ length self.now }
+    {
+        self.lines.len()
+    }
+
+    /// The line at position `i`, which counts from 0, without its end.
+    pub(crate) fn line(&self, i: usize) -> &[u8]
+        requires { i < length self.now }
+        ensures { slice_get self.now i ≡ Some result.now }
+    {
+        self.lines.line(i)
+    }
+
+    /// The text of the lines from one position up to another.
+    pub(crate) fn text_between(&self, from: usize, to: usize) -> &[u8]
+        requires order { from ≤ to }
+        requires within { to ≤ length self.now }
+        ensures { result.now ≡ text_of (between from to self.now) }
+    {
+        self.lines.text_between(from, to)
+    }
+
+    /// The lines from one position up to another, in memory of their own.
+    pub(crate) fn copy_between(&self, from: usize, to: usize) -> Result<FlatLines, AllocError>
+        requires order { from ≤ to }
+        requires within { to ≤ length self.now }
+        ensures { IfOk result (λ copy. copy ≡ between from to self.now) }
+    {
+        self.lines.copy_between(from, to)
+    }
+
+    /// The same lines.
+    pub(crate) fn try_copy(&self) -> Result<Self, AllocError>
+        ensures { IfOk result (λ copy. copy ≡ self.now) }
+    {
+        Ok(SharedLines {
+            lines: self.lines.clone()?,
+        })
+    }
+}
