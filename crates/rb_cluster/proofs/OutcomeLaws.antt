@@ -28,6 +28,7 @@ use Rattle.rb_texts.specs.Shapes.{is_solid}
 use Rattle.rb_texts.specs.Texts.{line_of}
 use Rattle.rb_texts.proofs.ShownLaws.{all_solid}
 use Rattle.rb_texts.proofs.PrintedLaws.{printed_expected, printed_plain}
+use Rattle.rb_machine.specs.declared.screen.Form.TheVariants as forms
 use Rattle.rb_machine.specs.AddNodes.{add_nodes_fault, is_low, start, options, began, added_each, nodes_added}
 use Rattle.rb_machine.specs.Cluster.{Cluster, node_at}
 use Rattle.rb_machine.specs.Outcome.{absent, first_absent, missing_node, own_fault, fault, refusal_of, refusal, effect, level_set, or_ok, ended, screen_of, unless_refused, outcome_of, refused, outcome, is_output}
@@ -106,12 +107,12 @@ error_is_output : (level : Level) (e : DirectiveError) → is_output (line_of le
 unfolding is_output
 error_is_output level e = all_solid level (error e)
 
-unless_refused_is_output : (e : Option DirectiveError) (a : Asked) (c : Cluster) → is_output (unless_refused false e a c).output ≡ true
+unless_refused_is_output : (e : Option DirectiveError) (a : Asked) (c : Cluster) → is_output (unless_refused forms.Lines e a c).output ≡ true
 unless_refused_is_output (Some e) a c = error_is_output c.level e
 unless_refused_is_output None a c =
-    ended_is_output (effect a.request (scene c (screen_of false a c))) (effect_solid a.request (scene c (screen_of false a c)) (record { level = unwrap_or a.log_level c.level; printed = refl; each = refl }))
+    ended_is_output (effect a.request (scene c (screen_of forms.Lines a c))) (effect_solid a.request (scene c (screen_of forms.Lines a c)) (record { level = unwrap_or a.log_level c.level; printed = refl; each = refl }))
 
-of_is_output : (r : Result Asked DirectiveError) (c : Cluster) → is_output (outcome_of false r c).output ≡ true
+of_is_output : (r : Result Asked DirectiveError) (c : Cluster) → is_output (outcome_of forms.Lines r c).output ≡ true
 of_is_output (Err e) c = error_is_output c.level e
 of_is_output (Ok a) c = unless_refused_is_output (fault a.request c) a c
 
@@ -141,12 +142,12 @@ output_expected ls h short = printed_expected ls (output_solid ls h) short
 
 -- ---- refusals
 
-refused_by : (r : Result Asked DirectiveError) (c : Cluster) (e : DirectiveError) → refusal_of r c ≡ Some e → outcome_of false r c ≡ refused false c e
-refused_by (Err f) c e h = ap (refused false c) (let same : f ≡ e = cc in same)
-refused_by (Ok a) c e h = ap (λ o. unless_refused false o a c) h
+refused_by : (r : Result Asked DirectiveError) (c : Cluster) (e : DirectiveError) → refusal_of r c ≡ Some e → outcome_of forms.Lines r c ≡ refused forms.Lines c e
+refused_by (Err f) c e h = ap (refused forms.Lines c) (let same : f ≡ e = cc in same)
+refused_by (Ok a) c e h = ap (λ o. unless_refused forms.Lines o a c) h
 
 -- what refuses a directive is its whole output
-pub refusal_is_all : (c : Cluster) (d : PlainDirective) (e : DirectiveError) → refusal d c ≡ Some e → outcome c d ≡ refused false c e
+pub refusal_is_all : (c : Cluster) (d : PlainDirective) (e : DirectiveError) → refusal d c ≡ Some e → outcome c d ≡ refused forms.Lines c e
 unfolding refusal outcome
 refusal_is_all c d e h = refused_by (request d) c e h
 
@@ -157,11 +158,11 @@ reading_refuses c d e h = ap (λ r. refusal_of r c) h
 -- ---- single directives
 
 -- a fact of the cluster that a directive leaves, which holds where it is refused and of its effect
-outcome_has : (P : Cluster → Type 0) (c : Cluster) (d : PlainDirective) (a : Asked) → request d ≡ Ok a → P c → P (effect a.request (scene c (screen_of false a c))).cluster → P (outcome c d).cluster
+outcome_has : (P : Cluster → Type 0) (c : Cluster) (d : PlainDirective) (a : Asked) → request d ≡ Ok a → P c → P (effect a.request (scene c (screen_of forms.Lines a c))).cluster → P (outcome c d).cluster
 unfolding outcome
 outcome_has P c d a is stays done_so =
-    let by_fault : (e : Option DirectiveError) → P (unless_refused false e a c).cluster = λ e. elim e as (λ o. P (unless_refused false o a c).cluster) [ Some f ↦ stays | None ↦ done_so ] in
-    subst (λ r. P (outcome_of false r c).cluster) (sym is) (by_fault (fault a.request c))
+    let by_fault : (e : Option DirectiveError) → P (unless_refused forms.Lines e a c).cluster = λ e. elim e as (λ o. P (unless_refused forms.Lines o a c).cluster) [ Some f ↦ stays | None ↦ done_so ] in
+    subst (λ r. P (outcome_of forms.Lines r c).cluster) (sym is) (by_fault (fault a.request c))
 
 -- nodes join at the end
 joins : (start : Snapshot) (options : Options) (s : Scene) (ids : List ℕ) → (more : List PlainNode) × ((added_each start options s ids).cluster.nodes ≡ s.cluster.nodes ++ more)
@@ -182,20 +183,20 @@ joins_level start options s (id ∷ ids) = joins_level start options (began s (n
 pub add_nodes_keeps : (c : Cluster) (d : PlainDirective) (a : Asked) (r : AddNodes) → request d ≡ Ok a → a.request ≡ requests.AddNodes r → (more : List PlainNode) × ((outcome c d).cluster.nodes ≡ c.nodes ++ more)
 unfolding nodes_added
 add_nodes_keeps c d a r is adds =
-    let s : Scene = scene c (screen_of false a c) in
+    let s : Scene = scene c (screen_of forms.Lines a c) in
     let P : Cluster → Type 0 = λ after. (more : List PlainNode) × (after.nodes ≡ c.nodes ++ more) in
     outcome_has P c d a is ([], sym (append-nil c.nodes)) (subst (λ q. P (effect q s).cluster) (sym adds) (joins (start r) (options r) s (range_with_len (length c.nodes + 1) r.count)))
 
 pub add_nodes_keeps_pending : (c : Cluster) (d : PlainDirective) (a : Asked) (r : AddNodes) → request d ≡ Ok a → a.request ≡ requests.AddNodes r → (outcome c d).cluster.pending ≡ c.pending
 unfolding nodes_added
 add_nodes_keeps_pending c d a r is adds =
-    let s : Scene = scene c (screen_of false a c) in
+    let s : Scene = scene c (screen_of forms.Lines a c) in
     outcome_has (λ after. after.pending ≡ c.pending) c d a is refl (ap (λ q. (effect q s).cluster.pending) adds ∙ joins_pending (start r) (options r) s (range_with_len (length c.nodes + 1) r.count))
 
 pub add_nodes_keeps_level : (c : Cluster) (d : PlainDirective) (a : Asked) (r : AddNodes) → request d ≡ Ok a → a.request ≡ requests.AddNodes r → (outcome c d).cluster.level ≡ c.level
 unfolding nodes_added
 add_nodes_keeps_level c d a r is adds =
-    let s : Scene = scene c (screen_of false a c) in
+    let s : Scene = scene c (screen_of forms.Lines a c) in
     outcome_has (λ after. after.level ≡ c.level) c d a is refl (ap (λ q. (effect q s).cluster.level) adds ∙ joins_level (start r) (options r) s (range_with_len (length c.nodes + 1) r.count))
 
 -- what is printed alone
@@ -210,20 +211,20 @@ status_keeps (Some n) s = refl
 
 pub raft_log_keeps : (c : Cluster) (d : PlainDirective) (a : Asked) (id : ℕ) → request d ≡ Ok a → a.request ≡ requests.RaftLog id → (outcome c d).cluster ≡ c
 raft_log_keeps c d a id is shows =
-    let s : Scene = scene c (screen_of false a c) in
+    let s : Scene = scene c (screen_of forms.Lines a c) in
     outcome_has (λ after. after ≡ c) c d a is refl (ap (λ r. (effect r s).cluster) shows ∙ log_keeps (node_at c id) s)
 
 pub status_keeps_all : (c : Cluster) (d : PlainDirective) (a : Asked) (id : ℕ) → request d ≡ Ok a → a.request ≡ requests.Status id → (outcome c d).cluster ≡ c
 status_keeps_all c d a id is shows =
-    let s : Scene = scene c (screen_of false a c) in
+    let s : Scene = scene c (screen_of forms.Lines a c) in
     outcome_has (λ after. after ≡ c) c d a is refl (ap (λ r. (effect r s).cluster) shows ∙ status_keeps (node_at c id) s)
 
 pub raft_state_keeps : (c : Cluster) (d : PlainDirective) (a : Asked) → request d ≡ Ok a → a.request ≡ requests.RaftState → (outcome c d).cluster ≡ c
-raft_state_keeps c d a is shows = outcome_has (λ after. after ≡ c) c d a is refl (ap (λ r. (effect r (scene c (screen_of false a c))).cluster) shows)
+raft_state_keeps c d a is shows = outcome_has (λ after. after ≡ c) c d a is refl (ap (λ r. (effect r (scene c (screen_of forms.Lines a c))).cluster) shows)
 
 -- the level alone
 
 pub log_level_sets : (c : Cluster) (d : PlainDirective) (a : Asked) (level : Level) → request d ≡ Ok a → a.request ≡ requests.LogLevel level → (outcome c d).cluster ≡ level_set level c
 unfolding outcome fault
 log_level_sets c d a level is sets =
-    ap (λ r. (outcome_of false r c).cluster) is ∙ ap (λ r. (unless_refused false (fault r c) (record a { request = r }) c).cluster) sets
+    ap (λ r. (outcome_of forms.Lines r c).cluster) is ∙ ap (λ r. (unless_refused forms.Lines (fault r c) (record a { request = r }) c).cluster) sets

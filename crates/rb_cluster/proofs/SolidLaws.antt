@@ -1,5 +1,5 @@
 -- Every line that a directive prints is solid: whatever is done in a scene only adds lines of items to its screen.
-use Rattle.std.proofs.Common.{◌≡◌, ℕ, zero, suc, ◌+◌, Bool, true, false, List, [], ◌∷◌, map, length, Option, Some, None, refl, ap, ◌∙◌}
+use Rattle.std.proofs.Common.{◌≡◌, ℕ, zero, suc, ◌+◌, Bool, true, false, List, [], ◌∷◌, ◌++◌, map, length, Option, Some, None, refl, ap, ◌∙◌}
 use Rattle.std.specs.Prelude.{if◌then◌else◌}
 use Rattle.std.specs.List.{list_all, flat_map, range_with_len}
 use Rattle.std.proofs.lemmas.Bool.{and_from}
@@ -17,13 +17,14 @@ use Rattle.rb_step.specs.declared.options.Options.{Options}
 use Rattle.rb_step.specs.Node.{PlainNode, Turn, message}
 use Rattle.rb_step.specs.Sends.{snapshot_of}
 use Rattle.rb_step.specs.Step.{stepped}
-use Rattle.rb_node.specs.Calls.{node_started}
+use Rattle.rb_node.specs.Calls.{called, node_started}
 use Rattle.rb_node.specs.Readying.{has_ready, handed, advanced}
 use Rattle.rb_texts.specs.Items.{PlainItem, event, moved, no_messages, nothing_ready, stopped}
 use Rattle.rb_texts.specs.declared.item.Verb.TheVariants as verbs
 use Rattle.rb_texts.specs.Shapes.{is_solid}
 use Rattle.rb_texts.specs.Texts.{line_of}
 use Rattle.rb_texts.proofs.ShownLaws.{all_solid}
+use Rattle.rb_why.specs.declared.why.Reason.{Reason}
 use Rattle.rb_machine.specs.declared.screen.Screen.{Screen}
 use Rattle.rb_machine.specs.declared.screen.Way.TheVariants as ways
 use Rattle.rb_machine.specs.AddNodes.{start, options, began, added_each, nodes_added}
@@ -33,7 +34,7 @@ use Rattle.rb_machine.specs.Outcome.{effect}
 use Rattle.rb_machine.specs.Pending.{has_room, mail, pushed, sent, all_sent}
 use Rattle.rb_machine.specs.Readies.{advanced_by, all_done, ready_done, ready_done_by, ready_done_each, ready_items}
 use Rattle.rb_machine.specs.Rounds.{chosen, is_ready, has_work, readied_each, round, settled}
-use Rattle.rb_machine.specs.Scenes.{Scene, lines_of, showing, showing_all, shown, all_shown, with_cluster, acted, acted_by}
+use Rattle.rb_machine.specs.Scenes.{Scene, lines_of, lines_because, showing, showing_all, explaining, shown, all_shown, with_cluster, acted, acted_by, reason_at}
 use Rattle.rb_machine.specs.Snapshots.{queued, snapshot_sent_by, compact, compact_by}
 use Rattle.rb_machine.specs.Views.{log_shown_by, status_shown_by}
 
@@ -58,6 +59,12 @@ pub showing_all_solid : (screen : Screen) (items : List PlainItem) → IsSolidSc
 showing_all_solid screen items h =
     let solid : list_all is_solid (flat_map (lines_of screen.way) items) ≡ true = ap (λ way. list_all is_solid (flat_map (lines_of way) items)) h.printed ∙ solid_items h.level items in
     record { level = h.level; printed = h.printed; each = list_all-append is_solid screen.lines (flat_map (lines_of screen.way) items) ∙ and_from _ _ h.each solid }
+
+-- a level shows no reasons
+explaining_solid : (screen : Screen) (reason : Option Reason) → IsSolidScreen screen → IsSolidScreen (explaining screen reason)
+explaining_solid screen reason h =
+    let none : lines_because screen.way reason ≡ [] = ap (λ way. lines_because way reason) h.printed in
+    record { level = h.level; printed = h.printed; each = ap (λ lines. list_all is_solid (screen.lines ++ lines)) none ∙ list_all-append is_solid screen.lines [] ∙ and_from _ _ h.each refl }
 
 -- ---- acting
 
@@ -93,7 +100,9 @@ all_sent_solid s (m ∷ ms) h = all_sent_solid (sent s m) ms (sent_solid s m h)
 -- ---- delivering and dropping
 
 received_solid : (s : Scene) (id : ℕ) (m : Message) → IsSolidScreen s.screen → IsSolidScreen (received s id m).screen
-received_solid s id m h = acted_solid (shown s (moved verbs.Deliver m)) id (λ t. stepped t m) (showing_solid s.screen (moved verbs.Deliver m) h)
+received_solid s id m h =
+    explaining_solid (acted (shown s (moved verbs.Deliver m)) id (λ t. stepped t m)).screen (reason_at s.cluster id m)
+    (acted_solid (shown s (moved verbs.Deliver m)) id (λ t. stepped t m) (showing_solid s.screen (moved verbs.Deliver m) h))
 
 all_received_solid : (s : Scene) (id : ℕ) (ms : List Message) → IsSolidScreen s.screen → IsSolidScreen (all_received s id ms).screen
 all_received_solid s id [] h = h
@@ -209,7 +218,7 @@ effect_solid (requests.Stabilize ids rounds) s h = settled_solid rounds rounds s
 effect_solid (requests.TickElection id) s h = acted_solid s id _ h
 effect_solid (requests.TickHeartbeat id) s h = acted_solid s id _ h
 effect_solid (requests.SetRandomizedElectionTimeout id timeout) s h = h
-effect_solid (requests.TransferLeadership from to) s h = acted_solid s from _ h
+effect_solid (requests.TransferLeadership from to) s h = explaining_solid (acted s from (λ t. called t (kinds.TransferLeader to))).screen _ (acted_solid s from (λ t. called t (kinds.TransferLeader to)) h)
 effect_solid (requests.ForgetLeader id) s h = h
 effect_solid (requests.ReportUnreachable id peer) s h = h
 effect_solid (requests.SendSnapshot from to) s h = snapshot_sent_by_solid (node_at s.cluster from) from to s h

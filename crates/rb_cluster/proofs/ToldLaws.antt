@@ -21,56 +21,75 @@ use Rattle.rb_step.specs.declared.options.Options.{Options}
 use Rattle.rb_step.specs.Node.{PlainNode, Turn, turn, message}
 use Rattle.rb_step.specs.Sends.{snapshot_of}
 use Rattle.rb_step.specs.Step.{stepped}
-use Rattle.rb_node.specs.Calls.{node_started}
+use Rattle.rb_node.specs.Calls.{called, node_started}
 use Rattle.rb_node.specs.Readying.{has_ready, handed, advanced}
 use Rattle.rb_texts.specs.Items.{PlainItem, error, event, moved, no_messages, nothing_ready, stopped}
 use Rattle.rb_texts.specs.declared.item.Verb.TheVariants as verbs
+use Rattle.rb_machine.specs.declared.screen.Form.TheVariants as forms
+use Rattle.rb_level.specs.declared.level.Level.{Level}
+use Rattle.rb_why.specs.declared.why.Reason.{Reason}
 use Rattle.rb_machine.specs.declared.screen.Screen.{Screen}
 use Rattle.rb_machine.specs.Acts as acts
 use Rattle.rb_machine.specs.AddNodes.{start, options, added_each, nodes_added}
 use Rattle.rb_machine.specs.Cluster.{Cluster, node_at, with_node}
 use Rattle.rb_machine.specs.Deliveries.{received, all_received, delivered, delivered_each, drop_item, dropped, dropped_each, meets_any, msgs_delivered}
+use Rattle.rb_machine.specs.declared.screen.Way.{Way}
 use Rattle.rb_machine.specs.declared.screen.Way.TheVariants as ways
-use Rattle.rb_machine.specs.Outcome.{effect, fault, level_set, or_ok, refused, screen_of, unless_refused, outcome_of, outcome, happened}
+use Rattle.rb_machine.specs.Outcome.{effect, fault, level_set, or_ok, refused, screen_of, unless_refused, outcome_of, outcome, happened, explanation}
 use Rattle.rb_machine.specs.Pending.{has_room, mail, other_mail, with_pending, pushed, sent, all_sent}
 use Rattle.rb_machine.specs.Readies.{advanced_by, all_done, ready_done, ready_done_by, ready_done_each, ready_items}
 use Rattle.rb_machine.specs.Rounds.{chosen, is_ready, has_work, readied_each, round, settled}
-use Rattle.rb_machine.specs.Scenes.{Scene, scene, lines_of, showing_all, shown, all_shown, acted, acted_by}
+use Rattle.rb_machine.specs.Scenes.{Scene, scene, lines_of, lines_because, shown, all_shown, acted, acted_by, explained, reason_at}
 use Rattle.rb_machine.specs.Snapshots.{queued, snapshot_sent_by, compact_by, with_base}
 use Rattle.rb_machine.specs.Views.{log_items, status_items, state_item, log_shown_by, status_shown_by}
-use Rattle.rb_cluster.specs.Told.{AreOfOne, Tells}
+use Rattle.rb_cluster.specs.Told.{Told, item, because, told_lines, telling_all, AreOfOne, Explains, Tells}
 
 -- ---- one after another
 
-both_shown : (a : Screen) (xs ys : List PlainItem) → showing_all (showing_all a xs) ys ≡ showing_all a (xs ++ ys)
+both_shown : (a : Screen) (xs ys : List Told) → telling_all (telling_all a xs) ys ≡ telling_all a (xs ++ ys)
 both_shown a xs ys =
-    ap (λ (ls : List Line). record a { lines = ls }) (append_assoc a.lines (flat_map (lines_of a.way) xs) (flat_map (lines_of a.way) ys)
-    ∙ ap (λ (ls : List Line). a.lines ++ ls) (sym (flat_map-append (lines_of a.way) xs ys)))
+    ap (λ (ls : List Line). record a { lines = ls }) (append_assoc a.lines (flat_map (told_lines a.way) xs) (flat_map (told_lines a.way) ys)
+    ∙ ap (λ (ls : List Line). a.lines ++ ls) (sym (flat_map-append (told_lines a.way) xs ys)))
+
+items_told : (way : Way) (items : List PlainItem) → flat_map (lines_of way) items ≡ flat_map (told_lines way) (map item items)
+items_told way [] = refl
+items_told way (i ∷ items) = ap (λ (ls : List Line). lines_of way i ++ ls) (items_told way items)
 
 -- what is done after something
 after_tells : (first : Screen → Scene) (next : Scene → Scene) (t : Tells first) → Tells (λ (a : Screen). next (scene t.cluster a)) → Tells (λ (a : Screen). next (first a))
 after_tells first next t u = record {
   cluster = u.cluster;
-  items = t.items ++ u.items;
-  is = λ a. ap next (t.is a) ∙ u.is (showing_all a t.items) ∙ ap (scene u.cluster) (both_shown a t.items u.items);
+  told = t.told ++ u.told;
+  is = λ a. ap next (t.is a) ∙ u.is (telling_all a t.told) ∙ ap (scene u.cluster) (both_shown a t.told u.told);
 }
 
 abbrev none_tells : (c : Cluster) → Tells (λ (a : Screen). scene c a)
-none_tells c = record { cluster = c; items = []; is = λ a. ap (λ (ls : List Line). scene c (record a { lines = ls })) (sym (append-nil a.lines)) }
+none_tells c = record { cluster = c; told = []; is = λ a. ap (λ (ls : List Line). scene c (record a { lines = ls })) (sym (append-nil a.lines)) }
 
 abbrev all_tells : (c : Cluster) (items : List PlainItem) → Tells (λ (a : Screen). all_shown (scene c a) items)
-all_tells c items = record { cluster = c; items = items; is = λ a. refl }
-
-abbrev one_tells : (c : Cluster) (item : PlainItem) → Tells (λ (a : Screen). shown (scene c a) item)
-one_tells c item = record {
+all_tells c items = record {
   cluster = c;
-  items = item ∷ [];
-  is = λ a. ap (λ (ls : List Line). scene c (record a { lines = a.lines ++ ls })) (sym (append-nil (lines_of a.way item)));
+  told = map item items;
+  is = λ a. ap (λ (ls : List Line). scene c (record a { lines = a.lines ++ ls })) (items_told a.way items);
+}
+
+abbrev one_tells : (c : Cluster) (i : PlainItem) → Tells (λ (a : Screen). shown (scene c a) i)
+one_tells c i = record {
+  cluster = c;
+  told = item i ∷ [];
+  is = λ a. ap (λ (ls : List Line). scene c (record a { lines = a.lines ++ ls })) (sym (append-nil (lines_of a.way i)));
+}
+
+abbrev explained_tells : (c : Cluster) (reason : Option Reason) → Tells (λ (a : Screen). explained (scene c a) reason)
+explained_tells c reason = record {
+  cluster = c;
+  told = because reason ∷ [];
+  is = λ a. ap (λ (ls : List Line). scene c (record a { lines = a.lines ++ ls })) (sym (append-nil (lines_because a.way reason)));
 }
 
 if_tells : (b : Bool) (first second : Screen → Scene) → Tells first → Tells second → Tells (λ (a : Screen). if b then first a else second a)
-if_tells true first second t u = record { cluster = t.cluster; items = t.items; is = t.is }
-if_tells false first second t u = record { cluster = u.cluster; items = u.items; is = u.is }
+if_tells true first second t u = record { cluster = t.cluster; told = t.told; is = t.is }
+if_tells false first second t u = record { cluster = u.cluster; told = u.told; is = u.is }
 
 -- ---- acting
 
@@ -80,6 +99,13 @@ acted_by_tells (Some n) c id act = all_tells (with_node c id (act (turn n [])).n
 
 acted_tells : (c : Cluster) (id : ℕ) (act : Turn → Turn) → Tells (λ (a : Screen). acted (scene c a) id act)
 acted_tells c id act = acted_by_tells (node_at c id) c id act
+
+transferred_tells : (c : Cluster) (from to : ℕ) → Tells (λ (a : Screen). acts.transfer from to (scene c a))
+transferred_tells c from to =
+    let act : Turn → Turn = λ t. called t (kinds.TransferLeader to) in
+    let t : Tells (λ (a : Screen). acted (scene c a) from act) = acted_tells c from act in
+    let why = reason_at c from (message from from 0 (kinds.TransferLeader to)) in
+    after_tells (λ (a : Screen). acted (scene c a) from act) (λ (s : Scene). explained s why) t (explained_tells t.cluster why)
 
 added_tells : (start : Snapshot) (options : Options) (c : Cluster) (ids : List ℕ) → Tells (λ (a : Screen). added_each start options (scene c a) ids)
 added_tells start options c [] = none_tells c
@@ -110,8 +136,12 @@ all_sent_tells c (m ∷ ms) =
 
 received_tells : (c : Cluster) (id : ℕ) (m : Message) → Tells (λ (a : Screen). received (scene c a) id m)
 received_tells c id m =
-    after_tells (λ (a : Screen). shown (scene c a) (moved verbs.Deliver m)) (λ (s : Scene). acted s id (λ (t : Turn). stepped t m))
-    (one_tells c (moved verbs.Deliver m)) (acted_tells c id (λ (t : Turn). stepped t m))
+    let act : Turn → Turn = λ t. stepped t m in
+    let t : Tells (λ (a : Screen). acted (shown (scene c a) (moved verbs.Deliver m)) id act) =
+    after_tells (λ (a : Screen). shown (scene c a) (moved verbs.Deliver m)) (λ (s : Scene). acted s id act)
+    (one_tells c (moved verbs.Deliver m)) (acted_tells c id act) in
+    after_tells (λ (a : Screen). acted (shown (scene c a) (moved verbs.Deliver m)) id act) (λ (s : Scene). explained s (reason_at c id m)) t
+    (explained_tells t.cluster (reason_at c id m))
 
 all_received_tells : (c : Cluster) (id : ℕ) (ms : List Message) → Tells (λ (a : Screen). all_received (scene c a) id ms)
 all_received_tells c id [] = none_tells c
@@ -244,7 +274,7 @@ effect_tells (requests.Stabilize ids rounds) c = settled_tells rounds rounds c (
 effect_tells (requests.TickElection id) c = acted_tells c id _
 effect_tells (requests.TickHeartbeat id) c = acted_tells c id _
 effect_tells (requests.SetRandomizedElectionTimeout id timeout) c = none_tells (acts.set_timeout id timeout c)
-effect_tells (requests.TransferLeadership from to) c = acted_tells c from _
+effect_tells (requests.TransferLeadership from to) c = transferred_tells c from to
 effect_tells (requests.ForgetLeader id) c = none_tells (acts.forget_leader id c)
 effect_tells (requests.ReportUnreachable id peer) c = none_tells (acts.report_unreachable id peer c)
 effect_tells (requests.SendSnapshot from to) c = snapshot_sent_by_tells (node_at c from) from to c
@@ -256,7 +286,23 @@ effect_tells requests.RaftState c = all_tells c (map state_item c.nodes)
 
 -- ---- directives
 
-refused_of_one : (c : Cluster) (e : DirectiveError) → AreOfOne (refused false c e).output (refused true c e).output
+-- the items among what is told
+abbrev items_of : Told → List PlainItem
+items_of (item i) = i ∷ []
+items_of (because reason) = []
+
+-- a level shows no reasons, and so do rows
+printed_alone : (level : Level) (told : List Told) → flat_map (told_lines (ways.At level)) told ≡ flat_map (lines_of (ways.At level)) (flat_map items_of told)
+printed_alone level [] = refl
+printed_alone level (item i ∷ told) = ap (λ (ls : List Line). lines_of (ways.At level) i ++ ls) (printed_alone level told)
+printed_alone level (because reason ∷ told) = printed_alone level told
+
+kept_alone : (told : List Told) → flat_map (told_lines ways.Rows) told ≡ flat_map (lines_of ways.Rows) (flat_map items_of told)
+kept_alone [] = refl
+kept_alone (item i ∷ told) = ap (λ (ls : List Line). lines_of ways.Rows i ++ ls) (kept_alone told)
+kept_alone (because reason ∷ told) = kept_alone told
+
+refused_of_one : (c : Cluster) (e : DirectiveError) → AreOfOne (refused forms.Lines c e).output (refused forms.Rows c e).output
 refused_of_one c e = record {
   level = c.level;
   items = error e ∷ [];
@@ -264,17 +310,19 @@ refused_of_one c e = record {
   kept_is = refl;
 }
 
-unless_of_one : (e : Option DirectiveError) (a : Asked) (c : Cluster) → AreOfOne (unless_refused false e a c).output (unless_refused true e a c).output
+unless_of_one : (e : Option DirectiveError) (a : Asked) (c : Cluster) → AreOfOne (unless_refused forms.Lines e a c).output (unless_refused forms.Rows e a c).output
 unless_of_one (Some e) a c = refused_of_one c e
 unless_of_one None a c =
     let t : Tells (λ (screen : Screen). effect a.request (scene c screen)) = effect_tells a.request c in record {
       level = unwrap_or a.log_level c.level;
-      items = t.items;
-      printed_is = ap (λ (s : Scene). or_ok s.screen.way s.screen.lines) (t.is (screen_of false a c));
-      kept_is = ap (λ (s : Scene). or_ok s.screen.way s.screen.lines) (t.is (screen_of true a c));
+      items = flat_map items_of t.told;
+      printed_is =
+          ap (λ (s : Scene). or_ok s.screen.way s.screen.lines) (t.is (screen_of forms.Lines a c))
+          ∙ ap (or_ok (ways.At (unwrap_or a.log_level c.level))) (printed_alone (unwrap_or a.log_level c.level) t.told);
+      kept_is = ap (λ (s : Scene). or_ok s.screen.way s.screen.lines) (t.is (screen_of forms.Rows a c)) ∙ ap (or_ok ways.Rows) (kept_alone t.told);
     }
 
-outcome_of_one : (r : Result Asked DirectiveError) (c : Cluster) → AreOfOne (outcome_of false r c).output (outcome_of true r c).output
+outcome_of_one : (r : Result Asked DirectiveError) (c : Cluster) → AreOfOne (outcome_of forms.Lines r c).output (outcome_of forms.Rows r c).output
 outcome_of_one (Err e) c = refused_of_one c e
 outcome_of_one (Ok a) c = unless_of_one (fault a.request c) a c
 
@@ -282,3 +330,32 @@ outcome_of_one (Ok a) c = unless_of_one (fault a.request c) a c
 pub are_of_one : (c : Cluster) (d : PlainDirective) → AreOfOne (outcome c d).output (happened c d)
 unfolding outcome happened
 are_of_one c d = outcome_of_one (request d) c
+
+-- ---- reasons
+
+refused_explains : (c : Cluster) (e : DirectiveError) → Explains (refused forms.Lines c e).output (refused forms.Explained c e).output
+refused_explains c e = record {
+  level = c.level;
+  told = item (error e) ∷ [];
+  printed_is = sym (ap (or_ok (ways.At c.level)) (append-nil (lines_of (ways.At c.level) (error e))));
+  explained_is = sym (ap (or_ok (ways.Explained c.level)) (append-nil (lines_of (ways.Explained c.level) (error e))));
+}
+
+unless_explains : (e : Option DirectiveError) (a : Asked) (c : Cluster) → Explains (unless_refused forms.Lines e a c).output (unless_refused forms.Explained e a c).output
+unless_explains (Some e) a c = refused_explains c e
+unless_explains None a c =
+    let t : Tells (λ (screen : Screen). effect a.request (scene c screen)) = effect_tells a.request c in record {
+      level = unwrap_or a.log_level c.level;
+      told = t.told;
+      printed_is = ap (λ (s : Scene). or_ok s.screen.way s.screen.lines) (t.is (screen_of forms.Lines a c));
+      explained_is = ap (λ (s : Scene). or_ok s.screen.way s.screen.lines) (t.is (screen_of forms.Explained a c));
+    }
+
+outcome_explains : (r : Result Asked DirectiveError) (c : Cluster) → Explains (outcome_of forms.Lines r c).output (outcome_of forms.Explained r c).output
+outcome_explains (Err e) c = refused_explains c e
+outcome_explains (Ok a) c = unless_explains (fault a.request c) a c
+
+-- what a directive prints with reasons is of what it prints without
+pub explains : (c : Cluster) (d : PlainDirective) → Explains (outcome c d).output (explanation c d)
+unfolding outcome explanation
+explains c d = outcome_explains (request d) c

@@ -1,17 +1,19 @@
 //! Directives by which one node acts.
 
 ghost use Rattle.std.specs.Prelude.{◌≡◌, OnOk};
-ghost use Rattle.rb_step.specs.Node.{turn};
+ghost use Rattle.rb_message.specs.declared.kind.MessageKind.TheVariants.{TransferLeader};
+ghost use Rattle.rb_step.specs.Node.{turn, message};
 ghost use Rattle.rb_machine.specs.Acts.{campaign, propose, ticked_times, tick_election, tick_heartbeat, set_timeout, transfer, forget_leader, report_unreachable};
 ghost use Rattle.rb_machine.specs.Scenes.{scene};
 
 use crate::cluster::{Cluster, place_of};
 use rb_level::Word;
 use rb_machine::Screen;
-use rb_message::Event;
+use rb_message::{Event, Message, MessageKind};
 use rb_node::Node;
 use rb_raftlog::{RaftLog, Shared};
 use rb_step::ELECTION_TICKS;
+use rb_why::reason;
 use std::alloc::AllocError;
 
 // So many ticks pass at a node.
@@ -27,6 +29,18 @@ fn tick_times<L: RaftLog>(
         node.tick(events)?;
     }
     Ok(())
+}
+
+// What a node tells itself where it is asked to hand the lead over.
+fn transfer_message(from: u64, to: u64) -> Message
+    ensures { result ≡ message from from 0 (TransferLeader to) }
+{
+    Message {
+        from,
+        to: from,
+        term: 0,
+        kind: MessageKind::TransferLeader { target: to },
+    }
 }
 
 impl<L: RaftLog> Cluster<L> {
@@ -104,10 +118,12 @@ impl<L: RaftLog> Cluster<L> {
     {
         let mut events = Vec::new(self.alloc);
         let Some(node) = self.nodes.get_mut(place_of(from)) else {
-            return Ok(());
+            return screen.explain(None);
         };
+        let why = reason(node.status(), &transfer_message(from, to));
         node.transfer(to, &mut events)?;
-        screen.show_events(&events)
+        screen.show_events(&events)?;
+        screen.explain(why)
     }
 
     /// A follower forgets its leader.

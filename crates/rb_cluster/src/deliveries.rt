@@ -13,6 +13,7 @@ use rb_machine::Screen;
 use rb_message::Message;
 use rb_raftlog::RaftLog;
 use rb_texts::{Item, Verb};
+use rb_why::reason;
 use std::alloc::AllocError;
 use std::mem;
 
@@ -61,10 +62,12 @@ impl<L: RaftLog> Cluster<L> {
         screen.show(&Item::Moved(Verb::Deliver, message))?;
         let mut events = Vec::new(self.alloc);
         let Some(node) = self.nodes.get_mut(place_of(id)) else {
-            return Ok(());
+            return screen.explain(None);
         };
+        let why = reason(node.status(), message);
         node.step(message, &mut events)?;
-        screen.show_events(&events)
+        screen.show_events(&events)?;
+        screen.explain(why)
     }
 
     // Messages reach their node, in order.

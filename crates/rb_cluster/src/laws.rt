@@ -14,9 +14,10 @@ ghost use Rattle.rb_directive.specs.declared.asking.AddNodes.{AddNodes};
 ghost use Rattle.rb_directive.specs.declared.asking.Request.TheVariants as requests;
 ghost use Rattle.rb_directive.specs.Requests.{request};
 ghost use Rattle.rb_step.specs.Node.{PlainNode};
+ghost use Rattle.rb_machine.specs.declared.screen.Form.TheVariants as forms;
 ghost use Rattle.rb_machine.specs.Cluster.{Cluster};
-ghost use Rattle.rb_machine.specs.Outcome.{outcome, happened, refusal, refused, level_set, is_output};
-ghost use Rattle.rb_cluster.specs.Told.{AreOfOne};
+ghost use Rattle.rb_machine.specs.Outcome.{outcome, happened, refusal, explanation, refused, level_set, is_output};
+ghost use Rattle.rb_cluster.specs.Told.{AreOfOne, Explains};
 
 /// What a directive prints has at least one line, and none that is blank or `----` or holds a byte outside 32 to 126.
 pub fn outputs_have_lines()
@@ -33,7 +34,7 @@ pub fn outputs_can_be_expected()
 
 /// A directive that is refused changes nothing, and its error is all that it prints.
 pub fn refused_changes_nothing()
-    ensures { (c : Cluster) (d : PlainDirective) (e : DirectiveError) → refusal d c ≡ Some e → outcome c d ≡ refused false c e }
+    ensures { (c : Cluster) (d : PlainDirective) (e : DirectiveError) → refusal d c ≡ Some e → outcome c d ≡ refused forms.Lines c e }
 {}
 
 /// What is wrong with the arguments of a directive is so in every cluster.
@@ -64,4 +65,9 @@ pub fn log_level_sets_the_level()
 /// those of all.
 pub fn rows_are_of_what_is_printed()
     ensures { (c : Cluster) (d : PlainDirective) → AreOfOne (outcome c d).output (happened c d) }
+{}
+
+/// What a directive prints with reasons is what it prints without, and reasons between: both are of the same items.
+pub fn reasons_are_only_added()
+    ensures { (c : Cluster) (d : PlainDirective) → Explains (outcome c d).output (explanation c d) }
 {}

@@ -9,14 +9,14 @@ ghost use Rattle.rb_directive.specs.Requests.{request, IsWithin};
 ghost use Rattle.rb_step.specs.Node.{PlainNode};
 ghost use Rattle.rb_texts.specs.Items.{error};
 ghost use Rattle.rb_machine.specs.Cluster.{is_node};
-ghost use Rattle.rb_machine.specs.Outcome.{absent, first_absent, missing_node, own_fault, fault, effect, level_set, unless_refused, refused, outcome_of, outcome, happened, way_of};
+ghost use Rattle.rb_machine.specs.Outcome.{absent, first_absent, missing_node, own_fault, fault, effect, level_set, unless_refused, refused, outcome_of, outcome, happened, explanation, way_of};
 ghost use Rattle.rb_machine.specs.Scenes.{scene, lines_of};
 
 use crate::add_nodes::add_nodes_fault;
 use crate::cluster::Cluster;
 use rb_directive::{Asked, Named, Request, request};
 use rb_level::{DirectiveError, Level};
-use rb_machine::{Machine, Screen, Way};
+use rb_machine::{Form, Machine, Screen, Way};
 use rb_node::Node;
 use rb_raftlog::RaftLog;
 use rb_script::{DirectiveRef, Lines};
@@ -63,11 +63,15 @@ fn missing_node<'d, L: RaftLog>(nodes: &[Node<L>], named: &Named) -> Option<Dire
     }
 }
 
-// How items are shown: as rows of a page, or as lines of a level.
-fn way_of(as_rows: bool, level: Level) -> Way
-    ensures { result ≡ way_of as_rows level }
+// How items are shown: as lines of a level, or as rows of a page.
+fn way_of(form: Form, level: Level) -> Way
+    ensures { result ≡ way_of form level }
 {
-    if as_rows { Way::Rows } else { Way::At(level) }
+    match form {
+        Form::Lines => Way::At(level),
+        Form::Explained => Way::Explained(level),
+        Form::Rows => Way::Rows,
+    }
 }
 
 // What is shown of an error.
@@ -170,16 +174,16 @@ impl<L: RaftLog> Cluster<L> {
     }
 
     // Carries out what is asked for, and gives what it shows.
-    fn carry_out_asked(&mut self, as_rows: bool, asked: &Asked<'_>) -> Result<Lines, AllocError>
+    fn carry_out_asked(&mut self, form: Form, asked: &Asked<'_>) -> Result<Lines, AllocError>
         requires within { IsWithin asked.now.request }
-        ensures cluster { OnOk result (self.new ≡ (unless_refused as_rows (fault asked.now.request self.old) asked.now self.old).cluster) }
-        ensures output { IfOk result (λ lines. lines ≡ (unless_refused as_rows (fault asked.now.request self.old) asked.now self.old).output) }
+        ensures cluster { OnOk result (self.new ≡ (unless_refused form (fault asked.now.request self.old) asked.now self.old).cluster) }
+        ensures output { IfOk result (λ lines. lines ≡ (unless_refused form (fault asked.now.request self.old) asked.now self.old).output) }
     {
         if let Some(error) = self.fault(&asked.request) {
-            return error_lines(self.alloc, way_of(as_rows, self.level), error);
+            return error_lines(self.alloc, way_of(form, self.level), error);
         }
         let mut screen = Screen {
-            way: way_of(as_rows, asked.log_level.unwrap_or(self.level)),
+            way: way_of(form, asked.log_level.unwrap_or(self.level)),
             lines: Lines::new(self.alloc),
         };
         self.perform(&asked.request, &mut screen)?;
@@ -187,13 +191,13 @@ impl<L: RaftLog> Cluster<L> {
     }
 
     // Runs a directive, and gives what it shows.
-    fn shown(&mut self, as_rows: bool, directive: &DirectiveRef<'_>) -> Result<Lines, AllocError>
-        ensures cluster { OnOk result (self.new ≡ (outcome_of as_rows (request (plain directive.now)) self.old).cluster) }
-        ensures output { IfOk result (λ lines. lines ≡ (outcome_of as_rows (request (plain directive.now)) self.old).output) }
+    fn shown(&mut self, form: Form, directive: &DirectiveRef<'_>) -> Result<Lines, AllocError>
+        ensures cluster { OnOk result (self.new ≡ (outcome_of form (request (plain directive.now)) self.old).cluster) }
+        ensures output { IfOk result (λ lines. lines ≡ (outcome_of form (request (plain directive.now)) self.old).output) }
     {
         match request(directive) {
-            Ok(asked) => self.carry_out_asked(as_rows, &asked),
-            Err(error) => error_lines(self.alloc, way_of(as_rows, self.level), error),
+            Ok(asked) => self.carry_out_asked(form, &asked),
+            Err(error) => error_lines(self.alloc, way_of(form, self.level), error),
         }
     }
 
@@ -203,7 +207,7 @@ impl<L: RaftLog> Cluster<L> {
         ensures cluster { OnOk result (self.new ≡ (outcome self.old (plain directive.now)).cluster) }
         ensures output { IfOk result (λ lines. lines ≡ (outcome self.old (plain directive.now)).output) }
     {
-        self.shown(false, directive)
+        self.shown(Form::Lines, directive)
     }
 
     /// What a directive does, as rows of a page: a text an item, whatever the level is. It is done to a copy.
@@ -212,6 +216,14 @@ impl<L: RaftLog> Cluster<L> {
         ensures { IfOk result (λ texts. texts ≡ happened self.now (plain directive.now)) }
     {
         let mut copy = Machine::try_copy(self)?;
-        copy.shown(true, directive)
+        copy.shown(Form::Rows, directive)
+    }
+    /// What a directive prints, and below each message that reaches a node and nothing comes of it, why. It is done to a copy.
+    #[tactic(auto, unfolding(rb_machine::specs::Outcome::explanation))]
+    pub fn explanation(&self, directive: &DirectiveRef<'_>) -> Result<Lines, AllocError>
+        ensures { IfOk result (λ lines. lines ≡ explanation self.now (plain directive.now)) }
+    {
+        let mut copy = Machine::try_copy(self)?;
+        copy.shown(Form::Explained, directive)
     }
 }

@@ -1,5 +1,5 @@
 -- Election safety and log matching of a cluster, and where a cluster begins
-use Rattle.std.proofs.Common.{◌≡◌, ◌⊎◌, ℕ, zero, suc, ◌+◌, false, true, List, [], ◌∷◌, ◌++◌, length, length-append, Option, Some, None, Result, Ok, refl, sym, ap, subst, ◌∙◌, arith, inl, inr}
+use Rattle.std.proofs.Common.{◌≡◌, ◌⊎◌, ℕ, zero, suc, ◌+◌, true, List, [], ◌∷◌, ◌++◌, length, length-append, Option, Some, None, Result, Ok, refl, sym, ap, subst, ◌∙◌, arith, inl, inr}
 use Rattle.std.specs.Prelude.{slice_get}
 use Rattle.std.specs.List.{range_with_len}
 use Rattle.std.proofs.lemmas.List.Elements.{All-nil, All-same}
@@ -16,6 +16,7 @@ use Rattle.rb_raftlog.specs.Laws.{AreMatching}
 use Rattle.rb_step.specs.declared.options.Options.{Options}
 use Rattle.rb_step.specs.Node.{PlainNode, started}
 use Rattle.rb_node.specs.Calls.{node_started}
+use Rattle.rb_machine.specs.declared.screen.Form.TheVariants as forms
 use Rattle.rb_machine.specs.AddNodes.{start, options, began, added_each, nodes_added}
 use Rattle.rb_machine.specs.Cluster.{Cluster, empty}
 use Rattle.rb_machine.specs.Outcome.{fault, effect, screen_of, unless_refused, outcome_of, outcome}
@@ -108,15 +109,15 @@ added_new members r x same new = record {
   silent = none_sent (start r) (options r) (range_with_len (length x.cluster.nodes + 1) r.count) x ∙ new.silent;
 }
 
-unless_new : (members : ConfState) (r : AddNodes) (o : Option DirectiveError) (a : Asked) (c : Cluster) → a.request ≡ requests.AddNodes r → (start r).config ≡ members → IsNew members c → IsNew members (unless_refused false o a c).cluster
+unless_new : (members : ConfState) (r : AddNodes) (o : Option DirectiveError) (a : Asked) (c : Cluster) → a.request ≡ requests.AddNodes r → (start r).config ≡ members → IsNew members c → IsNew members (unless_refused forms.Lines o a c).cluster
 unless_new members r (Some e) a c adds same new = new
 unless_new members r None a c adds same new =
-    subst (λ (q : Request). IsNew members (effect q (scene c (screen_of false a c))).cluster) (sym adds) (added_new members r (scene c (screen_of false a c)) same new)
+    subst (λ (q : Request). IsNew members (effect q (scene c (screen_of forms.Lines a c))).cluster) (sym adds) (added_new members r (scene c (screen_of forms.Lines a c)) same new)
 
 pub still_new : (members : ConfState) (c : Cluster) (d : PlainDirective) (a : Asked) (r : AddNodes) → request d ≡ Ok a → a.request ≡ requests.AddNodes r → (start r).config ≡ members → IsNew members c → IsNew members (outcome c d).cluster
 unfolding outcome
 still_new members c d a r asks adds same new =
-    subst (λ (x : Result Asked DirectiveError). IsNew members (outcome_of false x c).cluster) (sym asks) (unless_new members r (fault a.request c) a c adds same new)
+    subst (λ (x : Result Asked DirectiveError). IsNew members (outcome_of forms.Lines x c).cluster) (sym asks) (unless_new members r (fault a.request c) a c adds same new)
 
 pub empty_new : (members : ConfState) → IsNew members empty
 unfolding empty

@@ -1,5 +1,5 @@
 -- The effect of each request, and directives one upon another
-use Rattle.std.proofs.Common.{◌≡◌, ℕ, ◌+◌, ◌-◌, ◌<◌, ◌≤◌, true, false, List, [], ◌∷◌, ◌++◌, length, min, Option, Some, None, Result, Ok, Err, refl, sym, ap, subst, ◌∙◌, arith, inr, nat_le, nat_lt}
+use Rattle.std.proofs.Common.{◌≡◌, ℕ, ◌+◌, ◌-◌, ◌<◌, ◌≤◌, true, List, [], ◌∷◌, ◌++◌, length, min, Option, Some, None, Result, Ok, Err, refl, sym, ap, subst, ◌∙◌, arith, inr, nat_le, nat_lt}
 use Rattle.std.specs.Prelude.{All, slice_get}
 use Rattle.std.specs.Option.{option_or}
 use Rattle.std.proofs.lemmas.Bool.{and_parts, leb-true}
@@ -25,6 +25,7 @@ use Rattle.rb_step.specs.Node.{PlainNode, turn, message}
 use Rattle.rb_step.specs.Sends.{snapshot_of}
 use Rattle.rb_node.specs.Calls.{leader_forgotten, reported}
 use Rattle.rb_node_laws.specs.Calling.{Call, Campaign, Propose, Transfer, Tick, ForgetLeader, ReportUnreachable, SetTimeout, Compact, compacted_unless, after}
+use Rattle.rb_machine.specs.declared.screen.Form.TheVariants as forms
 use Rattle.rb_machine.specs.Cluster.{Cluster, is_node, node_at, with_node, changed_by}
 use Rattle.rb_machine.specs.Outcome.{absent, first_absent, missing_node, own_fault, fault, effect, unless_refused, screen_of, outcome_of, outcome}
 use Rattle.rb_machine.specs.Pending.{has_room}
@@ -148,13 +149,13 @@ has_effect g s requests.RaftState x steady may tied = stays g s x.cluster tied
 
 -- ---- directives
 
-unless_reached : (g : Setting) (s : Network) (o : Option DirectiveError) (a : Asked) (c : Cluster) → fault a.request c ≡ o → IsSteadyRequest a.request → IsTied g s c → IsReached g s (unless_refused false o a c).cluster
+unless_reached : (g : Setting) (s : Network) (o : Option DirectiveError) (a : Asked) (c : Cluster) → fault a.request c ≡ o → IsSteadyRequest a.request → IsTied g s c → IsReached g s (unless_refused forms.Lines o a c).cluster
 unfolding fault
 unless_reached g s (Some e) a c is steady tied = stays g s c tied
 unless_reached g s None a c is steady tied =
-    has_effect g s a.request (scene c (screen_of false a c)) steady (neither (missing_node c.nodes (nodes_of a.request)) (own_fault a.request c) is) tied
+    has_effect g s a.request (scene c (screen_of forms.Lines a c)) steady (neither (missing_node c.nodes (nodes_of a.request)) (own_fault a.request c) is) tied
 
-by_request : (g : Setting) (s : Network) (r : Result Asked DirectiveError) (c : Cluster) → IsSteadyBy r → IsTied g s c → IsReached g s (outcome_of false r c).cluster
+by_request : (g : Setting) (s : Network) (r : Result Asked DirectiveError) (c : Cluster) → IsSteadyBy r → IsTied g s c → IsReached g s (outcome_of forms.Lines r c).cluster
 by_request g s (Err e) c steady tied = stays g s c tied
 by_request g s (Ok a) c steady tied = unless_reached g s (fault a.request c) a c refl steady tied
 

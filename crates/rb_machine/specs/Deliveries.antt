@@ -9,7 +9,7 @@ use Rattle.rb_step.specs.Step.{stepped}
 use Rattle.rb_texts.specs.Items.{PlainItem, moved, no_messages}
 use Rattle.rb_texts.specs.declared.item.Verb.TheVariants as verbs
 use Rattle.rb_machine.specs.Pending.{is_for, mail, other_mail, with_pending}
-use Rattle.rb_machine.specs.Scenes.{Scene, shown, all_shown, acted, with_cluster}
+use Rattle.rb_machine.specs.Scenes.{Scene, shown, all_shown, acted, explained, reason_at, with_cluster}
 
 -- all but a node's pending messages of the types
 abbrev pub left_by : Scene → ℕ → Option TypeSet → Scene
@@ -17,9 +17,9 @@ left_by s id types = with_cluster s (with_pending s.cluster (other_mail s.cluste
 
 -- ---- delivering
 
--- a message reaches its node
+-- a message reaches its node; where nothing comes of it, why is what the node was before
 abbrev pub received : Scene → ℕ → Message → Scene
-received s id m = acted (shown s (moved verbs.Deliver m)) id (λ t. stepped t m)
+received s id m = explained (acted (shown s (moved verbs.Deliver m)) id (λ t. stepped t m)) (reason_at s.cluster id m)
 
 abbrev pub all_received : Scene → ℕ → List Message → Scene
 all_received s id [] = s

@@ -1,5 +1,5 @@
 -- What a directive does: the first thing that refuses it is the whole output; else the effect of what it asks for. (This project's.)
-use Rattle.std.specs.Prelude.{ℕ, Bool, true, false, if◌then◌else◌, List, [], ◌∷◌, Option, Some, None, Result, Ok, Err}
+use Rattle.std.specs.Prelude.{ℕ, Bool, false, if◌then◌else◌, List, [], ◌∷◌, Option, Some, None, Result, Ok, Err}
 use Rattle.std.specs.List.{list_all}
 use Rattle.std.specs.Option.{unwrap_or, option_or}
 use Rattle.rb_script.specs.Lines.{Line}
@@ -17,6 +17,8 @@ use Rattle.rb_step.specs.Node.{PlainNode}
 use Rattle.rb_texts.specs.Items.{nothing_else, error}
 use Rattle.rb_texts.specs.Shapes.{is_solid}
 use Rattle.rb_machine.specs.declared.screen.Screen.{Screen}
+use Rattle.rb_machine.specs.declared.screen.Form.{Form}
+use Rattle.rb_machine.specs.declared.screen.Form.TheVariants as forms
 use Rattle.rb_machine.specs.declared.screen.Way.{Way}
 use Rattle.rb_machine.specs.declared.screen.Way.TheVariants as ways
 use Rattle.rb_machine.specs.Acts as acts
@@ -113,9 +115,11 @@ effect requests.RaftState s = states_shown s
 
 -- ---- the whole
 
--- as lines of a level, or as rows of a page
-abbrev pub way_of : Bool → Level → Way
-way_of as_rows level = if as_rows then ways.Rows else ways.At level
+-- as lines of a level, with reasons or without, or as rows of a page
+abbrev pub way_of : Form → Level → Way
+way_of forms.Lines level = ways.At level
+way_of forms.Explained level = ways.Explained level
+way_of forms.Rows level = ways.Rows
 
 -- `ok` where no line is left
 abbrev pub or_ok : Way → List Line → List Line
@@ -123,34 +127,38 @@ or_ok way [] = lines_of way nothing_else
 or_ok way (line ∷ lines) = line ∷ lines
 
 -- an error is the whole output, and the cluster stays
-abbrev pub refused : Bool → Cluster → DirectiveError → Outcome
-refused as_rows c e = record { cluster = c; output = lines_of (way_of as_rows c.level) (error e) }
+abbrev pub refused : Form → Cluster → DirectiveError → Outcome
+refused form c e = record { cluster = c; output = lines_of (way_of form c.level) (error e) }
 
 abbrev pub ended : Scene → Outcome
 ended s = record { cluster = s.cluster; output = or_ok s.screen.way s.screen.lines }
 
 -- the option `log-level` holds for this directive alone
-abbrev pub screen_of : Bool → Asked → Cluster → Screen
-screen_of as_rows a c = record { way = way_of as_rows (unwrap_or a.log_level c.level); lines = [] }
+abbrev pub screen_of : Form → Asked → Cluster → Screen
+screen_of form a c = record { way = way_of form (unwrap_or a.log_level c.level); lines = [] }
 
-abbrev pub done : Bool → Asked → Cluster → Outcome
-done as_rows a c = ended (effect a.request (scene c (screen_of as_rows a c)))
+abbrev pub done : Form → Asked → Cluster → Outcome
+done form a c = ended (effect a.request (scene c (screen_of form a c)))
 
-abbrev pub unless_refused : Bool → Option DirectiveError → Asked → Cluster → Outcome
-unless_refused as_rows (Some e) a c = refused as_rows c e
-unless_refused as_rows None a c = done as_rows a c
+abbrev pub unless_refused : Form → Option DirectiveError → Asked → Cluster → Outcome
+unless_refused form (Some e) a c = refused form c e
+unless_refused form None a c = done form a c
 
-abbrev pub outcome_of : Bool → Result Asked DirectiveError → Cluster → Outcome
-outcome_of as_rows (Err e) c = refused as_rows c e
-outcome_of as_rows (Ok a) c = unless_refused as_rows (fault a.request c) a c
+abbrev pub outcome_of : Form → Result Asked DirectiveError → Cluster → Outcome
+outcome_of form (Err e) c = refused form c e
+outcome_of form (Ok a) c = unless_refused form (fault a.request c) a c
 
 -- the cluster after a directive, and what it prints
 unfoldable pub outcome : Cluster → PlainDirective → Outcome
-outcome c d = outcome_of false (request d) c
+outcome c d = outcome_of forms.Lines (request d) c
 
 -- what it does, as rows of a page: a text an item, whatever the level is
 unfoldable pub happened : Cluster → PlainDirective → List Line
-happened c d = (outcome_of true (request d) c).output
+happened c d = (outcome_of forms.Rows (request d) c).output
+
+-- what it prints, and below each message that reaches a node and nothing comes of it, why
+unfoldable pub explanation : Cluster → PlainDirective → List Line
+explanation c d = (outcome_of forms.Explained (request d) c).output
 
 -- at least one line, and none that is blank or ---- or holds a byte outside 32 to 126
 unfoldable pub is_output : List Line → Bool

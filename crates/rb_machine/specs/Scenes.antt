@@ -1,12 +1,17 @@
 -- What a directive has done so far: the cluster that it leaves, and what it shows. (This project's.)
 use Rattle.std.specs.Prelude.{ℕ, List, [], ◌∷◌, ◌++◌, map, Option, Some, None}
 use Rattle.std.specs.List.{flat_map}
+use Rattle.rb_level.specs.declared.level.Level.{Level}
 use Rattle.rb_message.specs.declared.event.Event.{Event}
+use Rattle.rb_message.specs.declared.message.Message.{Message}
 use Rattle.rb_page.specs.ItemRows.{item_text}
 use Rattle.rb_script.specs.Lines.{Line}
 use Rattle.rb_step.specs.Node.{PlainNode, Turn, turn}
 use Rattle.rb_texts.specs.Items.{PlainItem, event}
 use Rattle.rb_texts.specs.Texts.{line_of}
+use Rattle.rb_why.specs.declared.why.Reason.{Reason}
+use Rattle.rb_why.specs.Reasons.{reason}
+use Rattle.rb_why.specs.Texts.{reason_lines}
 use Rattle.rb_machine.specs.declared.screen.Screen.{Screen}
 use Rattle.rb_machine.specs.declared.screen.Way.{Way}
 use Rattle.rb_machine.specs.declared.screen.Way.TheVariants as ways
@@ -17,6 +22,7 @@ use Rattle.rb_machine.specs.Cluster.{Cluster, node_at, with_node}
 -- an item, as it is shown
 abbrev pub lines_of : Way → PlainItem → List Line
 lines_of (ways.At level) = line_of level
+lines_of (ways.Explained level) = line_of level
 lines_of ways.Rows = λ item. item_text item ∷ []
 
 -- one more item is shown
@@ -25,6 +31,19 @@ showing screen item = record screen { lines = screen.lines ++ lines_of screen.wa
 
 abbrev pub showing_all : Screen → List PlainItem → Screen
 showing_all screen items = record screen { lines = screen.lines ++ flat_map (lines_of screen.way) items }
+
+-- why nothing came of a message, where that is asked for
+abbrev pub lines_why : Level → Option Reason → List Line
+lines_why level None = []
+lines_why level (Some why) = reason_lines level why
+
+abbrev pub lines_because : Way → Option Reason → List Line
+lines_because (ways.At level) why = []
+lines_because (ways.Explained level) why = lines_why level why
+lines_because ways.Rows why = []
+
+abbrev pub explaining : Screen → Option Reason → Screen
+explaining screen why = record screen { lines = screen.lines ++ lines_because screen.way why }
 
 -- ---- acting
 
@@ -59,3 +78,16 @@ acted_by (Some n) s id act = took s id (act (turn n []))
 -- the node with this id acts
 abbrev pub acted : Scene → ℕ → (Turn → Turn) → Scene
 acted s id act = acted_by (node_at s.cluster id) s id act
+
+-- ---- reasons
+
+abbrev pub explained : Scene → Option Reason → Scene
+explained s why = record s { screen = explaining s.screen why }
+
+abbrev pub reason_of : Option PlainNode → Message → Option Reason
+reason_of None m = None
+reason_of (Some n) m = reason n m
+
+-- why nothing will come of a message at the node with this id
+abbrev pub reason_at : Cluster → ℕ → Message → Option Reason
+reason_at c id m = reason_of (node_at c id) m

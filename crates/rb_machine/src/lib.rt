@@ -10,4 +10,4 @@ mod screen;
 
 pub use limits::{MAX_PENDING, limits_are};
 pub use machine::{Count, Machine};
-pub use screen::{Screen, Way};
+pub use screen::{Form, Screen, Way};

@@ -1,0 +1,3 @@
+pub mod IgnoredLaws
+pub mod TextLaws
+pub mod RefusedLaws

@@ -1,0 +1,54 @@
+-- The line of a reason. (This project's texts.)
+use Rattle.std.specs.Prelude.{ℕ, Bool, nat_le, if◌then◌else◌, codes, decimal, List, [], ◌∷◌, ◌++◌}
+use Rattle.rb_level.specs.declared.level.Level.{Level}
+use Rattle.rb_level.specs.declared.level.Level.TheVariants as levels
+use Rattle.rb_level.specs.Levels.{rank}
+use Rattle.rb_script.specs.Lines.{Line}
+use Rattle.rb_texts.specs.Entries.{place_text}
+use Rattle.rb_texts.specs.States.{role_text}
+use Rattle.rb_why.specs.declared.why.Reason.{Reason}
+use Rattle.rb_why.specs.declared.why.Reason.TheVariants.{Ignored, Refused}
+use Rattle.rb_why.specs.declared.why.WhyIgnored.{WhyIgnored}
+use Rattle.rb_why.specs.declared.why.WhyIgnored.TheVariants as ignored
+use Rattle.rb_why.specs.declared.why.WhyRefused.{WhyRefused}
+use Rattle.rb_why.specs.declared.why.WhyRefused.TheVariants as refused
+
+abbrev pub earlier_text : ℕ → ℕ → List ℕ
+earlier_text term own = codes "its term " ++ decimal term ++ codes " is earlier than " ++ decimal own
+
+-- an answer of a node that is done with, since more is known of the node by now
+abbrev pub outdated_text : ℕ → ℕ → List ℕ → ℕ → List ℕ
+outdated_text from index known at = decimal from ++ codes " refused " ++ decimal index ++ known ++ decimal at ++ codes " by now"
+
+unfoldable pub ignored_text : WhyIgnored → List ℕ
+ignored_text (ignored.EarlierTerm term own) = earlier_text term own
+ignored_text (ignored.HearsLeader lead) = codes "leader " ++ decimal lead ++ codes " was heard of within an election timeout"
+ignored_text (ignored.NoUse role) = codes "a " ++ role_text role ++ codes " has no use for it"
+ignored_text ignored.NoLeader = codes "no leader is known to pass it on to"
+ignored_text (ignored.NoView from) = codes "the leader has no view of " ++ decimal from
+ignored_text (ignored.HoldsMore from index matched) = outdated_text from index (codes ", and holds ") matched
+ignored_text (ignored.ProbesElsewhere from index probed) = outdated_text from index (codes ", and is probed at ") probed
+ignored_text (ignored.AwaitsSnapshot from) = codes "a snapshot is on its way to " ++ decimal from
+ignored_text (ignored.NotAVoter target) = decimal target ++ codes " is no voter"
+ignored_text (ignored.LeadsAlready target) = decimal target ++ codes " leads already"
+ignored_text (ignored.IsUnderWay target) = codes "the lead is on its way to " ++ decimal target
+
+abbrev pub older_text : ℕ → ℕ → ℕ → ℕ → List ℕ
+older_text term index own_term own_index = codes "its log ends at " ++ place_text term index ++ codes ", the voter's at " ++ place_text own_term own_index
+
+unfoldable pub refused_text : WhyRefused → List ℕ
+refused_text (refused.EarlierTerm term own) = earlier_text term own
+refused_text (refused.Voted term vote) = codes "the vote of term " ++ decimal term ++ codes " is given to " ++ decimal vote
+refused_text (refused.KnowsLeader term lead) = decimal lead ++ codes " leads term " ++ decimal term
+refused_text (refused.OlderLog term index own_term own_index) = older_text term index own_term own_index
+
+unfoldable pub reason_text : Reason → List ℕ
+reason_text (Ignored why) = codes "  ignored: " ++ ignored_text why
+reason_text (Refused why) = codes "  refused: " ++ refused_text why
+
+-- at each level but none, as messages that move are
+abbrev pub is_shown : Level → Bool
+is_shown level = nat_le (rank level) (rank levels.Fatal)
+
+abbrev pub reason_lines : Level → Reason → List Line
+reason_lines level reason = if is_shown level then reason_text reason ∷ [] else []
