@@ -9,7 +9,7 @@ use Rattle.rb_raftlog.specs.declared.entry.Body.TheVariants.{Payload, Change}
 use Rattle.rb_raftlog.specs.declared.entry.Entry.{Entry}
 use Rattle.rb_raftlog.specs.declared.raft_log.CompactFault.{CompactFault}
 use Rattle.rb_raftlog.specs.declared.raft_log.LogFault.{LogFault}
-use Rattle.rb_raftlog.specs.Log.{LogValue, last, compact_fault, compacted, term_at}
+use Rattle.rb_raftlog.specs.Log.{LogValue, last, compact_fault, compacted, made_durable, term_at}
 use Rattle.rb_raftlog.proofs.TermLaws.{held_in}
 use Rattle.rb_raftlog.proofs.PlaceLaws.{compacted-ends}
 use Rattle.rb_tracker.proofs.SetLaws.{if_both}
@@ -37,7 +37,7 @@ use Rattle.rb_node.specs.Ticking.{counted as counted_tick, beat_to, beat_each, h
 use Rattle.rb_node_laws.specs.Calling.{Call, Step, Campaign, Propose, Transfer, Tick, Advance, ForgetLeader, ReportUnreachable, SetTimeout, Compact, compacted_unless, after}
 use Rattle.rb_cluster_laws.specs.Honesty.{IsPlain, Keeps}
 use Rattle.rb_cluster_laws.proofs.LinkedLogs.{compacted_linked}
-use Rattle.rb_cluster_laws.proofs.Holding.{World, IsOwn, IsChain, IsFine, Holds, with_log, says}
+use Rattle.rb_cluster_laws.proofs.Holding.{World, IsOwn, IsChain, IsFine, Holds, essence, still_linking, with_log, says}
 use Rattle.rb_cluster_laws.proofs.LeaderHolds.{transfer_ended_holds}
 use Rattle.rb_cluster_laws.proofs.StepHolds.{followed_holds, campaigned_holds, Gives, stepped_holds}
 
@@ -168,22 +168,9 @@ saved_holds {w} n h = record {
   waiting = All-nil (IsOwn w);
   stands = h.stands;
   leads = h.leads;
-  linking = record {
-    links = h.linking.links;
-    since = h.linking.since;
-    own = h.linking.own;
-    holds = λ strict. (let c = h.linking.holds strict in record {
-      once = c.once;
-      single = c.single;
-      made = c.made;
-      logged = c.logged;
-      sent = All-nil (IsChain h.linking.links);
-      waiting = All-nil (IsChain h.linking.links);
-      past = c.past;
-      stands = c.stands;
-      leads = c.leads;
-    });
-  };
+  linking =
+      still_linking (essence n) (made_durable n.log) [] []
+      (λ _ ls _ c. record { logged = c.logged; sent = All-nil (IsChain ls); waiting = All-nil (IsChain ls) }) (λ _. omega arith) h.linking;
 }
 
 advanced_holds : {w : World} (t : Turn) → ((m : Message) → Contains t.node.waiting m → IsOut w m) → Holds w t.node → Holds w (advanced t).node

@@ -1,5 +1,5 @@
 -- The effect of each request, and directives one upon another
-use Rattle.std.proofs.Common.{◌≡◌, ℕ, ◌+◌, ◌-◌, ◌<◌, ◌≤◌, true, List, [], ◌∷◌, ◌++◌, length, min, Option, Some, None, Result, Ok, Err, refl, sym, ap, subst, ◌∙◌, arith, inr, nat_le, nat_lt}
+use Rattle.std.proofs.Common.{◌≡◌, ℕ, ◌+◌, ◌-◌, ◌<◌, ◌≤◌, true, List, [], ◌∷◌, ◌++◌, length, min, Option, Some, None, Result, Ok, Err, refl, sym, ap, subst, ◌∙◌, arith, inr, nat_le}
 use Rattle.std.specs.Prelude.{All, slice_get}
 use Rattle.std.specs.Option.{option_or}
 use Rattle.std.proofs.lemmas.Bool.{and_parts, leb-true}
@@ -13,8 +13,7 @@ use Rattle.rb_directive.specs.declared.build.Asked.{Asked}
 use Rattle.rb_directive.specs.Requests.{request, nodes_of}
 use Rattle.rb_raftlog.specs.declared.entry.Body.TheVariants.{Payload}
 use Rattle.rb_raftlog.specs.declared.raft_log.CompactFault.{CompactFault}
-use Rattle.rb_raftlog.specs.declared.raft_log.CompactFault.TheVariants as faults
-use Rattle.rb_raftlog.specs.Log.{LogValue, compact_fault}
+use Rattle.rb_raftlog.specs.Log.{compact_fault}
 use Rattle.rb_tracker.proofs.SetLaws.{if_both}
 use Rattle.rb_tracker.specs.Configs.{config_of, state_of}
 use Rattle.rb_tracker.specs.declared.config.Config.{Config}
@@ -31,8 +30,9 @@ use Rattle.rb_machine.specs.Outcome.{absent, first_absent, missing_node, own_fau
 use Rattle.rb_machine.specs.Pending.{has_room}
 use Rattle.rb_machine.specs.Rounds.{chosen}
 use Rattle.rb_machine.specs.Scenes.{Scene, scene}
-use Rattle.rb_machine.specs.Snapshots.{queued, snapshot_sent_by, error_of, compact_error_by, compact_error, compact_by}
+use Rattle.rb_machine.specs.Snapshots.{queued, snapshot_sent_by, compact_error_by, compact_error, compact_by}
 use Rattle.rb_machine.specs.Views.{log_shown_by, status_shown_by}
+use Rattle.rb_machine.proofs.CompactLaws.{may_compact}
 use Rattle.rb_cluster_laws.specs.Clusters.{IsSteadyRequest, IsSteadyBy, AreSteady, led}
 use Rattle.rb_cluster_laws.specs.Honesty.{Keeps}
 use Rattle.rb_cluster_laws.specs.Network.{Network, run}
@@ -94,22 +94,11 @@ sends_snapshot g s x from to (Some n) at tied =
 
 -- ---- compacting
 
-no_error : (o : Option CompactFault) → (o ≡ Some faults.OutOfMemory → ⊥) → error_of o ≡ None → o ≡ None
-no_error None memory none = refl
-no_error (Some faults.AlreadyCompacted) memory none = absurd (some_none errors.AlreadyCompacted none)
-no_error (Some faults.PastApplied) memory none = absurd (some_none errors.IndexPastApplied none)
-no_error (Some faults.OutOfMemory) memory none = absurd (memory refl)
-
-never_memory : (v : LogValue) (i applied : ℕ) → compact_fault v i applied ≡ Some faults.OutOfMemory → ⊥
-never_memory v i applied =
-    let P : Option CompactFault → Type 0 = λ o. o ≡ Some faults.OutOfMemory → ⊥ in
-    if_both P (nat_le i v.base) _ _ (λ _ e. cc) (λ _. if_both P (nat_lt applied i) _ _ (λ _ e. cc) (λ _ e. cc))
-
 compacts : (g : Setting) (s : Network) (x : Scene) (id index : ℕ) (o : Option PlainNode) → node_at x.cluster id ≡ o → compact_error_by o index ≡ None → IsTied g s x.cluster → IsReached g s (compact_by o id index x).cluster
 compacts g s x id index None at none tied = stays g s x.cluster tied
 compacts g s x id index (Some n) at none tied =
     let upto = min n.applied n.log.durable in
-    let may : compact_fault n.log index upto ≡ None = no_error (compact_fault n.log index upto) (never_memory n.log index upto) none in
+    let may : compact_fault n.log index upto ≡ None = may_compact n.log index upto none in
     subst (λ (y : PlainNode). IsReached g s (with_node x.cluster id y)) (ap (λ (f : Option CompactFault). compacted_unless f n index) may)
     (call_reached g s x.cluster id (Compact index) (turn n []) tied at (tt, tt))
 

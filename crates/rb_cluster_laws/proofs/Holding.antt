@@ -1,6 +1,6 @@
 -- What holds of each node of a network whose configuration stays: all that it says and holds keeps the configuration, and who stands or
 -- leads has its votes from those who cast them
-use Rattle.std.proofs.Common.{◌≡◌, ◌⊎◌, ℕ, ◌+◌, ◌<◌, ◌≤◌, Bool, true, List, [], ◌++◌, sym, subst, ◌∙◌, arith, inl, inr}
+use Rattle.std.proofs.Common.{◌≡◌, ◌⊎◌, ℕ, ◌+◌, ◌<◌, ◌≤◌, Bool, true, List, [], ◌∷◌, ◌++◌, sym, subst, ◌∙◌, arith, inl, inr}
 use Rattle.std.specs.Prelude.{All, Contains}
 use Rattle.std.proofs.lemmas.List.Elements.{All-push, Contains-append_left}
 use Rattle.rb_raftlog.specs.Log.{LogValue, last}
@@ -145,7 +145,33 @@ leader_stands never = cc
 
 -- ---- another log, and another message
 
--- as long as the log does not get shorter while the node leads
+-- what of a node stands as the links have it
+pub record AreChained (ls : List Link) (log : LogValue) (sent waiting : List Message) : Type 0 where
+  pub logged : IsLinked ls log
+  pub sent : All (IsChain ls) sent
+  pub waiting : All (IsChain ls) waiting
+
+-- by the same links, as long as the log does not get shorter while the node leads
+pub still_linking : {w : World} (e : Essence) (log : LogValue) (sent waiting : List Message) → (w.setting.strict ≡ true → (ls : List Link) → Extends w.links ls → AreChained ls e.log e.sent e.waiting → AreChained ls log sent waiting) → (e.role ≡ role.Leader → last e.log ≤ last log) → Linking w e → Linking w (record e { log = log; sent = sent; waiting = waiting })
+still_linking {w} e log sent waiting chained longer h = record {
+  links = h.links;
+  since = h.since;
+  own = h.own;
+  holds = λ strict.
+      (let c = h.holds strict in
+      let now : AreChained h.links log sent waiting = chained strict h.links h.since (record { logged = c.logged; sent = c.sent; waiting = c.waiting }) in record {
+        once = c.once;
+        single = c.single;
+        made = c.made;
+        logged = now.logged;
+        sent = now.sent;
+        waiting = now.waiting;
+        past = c.past;
+        stands = c.stands;
+        leads = λ is l among term. (let low = c.leads is l among term in let high = longer is in omega (arith, low, high));
+      });
+}
+
 pub with_log : {w : World} (n : PlainNode) (v : LogValue) → All IsPlain v.entries → (w.setting.strict ≡ true → (ls : List Link) → Extends w.links ls → IsLinked ls n.log → IsLinked ls v) → (n.role ≡ role.Leader → last n.log ≤ last v) → Holds w n → Holds w (record n { log = v })
 with_log n v plain linked longer h = record {
   itself = h.itself;
@@ -155,22 +181,9 @@ with_log n v plain linked longer h = record {
   waiting = h.waiting;
   stands = h.stands;
   leads = h.leads;
-  linking = record {
-    links = h.linking.links;
-    since = h.linking.since;
-    own = h.linking.own;
-    holds = λ strict. (let c = h.linking.holds strict in record {
-      once = c.once;
-      single = c.single;
-      made = c.made;
-      logged = linked strict h.linking.links h.linking.since c.logged;
-      sent = c.sent;
-      waiting = c.waiting;
-      past = c.past;
-      stands = c.stands;
-      leads = λ is l among term. (let low = c.leads is l among term in let high = longer is in omega (arith, low, high));
-    });
-  };
+  linking =
+      still_linking (essence n) v n.sent n.waiting
+      (λ strict ls since c. record { logged = linked strict ls since c.logged; sent = c.sent; waiting = c.waiting }) longer h.linking;
 }
 
 pub says : {w : World} (n : PlainNode) (m : Message) → Keeps w.setting.config m → ((ls : List Link) → IsLinked ls n.log → IsChain ls m) → Holds w n → Holds w (with_sent n m)
@@ -182,22 +195,10 @@ says {w} n m fine chain h = record {
   waiting = h.waiting;
   stands = h.stands;
   leads = h.leads;
-  linking = record {
-    links = h.linking.links;
-    since = h.linking.since;
-    own = h.linking.own;
-    holds = λ strict. (let c = h.linking.holds strict in record {
-      once = c.once;
-      single = c.single;
-      made = c.made;
-      logged = c.logged;
-      sent = All-push (IsChain h.linking.links) n.sent m c.sent (chain h.linking.links c.logged);
-      waiting = c.waiting;
-      past = c.past;
-      stands = c.stands;
-      leads = c.leads;
-    });
-  };
+  linking =
+      still_linking (essence n) n.log (n.sent ++ m ∷ []) n.waiting
+      (λ _ ls _ c. record { logged = c.logged; sent = All-push (IsChain ls) n.sent m c.sent (chain ls c.logged); waiting = c.waiting })
+      (λ _. omega arith) h.linking;
 }
 
 pub waits : {w : World} (n : PlainNode) (m : Message) → m.from ≡ n.id → Keeps w.setting.config m → ((ls : List Link) → IsChain ls m) → Holds w n → Holds w (with_waiting n m)
@@ -209,22 +210,10 @@ waits {w} n m own fine chain h = record {
   waiting = All-push (IsOwn w) n.waiting m h.waiting (own ∙ h.itself, fine);
   stands = h.stands;
   leads = h.leads;
-  linking = record {
-    links = h.linking.links;
-    since = h.linking.since;
-    own = h.linking.own;
-    holds = λ strict. (let c = h.linking.holds strict in record {
-      once = c.once;
-      single = c.single;
-      made = c.made;
-      logged = c.logged;
-      sent = c.sent;
-      waiting = All-push (IsChain h.linking.links) n.waiting m c.waiting (chain h.linking.links);
-      past = c.past;
-      stands = c.stands;
-      leads = c.leads;
-    });
-  };
+  linking =
+      still_linking (essence n) n.log n.sent (n.waiting ++ m ∷ [])
+      (λ _ ls _ c. record { logged = c.logged; sent = c.sent; waiting = All-push (IsChain ls) n.waiting m c.waiting (chain ls) })
+      (λ _. omega arith) h.linking;
 }
 
 -- ---- another term or role, of the same log and messages
