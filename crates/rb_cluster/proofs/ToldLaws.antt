@@ -13,6 +13,7 @@ use Rattle.rb_directive.specs.declared.asking.Request.TheVariants as requests
 use Rattle.rb_directive.specs.declared.message_type.TypeSet.{TypeSet}
 use Rattle.rb_directive.specs.declared.build.Asked.{Asked}
 use Rattle.rb_directive.specs.Requests.{request}
+use Rattle.rb_level.specs.declared.level.Level.{Level}
 use Rattle.rb_level.specs.declared.directive_error.DirectiveError.{DirectiveError}
 use Rattle.rb_message.specs.declared.kind.MessageKind.TheVariants as kinds
 use Rattle.rb_message.specs.declared.message.Message.{Message}
@@ -25,9 +26,8 @@ use Rattle.rb_node.specs.Calls.{called, node_started}
 use Rattle.rb_node.specs.Readying.{has_ready, handed, advanced}
 use Rattle.rb_texts.specs.Items.{PlainItem, error, event, moved, no_messages, nothing_ready, stopped}
 use Rattle.rb_texts.specs.declared.item.Verb.TheVariants as verbs
-use Rattle.rb_machine.specs.declared.screen.Form.TheVariants as forms
-use Rattle.rb_level.specs.declared.level.Level.{Level}
 use Rattle.rb_why.specs.declared.why.Reason.{Reason}
+use Rattle.rb_machine.specs.declared.screen.Form.TheVariants as forms
 use Rattle.rb_machine.specs.declared.screen.Screen.{Screen}
 use Rattle.rb_machine.specs.Acts as acts
 use Rattle.rb_machine.specs.AddNodes.{start, options, added_each, nodes_added}

@@ -218,6 +218,7 @@ impl<L: RaftLog> Cluster<L> {
         let mut copy = Machine::try_copy(self)?;
         copy.shown(Form::Rows, directive)
     }
+
     /// What a directive prints, and below each message that reaches a node and nothing comes of it, why. It is done to a copy.
     #[tactic(auto, unfolding(rb_machine::specs::Outcome::explanation))]
     pub fn explanation(&self, directive: &DirectiveRef<'_>) -> Result<Lines, AllocError>
