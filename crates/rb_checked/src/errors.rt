@@ -84,7 +84,7 @@ pub fn is_unexpected(text: &Lines, line: usize, output: &Lines) -> bool
 }
 
 /// Whether any output is an error.
-pub(crate) fn has_errors<M: Machine>(session: &Session<M>) -> bool
+pub fn has_errors<M: Machine>(session: &Session<M>) -> bool
     ensures { result ≡ list_any is_error (outputs session.now.script) }
 {
     for i in 0..session.len() {

@@ -25,7 +25,7 @@ mod warning;
 mod written;
 
 pub use answers::{block_at, number_at, output_at};
-pub use errors::{first_line, is_unexpected};
+pub use errors::{first_line, has_errors, is_unexpected};
 pub use fault::ShowFault;
 pub use laws::{
     accepted_scripts_are, called_lines_look_like_directives, errors_are_accepted_on_request,

@@ -1,5 +1,5 @@
 -- A script of which nothing is said.
-use Rattle.std.proofs.Common.{◌≡◌, ◌∙◌, ℕ, ◌+◌, min, Bool, true, false, List, [], ◌∷◌, refl, ap, sym, arith}
+use Rattle.std.proofs.Common.{◌≡◌, ◌∙◌, ℕ, ◌+◌, Bool, true, false, List, [], ◌∷◌, refl, ap, sym, arith}
 use Rattle.std.proofs.lemmas.Bool.{eqb-true}
 use Rattle.std.specs.Prelude.{◌==◌, ◌&&◌, ◌||◌, not, codes, length, Option, None}
 use Rattle.std.specs.List.{list_any}
@@ -8,7 +8,7 @@ use Rattle.rb_script.specs.Script.{PlainBlock, PlainScript}
 use Rattle.rb_document.specs.declared.position.Encoding.{Encoding}
 use Rattle.rb_replay.specs.Run.{outputs}
 use Rattle.rb_replay.specs.Report.{same_lines, differing, mismatches}
-use Rattle.rb_checked.specs.Errors.{is_error, is_unexpected, marked, says_error}
+use Rattle.rb_checked.specs.Errors.{is_error, is_unexpected, says_error}
 use Rattle.rb_diagnostics.specs.Diagnostics.{PlainDiagnostic}
 use Rattle.rb_offers.specs.Heads.{heads_of}
 use Rattle.rb_offers.specs.Texts.{list_text, listed}
@@ -47,15 +47,6 @@ unfolding list_text listed
 empty_list text ds none = ap (list_text text) none
 
 -- ---- without its text
-
-alone : (t : Bool) → (t && true) ≡ t
-alone true = refl
-alone false = refl
-
-pub nothing_above : (o : List Line) → is_unexpected o 0 o ≡ is_error o
-nothing_above o =
-    let above : min 0 (length o) ≡ 0 = omega arith in
-    ap (λ (n : ℕ). is_error o && not (marked o n)) above ∙ alone (is_error o)
 
 both : (t u : Bool) → (t && u) ≡ true → (t ≡ true) × (u ≡ true)
 both true u h = (refl, h)
