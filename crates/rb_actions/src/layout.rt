@@ -5,12 +5,11 @@ ghost use Rattle.rb_script.specs.Reads.{Reads};
 ghost use Rattle.rb_document.specs.declared.limits.TheConstants.{MAX_TEXT};
 ghost use Rattle.rb_actions.specs.Layouts.{IsLayout, line_at};
 
-use rb_checked::lines_of;
 use rb_diagnostics::heads_of;
 use rb_document::{Encoding, LineTable, Position, offset};
 use rb_machine::Machine;
 use rb_replay::Session;
-use rb_script::Lines;
+use rb_script::{Lines, lines_of};
 use std::alloc::{AllocError, Global};
 
 /// A script's lines, those on which its heads begin, and where each begins for an editor.

@@ -6,8 +6,7 @@ ghost use Rattle.rb_script.specs.Script.{PlainScript};
 ghost use Rattle.rb_script.specs.Reads.{Reads};
 ghost use Rattle.rb_script.specs.HeadLines.{AreHeadLines};
 
-use crate::text::lines_of;
-use rb_script::{Lines, head_lines};
+use rb_script::{Lines, head_lines, lines_of};
 use std::alloc::{AllocError, Global};
 
 /// A script's lines, and those on which its heads begin.

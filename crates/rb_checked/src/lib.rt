@@ -34,7 +34,6 @@ pub use laws::{
 };
 pub use layout::{Layout, layout_of};
 pub use put::{is_quiet, is_same, put_checked, put_left_errors, put_one_mismatch};
-pub use text::lines_of;
 pub use told::Told;
 pub use view::{Shown, View};
 pub use wanted::{Picked, Wanted, is_picked};

@@ -1,12 +1,11 @@
 //! The lines of a script's bytes.
 
-ghost use Rattle.std.specs.Prelude.{◌≡◌, ◌≢◌, ◌<◌, ◌∷◌, ◌++◌, [], ℕ, length, slice_index, IfOk, IfSome, IfNone, MatchOption};
+ghost use Rattle.std.specs.Prelude.{◌≡◌, ◌≢◌, ◌<◌, ◌∷◌, [], ℕ, length, slice_index, IfSome, IfNone, MatchOption};
 ghost use Rattle.std.specs.Str.{bytes_eq};
 ghost use Rattle.rb_script.specs.Lines.{lines};
 
 use memchr::memchr;
-use rb_script::{Lines, without_returns};
-use std::alloc::{AllocError, Global};
+use rb_script::without_returns;
 
 /// Whether these are the same bytes.
 pub(crate) fn is_same_text(text: &[u8], other: &[u8]) -> bool
@@ -36,17 +35,4 @@ pub(crate) fn next_line(bytes: &[u8]) -> Option<(&[u8], &[u8])>
         Some(end) => Some((without_returns(&bytes[..end]), &bytes[end + 1..])),
         None => Some((without_returns(bytes), &[])),
     }
-}
-
-/// The lines of the bytes, without their ends.
-pub fn lines_of(alloc: Global, bytes: &[u8]) -> Result<Lines, AllocError>
-    ensures { IfOk result (λ all. all ≡ lines bytes.now) }
-{
-    let mut all = Lines::new(alloc);
-    let mut rest = bytes;
-    while let Some((line, after)) = next_line(rest) {
-        all.push(line)?;
-        rest = after;
-    }
-    Ok(all)
 }

@@ -11,10 +11,10 @@ use crate::diagnostic::{Diagnostic, Kind};
 use crate::finding::finding;
 use crate::quiet::is_quiet;
 use rb_check::{Table, fault_line, sentence};
-use rb_checked::{block_at, lines_of, number_at, output_at};
+use rb_checked::{block_at, number_at, output_at};
 use rb_machine::Machine;
 use rb_replay::Session;
-use rb_script::{Lines, ScriptFault, head_lines};
+use rb_script::{Lines, ScriptFault, head_lines, lines_of};
 use std::alloc::{AllocError, Global};
 
 // Puts one behind others, if there is one.

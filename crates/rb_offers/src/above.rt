@@ -6,8 +6,7 @@ ghost use Rattle.rb_offers.specs.declared.part.Part.TheVariants.{Lead};
 ghost use Rattle.rb_offers.specs.Above.{behind_lines, head_in, head_to, kept, line_begin};
 
 use crate::part::Part;
-use rb_checked::lines_of;
-use rb_script::{Lines, is_space};
+use rb_script::{Lines, is_space, lines_of};
 use std::alloc::{AllocError, Global};
 
 // Where the line begins in which a place stands.

@@ -8,8 +8,7 @@ ghost use Rattle.rb_script.specs.Reads.{Reads, begins_rule};
 ghost use Rattle.rb_offers.specs.BlockLines.{StandsIn, all_lines, behind_head, block_lines, blocks_of, mark_lines, script_of};
 ghost use Rattle.rb_offers.specs.Heads.{heads_of};
 
-use rb_checked::lines_of;
-use rb_script::{Block, Lines, Script, ScriptFault, continues, head_lines, is_rule};
+use rb_script::{Block, Lines, Script, ScriptFault, continues, head_lines, is_rule, lines_of};
 use std::alloc::{AllocError, Global};
 
 /// The lines of a block, by their numbers in the text, which count from 0.

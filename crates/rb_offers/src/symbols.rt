@@ -9,10 +9,9 @@ ghost use Rattle.rb_offers.specs.Texts.{listed};
 
 use crate::block_lines::{BlockLines, blocks_of};
 use crate::writing::{add_range, start_of};
-use rb_checked::lines_of;
 use rb_document::{Encoding, LineTable, Position, is_within};
 use rb_json::{Piece, add_pieces};
-use rb_script::{Lines, without_front};
+use rb_script::{Lines, lines_of, without_front};
 use std::alloc::{AllocError, Global};
 
 /// How many characters of a head's first line the name of a symbol has at most.
