@@ -6,7 +6,7 @@ ghost use Rattle.rb_document.specs.declared.document.ChangeFault.{ChangeFault};
 ghost use Rattle.rb_document.specs.Changes.{changed, spliced};
 
 use crate::limits::MAX_TEXT;
-use crate::position::{Encoding, Range, offset};
+use crate::position::{Encoding, Range, offsets};
 use std::alloc::{AllocError, Global};
 use std::marker::Model;
 
@@ -113,8 +113,7 @@ fn changed(
     ensures ok { IfOk result (λ made. (made.items ≡ changed encoding range new.now text.now) × (length made.items ≤ MAX_TEXT)) }
     ensures long { IfErr result (λ fault. fault ≡ ChangeFault.TooLong → MAX_TEXT < length (changed encoding range new.now text.now)) }
 {
-    let from = offset(encoding, range.start, text);
-    let to = offset(encoding, range.end, text);
+    let (from, to) = offsets(encoding, range, text);
     spliced(alloc, from, from.max(to), new, text)
 }
 

@@ -1,8 +1,10 @@
 //! Where a position stands in a text.
 
-ghost use Rattle.std.specs.Prelude.{◌≡◌, ◌+◌, ◌-◌, ◌*◌, ◌≤◌, length, drop};
+ghost use Rattle.std.specs.Prelude.{◌≡◌, ◌+◌, ◌-◌, ◌*◌, ◌<◌, ◌≤◌, ℕ, false, length, drop, get_or};
 ghost use Rattle.rb_document.specs.declared.limits.TheConstants.{MAX_TEXT};
 ghost use Rattle.rb_document.specs.Places.{column, ends_line, feeds, is_end, line_start, next_position, offset, position_of, units};
+
+use memchr::memchr2;
 
 /// In what the columns of a position count.
 #[derive(Clone, Copy, Debug, PartialEq, Eq)]
@@ -35,6 +37,23 @@ pub fn offset(encoding: Encoding, position: Position, text: &[u8]) -> usize
 {
     let start = line_start(position.line, text);
     start + column(encoding, position.character, &text[start..])
+}
+
+/// Where a range begins and where it ends. The line of its end is looked for from that of its beginning on.
+pub(crate) fn offsets(encoding: Encoding, range: Range, text: &[u8]) -> (usize, usize)
+    ensures from { (result.0 ≡ offset encoding range.start text.now) × (result.0 ≤ length text.now) }
+    ensures to { (result.1 ≡ offset encoding range.end text.now) × (result.1 ≤ length text.now) }
+{
+    let start = line_start(range.start.line, text);
+    let from = start + column(encoding, range.start.character, &text[start..]);
+    if range.end.line < range.start.line {
+        return (from, offset(encoding, range.end, text));
+    }
+    let further = Position {
+        line: range.end.line - range.start.line,
+        character: range.end.character,
+    };
+    (from, start + offset(encoding, further, &text[start..]))
 }
 
 /// The position behind so many bytes of a text.
@@ -111,19 +130,34 @@ fn units(encoding: Encoding, b: u8) -> u64
 }
 
 // Where a line begins.
-fn line_start(line: u64, text: &[u8]) -> usize
+pub(crate) fn line_start(line: u64, text: &[u8]) -> usize
     ensures value { result ≡ line_start line text.now }
     ensures within { result ≤ length text.now }
 {
     let mut left = line;
     let mut at = 0;
     while left > 0 && at < text.len() {
-        if ends_line(text[at], &text[at + 1..]) {
+        let end = at + line_len(&text[at..]);
+        if end == text.len() {
+            return end;
+        }
+        if ends_line(text[end], &text[end + 1..]) {
             left -= 1;
         }
-        at += 1;
+        at = end + 1;
     }
     at
+}
+
+// How many bytes stand before the first one of a line's end: all, where there is none.
+fn line_len(bytes: &[u8]) -> usize
+    ensures within { result ≤ length bytes.now }
+    ensures before { (k : ℕ) → k < result → is_end (get_or bytes.now k 0) ≡ false }
+{
+    match memchr2(b'\n', b'\r', bytes) {
+        Some(end) => end,
+        None => bytes.len(),
+    }
 }
 
 // The bytes of a line before so many units.
