@@ -4,6 +4,7 @@ ghost use Rattle.std.specs.Prelude.{◌≡◌, ◌≤◌, ◌++◌, Some, false,
 ghost use Rattle.serde_json.specs.View.{view};
 ghost use Rattle.serde_json.specs.Written.{compact_text, has_float};
 ghost use Rattle.rb_document.specs.declared.limits.TheConstants.{MAX_TEXT};
+ghost use Rattle.rb_rpc.specs.Answers.{failure};
 ghost use Rattle.rb_rpc.specs.Messages.{frame};
 ghost use Rattle.rb_server.specs.Documents.{text_of};
 ghost use Rattle.rb_server.specs.Questions.{answer_text, asked_of, body_text, no_memory_for, not_open, of_text, question_body, unfit, with_asked};
@@ -18,73 +19,50 @@ use rb_rpc::{ErrorCode, failure, text_below, text_of};
 use serde_json::Value;
 use std::alloc::{AllocError, Global};
 
+// A refusal with this code and this sentence, as it goes out.
+fn refused(
+    alloc: Global,
+    id: &Value,
+    code: ErrorCode,
+    sentence: &str,
+) -> Result<Vec<u8>, AllocError>
+    requires { has_float (view id.now) ≡ false }
+    ensures { IfOk result (λ out. out.items ≡ frame (body_text (failure (view id.now) code sentence.now))) }
+{
+    let answer = failure(alloc, id, code, sentence)?;
+    framed_answer(alloc, &answer)
+}
+
 // Refuses what isn't what the method takes.
 #[tactic(auto, unfolding(crate::specs::Questions::unfit))]
-fn unfit(alloc: Global, id: &Value) -> Result<Value, AllocError>
+fn unfit(alloc: Global, id: &Value) -> Result<Told, AllocError>
     requires { has_float (view id.now) ≡ false }
-    ensures value { IfOk result (λ answer. view answer ≡ unfit (view id.now)) }
-    ensures plain { IfOk result (λ answer. has_float (view answer) ≡ false) }
+    ensures { IfOk result (λ told. told.out.items ≡ frame (body_text (unfit (view id.now)))) }
 {
-    failure(
-        alloc,
-        id,
-        ErrorCode::InvalidParams,
-        "the method takes other params",
-    )
+    let code = ErrorCode::InvalidParams;
+    let out = refused(alloc, id, code, "the method takes other params")?;
+    Ok(Told::whole(out))
 }
 
 // Refuses what is asked of a document that isn't open.
 #[tactic(auto, unfolding(crate::specs::Questions::not_open))]
-fn not_open(alloc: Global, id: &Value) -> Result<Value, AllocError>
+fn not_open(alloc: Global, id: &Value) -> Result<Told, AllocError>
     requires { has_float (view id.now) ≡ false }
-    ensures value { IfOk result (λ answer. view answer ≡ not_open (view id.now)) }
-    ensures plain { IfOk result (λ answer. has_float (view answer) ≡ false) }
+    ensures { IfOk result (λ told. told.out.items ≡ frame (body_text (not_open (view id.now)))) }
 {
-    failure(
-        alloc,
-        id,
-        ErrorCode::InvalidParams,
-        "the document isn't open",
-    )
+    let code = ErrorCode::InvalidParams;
+    let out = refused(alloc, id, code, "the document isn't open")?;
+    Ok(Told::whole(out))
 }
 
 // Refuses a request for whose answer memory was refused.
 #[tactic(auto, unfolding(crate::specs::Questions::no_memory_for))]
-fn no_memory_for(alloc: Global, id: &Value) -> Result<Value, AllocError>
-    requires { has_float (view id.now) ≡ false }
-    ensures value { IfOk result (λ answer. view answer ≡ no_memory_for (view id.now)) }
-    ensures plain { IfOk result (λ answer. has_float (view answer) ≡ false) }
-{
-    failure(
-        alloc,
-        id,
-        ErrorCode::InternalError,
-        "no memory for an answer",
-    )
-}
-
-fn unfit_told(alloc: Global, id: &Value) -> Result<Told, AllocError>
-    requires { has_float (view id.now) ≡ false }
-    ensures { IfOk result (λ told. told.out.items ≡ frame (body_text (unfit (view id.now)))) }
-{
-    let answer = unfit(alloc, id)?;
-    Ok(Told::whole(framed_answer(alloc, &answer)?))
-}
-
-fn closed_told(alloc: Global, id: &Value) -> Result<Told, AllocError>
-    requires { has_float (view id.now) ≡ false }
-    ensures { IfOk result (λ told. told.out.items ≡ frame (body_text (not_open (view id.now)))) }
-{
-    let answer = not_open(alloc, id)?;
-    Ok(Told::whole(framed_answer(alloc, &answer)?))
-}
-
-fn no_memory_out(alloc: Global, id: &Value) -> Result<Vec<u8>, AllocError>
+fn no_memory_for(alloc: Global, id: &Value) -> Result<Vec<u8>, AllocError>
     requires { has_float (view id.now) ≡ false }
     ensures { IfOk result (λ out. out.items ≡ frame (body_text (no_memory_for (view id.now)))) }
 {
-    let answer = no_memory_for(alloc, id)?;
-    framed_answer(alloc, &answer)
+    let code = ErrorCode::InternalError;
+    refused(alloc, id, code, "no memory for an answer")
 }
 
 // Adds an id.
@@ -140,7 +118,7 @@ fn of_text<V: Service>(
             has_no_memory: false,
         }),
         Err(AllocError) => Ok(Told {
-            out: no_memory_out(alloc, id)?,
+            out: no_memory_for(alloc, id)?,
             has_no_memory: true,
         }),
     }
@@ -161,7 +139,7 @@ fn of_document<V: Service>(
 {
     match documents.text(uri) {
         Some(text) => of_text(alloc, service, encoding, asked, uri, text, id),
-        None => closed_told(alloc, id),
+        None => not_open(alloc, id),
     }
 }
 
@@ -179,13 +157,13 @@ pub(crate) fn question_told<V: Service>(
     ensures { IfOk result (λ told. told.out.items ≡ frame (question_body V.meaning told.has_no_memory encoding documents.now question (option_map (λ v. view v.now) params.entry) (view id.now))) }
 {
     let Some(params) = params else {
-        return unfit_told(alloc, id);
+        return unfit(alloc, id);
     };
     let Some(uri) = text_below(params, "textDocument", "uri") else {
-        return unfit_told(alloc, id);
+        return unfit(alloc, id);
     };
     let Some(asked) = asked_of(question, params) else {
-        return unfit_told(alloc, id);
+        return unfit(alloc, id);
     };
     of_document(
         alloc,
