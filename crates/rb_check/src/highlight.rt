@@ -3,10 +3,10 @@
 //! Where as many lines came as were expected, each is compared with the one that it stands for. What is not in a common beginning or a
 //! common end is shown in reverse video. Without colours nothing is.
 
-ghost use Rattle.std.specs.Prelude.{◌≡◌, ◌+◌, ◌-◌, ◌≤◌, IsOk, length};
+ghost use Rattle.std.specs.Prelude.{◌≡◌, ◌+◌, ◌-◌, ◌<◌, ◌≤◌, IsOk, get_or, length};
 ghost use Rattle.rb_script.specs.Writes.{Writes};
 ghost use Rattle.rb_check.specs.Diffs.{between};
-ghost use Rattle.rb_check.specs.Highlights.{front_len, back_len, parts_beside, highlighted_text, beside_text, paired_text, is_paired, changed_text};
+ghost use Rattle.rb_check.specs.Highlights.{read_from, same_len, parts_beside, highlighted_text, beside_text, paired_text, is_paired, changed_text};
 
 use crate::colors::Colors;
 use crate::line::{end_mark, put_line, put_lines};
@@ -14,32 +14,35 @@ use crate::piece::{Piece, put_pieces};
 use crate::side::{Side, after, before};
 use rb_script::{Lines, Sink, WriteFault};
 
-// How many bytes are the same at the beginnings.
-fn front_len(line: &[u8], other: &[u8]) -> usize
-    ensures value { result ≡ front_len line.now other.now }
+// From which end of a line its bytes are read.
+#[derive(Clone, Copy)]
+enum End {
+    Front,
+    Back,
+}
+
+// The byte at an index that counts from this end.
+#[tactic(auto, using(crate::proofs::HighlightLaws::get_back))]
+fn byte_from(end: End, line: &[u8], index: usize) -> u8
+    requires { index < length line.now }
+    ensures { result ≡ get_or (read_from end line.now) index 0 }
+{
+    match end {
+        End::Front => line[index],
+        End::Back => line[line.len() - 1 - index],
+    }
+}
+
+// How many bytes are the same at this end.
+fn same_len(end: End, line: &[u8], other: &[u8]) -> usize
+    ensures value { result ≡ same_len end line.now other.now }
     ensures within { result ≤ length line.now }
     ensures within_other { result ≤ length other.now }
 {
     let most = line.len().min(other.len());
     for i in 0..most {
-        let here = line[i];
-        let there = other[i];
-        if here != there {
-            return i;
-        }
-    }
-    most
-}
-
-// How many are the same at the ends.
-fn back_len(line: &[u8], other: &[u8]) -> usize
-    ensures value { result ≡ back_len line.now other.now }
-    ensures within { result ≤ length line.now }
-{
-    let most = line.len().min(other.len());
-    for i in 0..most {
-        let here = line[line.len() - 1 - i];
-        let there = other[other.len() - 1 - i];
+        let here = byte_from(end, line, i);
+        let there = byte_from(end, other, i);
         if here != there {
             return i;
         }
@@ -51,10 +54,10 @@ fn back_len(line: &[u8], other: &[u8]) -> usize
 fn parts_beside<'a>(line: &'a [u8], other: &[u8]) -> (&'a [u8], &'a [u8], &'a [u8])
     ensures { record { front = result.0.now; differs = result.1.now; back = result.2.now } ≡ parts_beside line.now other.now }
 {
-    let front_len = front_len(line, other);
+    let front_len = same_len(End::Front, line, other);
     let (front, rest) = line.split_at(front_len);
     let (_, rest_other) = other.split_at(front_len);
-    let (differs, back) = rest.split_at(rest.len() - back_len(rest, rest_other));
+    let (differs, back) = rest.split_at(rest.len() - same_len(End::Back, rest, rest_other));
     (front, differs, back)
 }
 
