@@ -1,10 +1,12 @@
 //! What the scripts of a check run on.
 
 use rb_cluster::{Cluster, Meter};
+use rb_machine::Machine;
 use rb_raftlog::SplitLog;
 use rb_replay::{Session, StartFault};
+use rb_script::{DirectiveRef, Lines};
 use rb_suite::Runner;
-use std::alloc::Global;
+use std::alloc::{AllocError, Global};
 
 /// Clusters of nodes with split logs. No directive runs again, so as few are kept as there may be.
 #[derive(Drop)]
@@ -20,5 +22,16 @@ impl Runner for Clusters {
     ) -> Result<Session<Cluster<SplitLog>>, StartFault> {
         let mut meter = Meter::new();
         Session::run_once(alloc, bytes, &mut meter)
+    }
+
+    fn explained(
+        &mut self,
+        machine: Cluster<SplitLog>,
+        directive: DirectiveRef<'_>,
+    ) -> Result<(Cluster<SplitLog>, Lines), AllocError> {
+        let lines = machine.explanation(&directive)?;
+        let mut meter = Meter::new();
+        let (next, _) = machine.run(directive, &mut meter)?;
+        Ok((next, lines))
     }
 }

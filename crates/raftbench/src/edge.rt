@@ -129,6 +129,7 @@ fn check_all<R: Files + Input + Print + Env + Clock + AllocGlobal, E: Write + Dr
         is_forced: choice.is_forced,
         reviews: choice.reviews,
         is_quiet: choice.is_quiet,
+        explains: choice.explains && !choice.is_quiet && style == Style::Text,
         shown: shown(choice, style),
         format: style.format(),
         colors: colors(rt, wish, terminals.output),

@@ -54,6 +54,7 @@ pub record IsCheckOf (rows : Option (List Row)) (check : CheckChoice) : Type 0 w
   pub brief : check.is_brief ≡ is_set (option_and_then (first_of (codes "brief")) rows)
   pub verbose : check.is_verbose ≡ is_set (option_and_then (first_of (codes "verbose")) rows)
   pub quiet : check.is_quiet ≡ is_set (option_and_then (first_of (codes "quiet")) rows)
+  pub explains : check.explains ≡ is_set (option_and_then (first_of (codes "why")) rows)
 
 -- the subcommand that was met, and the values of its FILE, its NAME, its --every and its --until; and what is said to `check`
 pub record IsChoiceOf (met : Option (Text × List Row)) (choice : Choice) : Type 0 where

@@ -69,6 +69,8 @@ pub struct CheckChoice {
     pub is_brief: bool,
     /// Whether `--quiet` is given.
     pub is_quiet: bool,
+    /// Whether `--why` is given.
+    pub explains: bool,
 }
 
 /// Why the words choose nothing.

@@ -75,6 +75,7 @@ fn no_choice(alloc: Global) -> Choice
         is_first: false,
         is_brief: false,
         is_quiet: false,
+        explains: false,
     };
     Choice {
         subcommand: None,
@@ -125,6 +126,7 @@ fn check_choice(alloc: Global, inner: &ArgMatches<'_>) -> Result<CheckChoice, Al
         is_first: is_given(inner, "first"),
         is_brief: is_given(inner, "brief"),
         is_quiet: is_given(inner, "quiet"),
+        explains: is_given(inner, "why"),
     })
 }
 

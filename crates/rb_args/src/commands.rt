@@ -3,7 +3,7 @@
 ghost use Rattle.std.specs.Prelude.{◌≡◌, IfOk, codes, false};
 ghost use Rattle.clap.specs.Words.{App, Rule, app_of, new_app, rule_of, with_rule, with_subcommand};
 ghost use Rattle.clap.specs.declared.builder.command.Command.TheViews.{out-Command};
-ghost use Rattle.rb_args.specs.CommandLine.{IsMade, command_line, check_line, directives_line, file_line, server_line, with_accepting, with_amounts, with_choices, with_files, with_help, with_option, with_version, with_views, file_rule, flag_rule, letter_rule, many_rule, name_rule, option_rule, path_rule, value_rule};
+ghost use Rattle.rb_args.specs.CommandLine.{IsMade, command_line, check_line, directives_line, file_line, server_line, with_accepting, with_amounts, with_choices, with_files, with_help, with_option, with_reasons, with_version, with_views, file_rule, flag_rule, letter_rule, many_rule, name_rule, option_rule, path_rule, value_rule};
 
 use clap::{Arg, ArgAction, Command};
 use std::alloc::{AllocError, Global};
@@ -184,7 +184,8 @@ fn check_command<'a>(alloc: Global) -> Made<'a>
 {
     let command = with_accepting(command_of_paths(alloc), alloc);
     let command = with_argument(command, filter_argument(alloc));
-    with_choices(with_amounts(command, alloc), alloc)
+    let command = with_reasons(with_amounts(command, alloc), alloc);
+    with_choices(command, alloc)
 }
 
 fn command_of_paths<'a>(alloc: Global) -> Made<'a>
@@ -250,6 +251,18 @@ fn with_amounts<'a>(command: Made<'a>, alloc: Global) -> Made<'a>
     );
     let command = with_argument(with_argument(command, verbose), first);
     with_argument(with_argument(command, brief), quiet)
+}
+
+// The option of `check` that tells reasons.
+fn with_reasons<'a>(command: Made<'a>, alloc: Global) -> Made<'a>
+    ensures { (line : App) → IsMade command.entry line → IsMade result (with_reasons line) }
+{
+    let why = flag_argument(
+        alloc,
+        "why",
+        "Tells why nothing came of a message, below the output that is shown",
+    );
+    with_argument(command, why)
 }
 
 // The options of `check` that have a value.

@@ -18,3 +18,5 @@ pub mod PutLaws
 pub mod SentenceLaws
 pub mod CountLaws
 pub mod ToldLaws
+pub mod UntoldLaws
+pub mod AddedLaws

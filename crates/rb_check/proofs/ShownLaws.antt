@@ -9,6 +9,7 @@ use Rattle.rb_check.specs.declared.colors.Colors.{Colors}
 use Rattle.rb_check.specs.declared.side.Side.{Side}
 use Rattle.rb_check.specs.Shown.{last_or, begins_fold, needs_mark, marked, dollar_sign, line_shown}
 use Rattle.rb_check.specs.Diffs.{between, on_side, diff_text}
+use Rattle.rb_check.specs.Whys.{told_line, told_lines}
 use Rattle.rb_check.proofs.PieceLaws.{drop-get}
 
 -- ---- the mark at the end
@@ -76,3 +77,11 @@ shown-step colors side start stop ls line h got = ap (λ (l : List Line). diff_t
 
 pub shown-done : (colors : Colors) (side : Side) (start stop : ℕ) (ls : List Line) → stop ≤ start → diff_text colors (on_side side (between start stop ls)) ≡ []
 shown-done colors side start stop ls h = ap (λ (l : List Line). diff_text colors (on_side side l)) (between-done start stop ls h)
+
+-- with the reasons below them
+pub told-step : (colors : Colors) (side : Side) (why : List Line) (at start stop : ℕ) (ls : List Line) (line : Line) → start < stop → slice_get ls start ≡ Some line
+    → told_lines colors side why at (between start stop ls) ≡ told_line colors side why at line ++ told_lines colors side why (at + 1) (between (start + 1) stop ls)
+told-step colors side why at start stop ls line h got = ap (λ (l : List Line). told_lines colors side why at l) (between-step start stop ls line h got)
+
+pub told-done : (colors : Colors) (side : Side) (why : List Line) (at start stop : ℕ) (ls : List Line) → stop ≤ start → told_lines colors side why at (between start stop ls) ≡ []
+told-done colors side why at start stop ls h = ap (λ (l : List Line). told_lines colors side why at l) (between-done start stop ls h)

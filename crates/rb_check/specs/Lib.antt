@@ -15,3 +15,4 @@ pub mod Refusals
 pub mod Failures
 pub mod Statuses
 pub mod Counts
+pub mod Whys

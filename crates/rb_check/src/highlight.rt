@@ -6,12 +6,14 @@
 ghost use Rattle.std.specs.Prelude.{◌≡◌, ◌+◌, ◌-◌, ◌<◌, ◌≤◌, IsOk, get_or, length};
 ghost use Rattle.rb_script.specs.Writes.{Writes};
 ghost use Rattle.rb_check.specs.Diffs.{between};
-ghost use Rattle.rb_check.specs.Highlights.{read_from, same_len, parts_beside, highlighted_text, beside_text, paired_text, is_paired, changed_text};
+ghost use Rattle.rb_check.specs.Highlights.{read_from, same_len, parts_beside, highlighted_text, beside_text, is_paired};
+ghost use Rattle.rb_check.specs.Whys.{reasons_in, told_beside, told_paired, told_changed};
 
 use crate::colors::Colors;
-use crate::line::{end_mark, put_line, put_lines};
+use crate::line::{end_mark, put_line, put_told_lines};
 use crate::piece::{Piece, put_pieces};
 use crate::side::{Side, after, before};
+use crate::why::{Why, put_reason};
 use rb_script::{Lines, Sink, WriteFault};
 
 // From which end of a line its bytes are read.
@@ -105,7 +107,23 @@ fn put_beside<S: Sink>(
     put_highlighted(sink, side, front, differs, back, end_mark(line))
 }
 
-// Writes the lines from one position up to another, each beside the one that it stands for.
+// Writes a line beside the one that it stands for, and the reason below it.
+fn put_told_beside<S: Sink>(
+    sink: &mut S,
+    side: Side,
+    line: &[u8],
+    other: &[u8],
+    why: Why<'_>,
+    at: usize,
+) -> Result<(), WriteFault>
+    ensures wrote { Writes result (S.held sink.old) (S.held sink.new) (told_beside side (reasons_in why.entry) at line.now other.now) }
+    ensures all { S.takes_all sink.old → IsOk result × S.takes_all sink.new }
+{
+    put_beside(sink, side, line, other)?;
+    put_reason(sink, why, at)
+}
+
+// Writes the lines from one position up to another, each beside the one that it stands for, and with the reason below it.
 fn put_paired<S: Sink>(
     sink: &mut S,
     side: Side,
@@ -113,16 +131,17 @@ fn put_paired<S: Sink>(
     from: (usize, usize),
     others: &Lines,
     beside: (usize, usize),
+    why: Why<'_>,
 ) -> Result<(), WriteFault>
     requires within { from.1 ≤ length lines.now }
     requires within_others { beside.1 ≤ length others.now }
     requires as_many { from.1 - from.0 ≡ beside.1 - beside.0 }
-    ensures wrote { Writes result (S.held sink.old) (S.held sink.new) (paired_text side (between from.0 from.1 lines.now) (between beside.0 beside.1 others.now)) }
+    ensures wrote { Writes result (S.held sink.old) (S.held sink.new) (told_paired side (reasons_in why.entry) from.0 (between from.0 from.1 lines.now) (between beside.0 beside.1 others.now)) }
     ensures all { S.takes_all sink.old → IsOk result × S.takes_all sink.new }
 {
     for i in from.0..from.1 {
         let other = others.line(beside.0 + (i - from.0));
-        put_beside(sink, side, lines.line(i), other)?;
+        put_told_beside(sink, side, lines.line(i), other, why, i)?;
     }
     Ok(())
 }
@@ -136,7 +155,7 @@ fn is_paired(colors: Colors, count: usize, other_count: usize) -> bool
     }
 }
 
-/// Writes the lines from one position up to another, in whose place those of the other side stand.
+/// Writes the lines from one position up to another, in whose place those of the other side stand, each with the reason below it.
 pub(crate) fn put_changed<S: Sink>(
     sink: &mut S,
     colors: Colors,
@@ -145,16 +164,17 @@ pub(crate) fn put_changed<S: Sink>(
     from: (usize, usize),
     others: &Lines,
     beside: (usize, usize),
+    why: Why<'_>,
 ) -> Result<(), WriteFault>
     requires begins { from.0 ≤ from.1 }
     requires within { from.1 ≤ length lines.now }
     requires begins_others { beside.0 ≤ beside.1 }
     requires within_others { beside.1 ≤ length others.now }
-    ensures wrote { Writes result (S.held sink.old) (S.held sink.new) (changed_text colors side (between from.0 from.1 lines.now) (between beside.0 beside.1 others.now)) }
+    ensures wrote { Writes result (S.held sink.old) (S.held sink.new) (told_changed colors side (reasons_in why.entry) from.0 (between from.0 from.1 lines.now) (between beside.0 beside.1 others.now)) }
     ensures all { S.takes_all sink.old → IsOk result × S.takes_all sink.new }
 {
     if is_paired(colors, from.1 - from.0, beside.1 - beside.0) {
-        return put_paired(sink, side, lines, from, others, beside);
+        return put_paired(sink, side, lines, from, others, beside, why);
     }
-    put_lines(sink, colors, side, lines, from.0, from.1)
+    put_told_lines(sink, colors, side, lines, from, why, from)
 }

@@ -31,27 +31,29 @@ mod status;
 mod steps;
 mod table;
 mod totals;
+mod why;
 
 pub use accepted::put_accepted;
 pub use brief::put_brief;
 pub use colors::Colors;
-pub use diff::put_diff;
+pub use diff::{put_diff, put_told_diff};
 pub use doubt::{Doubt, doubt_sentence, put_unaccepted, put_warning};
 pub use failure::{Failure, failure_sentence, put_failure};
 pub use head::put_head;
 pub use laws::{
     colors_go_around, counts_are_sums, diffs_are, diffs_are_longest, diffs_tell_both_sides,
     highlights_are_least, highlights_need_colors, highlights_take_nothing_away,
-    lines_are_told_apart, same_lines_are_plain, sentences_are_distinct,
+    lines_are_told_apart, reasons_stand_between, same_lines_are_plain, sentences_are_distinct,
     shown_diffs_tell_both_sides, statuses_are_greatest,
 };
 pub use left::put_left;
-pub use mismatch::{put_directive, put_mismatch, put_note};
+pub use mismatch::{put_directive, put_mismatch, put_note, put_told_mismatch};
 pub use outcome::Outcome;
 pub use place::Place;
 pub use refusal::{fault_line, put_refusal, sentence};
 pub use side::Side;
 pub use status::{Status, status_code};
-pub use steps::put_run;
+pub use steps::{put_run, put_told_run};
 pub use table::{MAX_CELLS, Table};
 pub use totals::{Totals, put_totals};
+pub use why::Why;

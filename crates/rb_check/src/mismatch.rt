@@ -5,15 +5,17 @@ ghost use Rattle.rb_script.specs.Tokens.{plain};
 ghost use Rattle.rb_script.specs.Writes.{Writes};
 ghost use Rattle.rb_check.specs.Heads.{head_text};
 ghost use Rattle.rb_check.specs.Headings.{mismatch_text, directive_text, note_text};
+ghost use Rattle.rb_check.specs.Whys.{reasons_in, told_mismatch};
 
 use crate::colors::Colors;
-use crate::diff::put_diff;
+use crate::diff::put_told_diff;
 use crate::hint::put_hint;
 use crate::line::put_lines;
 use crate::piece::{Piece, put_pieces};
 use crate::place::{Place, put_heading};
 use crate::side::Side;
 use crate::table::Table;
+use crate::why::Why;
 use rb_script::{DirectiveRef, Lines, Sink, WriteFault};
 
 /// Writes a mismatch: `PATH:LINE: HEAD`, with the line on which the directive's head begins and the head on one line, and then what
@@ -32,9 +34,37 @@ pub fn put_mismatch<S: Sink>(
     ensures wrote { Writes result (S.held sink.old) (S.held sink.new) (mismatch_text colors place.entry.path.now place.entry.line (head_text (plain directive.now)) expected.now output.now hint.now) }
     ensures all { S.takes_all sink.old → IsOk result × S.takes_all sink.new }
 {
+    put_told_mismatch(
+        sink,
+        place,
+        directive,
+        expected,
+        output,
+        Why::Untold,
+        hint,
+        colors,
+        table,
+    )
+}
+
+/// So, and below each line of the output that is shown the reason that belongs to it, behind `^ `.
+pub fn put_told_mismatch<S: Sink>(
+    sink: &mut S,
+    place: Place<'_>,
+    directive: &DirectiveRef<'_>,
+    expected: &Lines,
+    output: &Lines,
+    why: Why<'_>,
+    hint: &[u8],
+    colors: Colors,
+    table: &mut Table,
+) -> Result<(), WriteFault>
+    ensures wrote { Writes result (S.held sink.old) (S.held sink.new) (told_mismatch colors place.entry.path.now place.entry.line (head_text (plain directive.now)) expected.now output.now (reasons_in why.entry) hint.now) }
+    ensures all { S.takes_all sink.old → IsOk result × S.takes_all sink.new }
+{
     put_heading(sink, place, directive)?;
     sink.put(b"\n")?;
-    put_diff(sink, table, expected, output, colors)?;
+    put_told_diff(sink, table, expected, output, why, colors)?;
     put_hint(sink, hint)?;
     sink.put(b"\n")
 }

@@ -7,12 +7,14 @@ ghost use Rattle.std.specs.Prelude.{◌≡◌, false, IsOk};
 ghost use Rattle.rb_script.specs.Tokens.{plain};
 ghost use Rattle.rb_script.specs.Writes.{Writes};
 ghost use Rattle.rb_check.specs.Heads.{head_text};
-ghost use Rattle.rb_check.specs.Steps.{is_delivery, is_event, is_ready, before_step, step_text, is_delivered, steps_text, run_text};
+ghost use Rattle.rb_check.specs.Steps.{is_delivery, is_event, is_ready, before_step, step_text, is_delivered, run_text};
+ghost use Rattle.rb_check.specs.Whys.{reasons_in, told_step, told_steps, told_run};
 
 use crate::hint::put_hint;
 use crate::line::end_mark;
 use crate::piece::{Piece, put_pieces};
 use crate::place::{Place, put_heading};
+use crate::why::{Why, put_reason};
 use rb_script::{DirectiveRef, Lines, Sink, WriteFault};
 
 fn is_delivery(line: &[u8]) -> bool
@@ -77,14 +79,29 @@ fn is_delivered(delivered: bool, line: &[u8]) -> bool
     is_delivery(line) || (delivered && is_event(line))
 }
 
-fn put_steps<S: Sink>(sink: &mut S, lines: &Lines) -> Result<(), WriteFault>
-    ensures wrote { Writes result (S.held sink.old) (S.held sink.new) (steps_text false lines.now) }
+// Writes a line, and the reason below it: it is the line at a place of the output.
+fn put_told_step<S: Sink>(
+    sink: &mut S,
+    delivered: bool,
+    line: &[u8],
+    why: Why<'_>,
+    at: usize,
+) -> Result<(), WriteFault>
+    ensures wrote { Writes result (S.held sink.old) (S.held sink.new) (told_step delivered (reasons_in why.entry) at line.now) }
+    ensures all { S.takes_all sink.old → IsOk result × S.takes_all sink.new }
+{
+    put_step(sink, delivered, line)?;
+    put_reason(sink, why, at)
+}
+
+fn put_steps<S: Sink>(sink: &mut S, lines: &Lines, why: Why<'_>) -> Result<(), WriteFault>
+    ensures wrote { Writes result (S.held sink.old) (S.held sink.new) (told_steps false (reasons_in why.entry) 0 lines.now) }
     ensures all { S.takes_all sink.old → IsOk result × S.takes_all sink.new }
 {
     let mut delivered = false;
     for i in 0..lines.len() {
         let line = lines.line(i);
-        put_step(sink, delivered, line)?;
+        put_told_step(sink, delivered, line, why, i)?;
         delivered = is_delivered(delivered, line);
     }
     Ok(())
@@ -103,8 +120,23 @@ pub fn put_run<S: Sink>(
     ensures wrote { Writes result (S.held sink.old) (S.held sink.new) (run_text place.entry.path.now place.entry.line (head_text (plain directive.now)) output.now hint.now) }
     ensures all { S.takes_all sink.old → IsOk result × S.takes_all sink.new }
 {
+    put_told_run(sink, place, directive, output, Why::Untold, hint)
+}
+
+/// So, and below each line of the output the reason that belongs to it, behind `^ `.
+pub fn put_told_run<S: Sink>(
+    sink: &mut S,
+    place: Place<'_>,
+    directive: &DirectiveRef<'_>,
+    output: &Lines,
+    why: Why<'_>,
+    hint: &[u8],
+) -> Result<(), WriteFault>
+    ensures wrote { Writes result (S.held sink.old) (S.held sink.new) (told_run place.entry.path.now place.entry.line (head_text (plain directive.now)) output.now (reasons_in why.entry) hint.now) }
+    ensures all { S.takes_all sink.old → IsOk result × S.takes_all sink.new }
+{
     put_heading(sink, place, directive)?;
     sink.put(b"\n")?;
-    put_steps(sink, output)?;
+    put_steps(sink, output, why)?;
     put_hint(sink, hint)
 }

@@ -3,3 +3,4 @@ pub mod Checked
 pub mod Shows
 pub mod Accepting
 pub mod Doubts
+pub mod Whys

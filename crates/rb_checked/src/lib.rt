@@ -2,7 +2,7 @@
 //! each that answers an error which nobody said is expected; and what accepting its outputs makes of it.
 //!
 //! [`put_checked`] writes it into any sink, of a session on any [`Machine`](rb_machine::Machine). What it writes is one definition,
-//! `Checked.checked_text`; the laws say that it is the mismatches. [`accept`] gives the text with what is accepted, and [`warnings`] the lines
+//! `Checked.checked_text`, or with the reasons why nothing came of messages `Whys.told_text`; the laws say that it is the mismatches. [`accept`] gives the text with what is accepted, and [`warnings`] the lines
 //! that look like a slip.
 #![tactic(auto)]
 
@@ -16,6 +16,7 @@ mod layout;
 mod names;
 mod part;
 mod put;
+mod reasons;
 mod splice;
 mod text;
 mod told;
@@ -34,6 +35,7 @@ pub use laws::{
 };
 pub use layout::{Layout, layout_of};
 pub use put::{is_quiet, is_same, put_checked, put_left_errors, put_one_mismatch};
+pub use reasons::reasons_of;
 pub use told::Told;
 pub use view::{Shown, View};
 pub use wanted::{Picked, Wanted, is_picked};

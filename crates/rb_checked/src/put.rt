@@ -9,7 +9,9 @@ ghost use Rattle.rb_script.specs.HeadLines.{AreHeadLines};
 ghost use Rattle.rb_script.specs.Writes.{Writes};
 ghost use Rattle.rb_replay.specs.Run.{outputs};
 ghost use Rattle.rb_replay.specs.Report.{same_lines, mismatches};
-ghost use Rattle.rb_checked.specs.Checked.{match_shown, mismatch_shown, directive_shown, all_shown, of_first, mismatch_at, brief_at, checked_text, IsFirst};
+ghost use Rattle.rb_check.specs.Whys.{reasons_in};
+ghost use Rattle.rb_checked.specs.Checked.{of_first, brief_at, IsFirst};
+ghost use Rattle.rb_checked.specs.Whys.{told_match, told_differing, told_directive, all_told, told_at, told_text};
 ghost use Rattle.rb_checked.specs.Accepting.{all_left};
 ghost use Rattle.rb_checked.specs.Shows.{Shows, told_of, IsQuiet};
 
@@ -19,10 +21,11 @@ use crate::errors::{count_errors, first_line, has_errors, is_unexpected};
 use crate::fault::ShowFault;
 use crate::hint::hint_of;
 use crate::layout::{Layout, layout_of};
+use crate::reasons::why_at;
 use crate::told::Told;
 use crate::view::{Shown, View};
 use crate::wanted::Wanted;
-use rb_check::{Colors, Place, Table, put_brief, put_mismatch, put_note, put_run};
+use rb_check::{Colors, Place, Table, Why, put_brief, put_note, put_told_mismatch, put_told_run};
 use rb_machine::Machine;
 use rb_replay::Session;
 use rb_script::{Block, Lines, Sink, WriteFault};
@@ -43,13 +46,14 @@ fn put_match<S: Sink>(
     text: &Lines,
     place: Place<'_>,
     all: bool,
+    why: Why<'_>,
 ) -> Result<(), WriteFault>
-    ensures wrote { Writes result (S.held sink.old) (S.held sink.new) (match_shown all text.now place.entry.path.now place.entry.line block.now output.now) }
+    ensures wrote { Writes result (S.held sink.old) (S.held sink.new) (told_match all text.now place.entry.path.now place.entry.line block.now output.now (reasons_in why.entry)) }
     ensures all { S.takes_all sink.old → IsOk result × S.takes_all sink.new }
 {
     if all {
         let hint = hint_of(block, output);
-        return put_run(sink, place, &block.directive(), output, hint);
+        return put_told_run(sink, place, &block.directive(), output, why, hint);
     }
     if !is_unexpected(text, place.line, output) {
         return Ok(());
@@ -64,20 +68,22 @@ fn put_differing<S: Sink>(
     block: &Block,
     output: &Lines,
     place: Place<'_>,
+    why: Why<'_>,
     colors: Colors,
     table: &mut Table,
 ) -> Result<(), WriteFault>
-    ensures wrote { Writes result (S.held sink.old) (S.held sink.new) (mismatch_shown colors place.entry.path.now place.entry.line block.now output.now) }
+    ensures wrote { Writes result (S.held sink.old) (S.held sink.new) (told_differing colors place.entry.path.now place.entry.line block.now output.now (reasons_in why.entry)) }
     ensures all { S.takes_all sink.old → IsOk result × S.takes_all sink.new }
 {
     let hint = hint_of(block, output);
     let expected = block.expected();
-    put_mismatch(
+    put_told_mismatch(
         sink,
         place,
         &block.directive(),
         expected,
         output,
+        why,
         hint,
         colors,
         table,
@@ -93,17 +99,18 @@ fn put_shown<S: Sink>(
     line: usize,
     view: View<'_>,
     all: bool,
+    why: Why<'_>,
     table: &mut Table,
 ) -> Result<(), WriteFault>
-    ensures wrote { Writes result (S.held sink.old) (S.held sink.new) (directive_shown all view.entry.colors text.now view.entry.path.now line block.now output.now) }
+    ensures wrote { Writes result (S.held sink.old) (S.held sink.new) (told_directive all view.entry.colors text.now view.entry.path.now line block.now output.now (reasons_in why.entry)) }
     ensures all { S.takes_all sink.old → IsOk result × S.takes_all sink.new }
 {
     let path = view.path;
     let place = Place { path, line };
     if is_same(block.expected(), output) {
-        return put_match(sink, block, output, text, place, all);
+        return put_match(sink, block, output, text, place, all, why);
     }
-    put_differing(sink, block, output, place, view.colors, table)
+    put_differing(sink, block, output, place, why, view.colors, table)
 }
 
 // Writes what is shown of each directive, where a script's heads begin on these lines.
@@ -114,10 +121,11 @@ fn put_directives<M: Machine, S: Sink>(
     text: &Lines,
     view: View<'_>,
     all: bool,
+    whys: &[Lines],
     table: &mut Table,
 ) -> Result<(), WriteFault>
     requires { length heads.now ≡ length session.now.script.blocks }
-    ensures wrote { Writes result (S.held sink.old) (S.held sink.new) (all_shown all view.entry.colors text.now view.entry.path.now heads.now session.now.script.blocks (outputs session.now.script)) }
+    ensures wrote { Writes result (S.held sink.old) (S.held sink.new) (all_told all view.entry.colors text.now view.entry.path.now whys.now 0 heads.now session.now.script.blocks (outputs session.now.script)) }
     ensures all { S.takes_all sink.old → IsOk result × S.takes_all sink.new }
 {
     for i in 0..session.len() {
@@ -130,6 +138,7 @@ fn put_directives<M: Machine, S: Sink>(
             number_at(heads, i),
             view,
             all,
+            why_at(whys, i),
             table,
         )?;
     }
@@ -142,13 +151,14 @@ fn put_mismatch_at<M: Machine, S: Sink>(
     session: &Session<M>,
     heads: &[usize],
     view: View<'_>,
+    whys: &[Lines],
     index: usize,
     table: &mut Table,
 ) -> Result<(), WriteFault>
     requires count { length heads.now ≡ length session.now.script.blocks }
     requires few { length session.now.script.blocks ≤ MAX_DIRECTIVES }
     requires within { index < length session.now.script.blocks }
-    ensures wrote { Writes result (S.held sink.old) (S.held sink.new) (mismatch_at view.entry.colors view.entry.path.now heads.now session.now.script (index + 1)) }
+    ensures wrote { Writes result (S.held sink.old) (S.held sink.new) (told_at view.entry.colors view.entry.path.now whys.now heads.now session.now.script (index + 1)) }
     ensures all { S.takes_all sink.old → IsOk result × S.takes_all sink.new }
 {
     let block = block_at(session, index);
@@ -160,6 +170,7 @@ fn put_mismatch_at<M: Machine, S: Sink>(
         block,
         output,
         Place { path, line },
+        why_at(whys, index),
         view.colors,
         table,
     )
@@ -187,14 +198,15 @@ fn put_first<M: Machine, S: Sink>(
     session: &Session<M>,
     heads: &[usize],
     view: View<'_>,
+    whys: &[Lines],
     table: &mut Table,
 ) -> Result<(), WriteFault>
     requires { length heads.now ≡ length session.now.script.blocks }
-    ensures wrote { Writes result (S.held sink.old) (S.held sink.new) (of_first (mismatch_at view.entry.colors view.entry.path.now heads.now session.now.script) (mismatches session.now.script)) }
+    ensures wrote { Writes result (S.held sink.old) (S.held sink.new) (of_first (told_at view.entry.colors view.entry.path.now whys.now heads.now session.now.script) (mismatches session.now.script)) }
     ensures all { S.takes_all sink.old → IsOk result × S.takes_all sink.new }
 {
     match first_index(session) {
-        Some(index) => put_mismatch_at(sink, session, heads, view, index, table),
+        Some(index) => put_mismatch_at(sink, session, heads, view, whys, index, table),
         None => Ok(()),
     }
 }
@@ -228,17 +240,27 @@ fn put_wanted<M: Machine, S: Sink>(
     session: &Session<M>,
     layout: &Layout,
     view: View<'_>,
+    whys: &[Lines],
     table: &mut Table,
 ) -> Result<(), WriteFault>
     requires { length layout.now.heads.items ≡ length session.now.script.blocks }
-    ensures wrote { Writes result (S.held sink.old) (S.held sink.new) (checked_text view.entry.shown view.entry.colors layout.now.text view.entry.path.now layout.now.heads.items session.now.script) }
+    ensures wrote { Writes result (S.held sink.old) (S.held sink.new) (told_text view.entry.shown view.entry.colors layout.now.text view.entry.path.now whys.now layout.now.heads.items session.now.script) }
     ensures all { S.takes_all sink.old → IsOk result × S.takes_all sink.new }
 {
     let heads = layout.heads.as_slice();
     match view.shown {
-        Shown::Differing => put_directives(sink, session, heads, &layout.text, view, false, table),
-        Shown::All => put_directives(sink, session, heads, &layout.text, view, true, table),
-        Shown::First => put_first(sink, session, heads, view, table),
+        Shown::Differing => put_directives(
+            sink,
+            session,
+            heads,
+            &layout.text,
+            view,
+            false,
+            whys,
+            table,
+        ),
+        Shown::All => put_directives(sink, session, heads, &layout.text, view, true, whys, table),
+        Shown::First => put_first(sink, session, heads, view, whys, table),
         Shown::Brief => put_in_brief(sink, session, heads, view.path),
     }
 }
@@ -264,17 +286,19 @@ pub fn is_quiet<M: Machine>(session: &Session<M>, shown: Shown) -> bool
     shown != Shown::All && session.mismatches().is_empty() && !has_errors(session)
 }
 
-/// Writes what is shown of the script of the bytes, and answers what was found. Where [`is_quiet`] says so that is nothing, and the call
-/// can be spared. On a failure of the writer what went out is a beginning of the text.
+/// Writes what is shown of the script of the bytes, and answers what was found: below the lines of each directive's output the reasons that
+/// belong to them, where some are given. Where [`is_quiet`] says so that is nothing, and the call can be spared. On a failure of the writer
+/// what went out is a beginning of the text.
 pub fn put_checked<M: Machine, S: Sink>(
     alloc: Global,
     sink: &mut S,
     session: &Session<M>,
     bytes: &[u8],
     view: View<'_>,
+    whys: &[Lines],
 ) -> Result<Told, ShowFault>
     requires { Reads bytes.now session.now.script }
-    ensures wrote { (heads : List ℕ) → AreHeadLines 1 (lines bytes.now) session.now.script.blocks heads → Shows result (S.held sink.old) (S.held sink.new) (checked_text view.entry.shown view.entry.colors (lines bytes.now) view.entry.path.now heads session.now.script) }
+    ensures wrote { (heads : List ℕ) → AreHeadLines 1 (lines bytes.now) session.now.script.blocks heads → Shows result (S.held sink.old) (S.held sink.new) (told_text view.entry.shown view.entry.colors (lines bytes.now) view.entry.path.now whys.now heads session.now.script) }
     ensures told { (heads : List ℕ) → AreHeadLines 1 (lines bytes.now) session.now.script.blocks heads → IfOk result (λ told. told ≡ told_of (lines bytes.now) heads session.now.script) }
     ensures all { S.takes_all sink.old → (result ≢ Err ShowFault.Writing) × S.takes_all sink.new }
 {
@@ -285,7 +309,7 @@ pub fn put_checked<M: Machine, S: Sink>(
     let Ok(mut table) = Table::new(alloc) else {
         return Err(ShowFault::OutOfMemory);
     };
-    match put_wanted(sink, session, &layout, view, &mut table) {
+    match put_wanted(sink, session, &layout, view, whys, &mut table) {
         Ok(()) => Ok(told(session, &layout)),
         Err(_) => Err(ShowFault::Writing),
     }
@@ -296,32 +320,34 @@ fn put_mismatch_in<M: Machine, S: Sink>(
     session: &Session<M>,
     layout: &Layout,
     view: View<'_>,
+    whys: &[Lines],
     index: usize,
     table: &mut Table,
 ) -> Result<(), WriteFault>
     requires count { length layout.now.heads.items ≡ length session.now.script.blocks }
     requires within { index < length session.now.script.blocks }
-    ensures wrote { Writes result (S.held sink.old) (S.held sink.new) (mismatch_at view.entry.colors view.entry.path.now layout.now.heads.items session.now.script (index + 1)) }
+    ensures wrote { Writes result (S.held sink.old) (S.held sink.new) (told_at view.entry.colors view.entry.path.now whys.now layout.now.heads.items session.now.script (index + 1)) }
     ensures all { S.takes_all sink.old → IsOk result × S.takes_all sink.new }
 {
     let _count = session.len();
     let heads = layout.heads.as_slice();
-    put_mismatch_at(sink, session, heads, view, index, table)
+    put_mismatch_at(sink, session, heads, view, whys, index, table)
 }
 
-/// Writes the directive at an index, which counts from 0, of the script of the bytes as a mismatch: how much is shown of others changes
-/// nothing. On a failure of the writer what went out is a beginning of the text.
+/// Writes the directive at an index, which counts from 0, of the script of the bytes as a mismatch, with its reasons, where some are given: how
+/// much is shown of others changes nothing. On a failure of the writer what went out is a beginning of the text.
 pub fn put_one_mismatch<M: Machine, S: Sink>(
     alloc: Global,
     sink: &mut S,
     session: &Session<M>,
     bytes: &[u8],
     view: View<'_>,
+    whys: &[Lines],
     index: usize,
 ) -> Result<(), ShowFault>
     requires reads { Reads bytes.now session.now.script }
     requires within { index < length session.now.script.blocks }
-    ensures wrote { (heads : List ℕ) → AreHeadLines 1 (lines bytes.now) session.now.script.blocks heads → Shows result (S.held sink.old) (S.held sink.new) (mismatch_at view.entry.colors view.entry.path.now heads session.now.script (index + 1)) }
+    ensures wrote { (heads : List ℕ) → AreHeadLines 1 (lines bytes.now) session.now.script.blocks heads → Shows result (S.held sink.old) (S.held sink.new) (told_at view.entry.colors view.entry.path.now whys.now heads session.now.script (index + 1)) }
     ensures all { S.takes_all sink.old → (result ≢ Err ShowFault.Writing) × S.takes_all sink.new }
 {
     let Ok(layout) = layout_of(alloc, bytes) else {
@@ -330,7 +356,7 @@ pub fn put_one_mismatch<M: Machine, S: Sink>(
     let Ok(mut table) = Table::new(alloc) else {
         return Err(ShowFault::OutOfMemory);
     };
-    match put_mismatch_in(sink, session, &layout, view, index, &mut table) {
+    match put_mismatch_in(sink, session, &layout, view, whys, index, &mut table) {
         Ok(()) => Ok(()),
         Err(_) => Err(ShowFault::Writing),
     }

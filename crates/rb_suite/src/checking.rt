@@ -5,6 +5,7 @@ ghost use Rattle.rb_script.specs.Reads.{Reads};
 use crate::accepting::accept;
 use crate::asked::Asked;
 use crate::picking::picked_heads;
+use crate::reasons::asked_reasons;
 use crate::report::{Ran, Report};
 use crate::review::{Review, reviewed};
 use crate::runner::Runner;
@@ -17,7 +18,7 @@ use rb_formats::{Format, formatted};
 use rb_line::{Incoming, ReadFault, read_up_to};
 use rb_machine::Machine;
 use rb_replay::{Session, StartFault};
-use rb_script::{MAX_SCRIPT, WriteFault};
+use rb_script::{Lines, MAX_SCRIPT, WriteFault};
 use std::alloc::{AllocError, Global};
 use std::fs::Metadata;
 use std::io::Write;
@@ -70,8 +71,27 @@ fn run<T: Runner, R: Files + Input + AllocGlobal, W: Write + Drop, E: Write + Dr
     report: &mut Report<W, E>,
 ) {
     match runner.run(rt.alloc(), &text.bytes) {
-        Ok(session) => look_at(rt, asked, path, text, &session, review, report),
+        Ok(session) => explain(rt, runner, asked, path, text, &session, review, report),
         Err(StartFault::Script(fault)) => report.refused(path, fault),
+        Err(_) => report.fail(path.as_bytes(), Trouble::alone(Failure::OutOfMemory)),
+    }
+}
+
+// With the reasons that are asked for.
+fn explain<T: Runner, R: Files + Input + AllocGlobal, W: Write + Drop, E: Write + Drop>(
+    rt: &R,
+    runner: &mut T,
+    asked: Asked<'_>,
+    path: &str,
+    text: &Text,
+    session: &Session<T::Machine>,
+    review: &mut Review,
+    report: &mut Report<W, E>,
+)
+    requires { Reads text.now.bytes.items session.now.script }
+{
+    match asked_reasons(rt.alloc(), runner, asked, session) {
+        Ok(whys) => look_at(rt, asked, path, text, session, &whys, review, report),
         Err(_) => report.fail(path.as_bytes(), Trouble::alone(Failure::OutOfMemory)),
     }
 }
@@ -82,12 +102,13 @@ fn look_at<M: Machine, R: Files + Input + AllocGlobal, W: Write + Drop, E: Write
     path: &str,
     text: &Text,
     session: &Session<M>,
+    whys: &[Lines],
     review: &mut Review,
     report: &mut Report<W, E>,
 )
     requires { Reads text.now.bytes.items session.now.script }
 {
-    match answer(rt, asked, path, text, session, review, report) {
+    match answer(rt, asked, path, text, session, whys, review, report) {
         Ok(()) => {}
         Err(trouble) => report.fail(path.as_bytes(), trouble),
     }
@@ -100,6 +121,7 @@ fn answer<M: Machine, R: Files + Input + AllocGlobal, W: Write + Drop, E: Write 
     path: &str,
     text: &Text,
     session: &Session<M>,
+    whys: &[Lines],
     review: &mut Review,
     report: &mut Report<W, E>,
 ) -> Result<(), Trouble>
@@ -108,7 +130,7 @@ fn answer<M: Machine, R: Files + Input + AllocGlobal, W: Write + Drop, E: Write 
     let alloc = rt.alloc();
     let bytes = text.bytes.as_slice();
     let has_warnings = warn(alloc, session, bytes, asked, path, report)?;
-    let told = show(alloc, session, bytes, asked, path, report)?;
+    let told = show(alloc, session, bytes, asked, path, whys, report)?;
     let ran = Ran {
         path,
         directives: session.len(),
@@ -116,7 +138,17 @@ fn answer<M: Machine, R: Files + Input + AllocGlobal, W: Write + Drop, E: Write 
         told,
     };
     if asked.accepts {
-        settle(rt, asked, ran, session, text, has_warnings, review, report)
+        settle(
+            rt,
+            asked,
+            ran,
+            session,
+            text,
+            whys,
+            has_warnings,
+            review,
+            report,
+        )
     } else {
         report.ran(alloc, ran);
         Ok(())
@@ -149,6 +181,7 @@ fn settle<M: Machine, R: Files + Input + AllocGlobal, W: Write + Drop, E: Write 
     ran: Ran<'_>,
     session: &Session<M>,
     text: &Text,
+    whys: &[Lines],
     has_warnings: bool,
     review: &mut Review,
     report: &mut Report<W, E>,
@@ -165,7 +198,7 @@ fn settle<M: Machine, R: Files + Input + AllocGlobal, W: Write + Drop, E: Write 
         leave(rt.alloc(), ran, report);
         Ok(())
     } else {
-        accept_picked(rt, asked, ran, picked, session, text, review, report)
+        accept_picked(rt, asked, ran, picked, session, text, whys, review, report)
     }
 }
 
@@ -185,6 +218,7 @@ fn accept_picked<M: Machine, R: Files + Input + AllocGlobal, W: Write + Drop, E:
     picked: Picked<'_>,
     session: &Session<M>,
     text: &Text,
+    whys: &[Lines],
     review: &mut Review,
     report: &mut Report<W, E>,
 ) -> Result<(), Trouble>
@@ -203,7 +237,9 @@ fn accept_picked<M: Machine, R: Files + Input + AllocGlobal, W: Write + Drop, E:
         return Ok(());
     }
     let bytes = text.bytes.as_slice();
-    let said = reviewed(rt, asked, session, bytes, ran.path, picked, review, report)?;
+    let said = reviewed(
+        rt, asked, session, bytes, whys, ran.path, picked, review, report,
+    )?;
     let wanted = Wanted {
         picked: Picked::Heads(said.as_slice()),
         errors: true,
@@ -252,6 +288,7 @@ fn show<M: Machine, W: Write + Drop, E: Write + Drop>(
     bytes: &[u8],
     asked: Asked<'_>,
     path: &str,
+    whys: &[Lines],
     report: &mut Report<W, E>,
 ) -> Result<Told, Trouble>
     requires { Reads bytes.now session.now.script }
@@ -275,7 +312,7 @@ fn show<M: Machine, W: Write + Drop, E: Write + Drop>(
     let Some(sink) = report.sink() else {
         return Ok(nothing);
     };
-    match put_checked(alloc, sink, session, bytes, view) {
+    match put_checked(alloc, sink, session, bytes, view, whys) {
         Ok(told) => {
             report.wrote(Ok(()));
             Ok(told)

@@ -11,6 +11,7 @@ mod paths;
 mod picking;
 mod place;
 mod progress;
+mod reasons;
 mod report;
 mod review;
 mod runner;

@@ -12,7 +12,7 @@ use rb_checked::{
 use rb_files::Trouble;
 use rb_machine::Machine;
 use rb_replay::Session;
-use rb_script::WriteFault;
+use rb_script::{Lines, WriteFault};
 use std::alloc::{AllocError, Global};
 use std::io::Write;
 
@@ -67,6 +67,7 @@ pub(crate) fn reviewed<M: Machine, R: Input + AllocGlobal, W: Write + Drop, E: W
     asked: Asked<'_>,
     session: &Session<M>,
     bytes: &[u8],
+    whys: &[Lines],
     path: &str,
     picked: Picked<'_>,
     review: &mut Review,
@@ -77,7 +78,7 @@ pub(crate) fn reviewed<M: Machine, R: Input + AllocGlobal, W: Write + Drop, E: W
     let layout = layout_of(rt.alloc(), bytes)?;
     let mut said = Vec::new(rt.alloc());
     let gone_over = go_over(
-        rt, asked, session, bytes, path, &layout, picked, &mut said, review, report,
+        rt, asked, session, bytes, whys, path, &layout, picked, &mut said, review, report,
     );
     if *review == Review::Rest {
         *review = Review::Each;
@@ -92,6 +93,7 @@ fn go_over<M: Machine, R: Input + AllocGlobal, W: Write + Drop, E: Write + Drop>
     asked: Asked<'_>,
     session: &Session<M>,
     bytes: &[u8],
+    whys: &[Lines],
     path: &str,
     layout: &Layout,
     picked: Picked<'_>,
@@ -106,7 +108,7 @@ fn go_over<M: Machine, R: Input + AllocGlobal, W: Write + Drop, E: Write + Drop>
             continue;
         };
         if *review == Review::Each {
-            show(rt.alloc(), asked, session, bytes, path, index, report)?;
+            show(rt.alloc(), asked, session, bytes, whys, path, index, report)?;
             *review = answered(rt, said, head, report)?;
         } else if *review == Review::Rest && takes(asked, session, layout, index, head) {
             push(said, head)?;
@@ -158,6 +160,7 @@ fn show<M: Machine, W: Write + Drop, E: Write + Drop>(
     asked: Asked<'_>,
     session: &Session<M>,
     bytes: &[u8],
+    whys: &[Lines],
     path: &str,
     index: usize,
     report: &mut Report<W, E>,
@@ -173,7 +176,7 @@ fn show<M: Machine, W: Write + Drop, E: Write + Drop>(
     let Some(sink) = report.sink() else {
         return Ok(());
     };
-    match put_one_mismatch(alloc, sink, session, bytes, view, index) {
+    match put_one_mismatch(alloc, sink, session, bytes, view, whys, index) {
         Ok(()) => report.wrote(Ok(())),
         Err(ShowFault::Writing) => report.wrote(Err(WriteFault)),
         Err(ShowFault::OutOfMemory) => return Err(Trouble::alone(Failure::OutOfMemory)),

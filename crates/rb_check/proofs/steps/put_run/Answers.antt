@@ -1,16 +1,8 @@
-use Rattle.rb_check.proofs.PieceLaws.{and_then, no_more}
+use Rattle.rb_script.specs.Tokens.{plain}
+use Rattle.rb_check.specs.Heads.{head_text}
+use Rattle.rb_check.proofs.PieceLaws.{writes_along}
+use Rattle.rb_check.proofs.UntoldLaws.{untold-run}
 use Rattle.rb_check.proofs.steps.put_run.Goals as goal
 
-pub returns-in_err-put_heading-clause-wrote : goal.returns-in_err-put_heading-clause-wrote
-returns-in_err-put_heading-clause-wrote g c = no_more _ _ _ _ _ c.from_residual.ensures.0 c.in_err-put_heading.ensures.wrote
-
-pub returns-in_err-put-clause-wrote : goal.returns-in_err-put-clause-wrote
-returns-in_err-put-clause-wrote g c = and_then _ _ _ _ _ _ c.in_ok-put_heading.ensures.wrote (no_more _ _ _ _ _ c.from_residual-in_err-put.ensures.0 c.in_err-put.ensures.wrote)
-
-pub returns-in_err-put_steps-clause-wrote : goal.returns-in_err-put_steps-clause-wrote
-returns-in_err-put_steps-clause-wrote g c =
-    and_then _ _ _ _ _ _ c.in_ok-put_heading.ensures.wrote (and_then _ _ _ _ _ _ c.in_ok-put.ensures.wrote (no_more _ _ _ _ _ c.from_residual-in_err-put_steps.ensures.0 c.in_err-put_steps.ensures.wrote))
-
 pub returns-clause-wrote : goal.returns-clause-wrote
-returns-clause-wrote g c =
-    and_then _ _ _ _ _ _ c.in_ok-put_heading.ensures.wrote (and_then _ _ _ _ _ _ c.in_ok-put.ensures.wrote (and_then _ _ _ _ _ _ c.in_ok-put_steps.ensures.wrote c.put_hint.ensures.wrote))
+returns-clause-wrote g c = writes_along _ _ _ _ _ (untold-run c.args.place.path.now c.args.place.line (head_text (plain c.args.directive.now)) c.args.output.now c.args.hint.now) c.put_told_run.ensures.wrote

@@ -1,0 +1,129 @@
+-- Why nothing came of a message, below the line of an output that it belongs to: what is shown with reasons is what is shown without, with
+-- reasons between. (This project's.)
+use Rattle.std.specs.Prelude.{◌≡◌, ℕ, ◌+◌, ◌-◌, ◌==◌, nat_le, Bool, false, if◌then◌else◌, List, [], ◌∷◌, ◌++◌, length, take, drop, codes, Option, Some, None, slice_get}
+use Rattle.std.specs.List.{flat_map}
+use Rattle.rb_script.specs.Lines.{Line}
+use Rattle.rb_check.specs.declared.colors.Colors.{Colors}
+use Rattle.rb_check.specs.declared.side.Side.{Side}
+use Rattle.rb_check.specs.declared.side.Side.TheVariants.{Both, Expected, Output}
+use Rattle.rb_check.specs.declared.why.Why.{Why}
+use Rattle.rb_check.specs.declared.why.Why.TheVariants as whys
+use Rattle.rb_check.specs.Shown.{line_shown}
+use Rattle.rb_check.specs.Diffs.{Stretch, between, common, common_end, middle}
+use Rattle.rb_check.specs.Folds.{fold_text}
+use Rattle.rb_check.specs.Headings.{heading_text}
+use Rattle.rb_check.specs.Hints.{hint_text}
+use Rattle.rb_check.specs.Highlights.{beside_text, is_paired, changed_text}
+use Rattle.rb_check.specs.Steps.{step_text, is_delivered}
+
+-- the reasons of the lines of an output, in order
+abbrev pub reasons_in : Why → List Line
+reasons_in whys.Untold = []
+reasons_in (whys.Told lines) = lines.now
+
+-- a reason points at the line above it
+abbrev pub pointed : Line → List ℕ
+pointed reason = codes "^ " ++ (reason ++ codes "\n")
+
+-- an empty one is none
+abbrev pub below : Line → List ℕ
+below reason = if length reason == 0 then [] else pointed reason
+
+abbrev pub below_of : Option Line → List ℕ
+below_of None = []
+below_of (Some reason) = below reason
+
+-- what stands below the line at a place, which counts from 0
+unfoldable pub reason_at : List Line → ℕ → List ℕ
+reason_at why at = below_of (slice_get why at)
+
+-- ---- lines, from a place of the output on
+
+abbrev pub told_line : Colors → Side → List Line → ℕ → Line → List ℕ
+told_line colors side why at line = line_shown colors side line ++ reason_at why at
+
+abbrev pub told_lines : Colors → Side → List Line → ℕ → List Line → List ℕ
+told_lines colors side why at [] = []
+told_lines colors side why at (line ∷ ls) = told_line colors side why at line ++ told_lines colors side why (at + 1) ls
+
+-- lines that are the same: of more than six the first three and the last three
+abbrev pub told_same : Colors → List Line → ℕ → List Line → List ℕ
+told_same colors why at ls =
+    if nat_le (length ls) 6 then told_lines colors Both why at ls
+    else (told_lines colors Both why at (take 3 ls) ++ (fold_text (length ls - 6) ++ told_lines colors Both why (at + (length ls - 3)) (drop (length ls - 3) ls)))
+
+abbrev pub told_beside : Side → List Line → ℕ → Line → Line → List ℕ
+told_beside side why at line other = beside_text side line other ++ reason_at why at
+
+abbrev pub told_paired : Side → List Line → ℕ → List Line → List Line → List ℕ
+told_paired side why at [] others = []
+told_paired side why at (line ∷ ls) [] = []
+told_paired side why at (line ∷ ls) (other ∷ others) = told_beside side why at line other ++ told_paired side why (at + 1) ls others
+
+-- lines of one side, in whose place those of the other stand
+abbrev pub told_changed : Colors → Side → List Line → ℕ → List Line → List Line → List ℕ
+told_changed colors side why at ls others = if is_paired colors (length ls) (length others) then told_paired side why at ls others else told_lines colors side why at ls
+
+-- a stretch, whose same lines stand from one place of the output on, and those that came out from another on
+abbrev pub shown_stretch : Colors → List Line → ℕ → ℕ → List Line → List Line → List Line → List ℕ
+shown_stretch colors why at next same expected output = told_same colors why at same ++ (changed_text colors Expected expected output ++ told_changed colors Output why next output expected)
+
+-- where what follows a stretch begins
+abbrev pub behind_stretch : ℕ → Stretch → ℕ
+behind_stretch at s = at + length s.same + length s.output
+
+abbrev pub told_stretch : Colors → List Line → ℕ → Stretch → List ℕ
+told_stretch colors why at s = shown_stretch colors why at (at + length s.same) s.same s.expected s.output
+
+-- one after another
+abbrev pub told_text : Colors → List Line → ℕ → List Stretch → List ℕ
+told_text colors why at [] = []
+told_text colors why at (s ∷ ss) = told_stretch colors why at s ++ told_text colors why (behind_stretch at s) ss
+
+-- what differs between the first n lines and the last m
+abbrev pub told_between : ℕ → ℕ → Colors → List Line → List Line → List Line → List ℕ
+told_between n m colors why es os =
+    told_same colors why 0 (between 0 n es)
+    ++ (told_text colors why n (middle (between n (length es - m) es) (between n (length os - m) os)) ++ told_same colors why (length os - m) (between (length es - m) (length es) es))
+
+-- of the expected lines, and the lines of the output
+unfoldable pub told_diff : Colors → List Line → List Line → List Line → List ℕ
+told_diff colors why es os = told_between (common es os) (common_end (common es os) es os) colors why es os
+
+-- ---- a directive
+
+-- whose output is not the expected one
+abbrev pub told_mismatch : Colors → List ℕ → ℕ → List ℕ → List Line → List Line → List Line → List ℕ → List ℕ
+told_mismatch colors path line head expected output why hint = heading_text path line head ++ (codes "\n" ++ (told_diff colors why expected output ++ (hint_text hint ++ codes "\n")))
+
+abbrev pub told_step : Bool → List Line → ℕ → Line → List ℕ
+told_step delivered why at line = step_text delivered line ++ reason_at why at
+
+abbrev pub told_steps : Bool → List Line → ℕ → List Line → List ℕ
+told_steps delivered why at [] = []
+told_steps delivered why at (line ∷ ls) = told_step delivered why at line ++ told_steps (is_delivered delivered line) why (at + 1) ls
+
+-- with its output
+abbrev pub told_run : List ℕ → ℕ → List ℕ → List Line → List Line → List ℕ → List ℕ
+told_run path line head output why hint = heading_text path line head ++ (codes "\n" ++ (told_steps false why 0 output ++ hint_text hint))
+
+-- ---- what reasons add
+
+-- what is shown: a text that is shown in any case, or a reason
+pub data Part : Type 0 where
+  kept : List ℕ → Part
+  added : Line → Part
+
+abbrev pub untold_part : Part → List ℕ
+untold_part (kept t) = t
+untold_part (added r) = []
+
+abbrev pub told_part : Part → List ℕ
+told_part (kept t) = t
+told_part (added r) = below r
+
+-- The same parts: what is told has reasons between, each a line behind its sign.
+pub record OnlyAdds (untold told : List ℕ) : Type 0 where
+  pub parts : List Part
+  pub untold_is : untold ≡ flat_map untold_part parts
+  pub told_is : told ≡ flat_map told_part parts
