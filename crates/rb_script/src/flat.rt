@@ -1,10 +1,11 @@
 //! Lines of bytes, in one buffer.
 
-ghost use Rattle.std.specs.Prelude.{◌≡◌, ◌↔◌, ◌<◌, ◌≤◌, [], ◌∷◌, ◌++◌, length, slice_get, OnOk, IfOk, OnErr, IsTrue, Some};
+ghost use Rattle.std.specs.Prelude.{◌≡◌, ◌≢◌, ◌<◌, ◌≤◌, ℕ, [], ◌∷◌, ◌++◌, length, slice_get, slice_index, OnOk, IfOk, OnErr, IsTrue, Some};
 ghost use Rattle.rb_script.specs.Lines.{lines, text_of, line_text};
-ghost use Rattle.rb_script.specs.Flat.{parted, line_start, between, IsFlat};
+ghost use Rattle.rb_script.specs.Flat.{ends_of, parted, line_start, between, IsFlat};
 
 use crate::lines::next_line;
+use memchr::memchr;
 use smallvec::SmallVec;
 use std::alloc::{AllocError, Global};
 use std::marker::Model;
@@ -50,8 +51,31 @@ impl FlatLines {
         })
     }
 
-    /// The lines of the bytes, without their ends. The text is at most as long as the bytes and the end of a last line without one.
+    /// The lines of the bytes, without their ends.
     pub(crate) fn of(alloc: Global, bytes: &[u8]) -> Result<Self, AllocError>
+        ensures { IfOk result (λ all. all ≡ lines bytes.now) }
+    {
+        if is_their_text(bytes) {
+            FlatLines::of_text(alloc, bytes)
+        } else {
+            FlatLines::one_by_one(alloc, bytes)
+        }
+    }
+
+    // The lines of the bytes, which are their text: it is copied at once.
+    fn of_text(alloc: Global, bytes: &[u8]) -> Result<Self, AllocError>
+        requires { text_of (lines bytes.now) ≡ bytes.now }
+        ensures { IfOk result (λ all. all ≡ lines bytes.now) }
+    {
+        let ends = line_ends(alloc, bytes)?;
+        Ok(FlatLines {
+            text: Vec::from_slice(alloc, bytes)?,
+            ends,
+        })
+    }
+
+    // The lines of any bytes. Their text is at most as long as the bytes and the end of a last line without one.
+    fn one_by_one(alloc: Global, bytes: &[u8]) -> Result<Self, AllocError>
         ensures { IfOk result (λ all. all ≡ lines bytes.now) }
     {
         let mut all = FlatLines::with_room(alloc, bytes.len().saturating_add(1))?;
@@ -130,6 +154,42 @@ impl FlatLines {
         }
         Ok(copy)
     }
+}
+
+// Whether a carriage return is nowhere in the bytes.
+fn has_no_return(bytes: &[u8]) -> bool
+    ensures { IsTrue result → (k : ℕ) → k < length bytes.now → slice_index bytes.now k ≢ 13 }
+{
+    match memchr(b'\r', bytes) {
+        Some(_) => false,
+        None => true,
+    }
+}
+
+// Whether the bytes are the text of their lines: each line ends in an LF alone.
+fn is_their_text(bytes: &[u8]) -> bool
+    ensures { IsTrue result → text_of (lines bytes.now) ≡ bytes.now }
+{
+    match bytes.last() {
+        Some(last) => *last == b'\n' && has_no_return(bytes),
+        None => true,
+    }
+}
+
+// Where each line of the bytes, which are their text, ends in it.
+fn line_ends(alloc: Global, bytes: &[u8]) -> Result<SmallVec<usize, 4>, AllocError>
+    requires { text_of (lines bytes.now) ≡ bytes.now }
+    ensures { IfOk result (λ ends. ends.items ≡ ends_of 0 (lines bytes.now)) }
+{
+    let mut ends = SmallVec::new(alloc);
+    let mut rest = bytes;
+    let mut end = 0;
+    while let Some((line, after)) = next_line(rest) {
+        end += line.len() + 1;
+        ends.push(end)?;
+        rest = after;
+    }
+    Ok(ends)
 }
 
 // Adds the line with its LF, and its end. Room comes first, so that a refusal changes nothing.

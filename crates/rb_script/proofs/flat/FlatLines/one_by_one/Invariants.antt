@@ -1,7 +1,7 @@
 -- The lines so far, and those that are left.
 use Rattle.std.proofs.Common.{◌≡◌, ◌++◌, length}
 use Rattle.rb_script.specs.Lines.{lines}
-use Rattle.rb_script.proofs.flat.FlatLines.of.Given as goal
+use Rattle.rb_script.proofs.flat.FlatLines.one_by_one.Given as goal
 
 abbrev pub invariant-loop-line : goal.invariant-loop-line
 invariant-loop-line l = l.all ++ lines l.rest ≡ lines l.bytes

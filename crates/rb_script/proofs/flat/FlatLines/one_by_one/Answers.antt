@@ -1,7 +1,7 @@
 use Rattle.std.proofs.Common.{◌∙◌, List, ◌++◌, ap, sym, append-nil}
 use Rattle.rb_script.specs.Lines.{Line}
 use Rattle.rb_script.proofs.LineLaws.{lines_nil}
-use Rattle.rb_script.proofs.flat.FlatLines.of.Goals as goal
+use Rattle.rb_script.proofs.flat.FlatLines.one_by_one.Goals as goal
 
 pub returns : goal.returns
 returns c =
