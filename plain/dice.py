@@ -374,6 +374,34 @@ class Dice(random.Random):
             steps += [(head, []) for head in self.together()] if self.some(0.08) else [self.directive()]
         return steps
 
+    # Long logs
+
+    def grown(self):
+        """A leader takes many entries. All hold them, or some, or nobody saves them; another may lead then, whose log takes their place."""
+        leader, other = self.favourite, self.choice([id for id in range(1, self.nodes + 1) if id != self.favourite])
+        steps = [f"propose {leader} {self.choice('xyz')} log-level=none"] * self.randint(1, 70)
+        alone = [f"process-ready {leader} log-level=none"]
+        shared = [*alone, f"deliver-msgs {other} log-level=none", f"process-ready {other} log-level=none"]
+        lost = [f"deliver-msgs drop=({','.join(map(str, range(1, self.nodes + 1)))}) log-level=none"]
+        steps += self.choice([["stabilize log-level=none"], alone + lost, shared + lost, lost])
+        if self.some(0.6):
+            self.favourite = other
+            steps += [f"campaign {other} log-level=none", "stabilize log-level=none"]
+        return steps
+
+    def cut_short(self):
+        """Somebody's log is compacted, or not, and is looked at."""
+        id = self.id()
+        return [f"compact {id} {self.index + self.randint(-1, 300)} log-level=none"] * self.some(0.5) + ["raft-state", f"raft-log {id}"]
+
+    def long_script(self, count):
+        """A script in which three nodes have logs of more than a page."""
+        self.nodes, self.favourite = 3, 1
+        steps = [f"add-nodes 3 voters=(1,2,3) index={self.index}" + self.options_of_nodes(), "campaign 1", "stabilize log-level=none"]
+        for _ in range(count):
+            steps += [*self.grown(), *self.cut_short(), *self.choice([[], self.together(), ["stabilize log-level=none"]])]
+        return "".join(f"{head}\n----\n\n" for head in [*steps, "raft-log 1", "raft-log 2", "raft-log 3"]).encode()
+
     def script(self, count):
         tail = self.choice(["", "", "", "# the end\n", "\n\n", "#"])
         return b"".join(map(self.block, self.steps(count))) + tail.encode()

@@ -1,5 +1,4 @@
-//! Tests of logs: examples, and random lists of calls beside a plain slow log. There is nothing here but
-//! tests.
+//! Tests of logs: examples of what no script reaches, or shows. There is nothing here but tests.
 #![tactic(auto)]
 
 #[cfg(test)]

@@ -1,6 +1,4 @@
 mod examples;
 mod making;
-mod random;
-mod slow;
 mod tested;
 mod values;

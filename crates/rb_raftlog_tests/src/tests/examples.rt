@@ -1,10 +1,8 @@
-//! Examples, and every call once in both logs.
+//! Examples, in both logs.
 
-use super::making::{
-    begin, change, filled, filled_at_once, payload, push, save, snapshot_of, take_items,
-};
+use super::making::{change, filled, filled_at_once, payload, push, save, take_items};
 use super::tested::{Item, Numbers, Tested};
-use rb_raftlog::{Appended, CompactFault, Entries, LogFault, PlainLog, SplitLog};
+use rb_raftlog::{Appended, Entries, LogFault, PlainLog, SplitLog};
 use std::alloc::Global;
 use std::process::Abort;
 
@@ -72,112 +70,6 @@ fn copies_share<T: Tested>(rt: &impl Abort, alloc: Global) {
     is_like(rt, &copy, &other, "the same, page by page or not");
 }
 
-/// What is at the ends of a log from 101 to 141.
-fn shows_its_ends<T: Tested>(rt: &impl Abort, log: &T) {
-    is(
-        rt,
-        has_numbers(log, (101, 141, 1, 1, 141)),
-        "from 101 to 141",
-    );
-    is(
-        rt,
-        log.count_from(101) == 41 && log.count_from(142) == 0,
-        "41 entries",
-    );
-    is(rt, log.term_of(100) == Ok(1), "the base's term");
-    is(
-        rt,
-        log.term_of(99) == Err(LogFault::Compacted),
-        "below the base",
-    );
-    is(
-        rt,
-        log.term_of(142) == Err(LogFault::Unavailable),
-        "past the end",
-    );
-    is(
-        rt,
-        !log.has_entry(100) && log.has_entry(101),
-        "entries from 101 on",
-    );
-}
-
-/// From 11 to 141, compacted to 100.
-fn is_compacted<T: Tested>(rt: &impl Abort, log: &mut T) {
-    is(
-        rt,
-        log.cut(142, 0) == Err(CompactFault::PastApplied),
-        "past what is applied",
-    );
-    is(
-        rt,
-        log.cut(10, 0) == Err(CompactFault::AlreadyCompacted),
-        "compacted before",
-    );
-    is(rt, log.cut(100, u64::MAX) == Ok(()), "compacted");
-    shows_its_ends(rt, log);
-}
-
-/// A log that begins at 100 and takes what another sends after it.
-fn following<T: Tested>(rt: &impl Abort, alloc: Global, log: &T) -> T {
-    let mut other: T = begin(rt, alloc, 100, 1);
-    takes_all(rt, &mut other, &sent_after(rt, log, 0));
-    other
-}
-
-fn takes_all<T: Tested>(rt: &impl Abort, log: &mut T, sent: &Entries) {
-    let told = log.take_shared((100, 1), sent, 0).expect(rt, "memory");
-    is(rt, told == Some(Appended::Matched(141)), "matched at 141");
-}
-
-/// What a log sends after an index.
-fn sent_after<T: Tested>(rt: &impl Abort, log: &T, index: u64) -> Entries {
-    log.sent_after(index).expect(rt, "memory")
-}
-
-/// A log that was compacted is the same as one that began there.
-fn compacts<T: Tested>(rt: &impl Abort, alloc: Global) {
-    let mut log: T = filled(rt, alloc, 10, 131);
-    is_compacted(rt, &mut log);
-    let mut other = following(rt, alloc, &log);
-    is(rt, !log.is_same(&other), "not durable yet");
-    save(rt, &mut other);
-    is_like(rt, &log, &other, "the same");
-}
-
-/// So many entries of term 1, and one of term 2.
-fn ending_with<T: Tested>(rt: &impl Abort, alloc: Global, kept: u64) -> T {
-    let mut log: T = filled(rt, alloc, 0, kept);
-    push(rt, alloc, &mut log, (2, 9));
-    save(rt, &mut log);
-    log
-}
-
-/// A cut at each side of the end of a page.
-fn cut_at<T: Tested>(rt: &impl Abort, alloc: Global, log: &mut T, kept: u64) {
-    let last = kept.saturating_add(1);
-    is(
-        rt,
-        matches_at(rt, alloc, log, (kept, 1), &[(2, 9)], 0, last),
-        "matched",
-    );
-    is(rt, has_numbers(log, (1, last, 1, 2, kept)), "cut there");
-    save(rt, log);
-}
-
-fn cuts_at<T: Tested>(rt: &impl Abort, alloc: Global, kept: u64) {
-    let mut log: T = filled_at_once(rt, alloc, 0, 200);
-    cut_at(rt, alloc, &mut log, kept);
-    let other = ending_with(rt, alloc, kept);
-    is_like(rt, &log, &other, "the same as one that wasn't cut");
-}
-
-fn cuts<T: Tested>(rt: &impl Abort, alloc: Global) {
-    for kept in [1, 62, 63, 64, 65, 127, 128, 129] {
-        cuts_at::<T>(rt, alloc, kept);
-    }
-}
-
 /// What is sent to a log that goes from 11 to 15 in term 1, where 14 is committed: after which index and term, which entries, and
 /// what it answers.
 static SENT: [(u64, u64, &'static [Item], Appended); 4] = [
@@ -214,6 +106,26 @@ fn compares<T: Tested>(rt: &impl Abort, log: &T) {
     is(rt, !log.is_no_newer(14, 1), "older");
 }
 
+/// What is at the ends of a log from 11 to 15.
+fn has_ends<T: Tested>(rt: &impl Abort, log: &T) {
+    is(rt, log.term_of(10) == Ok(1), "the base's term");
+    is(
+        rt,
+        log.term_of(9) == Err(LogFault::Compacted),
+        "below the base",
+    );
+    is(
+        rt,
+        log.term_of(16) == Err(LogFault::Unavailable),
+        "past the end",
+    );
+    is(
+        rt,
+        !log.has_entry(10) && log.has_entry(11),
+        "entries from 11 on",
+    );
+}
+
 /// What a change at 16 shows.
 fn has_change<T: Tested>(rt: &impl Abort, log: &T) {
     is(rt, has_numbers(log, (11, 16, 1, 3, 15)), "one entry more");
@@ -234,17 +146,9 @@ fn follows<T: Tested>(rt: &impl Abort, alloc: Global) {
     let mut log: T = filled(rt, alloc, 10, 5);
     answers(rt, alloc, &mut log);
     compares(rt, &log);
+    has_ends(rt, &log);
     log.put(change(rt, alloc, 3, 4)).expect(rt, "memory");
     has_change(rt, &log);
-}
-
-/// A snapshot takes the place of all.
-fn restores<T: Tested>(rt: &impl Abort, alloc: Global) {
-    let mut log: T = filled(rt, alloc, 10, 70);
-    log.put_back(&snapshot_of(rt, alloc, 500, 4));
-    is(rt, has_numbers(&log, (501, 500, 4, 4, 500)), "no entries");
-    let other = begin(rt, alloc, 500, 4);
-    is_like(rt, &log, &other, "as one that begins there");
 }
 
 /// What is at the greatest index that there is, in a log that goes up to it; then the log is compacted to it.
@@ -277,11 +181,8 @@ fn ends_at_the_limit<T: Tested>(rt: &impl Abort, alloc: Global) {
 
 fn all<T: Tested>(rt: &impl Abort, alloc: Global) {
     copies_share::<T>(rt, alloc);
-    compacts::<T>(rt, alloc);
-    cuts::<T>(rt, alloc);
     follows::<T>(rt, alloc);
     ends_at_the_limit::<T>(rt, alloc);
-    restores::<T>(rt, alloc);
 }
 
 #[test]
@@ -292,6 +193,11 @@ fn plain_logs(rt: HostRuntime) {
 #[test]
 fn split_logs(rt: HostRuntime) {
     all::<SplitLog>(&rt, rt.alloc())
+}
+
+/// What a log sends after an index.
+fn sent_after<T: Tested>(rt: &impl Abort, log: &T, index: u64) -> Entries {
+    log.sent_after(index).expect(rt, "memory")
 }
 
 /// What two logs of the entries 11 to 140 send after 60 is the same.

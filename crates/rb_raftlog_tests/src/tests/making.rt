@@ -1,9 +1,7 @@
 //! Entries and logs to test with.
 
 use super::tested::{Item, Tested};
-use rb_raftlog::{
-    Appended, Body, ConfState, Content, Entry, Shared, Snapshot, Transition, Word, WordKind,
-};
+use rb_raftlog::{Appended, Body, Entry, Shared, Transition, Word, WordKind};
 use std::alloc::Global;
 use std::process::Abort;
 
@@ -90,28 +88,4 @@ pub fn filled_at_once<T: Tested>(rt: &impl Abort, alloc: Global, base: u64, coun
     }
     save(rt, &mut log);
     log
-}
-
-fn no_ids(rt: &impl Abort, alloc: Global) -> Shared<u64> {
-    Shared::new(Vec::new(alloc)).expect(rt, "memory")
-}
-
-fn nobody(rt: &impl Abort, alloc: Global) -> ConfState {
-    ConfState {
-        incoming: no_ids(rt, alloc),
-        outgoing: no_ids(rt, alloc),
-        learners: no_ids(rt, alloc),
-        next: no_ids(rt, alloc),
-        auto: false,
-    }
-}
-
-/// A snapshot of nobody.
-pub fn snapshot_of(rt: &impl Abort, alloc: Global, index: u64, term: u64) -> Snapshot {
-    Snapshot {
-        index,
-        term,
-        content: Content::from_slice(alloc, b"ab").expect(rt, "memory"),
-        config: nobody(rt, alloc),
-    }
 }

@@ -5,9 +5,7 @@
 
 ghost use Rattle.std.specs.Prelude.{◌≤◌};
 
-use rb_raftlog::{
-    Appended, Body, CompactFault, Entries, Entry, LogFault, MAX_INDEX, RaftLog, Snapshot,
-};
+use rb_raftlog::{Appended, Body, CompactFault, Entries, Entry, LogFault, MAX_INDEX, RaftLog};
 use std::alloc::{AllocError, Global};
 
 /// A term, and the byte of a payload.
@@ -39,20 +37,10 @@ pub trait Tested: Drop {
         commit: u64,
     ) -> Result<Option<Appended>, AllocError>;
 
-    /// The same of what a message holds.
-    fn take_shared(
-        &mut self,
-        after: (u64, u64),
-        entries: &Entries,
-        commit: u64,
-    ) -> Result<Option<Appended>, AllocError>;
-
     fn sent_after(&self, index: u64) -> Result<Entries, AllocError>;
 
     /// Moves the base to an index up to another, or to the last that is durable.
     fn cut(&mut self, index: u64, upto: u64) -> Result<(), CompactFault>;
-
-    fn put_back(&mut self, snapshot: &Snapshot);
 
     fn term_of(&self, index: u64) -> Result<u64, LogFault>;
 
@@ -144,18 +132,6 @@ impl<L: RaftLog> Tested for L {
         Ok(Some(self.append_after(after.0, after.1, entries, commit)?))
     }
 
-    fn take_shared(
-        &mut self,
-        after: (u64, u64),
-        entries: &Entries,
-        commit: u64,
-    ) -> Result<Option<Appended>, AllocError> {
-        if after.0 > 1_000_000 || entries.len() > 1_000 {
-            return Ok(None);
-        }
-        Ok(Some(self.append_shared(after.0, after.1, entries, commit)?))
-    }
-
     fn sent_after(&self, index: u64) -> Result<Entries, AllocError> {
         self.entries_after(index)
     }
@@ -163,12 +139,6 @@ impl<L: RaftLog> Tested for L {
     fn cut(&mut self, index: u64, upto: u64) -> Result<(), CompactFault> {
         let applied = upto.min(self.durable());
         self.compact(index, applied)
-    }
-
-    fn put_back(&mut self, snapshot: &Snapshot) {
-        if snapshot.index <= MAX_INDEX {
-            self.restore(snapshot);
-        }
     }
 
     fn term_of(&self, index: u64) -> Result<u64, LogFault> {
