@@ -3,4 +3,3 @@
 mod fakes;
 mod known;
 mod line;
-mod scripts;

@@ -35,7 +35,7 @@ fn is_shown(rt: &impl Abort, alloc: Global, level: Level, item: &Item<'_>, want:
 }
 
 /// Words of errors: an empty one, one with a blank, and some with line feeds, which count among the 64 bytes that are shown.
-const QUOTED: [(&[u8], &[u8]); 4] = [
+static QUOTED: [(&[u8], &[u8]); 4] = [
     (b"", b"error: bad argument \"\"\n"),
     (b" az~", b"error: bad argument \" az~\"\n"),
     (
@@ -50,7 +50,7 @@ const QUOTED: [(&[u8], &[u8]); 4] = [
 
 #[test]
 fn words_that_stand_in_no_script(rt: HostRuntime) {
-    for (word, want) in QUOTED {
+    for (word, want) in &QUOTED {
         let item = Item::Error(DirectiveError::BadArgument(Word::new(word)));
         is_shown(&rt, rt.alloc(), Level::Info, &item, want);
     }

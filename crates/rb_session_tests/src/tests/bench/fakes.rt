@@ -1,9 +1,10 @@
-//! A reader that fails, a writer that takes no memory, and long texts.
+//! A reader that fails, and long texts.
 
 use rb_line::Incoming;
-use std::alloc::{AllocError, Global};
+use std::alloc::Global;
 use std::io;
-use std::io::{Error, ErrorKind, Read, Write};
+use std::io::{Error, ErrorKind, Read};
+use std::process::Abort;
 
 /// Gives at most `most` bytes a call, and fails by an interruption at the call `fails_at`, which counts from 0.
 #[derive(Drop)]
@@ -38,49 +39,11 @@ impl Read for FailingReader<'_> {
     }
 }
 
-const ROOM: usize = 1024;
-
-/// Keeps the first bytes that it takes, in room of its own.
-#[derive(Drop)]
-pub struct Room {
-    bytes: [u8; ROOM],
-    len: usize,
-}
-
-impl Room {
-    pub fn new() -> Room {
-        Room {
-            bytes: [0; ROOM],
-            len: 0,
-        }
-    }
-
-    pub fn taken(&self) -> &[u8] {
-        &self.bytes[..self.len.min(ROOM)]
-    }
-}
-
-impl Write for Room {
-    fn write(&mut self, buf: &[u8]) -> io::Result<usize> {
-        for byte in buf {
-            if self.len < ROOM {
-                self.bytes[self.len] = *byte;
-                self.len += 1;
-            }
-        }
-        Ok(buf.len())
-    }
-
-    fn flush(&mut self) -> io::Result<()> {
-        Ok(())
-    }
-}
-
 /// The text so many times.
-pub fn repeated(alloc: Global, text: &[u8], times: usize) -> Result<Vec<u8>, AllocError> {
+pub fn repeated(rt: &impl Abort, alloc: Global, text: &[u8], times: usize) -> Vec<u8> {
     let mut bytes = Vec::new(alloc);
     for _ in 0..times {
-        bytes.extend_from_slice(text)?;
+        bytes.extend_from_slice(text).expect(rt, "memory");
     }
-    Ok(bytes)
+    bytes
 }

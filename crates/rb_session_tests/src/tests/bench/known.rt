@@ -5,13 +5,11 @@
 ghost use Rattle.std.specs.Prelude.{◌≡◌, ◌≢◌, ◌+◌, ◌<◌, ◌≤◌, length, Some, None, Err, OnOk};
 ghost use Rattle.rb_bench.specs.declared.limits.TheConstants.{MAX_READS};
 
-use super::scripts::one_node;
 use rb_bench::{BenchFault, MAX_READS, Mode, Outlet, Status, run_over, serve};
 use rb_line::{InputFault, Source};
 use rb_script::{Sink, WriteFault};
 use std::alloc::Global;
 use std::process::Abort;
-use std::test::Fail;
 
 /// Gives its bytes, counts the calls, and fails at one of them, which counts from 1, where there is to be such a one.
 #[derive(Drop)]
@@ -147,6 +145,16 @@ fn talked<R: Abort>(
     }
 }
 
+const SCRIPT: &[u8] = b"add-nodes 1 voters=(1) index=10
+----
+INFO 1 started at 1/10 with voters=(1)
+
+log-level debug
+----
+ok
+
+";
+
 const REPORT: &[u8] = b"2 directives, 0 mismatches\n";
 
 fn is<R: Abort>(
@@ -157,27 +165,23 @@ fn is<R: Abort>(
     counts: (u64, u64),
 ) {
     assert!(rt; came.answer == answer && came.text.as_slice() == text);
-    assert_eq!(rt; (came.made, came.failed), counts);
+    assert!(rt; (came.made, came.failed) == counts);
 }
 
 // One call gives all, and one finds the end. The second is the one that fails.
 #[test]
-fn runs_over_known_sources(rt: HostRuntime) -> Result<(), Fail> {
-    let script = one_node(1)?;
-    let whole = ran(&rt, rt.alloc(), script.taken(), None);
+fn runs_over_known_sources(rt: HostRuntime) {
+    let whole = ran(&rt, rt.alloc(), SCRIPT, None);
     is(&rt, &whole, Ok(Status::Done), REPORT, (2, 0));
-    let broken = ran(&rt, rt.alloc(), script.taken(), Some(2));
+    let broken = ran(&rt, rt.alloc(), SCRIPT, Some(2));
     is(&rt, &broken, Err(BenchFault::Io), b"", (2, 1));
-    Ok(())
 }
 
 #[test]
-fn talks_over_known_sources(rt: HostRuntime) -> Result<(), Fail> {
-    let script = one_node(1)?;
-    let whole = talked(&rt, rt.alloc(), script.taken(), b"report", None);
+fn talks_over_known_sources(rt: HostRuntime) {
+    let whole = talked(&rt, rt.alloc(), SCRIPT, b"report", None);
     is(&rt, &whole, Ok(Status::Done), REPORT, (2, 0));
     // The answers to the commands that came whole, and nothing of the one that was begun.
-    let broken = talked(&rt, rt.alloc(), script.taken(), b"report\nreport", Some(2));
+    let broken = talked(&rt, rt.alloc(), SCRIPT, b"report\nreport", Some(2));
     is(&rt, &broken, Err(BenchFault::Io), REPORT, (2, 1));
-    Ok(())
 }
