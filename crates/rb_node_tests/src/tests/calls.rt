@@ -7,7 +7,7 @@ use rb_message::{HardState, Message};
 use rb_node::{HEARTBEAT_TICKS, MAX_TICKS, Node, ReadyView, limits_are};
 use rb_raftlog::{CompactFault, Entry, RaftLog};
 use rb_step::ELECTION_TICKS;
-use std::alloc::{AllocError, Global};
+use std::alloc::Global;
 use std::process::Abort;
 
 /// What is ready: the hard state's term, vote and commit, and a snapshot's term and index, where there are such; how many entries are to
@@ -99,12 +99,12 @@ fn said_first(messages: &[Message]) -> Said {
     }
 }
 
-pub fn gone_out<L: RaftLog>(alloc: Global, node: &mut Node<L>) -> Result<Gone, AllocError> {
+pub fn gone_out<L: RaftLog>(rt: &impl Abort, alloc: Global, node: &mut Node<L>) -> Gone {
     let mut sent = Vec::new(alloc);
     let mut events = Vec::new(alloc);
-    node.advance(&mut sent, &mut events)?;
+    node.advance(&mut sent, &mut events).expect(rt, "memory");
     let said = said_first(sent.as_slice());
-    Ok((said, sent.len(), events.len(), node.has_ready()))
+    (said, sent.len(), events.len(), node.has_ready())
 }
 
 static TAKES_ENTRIES: &[Move] = &[
@@ -116,21 +116,22 @@ static TAKES_ENTRIES: &[Move] = &[
 fn hands_over<P: Player>(rt: &impl Abort, alloc: Global) {
     let mut player: P = played(rt, alloc, &START, TAKES_ENTRIES);
     let second = player.applies_what_it_saves();
-    let gone = player.gone_out(alloc).expect(rt, "memory");
+    let gone = player.gone_out(rt, alloc);
     assert!(rt; second && gone == (Said::HeartbeatAnswer, 2, 0, false));
 }
 
 /// The index and the term of a node's snapshot, and whether this is its content.
 pub fn snapshot_seen<L: RaftLog>(
+    rt: &impl Abort,
     node: &Node<L>,
     content: &[u8],
-) -> Result<(u64, u64, bool), AllocError> {
-    let snapshot = node.snapshot()?;
-    Ok((
+) -> (u64, u64, bool) {
+    let snapshot = node.snapshot().expect(rt, "memory");
+    (
         snapshot.index,
         snapshot.term,
         snapshot.content.end() == content,
-    ))
+    )
 }
 
 /// Whether a log of 11 to 13, all of it applied, can begin at 13, and then at no index up to there.
@@ -154,7 +155,7 @@ static LIVES: &[Move] = &[
 /// A lone voter takes two payloads; its snapshot is its content, and its log can begin there.
 fn life<P: Player>(rt: &impl Abort, alloc: Global) {
     let mut player: P = played(rt, alloc, &ALONE, LIVES);
-    let seen = player.snapshot_seen(b"abcd").expect(rt, "memory");
+    let seen = player.snapshot_seen(rt, b"abcd");
     assert!(rt; seen == (13, 1, true) && compacts(&mut player));
 }
 

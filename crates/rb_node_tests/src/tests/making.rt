@@ -14,156 +14,135 @@ use std::alloc::{AllocError, Global};
 use std::process::Abort;
 
 /// A payload of one byte.
-pub fn payload(alloc: Global, byte: u8) -> Result<Shared<u8>, AllocError> {
-    Shared::new(vec![in alloc; byte]?)
+fn payload(rt: &impl Abort, alloc: Global, byte: u8) -> Shared<u8> {
+    let bytes = vec![in alloc; byte].expect(rt, "memory");
+    Shared::new(bytes).expect(rt, "memory")
 }
 
-fn ids(alloc: Global, ids: &[u64]) -> Result<Shared<u64>, AllocError> {
-    Shared::new(ids.to_vec(alloc)?)
+fn ids(rt: &impl Abort, alloc: Global, ids: &[u64]) -> Shared<u64> {
+    let list = ids.to_vec(alloc).expect(rt, "memory");
+    Shared::new(list).expect(rt, "memory")
 }
 
-fn config_of(alloc: Global, start: &Start) -> Result<ConfState, AllocError> {
-    Ok(ConfState {
-        incoming: ids(alloc, start.incoming)?,
-        outgoing: ids(alloc, start.outgoing)?,
-        learners: ids(alloc, start.learners)?,
-        next: ids(alloc, start.next)?,
+fn config_of(rt: &impl Abort, alloc: Global, start: &Start) -> ConfState {
+    ConfState {
+        incoming: ids(rt, alloc, start.incoming),
+        outgoing: ids(rt, alloc, start.outgoing),
+        learners: ids(rt, alloc, start.learners),
+        next: ids(rt, alloc, start.next),
         auto: start.auto,
-    })
+    }
 }
 
 /// The snapshot that a node starts at.
-pub fn snapshot_of(alloc: Global, start: &Start) -> Result<Snapshot, AllocError> {
-    Ok(Snapshot {
+fn snapshot_of(rt: &impl Abort, alloc: Global, start: &Start) -> Snapshot {
+    Snapshot {
         index: start.index,
         term: start.term,
-        content: Content::from_slice(alloc, start.content)?,
-        config: config_of(alloc, start)?,
-    })
+        content: Content::from_slice(alloc, start.content).expect(rt, "memory"),
+        config: config_of(rt, alloc, start),
+    }
 }
 
 /// A node that has just started.
 fn node_of<L: RaftLog>(
+    rt: &impl Abort,
     alloc: Global,
     start: &Start,
     events: &mut Vec<Event>,
 ) -> Result<Node<L>, AllocError> {
-    let snapshot = snapshot_of(alloc, start)?;
-    if snapshot.index > MAX_INDEX {
-        return Err(AllocError);
-    }
+    let snapshot = snapshot_of(rt, alloc, start);
+    assert!(rt; snapshot.index <= MAX_INDEX);
     Node::new(alloc, start.id, &snapshot, start.options, events)
 }
 
 /// One more entry of a term, a payload of one byte.
-fn add_entry(alloc: Global, term: u64, entries: &mut Vec<Entry>) -> Result<(), AllocError> {
-    let body = Body::Payload(payload(alloc, b'e')?);
-    entries.push(Entry { term, body })?;
-    Ok(())
+fn add_entry(rt: &impl Abort, alloc: Global, term: u64, entries: &mut Vec<Entry>) {
+    let body = Body::Payload(payload(rt, alloc, b'e'));
+    entries.push(Entry { term, body }).expect(rt, "memory");
 }
 
 /// As many entries of a term.
-fn entries_of(alloc: Global, term: u64, count: u64) -> Result<Entries, AllocError> {
+fn entries_of(rt: &impl Abort, alloc: Global, term: u64, count: u64) -> Entries {
     let mut entries = Vec::new(alloc);
     for _ in 0..count {
-        add_entry(alloc, term, &mut entries)?;
+        add_entry(rt, alloc, term, &mut entries);
     }
-    if entries.len() > 1_000 {
-        return Err(AllocError);
-    }
-    Entries::from_vec(entries)
+    assert!(rt; entries.len() <= 1_000);
+    Entries::from_vec(entries).expect(rt, "memory")
 }
 
 fn append_of(
+    rt: &impl Abort,
     alloc: Global,
     term: u64,
     prev: (u64, u64),
     commit: u64,
     count: u64,
-) -> Result<MessageKind, AllocError> {
-    let entries = entries_of(alloc, term, count)?;
-    if entries.len() > 1_000 || prev.1 > 1_000 {
-        return Err(AllocError);
-    }
-    Ok(MessageKind::Append(Append::new(prev.0, prev.1, commit, entries)))
+) -> MessageKind {
+    let entries = entries_of(rt, alloc, term, count);
+    assert!(rt; entries.len() <= 1_000 && prev.1 <= 1_000);
+    MessageKind::Append(Append::new(prev.0, prev.1, commit, entries))
 }
 
 /// A snapshot of voters 1 to 3 without content.
-fn install_of(alloc: Global, term: u64, index: u64) -> Result<MessageKind, AllocError> {
+fn install_of(rt: &impl Abort, alloc: Global, term: u64, index: u64) -> MessageKind {
     let start = Start {
         term,
         index,
         content: b"",
         ..super::moves::START
     };
-    let snapshot = snapshot_of(alloc, &start)?;
-    if snapshot.index > MAX_INDEX {
-        return Err(AllocError);
-    }
-    Ok(MessageKind::Snapshot(Install::new(snapshot)))
+    let snapshot = snapshot_of(rt, alloc, &start);
+    assert!(rt; snapshot.index <= MAX_INDEX);
+    MessageKind::Snapshot(Install::new(snapshot))
 }
 
-fn kind_of(alloc: Global, term: u64, says: Says) -> Result<MessageKind, AllocError> {
+fn kind_of(rt: &impl Abort, alloc: Global, term: u64, says: Says) -> MessageKind {
     match says {
-        Says::Vote(last_term, last_index, transfer) => Ok(MessageKind::Vote {
+        Says::Vote(last_term, last_index, transfer) => MessageKind::Vote {
             last_term,
             last_index,
             transfer,
-        }),
-        Says::PreVote(last_term, last_index) => Ok(MessageKind::PreVote {
+        },
+        Says::PreVote(last_term, last_index) => MessageKind::PreVote {
             last_term,
             last_index,
-        }),
-        Says::VoteAnswer(granted) => Ok(MessageKind::VoteResponse { granted }),
-        Says::PreVoteAnswer(granted) => Ok(MessageKind::PreVoteResponse { granted }),
+        },
+        Says::VoteAnswer(granted) => MessageKind::VoteResponse { granted },
+        Says::PreVoteAnswer(granted) => MessageKind::PreVoteResponse { granted },
         Says::Append(prev_term, prev, commit, count) => {
-            append_of(alloc, term, (prev_term, prev), commit, count)
+            append_of(rt, alloc, term, (prev_term, prev), commit, count)
         }
-        Says::Accepted(matched) => Ok(MessageKind::AppendResponse { matched }),
-        Says::Refused(refused, hint) => Ok(MessageKind::AppendRefusal { refused, hint }),
-        Says::Heartbeat(commit) => Ok(MessageKind::Heartbeat { commit }),
-        Says::HeartbeatAnswer => Ok(MessageKind::HeartbeatResponse),
-        Says::Snapshot(snapshot_term, index) => install_of(alloc, snapshot_term, index),
-        Says::Payload => Ok(MessageKind::Proposal(Body::Payload(payload(alloc, b'p')?))),
-        Says::TransferTo(target) => Ok(MessageKind::TransferLeader { target }),
-        Says::TimeoutNow => Ok(MessageKind::TimeoutNow),
+        Says::Accepted(matched) => MessageKind::AppendResponse { matched },
+        Says::Refused(refused, hint) => MessageKind::AppendRefusal { refused, hint },
+        Says::Heartbeat(commit) => MessageKind::Heartbeat { commit },
+        Says::HeartbeatAnswer => MessageKind::HeartbeatResponse,
+        Says::Snapshot(snapshot_term, index) => install_of(rt, alloc, snapshot_term, index),
+        Says::Payload => MessageKind::Proposal(Body::Payload(payload(rt, alloc, b'p'))),
+        Says::TransferTo(target) => MessageKind::TransferLeader { target },
+        Says::TimeoutNow => MessageKind::TimeoutNow,
     }
 }
 
 /// A message for node 1.
-pub fn message_of(alloc: Global, from: u64, term: u64, says: Says) -> Result<Message, AllocError> {
-    Ok(Message {
+fn message_of(rt: &impl Abort, alloc: Global, from: u64, term: u64, says: Says) -> Message {
+    Message {
         from,
         to: 1,
         term,
-        kind: kind_of(alloc, term, says)?,
-    })
+        kind: kind_of(rt, alloc, term, says),
+    }
 }
 
 /// A change of one word.
-pub fn words_of(alloc: Global, kind: WordKind, id: u64) -> Result<Shared<Word>, AllocError> {
-    Shared::new(vec![in alloc; Word { kind, id }]?)
+fn words_of(rt: &impl Abort, alloc: Global, kind: WordKind, id: u64) -> Shared<Word> {
+    let words = vec![in alloc; Word { kind, id }].expect(rt, "memory");
+    Shared::new(words).expect(rt, "memory")
 }
 
-fn propose_change<L: RaftLog>(
-    alloc: Global,
-    node: &mut Node<L>,
-    transition: Transition,
-    kind: WordKind,
-    id: u64,
-    events: &mut Vec<Event>,
-) -> Result<(), AllocError> {
-    let words = words_of(alloc, kind, id)?;
-    node.propose_change(transition, words, events)
-}
-
-fn leave<L: RaftLog>(
-    alloc: Global,
-    node: &mut Node<L>,
-    events: &mut Vec<Event>,
-) -> Result<(), AllocError> {
-    let words = Shared::new(Vec::new(alloc))?;
-    node.propose_change(Transition::Auto, words, events)
+fn no_words(rt: &impl Abort, alloc: Global) -> Shared<Word> {
+    Shared::new(Vec::new(alloc)).expect(rt, "memory")
 }
 
 fn advance<L: RaftLog>(
@@ -205,28 +184,23 @@ fn act_by_itself<L: RaftLog>(
     }
 }
 
-fn take<L: RaftLog>(
-    node: &mut Node<L>,
-    message: Result<Message, AllocError>,
-    events: &mut Vec<Event>,
-) -> Result<(), AllocError> {
-    node.step(&message?, events)
-}
-
 /// Makes a node do one thing.
 fn act<L: RaftLog>(
+    rt: &impl Abort,
     alloc: Global,
     node: &mut Node<L>,
     what: Move,
     events: &mut Vec<Event>,
 ) -> Result<(), AllocError> {
     match what {
-        Move::Get(from, term, says) => take(node, message_of(alloc, from, term, says), events),
-        Move::Propose(byte) => node.propose(payload(alloc, byte)?, events),
-        Move::Change(transition, kind, id) => {
-            propose_change(alloc, node, transition, kind, id, events)
+        Move::Get(from, term, says) => {
+            node.step(&message_of(rt, alloc, from, term, says), events)
         }
-        Move::Leave => leave(alloc, node, events),
+        Move::Propose(byte) => node.propose(payload(rt, alloc, byte), events),
+        Move::Change(transition, kind, id) => {
+            node.propose_change(transition, words_of(rt, alloc, kind, id), events)
+        }
+        Move::Leave => node.propose_change(Transition::Auto, no_words(rt, alloc), events),
         Move::Advance => advance(alloc, node, events),
         _ => act_by_itself(node, what, events),
     }
@@ -235,12 +209,12 @@ fn act<L: RaftLog>(
 /// What starts somewhere, does things and is looked at. A row of a table needs no more of a node; so what goes over rows is proved
 /// without knowing what a node is.
 pub trait Player: Drop {
-    fn start(alloc: Global, start: &Start) -> Result<Self, AllocError>;
+    fn start(rt: &impl Abort, alloc: Global, start: &Start) -> Self;
 
-    fn act(&mut self, alloc: Global, what: Move) -> Result<(), AllocError>;
+    fn act(&mut self, rt: &impl Abort, alloc: Global, what: Move);
 
     /// Does one thing more, and tells what shows then.
-    fn show(&mut self, alloc: Global, what: Move) -> Result<Seen, AllocError>;
+    fn show(&mut self, rt: &impl Abort, alloc: Global, what: Move) -> Seen;
 
     fn held(&self) -> Held;
 
@@ -250,26 +224,26 @@ pub trait Player: Drop {
 
     fn applies_what_it_saves(&self) -> bool;
 
-    fn gone_out(&mut self, alloc: Global) -> Result<Gone, AllocError>;
+    fn gone_out(&mut self, rt: &impl Abort, alloc: Global) -> Gone;
 
-    fn snapshot_seen(&self, content: &[u8]) -> Result<(u64, u64, bool), AllocError>;
+    fn snapshot_seen(&self, rt: &impl Abort, content: &[u8]) -> (u64, u64, bool);
 
     fn compact(&mut self, index: u64) -> Result<(), CompactFault>;
 }
 
 impl<L: RaftLog> Player for Node<L> {
-    fn start(alloc: Global, start: &Start) -> Result<Node<L>, AllocError> {
-        node_of(alloc, start, &mut Vec::new(alloc))
+    fn start(rt: &impl Abort, alloc: Global, start: &Start) -> Node<L> {
+        node_of(rt, alloc, start, &mut Vec::new(alloc)).expect(rt, "memory")
     }
 
-    fn act(&mut self, alloc: Global, what: Move) -> Result<(), AllocError> {
-        act(alloc, self, what, &mut Vec::new(alloc))
+    fn act(&mut self, rt: &impl Abort, alloc: Global, what: Move) {
+        act(rt, alloc, self, what, &mut Vec::new(alloc)).expect(rt, "memory")
     }
 
-    fn show(&mut self, alloc: Global, what: Move) -> Result<Seen, AllocError> {
+    fn show(&mut self, rt: &impl Abort, alloc: Global, what: Move) -> Seen {
         let mut events = Vec::new(alloc);
-        act(alloc, self, what, &mut events)?;
-        Ok(seen_of(self, events.as_slice()))
+        act(rt, alloc, self, what, &mut events).expect(rt, "memory");
+        seen_of(self, events.as_slice())
     }
 
     fn held(&self) -> Held {
@@ -288,12 +262,12 @@ impl<L: RaftLog> Player for Node<L> {
         applies_what_it_saves(self)
     }
 
-    fn gone_out(&mut self, alloc: Global) -> Result<Gone, AllocError> {
-        gone_out(alloc, self)
+    fn gone_out(&mut self, rt: &impl Abort, alloc: Global) -> Gone {
+        gone_out(rt, alloc, self)
     }
 
-    fn snapshot_seen(&self, content: &[u8]) -> Result<(u64, u64, bool), AllocError> {
-        snapshot_seen(self, content)
+    fn snapshot_seen(&self, rt: &impl Abort, content: &[u8]) -> (u64, u64, bool) {
+        snapshot_seen(rt, self, content)
     }
 
     fn compact(&mut self, index: u64) -> Result<(), CompactFault> {
@@ -303,13 +277,13 @@ impl<L: RaftLog> Player for Node<L> {
 
 fn act_all<P: Player>(rt: &impl Abort, alloc: Global, player: &mut P, moves: &[Move]) {
     for what in moves {
-        player.act(alloc, *what).expect(rt, "memory");
+        player.act(rt, alloc, *what);
     }
 }
 
 /// A node that started somewhere and did all this, in order.
 pub fn played<P: Player>(rt: &impl Abort, alloc: Global, start: &Start, moves: &[Move]) -> P {
-    let mut player = P::start(alloc, start).expect(rt, "memory");
+    let mut player = P::start(rt, alloc, start);
     act_all(rt, alloc, &mut player, moves);
     player
 }

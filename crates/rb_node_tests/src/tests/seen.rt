@@ -245,7 +245,7 @@ fn seen_after<P: Player>(
     last: Move,
 ) -> Seen {
     let mut player: P = played_on(rt, alloc, start, moves, more);
-    player.show(alloc, last).expect(rt, "memory")
+    player.show(rt, alloc, last)
 }
 
 /// Whether the node of a table shows what each row says, once it gets the row's message.
