@@ -1,4 +1,5 @@
 mod bench;
 mod definitions;
 mod edits;
+mod files;
 mod reading;
