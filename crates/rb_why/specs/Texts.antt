@@ -33,8 +33,12 @@ ignored_text (ignored.NotAVoter target) = decimal target ++ codes " is no voter"
 ignored_text (ignored.LeadsAlready target) = decimal target ++ codes " leads already"
 ignored_text (ignored.IsUnderWay target) = codes "the lead is on its way to " ++ decimal target
 
+-- what is said of a log, and the term and index that it ends with
+abbrev pub end_text : List ℕ → ℕ → ℕ → List ℕ
+end_text before term index = before ++ place_text term index
+
 abbrev pub older_text : ℕ → ℕ → ℕ → ℕ → List ℕ
-older_text term index own_term own_index = codes "its log ends at " ++ place_text term index ++ codes ", the voter's at " ++ place_text own_term own_index
+older_text term index own_term own_index = end_text (codes "its log ends at ") term index ++ end_text (codes ", the voter's at ") own_term own_index
 
 unfoldable pub refused_text : WhyRefused → List ℕ
 refused_text (refused.EarlierTerm term own) = earlier_text term own

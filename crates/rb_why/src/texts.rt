@@ -4,7 +4,7 @@
 
 ghost use Rattle.std.specs.Prelude.{◌≡◌, ◌++◌, codes, decimal, OnOk};
 ghost use Rattle.rb_texts.specs.States.{role_text};
-ghost use Rattle.rb_why.specs.Texts.{earlier_text, outdated_text, ignored_text, older_text, refused_text, reason_text, is_shown, reason_lines};
+ghost use Rattle.rb_why.specs.Texts.{earlier_text, outdated_text, ignored_text, end_text, older_text, refused_text, reason_text, is_shown, reason_lines};
 
 use crate::piece::{Piece, add_pieces};
 use crate::why::{Reason, WhyIgnored, WhyRefused};
@@ -138,6 +138,18 @@ fn add_ignored(line: &mut Vec<u8>, why: WhyIgnored) -> Result<(), AllocError>
     }
 }
 
+// Adds what is said of a log, and the term and index that it ends with.
+fn add_end<'a>(
+    line: &mut Vec<u8>,
+    before: &'a [u8],
+    term: u64,
+    index: u64,
+) -> Result<(), AllocError>
+    ensures { OnOk result (line.new.items ≡ line.old.items ++ end_text before.now term index) }
+{
+    add_numbers(line, before, term, b"/", index)
+}
+
 fn add_older(
     line: &mut Vec<u8>,
     term: u64,
@@ -147,17 +159,8 @@ fn add_older(
 ) -> Result<(), AllocError>
     ensures { OnOk result (line.new.items ≡ line.old.items ++ older_text term index own_term own_index) }
 {
-    let pieces = [
-        Piece::Bytes(b"its log ends at "),
-        Piece::Number(term),
-        Piece::Bytes(b"/"),
-        Piece::Number(index),
-        Piece::Bytes(b", the voter's at "),
-        Piece::Number(own_term),
-        Piece::Bytes(b"/"),
-        Piece::Number(own_index),
-    ];
-    add_pieces(line, &pieces)
+    add_end(line, b"its log ends at ", term, index)?;
+    add_end(line, b", the voter's at ", own_term, own_index)
 }
 
 #[tactic(auto, unfolding(crate::specs::Texts::refused_text))]
