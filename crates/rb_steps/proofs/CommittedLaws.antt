@@ -1,11 +1,10 @@
 -- Whatever a directive does to nodes, each is sound as before, and what it knew to be committed stays.
-use Rattle.std.proofs.Common.{◌≡◌, ◌∙◌, ℕ, zero, suc, ◌+◌, ◌-◌, ◌≤◌, false, List, [], ◌∷◌, ◌++◌, length, min, Option, Some, None, Result, Ok, Err, refl, subst, arith, if◌then◌else◌, nat_le, nat_lt}
+use Rattle.std.proofs.Common.{◌≡◌, ◌∙◌, ℕ, zero, suc, ◌+◌, ◌-◌, ◌≤◌, false, List, [], ◌∷◌, ◌++◌, length, min, Option, Some, None, Result, Ok, Err, refl, subst, arith, if◌then◌else◌}
 use Rattle.std.specs.Prelude.{slice_get, slice_set}
 use Rattle.std.specs.List.{range_with_len}
 use Rattle.std.specs.Option.{option_or}
 use Rattle.rb_script.specs.Directive.{PlainDirective}
 use Rattle.rb_level.specs.declared.directive_error.DirectiveError.{DirectiveError}
-use Rattle.rb_level.specs.declared.directive_error.DirectiveError.TheVariants as errors
 use Rattle.rb_directive.specs.declared.asking.AddNodes.{AddNodes}
 use Rattle.rb_directive.specs.declared.asking.DeliverMsgs.{DeliverMsgs}
 use Rattle.rb_directive.specs.declared.asking.Request.{Request}
@@ -16,9 +15,8 @@ use Rattle.rb_directive.specs.Changes.{input_words}
 use Rattle.rb_directive.specs.Requests.{request, nodes_of}
 use Rattle.rb_raftlog.specs.declared.entry.Body.TheVariants as bodies
 use Rattle.rb_raftlog.specs.declared.raft_log.CompactFault.{CompactFault}
-use Rattle.rb_raftlog.specs.declared.raft_log.CompactFault.TheVariants as faults
 use Rattle.rb_raftlog.specs.declared.snapshot.Snapshot.{Snapshot}
-use Rattle.rb_raftlog.specs.Log.{LogValue, compact_fault}
+use Rattle.rb_raftlog.specs.Log.{compact_fault}
 use Rattle.rb_tracker.proofs.SetLaws.{if_both}
 use Rattle.rb_message.specs.declared.message.Message.{Message}
 use Rattle.rb_step.specs.declared.limits.TheConstants.{ELECTION_TICKS}
@@ -30,6 +28,7 @@ use Rattle.rb_node.specs.Ticking.{ticked}
 use Rattle.rb_node_laws.specs.Calling.{Call, Step, Campaign, Propose, Transfer, Tick, Advance, ForgetLeader, ReportUnreachable, SetTimeout, Compact, compacted_unless, after}
 use Rattle.rb_node_laws.specs.Sound.{IsSound}
 use Rattle.rb_node_laws.proofs.CallLaws.{calls}
+use Rattle.rb_machine.specs.declared.screen.Form.TheVariants as forms
 use Rattle.rb_machine.specs.Acts.{ticked_times}
 use Rattle.rb_machine.specs.AddNodes.{added_each, began, nodes_added, options, start}
 use Rattle.rb_machine.specs.Changes.{transition_of, words_of}
@@ -40,8 +39,9 @@ use Rattle.rb_machine.specs.Pending.{all_sent, has_room, mail, sent}
 use Rattle.rb_machine.specs.Readies.{advanced_by, all_done, ready_done, ready_done_by, ready_done_each, ready_items}
 use Rattle.rb_machine.specs.Rounds.{chosen, has_work, is_ready, readied_each, round, settled}
 use Rattle.rb_machine.specs.Scenes.{Scene, acted, acted_by, all_shown, scene, shown, with_cluster}
-use Rattle.rb_machine.specs.Snapshots.{compact_by, compact_error, compact_error_by, error_of, queued, snapshot_sent_by}
+use Rattle.rb_machine.specs.Snapshots.{compact_by, compact_error, compact_error_by, queued, snapshot_sent_by}
 use Rattle.rb_machine.specs.Views.{log_shown_by, status_shown_by}
+use Rattle.rb_machine.proofs.CompactLaws.{may_compact}
 use Rattle.rb_texts.specs.Items.{moved}
 use Rattle.rb_texts.specs.declared.item.Verb.TheVariants as verbs
 use Rattle.rb_steps.specs.Committed.{AreKept, AreSound, IsKept}
@@ -255,25 +255,11 @@ sends_snapshot : (olds : List PlainNode) (x : Scene) (from to : ℕ) (o : Option
 sends_snapshot olds x from to None all = all
 sends_snapshot olds x from to (Some n) all = queues olds x _ all
 
-some_none : {X : Type 0} → (x : X) → Some x ≡ None → ⊥
-some_none x e = cc
-
-no_error : (o : Option CompactFault) → (o ≡ Some faults.OutOfMemory → ⊥) → error_of o ≡ None → o ≡ None
-no_error None memory none = refl
-no_error (Some faults.AlreadyCompacted) memory none = absurd (some_none errors.AlreadyCompacted none)
-no_error (Some faults.PastApplied) memory none = absurd (some_none errors.IndexPastApplied none)
-no_error (Some faults.OutOfMemory) memory none = absurd (memory refl)
-
-never_memory : (v : LogValue) (i applied : ℕ) → compact_fault v i applied ≡ Some faults.OutOfMemory → ⊥
-never_memory v i applied =
-    let P : Option CompactFault → Type 0 = λ o. o ≡ Some faults.OutOfMemory → ⊥ in
-    if_both P (nat_le i v.base) _ _ (λ _ e. cc) (λ _. if_both P (nat_lt applied i) _ _ (λ _ e. cc) (λ _ e. cc))
-
 compacts : (olds : List PlainNode) (x : Scene) (id index : ℕ) (o : Option PlainNode) → node_at x.cluster id ≡ o → compact_error_by o index ≡ None → HaveGoneOn olds x.cluster.nodes → HaveGoneOn olds (compact_by o id index x).cluster.nodes
 compacts olds x id index None at none all = all
 compacts olds x id index (Some n) at none all =
     let upto = min n.applied n.log.durable in
-    let may : compact_fault n.log index upto ≡ None = no_error (compact_fault n.log index upto) (never_memory n.log index upto) none in
+    let may : compact_fault n.log index upto ≡ None = may_compact n.log index upto none in
     set_on olds x.cluster.nodes (id - 1) n (compacted_unless None n index) at
     (λ sound. subst (λ (f : Option CompactFault). HasGoneOn n (compacted_unless f n index)) may (called_on (Compact index) (turn n []) sound)) all
 
@@ -311,17 +297,20 @@ has_effect olds (requests.RaftLog id) x may all = shows_log olds x (node_at x.cl
 has_effect olds (requests.Status id) x may all = shows_status olds x (node_at x.cluster id) all
 has_effect olds requests.RaftState x may all = all
 
+some_none : {X : Type 0} → (x : X) → Some x ≡ None → ⊥
+some_none x e = cc
+
 second : {X : Type 0} → (a b : Option X) → option_or a b ≡ None → b ≡ None
 second None b none = none
 second (Some x) b none = absurd (some_none x none)
 
-unless_on : (o : Option DirectiveError) (a : Asked) (c : Cluster) → fault a.request c ≡ o → AreSound c.nodes → HaveGoneOn c.nodes (unless_refused false o a c).cluster.nodes
+unless_on : (o : Option DirectiveError) (a : Asked) (c : Cluster) → fault a.request c ≡ o → AreSound c.nodes → HaveGoneOn c.nodes (unless_refused forms.Lines o a c).cluster.nodes
 unfolding fault
 unless_on (Some e) a c is sound = all_still c.nodes sound
 unless_on None a c is sound =
-    has_effect c.nodes a.request (scene c (screen_of false a c)) (second (missing_node c.nodes (nodes_of a.request)) (own_fault a.request c) is) (all_still c.nodes sound)
+    has_effect c.nodes a.request (scene c (screen_of forms.Lines a c)) (second (missing_node c.nodes (nodes_of a.request)) (own_fault a.request c) is) (all_still c.nodes sound)
 
-by_request : (r : Result Asked DirectiveError) (c : Cluster) → AreSound c.nodes → HaveGoneOn c.nodes (outcome_of false r c).cluster.nodes
+by_request : (r : Result Asked DirectiveError) (c : Cluster) → AreSound c.nodes → HaveGoneOn c.nodes (outcome_of forms.Lines r c).cluster.nodes
 by_request (Err e) c sound = all_still c.nodes sound
 by_request (Ok a) c sound = unless_on (fault a.request c) a c refl sound
 
