@@ -1,5 +1,6 @@
 pub mod PlaceLaws
 pub mod PositionLaws
+pub mod BehindLaws
 pub mod ChangeLaws
 pub mod TableLaws
 pub mod EditLaws

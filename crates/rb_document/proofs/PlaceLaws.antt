@@ -41,8 +41,8 @@ line_going n m i bytes within is ends =
     ∙ ap (λ (k : ℕ). suc (line_start k (drop (i + 1) bytes))) (sym is) ∙ omega arith
 
 -- a byte that is of no line's end ends none
-no_end : (b : ℕ) (rest : List ℕ) → is_end b ≡ false → ends_line b rest ≡ false
-no_end b rest none =
+pub ends_none : (b : ℕ) (rest : List ℕ) → is_end b ≡ false → ends_line b rest ≡ false
+ends_none b rest none =
     let parts = or_parts (b == 10) (b == 13) none in
     rw (parts.0, parts.1) refl
 
@@ -53,7 +53,7 @@ unfolding line_start
 skipped n zero bytes within none = omega arith
 skipped n (suc k) [] within none = absurd (omega arith)
 skipped n (suc k) (b ∷ bytes) within none =
-    let goes = no_end b bytes (none 0 (omega arith)) in
+    let goes = ends_none b bytes (none 0 (omega arith)) in
     let rest = skipped n k bytes (omega arith) (λ j few. none (suc j) (omega arith)) in
     rw goes (omega (arith, rest))
 

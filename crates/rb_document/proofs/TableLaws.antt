@@ -1,5 +1,5 @@
 -- Where the lines of a script begin, a byte further.
-use Rattle.std.proofs.Common.{◌≡◌, ◌⊎◌, inl, inr, ℕ, suc, ◌+◌, ◌-◌, ◌<◌, ◌≤◌, true, false, ◌==◌, List, [], ◌∷◌, ◌++◌, length, drop, get_or, cond, refl, sym, ap, ◌∙◌, arith, add-one, drop-cons, length-append}
+use Rattle.std.proofs.Common.{◌≡◌, ◌⊎◌, inl, inr, ℕ, zero, suc, ◌+◌, ◌-◌, ◌<◌, ◌≤◌, true, false, ◌==◌, List, [], ◌∷◌, ◌++◌, length, drop, get_or, cond, refl, sym, ap, subst, ◌∙◌, arith, add-one, drop-cons, length-append}
 use Rattle.std.proofs.lemmas.List.{drop_all, get_or_append_left}
 use Rattle.std.proofs.Math.Nat.{eq-or-lt_of_le}
 use Rattle.std.proofs.lemmas.Bool.{cases_order}
@@ -9,6 +9,7 @@ use Rattle.rb_document.specs.declared.position.Encoding.{Encoding}
 use Rattle.rb_document.specs.declared.position.Position.{Position}
 use Rattle.rb_document.specs.Places.{START, position_of}
 use Rattle.rb_document.specs.Tables.{feed_start, start_of}
+use Rattle.rb_document.specs.Behind.{HasNoFeed, IsLineBehind}
 
 feed_at : (n i : ℕ) (text : List ℕ) → i < length text
     → feed_start (suc n) (drop i text) ≡ suc (cond (get_or text i 0 == 10) (feed_start n (drop (suc i) text)) (feed_start (suc n) (drop (suc i) text)))
@@ -55,6 +56,21 @@ others_stand e text i starts within none s = record {
       omega (arith, before, going, same);
 }
 
+-- many of them
+stands_on : (e : Encoding) (text : List ℕ) (i k : ℕ) (starts : List Position) → i + k ≤ length text → HasNoFeed i (i + k) text
+    → StartsStand e text i starts → StartsStand e text (i + k) starts
+stands_on e text i zero starts within none s = let same : i + 0 ≡ i = omega arith in rw same s
+stands_on e text i (suc k) starts within none s =
+    let on : i + suc k ≡ i + k + 1 = omega arith in
+    let before = stands_on e text i k starts (omega arith) (λ j from few. none j from (omega (arith, few))) s in
+    rw on (others_stand e text (i + k) starts (omega arith) (none (i + k) (omega arith) (omega arith)) before)
+
+pub stands_to : (e : Encoding) (text : List ℕ) (i end : ℕ) (starts : List Position) → i ≤ end → end ≤ length text → HasNoFeed i end text
+    → StartsStand e text i starts → StartsStand e text end starts
+stands_to e text i end starts from within none s =
+    let to : i + (end - i) ≡ end = omega (arith, from) in
+    subst (λ (n : ℕ). StartsStand e text n starts) to (stands_on e text i (end - i) starts (omega (arith, from, within)) (λ j before few. none j before (omega (arith, from, few))) s)
+
 zero_left : (n m : ℕ) → n ≡ m → n - m ≡ 0
 zero_left n m same = omega arith
 
@@ -85,6 +101,28 @@ start_stands e text i starts more p within ends here is s =
           let ended = feed_ended (n - length more) i text within ends in
           omega (arith, before, ap (λ (k : ℕ). feed_start (suc k) (drop i text)) further, ended);
     }
+
+-- ---- a line at once
+
+up_to : (e : Encoding) (text : List ℕ) (i next : ℕ) (starts : List Position) → IsLineBehind i text next → StartsStand e text i starts → StartsStand e text (next - 1) starts
+up_to e text i next starts behind s = stands_to e text i (next - 1) starts (omega (arith, behind.further)) (omega (arith, behind.within)) behind.none s
+
+-- a line that ends with LF
+pub line_stands : (e : Encoding) (text : List ℕ) (i next : ℕ) (starts more : List Position) (p : Position) → IsLineBehind i text next → (get_or text (next - 1) 0 == 10) ≡ true
+    → p ≡ position_of e next text → more ≡ starts ++ p ∷ [] → StartsStand e text i starts → StartsStand e text next more
+line_stands e text i next starts more p behind ends here is s =
+    let last : next - 1 + 1 ≡ next = omega (arith, behind.further) in
+    let within : next - 1 < length text = omega (arith, behind.further, behind.within) in
+    subst (λ (n : ℕ). StartsStand e text n more) last
+    (start_stands e text (next - 1) starts more p within ends (here ∙ ap (λ (n : ℕ). position_of e n text) (sym last)) is (up_to e text i next starts behind s))
+
+-- one that ends with CR
+pub part_stands : (e : Encoding) (text : List ℕ) (i next : ℕ) (starts : List Position) → IsLineBehind i text next → (get_or text (next - 1) 0 == 10) ≡ false
+    → StartsStand e text i starts → StartsStand e text next starts
+part_stands e text i next starts behind none s =
+    let last : next - 1 + 1 ≡ next = omega (arith, behind.further) in
+    let within : next - 1 < length text = omega (arith, behind.further, behind.within) in
+    subst (λ (n : ℕ). StartsStand e text n starts) last (others_stand e text (next - 1) starts within none (up_to e text i next starts behind s))
 
 in_or_past : (n m : ℕ) → (n < m) ⊎ (m ≤ n)
 in_or_past n m = elim (cases_order n m) [

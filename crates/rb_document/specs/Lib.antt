@@ -1,4 +1,5 @@
 pub mod Places
+pub mod Behind
 pub mod Changes
 pub mod Tables
 pub mod Edits

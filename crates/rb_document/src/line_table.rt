@@ -3,7 +3,7 @@
 ghost use Rattle.std.specs.Prelude.{◌≡◌, ◌≤◌, length};
 
 use crate::MAX_TEXT;
-use crate::position::{Encoding, Position, next_position};
+use crate::position::{Encoding, Position, line_behind, line_first, position_on};
 use std::alloc::{AllocError, Global};
 
 /// Where each line of a script begins, as an editor's position. A script's lines end at LF; an editor's at CR and CR LF too.
@@ -25,18 +25,18 @@ impl LineTable {
         requires { length text.now ≤ MAX_TEXT }
         ensures { IfOk result (λ table. IsTable encoding text.now table) }
     {
-        let mut end = Position {
-            line: 0,
-            character: 0,
-        };
         let mut starts = Vec::new(alloc);
-        starts.push(end)?;
-        for at in 0..text.len() {
-            end = next_position(encoding, end, text[at], &text[at + 1..]);
-            if text[at] == b'\n' {
-                starts.push(end)?;
+        starts.push(line_first(0))?;
+        let mut line = 0;
+        let mut at = 0;
+        while let Some(next) = line_behind(text, at) {
+            line += 1;
+            at = next;
+            if text[at - 1] == b'\n' {
+                starts.push(line_first(line))?;
             }
         }
+        let end = position_on(encoding, line_first(line), at, text.len(), text);
         Ok(LineTable { starts, end })
     }
 

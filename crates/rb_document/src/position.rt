@@ -1,8 +1,9 @@
 //! Where a position stands in a text.
 
-ghost use Rattle.std.specs.Prelude.{◌≡◌, ◌+◌, ◌-◌, ◌*◌, ◌<◌, ◌≤◌, ℕ, false, length, drop, get_or};
+ghost use Rattle.std.specs.Prelude.{◌≡◌, ◌+◌, ◌-◌, ◌*◌, ◌<◌, ◌≤◌, ℕ, true, false, length, drop, get_or, IfSome, IfNone};
 ghost use Rattle.rb_document.specs.declared.limits.TheConstants.{MAX_TEXT};
 ghost use Rattle.rb_document.specs.Places.{column, ends_line, feeds, is_end, line_start, next_position, offset, position_of, units};
+ghost use Rattle.rb_document.specs.Behind.{HasNoFeed, IsLineBehind};
 
 use memchr::memchr2;
 
@@ -57,16 +58,39 @@ pub(crate) fn offsets(encoding: Encoding, range: Range, text: &[u8]) -> (usize, 
 }
 
 /// The position behind so many bytes of a text.
+#[tactic(auto, unfolding(crate::specs::Places::position_of))]
 pub fn position_of(encoding: Encoding, offset: usize, text: &[u8]) -> Position
     requires within { offset ≤ length text.now }
     requires bounded { length text.now ≤ MAX_TEXT }
     ensures { result ≡ position_of encoding offset text.now }
 {
-    let mut position = Position {
-        line: 0,
-        character: 0,
-    };
-    for at in 0..offset {
+    position_on(encoding, line_first(0), 0, offset, text)
+}
+
+/// Where a line begins.
+pub(crate) fn line_first(line: u64) -> Position
+    ensures { result ≡ record { line = line; character = 0 } }
+{
+    Position { line, character: 0 }
+}
+
+// The position behind so many bytes, by that behind fewer.
+pub(crate) fn position_on(
+    encoding: Encoding,
+    first: Position,
+    from: usize,
+    to: usize,
+    text: &[u8],
+) -> Position
+    requires order { from ≤ to }
+    requires within { to ≤ length text.now }
+    requires bounded { length text.now ≤ MAX_TEXT }
+    requires few { (first.line ≤ from) × (first.character ≤ 4 * from) }
+    requires first { first ≡ position_of encoding from text.now }
+    ensures { result ≡ position_of encoding to text.now }
+{
+    let mut position = first;
+    for at in from..to {
         position = next_position(encoding, position, text[at], &text[at + 1..]);
     }
     position
@@ -149,10 +173,28 @@ pub(crate) fn line_start(line: u64, text: &[u8]) -> usize
     at
 }
 
+/// Where the line behind the one that begins here begins, if this one has an end.
+pub(crate) fn line_behind(text: &[u8], at: usize) -> Option<usize>
+    requires { at ≤ length text.now }
+    ensures next { IfSome result (IsLineBehind at text.now) }
+    ensures last { IfNone result (HasNoFeed at (length text.now) text.now) }
+{
+    let end = at + line_len(&text[at..]);
+    if end == text.len() {
+        return None;
+    }
+    if ends_line(text[end], &text[end + 1..]) {
+        return Some(end + 1);
+    }
+    // CR LF is one end.
+    Some(end + 2)
+}
+
 // How many bytes stand before the first one of a line's end: all, where there is none.
 fn line_len(bytes: &[u8]) -> usize
     ensures within { result ≤ length bytes.now }
     ensures before { (k : ℕ) → k < result → is_end (get_or bytes.now k 0) ≡ false }
+    ensures end { result < length bytes.now → is_end (get_or bytes.now result 0) ≡ true }
 {
     match memchr2(b'\n', b'\r', bytes) {
         Some(end) => end,

@@ -1,4 +1,4 @@
-use Rattle.std.proofs.Common.{◌+◌, ◌-◌, ℕ, arith, ap, drop, length-drop}
+use Rattle.std.proofs.Common.{◌-◌, ℕ, arith, ap, drop, length-drop}
 use Rattle.std.proofs.lemmas.List.{take_rest}
 use Rattle.rb_document.specs.Places.{offset_at}
 use Rattle.rb_document.proofs.PlaceLaws.{offset_on}

@@ -1,12 +1,7 @@
-use Rattle.std.proofs.Common.{◌+◌, get_or, drop, refl, arith}
+use Rattle.std.proofs.Common.{◌+◌, get_or, drop, arith}
 use Rattle.std.proofs.lemmas.List.{take_rest}
-use Rattle.rb_document.specs.Places.{position_of}
 use Rattle.rb_document.proofs.PositionLaws.{position_more, position_few}
-use Rattle.rb_document.proofs.position.position_of.Goals as goal
-
-pub loop-at-init : goal.loop-at-init
-unfolding position_of
-loop-at-init c = record { value = refl; line = omega arith; character = omega arith }
+use Rattle.rb_document.proofs.position.position_on.Goals as goal
 
 pub loop-at-preserved : goal.loop-at-preserved
 loop-at-preserved c =

@@ -1,7 +1,7 @@
 -- The position of what was looked at.
 use Rattle.std.proofs.Common.{◌≡◌, ◌*◌, ◌≤◌}
 use Rattle.rb_document.specs.Places.{position_of}
-use Rattle.rb_document.proofs.position.position_of.Given as goal
+use Rattle.rb_document.proofs.position.position_on.Given as goal
 
 abbrev pub invariant-loop-at : goal.invariant-loop-at
 invariant-loop-at l = record {
