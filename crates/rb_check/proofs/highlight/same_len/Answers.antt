@@ -1,4 +1,4 @@
-use Rattle.std.proofs.Common.{◌≡◌, ◌∙◌, ◌<◌, ℕ, length, get_or, sym, arith}
+use Rattle.std.proofs.Common.{◌∙◌, ◌<◌, ℕ, length, sym, arith}
 use Rattle.rb_check.specs.Highlights.{read_from}
 use Rattle.rb_check.proofs.HighlightLaws.{length-read, same-on, same-no, same-past}
 use Rattle.rb_check.proofs.highlight.same_len.Goals as goal
