@@ -5,7 +5,7 @@ use crate::misuse::Misuse;
 use crate::page::name_of;
 use crate::refusal::Refusal;
 use rb_bench::Status;
-use rb_line::Incoming;
+use rb_line::{Incoming, Source};
 use rb_number::number_of;
 use rb_pages::chart_over;
 use rb_script::Through;
@@ -20,16 +20,24 @@ pub(crate) fn chart<R: Files + Input + Print + AllocGlobal>(
     file: &str,
     until: Option<&str>,
 ) -> Result<Status, Refusal> {
-    let alloc = rt.alloc();
-    let last = last_line(alloc, until)?;
+    let last = last_line(rt.alloc(), until)?;
     let name = name_of(file).as_bytes();
-    let mut writer = Through(BufWriter::new(alloc, io::writer(rt))?);
     if file == "-" {
-        let mut source = Incoming(rt.reader());
-        return Ok(chart_over(alloc, &mut source, &mut writer, name, last)?);
+        chart_from(rt, &mut Incoming(rt.reader()), name, last)
+    } else {
+        chart_from(rt, &mut Incoming(opened(rt, file)?), name, last)
     }
-    let mut source = Incoming(opened(rt, file)?);
-    Ok(chart_over(alloc, &mut source, &mut writer, name, last)?)
+}
+
+fn chart_from<R: Print + AllocGlobal, S: Source>(
+    rt: &R,
+    source: &mut S,
+    name: &[u8],
+    last: Option<u64>,
+) -> Result<Status, Refusal> {
+    let alloc = rt.alloc();
+    let mut writer = Through(BufWriter::new(alloc, io::writer(rt))?);
+    Ok(chart_over(alloc, source, &mut writer, name, last)?)
 }
 
 // The line behind `--until`, where it is given.

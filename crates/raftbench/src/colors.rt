@@ -7,7 +7,7 @@ use std::env;
 use std::rt::Env;
 
 /// What `--color` asks for.
-#[derive(Clone, Copy, Debug, PartialEq, Eq)]
+#[derive(Clone, Copy)]
 pub(crate) enum Wish {
     Auto,
     Always,

@@ -6,6 +6,7 @@ use rb_bench::Status;
 use rb_hint::nearest_name;
 use rb_manual::{page_of, put_manual};
 use rb_script::{Sink, Through, WriteFault};
+use std::alloc::Global;
 use std::io;
 use std::io::{BufWriter, Write};
 
@@ -15,19 +16,30 @@ pub(crate) fn directives<R: Print + AllocGlobal>(
     name: Option<&str>,
 ) -> Result<Status, Refusal> {
     let alloc = rt.alloc();
-    let mut sink = Through(BufWriter::new(alloc, io::writer(rt))?);
-    let written = match name {
-        None => put_manual(&mut sink),
-        Some(name) => match page_of(name.as_bytes()) {
-            Some(page) => sink.put(page),
-            None => {
-                let unknown = String::from_str(alloc, name)?;
-                let meant = nearest_name(name.as_bytes());
-                return Err(Refusal::OwnUsage(Misuse::Directive(unknown, meant)));
-            }
-        },
+    let page = match name {
+        Some(name) => Some(page_named(alloc, name)?),
+        None => None,
     };
-    match handed_on(sink, written) {
+    let mut sink = Through(BufWriter::new(alloc, io::writer(rt))?);
+    let written = match page {
+        Some(page) => sink.put(page),
+        None => put_manual(&mut sink),
+    };
+    status_of(handed_on(&mut sink, written))
+}
+
+fn page_named(alloc: Global, name: &str) -> Result<&'static [u8], Refusal> {
+    if let Some(page) = page_of(name.as_bytes()) {
+        return Ok(page);
+    }
+    let unknown = String::from_str(alloc, name)?;
+    let meant = nearest_name(name.as_bytes());
+    Err(Refusal::OwnUsage(Misuse::Directive(unknown, meant)))
+}
+
+/// What it comes to that this was written, or was not.
+pub(crate) fn status_of(written: Result<(), WriteFault>) -> Result<Status, Refusal> {
+    match written {
         Ok(()) => Ok(Status::Done),
         Err(_) => Err(Refusal::Io),
     }
@@ -35,7 +47,7 @@ pub(crate) fn directives<R: Print + AllocGlobal>(
 
 /// Hands on what was written.
 pub(crate) fn handed_on<W: Write + Drop>(
-    mut sink: Through<BufWriter<W>>,
+    sink: &mut Through<BufWriter<W>>,
     written: Result<(), WriteFault>,
 ) -> Result<(), WriteFault> {
     written?;

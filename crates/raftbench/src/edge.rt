@@ -15,7 +15,7 @@ use crate::target::targets;
 use rb_args::{CheckChoice, Choice, Subcommand, chosen};
 use rb_bench::{Mode, Status, run_over, serve, status_code};
 use rb_checked::Shown;
-use rb_line::{Incoming, read_up_to};
+use rb_line::{Incoming, Source, read_up_to};
 use rb_replay::is_spacing;
 use rb_script::{MAX_SCRIPT, Through};
 use rb_suite::{Asked, check};
@@ -27,7 +27,7 @@ use std::time::Clock;
 use std::{env, io};
 
 /// Which of the streams are terminals.
-#[derive(Clone, Copy, Debug)]
+#[derive(Clone, Copy)]
 pub(crate) struct Terminals {
     pub(crate) input: bool,
     pub(crate) output: bool,
@@ -55,41 +55,53 @@ fn words<R: Env + AllocGlobal>(rt: &R) -> Result<Vec<String>, Refusal> {
     }
 }
 
+fn choice<R: Env + AllocGlobal>(rt: &R) -> Result<Choice, Refusal> {
+    let words = words(rt)?;
+    Ok(chosen(rt.alloc(), words.as_slice())?)
+}
+
 fn answered<R: Files + Input + Print + Env + Clock + AllocGlobal, E: Write + Drop>(
     rt: &R,
     errors: E,
     terminals: Terminals,
 ) -> Result<u8, Refusal> {
-    let words = words(rt)?;
-    let choice = chosen(rt.alloc(), words.as_slice())?;
+    let choice = choice(rt)?;
+    let every = choice.every.as_deref();
     match choice.subcommand {
-        Some(Subcommand::Check) => {
-            check_all(
-                rt,
-                &choice.check,
-                choice.every.as_deref(),
-                errors,
-                terminals,
-            )
-        }
-        Some(Subcommand::Directives) => Ok(status_code(directives(rt, choice.name.as_deref())?)),
-        Some(Subcommand::Lsp) => serve_editor(rt),
-        Some(subcommand) => match with_file(rt, subcommand, &choice) {
+        Some(Subcommand::Check) => check_all(rt, &choice.check, every, errors, terminals),
+        Some(subcommand) => answered_alone(rt, subcommand, &choice),
+        None => Err(Refusal::Usage(Misuse::NoCommand)),
+    }
+}
+
+// What needs no stream of errors.
+fn answered_alone<R: Files + Input + Print + AllocGlobal>(
+    rt: &R,
+    subcommand: Subcommand,
+    choice: &Choice,
+) -> Result<u8, Refusal> {
+    match subcommand {
+        Subcommand::Directives => Ok(status_code(directives(rt, choice.name.as_deref())?)),
+        Subcommand::Lsp => serve_editor(rt),
+        _ => match with_file(rt, subcommand, choice) {
             Ok(status) => Ok(status_code(status)),
             Err(refusal) => Err(named(refusal, rt.alloc(), choice.every.as_deref())),
         },
-        None => Err(Refusal::Usage(Misuse::NoCommand)),
     }
 }
 
 // With the text of `--every`, where it is that.
 fn named(refusal: Refusal, alloc: Global, every: Option<&str>) -> Refusal {
     match refusal {
-        Refusal::Usage(Misuse::Spacing) => match misused(alloc, every) {
-            Some(text) => Refusal::Usage(Misuse::Every(text)),
-            None => Refusal::Usage(Misuse::Spacing),
-        },
+        Refusal::Usage(Misuse::Spacing) => Refusal::Usage(misuse_of_every(alloc, every)),
         other => other,
+    }
+}
+
+fn misuse_of_every(alloc: Global, every: Option<&str>) -> Misuse {
+    match misused(alloc, every) {
+        Some(text) => Misuse::Every(text),
+        None => Misuse::Spacing,
     }
 }
 
@@ -109,16 +121,7 @@ fn check_all<R: Files + Input + Print + Env + Clock + AllocGlobal, E: Write + Dr
     errors: E,
     terminals: Terminals,
 ) -> Result<u8, Refusal> {
-    let alloc = rt.alloc();
-    if !is_usual(every) {
-        return Err(Refusal::OwnUsage(match misused(alloc, every) {
-            Some(text) => Misuse::Every(text),
-            None => Misuse::Spacing,
-        }));
-    }
-    let wish = wish_asked(alloc, choice)?;
-    let style = style_asked(alloc, choice)?;
-    check_review(choice, style, terminals)?;
+    let (wish, style) = colors_and_style(rt.alloc(), choice, every, terminals)?;
     let accepts = choice.accepts || choice.accepts_errors || choice.reviews;
     let targets = targets(rt, &choice.paths, accepts)?;
     let asked = Asked {
@@ -137,6 +140,22 @@ fn check_all<R: Files + Input + Print + Env + Clock + AllocGlobal, E: Write + Dr
     };
     let status = check(rt, &mut Clusters, asked, errors)?;
     Ok(rb_check::status_code(status))
+}
+
+// What the report is to look like. What else is asked for is looked at too.
+fn colors_and_style(
+    alloc: Global,
+    choice: &CheckChoice,
+    every: Option<&str>,
+    terminals: Terminals,
+) -> Result<(Wish, Style), Refusal> {
+    if !is_usual(every) {
+        return Err(Refusal::OwnUsage(misuse_of_every(alloc, every)));
+    }
+    let wish = wish_asked(alloc, choice)?;
+    let style = style_asked(alloc, choice)?;
+    check_review(choice, style, terminals)?;
+    Ok((wish, style))
 }
 
 fn wish_asked(alloc: Global, choice: &CheckChoice) -> Result<Wish, Refusal> {
@@ -231,14 +250,22 @@ fn run<R: Files + Input + Print + AllocGlobal>(
     mode: Mode,
     every: u64,
 ) -> Result<Status, Refusal> {
+    if file == "-" {
+        run_from(rt, &mut Incoming(rt.reader()), mode, every)
+    } else {
+        run_from(rt, &mut Incoming(opened(rt, file)?), mode, every)
+    }
+}
+
+fn run_from<R: Print + AllocGlobal, S: Source>(
+    rt: &R,
+    source: &mut S,
+    mode: Mode,
+    every: u64,
+) -> Result<Status, Refusal> {
     let alloc = rt.alloc();
     let mut writer = Through(BufWriter::new(alloc, io::writer(rt))?);
-    if file == "-" {
-        let mut source = Incoming(rt.reader());
-        return Ok(run_over(alloc, &mut source, &mut writer, mode, every)?);
-    }
-    let mut source = Incoming(opened(rt, file)?);
-    Ok(run_over(alloc, &mut source, &mut writer, mode, every)?)
+    Ok(run_over(alloc, source, &mut writer, mode, every)?)
 }
 
 // A file that can't be opened has failed as input, whatever the system says was wanting.
@@ -258,11 +285,19 @@ fn session<R: Files + Input + Print + AllocGlobal>(
     file: &str,
     every: u64,
 ) -> Result<Status, Refusal> {
-    let alloc = rt.alloc();
     let script = script(rt, file)?;
+    session_on(rt, &script, every)
+}
+
+fn session_on<R: Input + Print + AllocGlobal>(
+    rt: &R,
+    script: &[u8],
+    every: u64,
+) -> Result<Status, Refusal> {
+    let alloc = rt.alloc();
     let mut writer = Through(BufWriter::new(alloc, io::writer(rt))?);
     let mut source = Incoming(rt.reader());
-    Ok(serve(alloc, &script, every, &mut source, &mut writer)?)
+    Ok(serve(alloc, script, every, &mut source, &mut writer)?)
 }
 
 // The first bytes of the file, which is closed again. Where standard input was closed, the file took its place: what is

@@ -2,7 +2,7 @@
 
 ghost use Rattle.std.specs.Prelude.{◌≤◌, length};
 
-use crate::directives::handed_on;
+use crate::directives::{handed_on, status_of};
 use crate::edge::script;
 use crate::misuse::Misuse;
 use crate::refusal::Refusal;
@@ -12,7 +12,7 @@ use rb_check::{Place, put_directive};
 use rb_cluster::{Cluster, Meter};
 use rb_look::look;
 use rb_raftlog::SplitLog;
-use rb_script::{Block, Lines, MAX_DIRECTIVES, Script, Through, head_lines};
+use rb_script::{Block, Lines, MAX_DIRECTIVES, Script, ScriptFault, Through, head_lines};
 use rb_suite::place_at;
 use std::alloc::{AllocError, Global};
 use std::io;
@@ -29,20 +29,25 @@ pub(crate) fn look_at<R: Files + Print + AllocGlobal>(
         return Err(no_place(alloc, word));
     };
     let bytes = script(rt, path)?;
-    let script = Script::read(alloc, bytes.as_slice())?;
-    let heads = head_lines(alloc, bytes.as_slice())?;
-    let Some((place, head)) = place_at(heads.as_slice(), line) else {
+    let Some((place, head)) = place_in(alloc, &bytes, line)? else {
         return Err(no_place(alloc, word));
     };
-    let Some(block) = script.block(place) else {
-        return Err(no_place(alloc, word));
-    };
-    let seen = seen(alloc, &script, place.min(script.len()))?;
     let at = Place {
         path: path.as_bytes(),
         line: head,
     };
-    show(rt, at, block, &seen)
+    let script = Script::read(alloc, &bytes)?;
+    show(rt, word, at, &script, place)
+}
+
+// The place of the last directive whose head begins at the line or above it, and the line of that head.
+fn place_in(
+    alloc: Global,
+    bytes: &[u8],
+    line: usize,
+) -> Result<Option<(usize, usize)>, ScriptFault> {
+    let heads = head_lines(alloc, bytes)?;
+    Ok(place_at(&heads, line))
 }
 
 fn no_place(alloc: Global, word: &str) -> Refusal {
@@ -62,14 +67,25 @@ fn seen(alloc: Global, script: &Script, place: usize) -> Result<Lines, AllocErro
 
 fn show<R: Print + AllocGlobal>(
     rt: &R,
+    word: &str,
+    at: Place<'_>,
+    script: &Script,
+    place: usize,
+) -> Result<Status, Refusal> {
+    let Some(block) = script.block(place) else {
+        return Err(no_place(rt.alloc(), word));
+    };
+    let seen = seen(rt.alloc(), script, place.min(script.len()))?;
+    put(rt, at, block, &seen)
+}
+
+fn put<R: Print + AllocGlobal>(
+    rt: &R,
     at: Place<'_>,
     block: &Block,
     seen: &Lines,
 ) -> Result<Status, Refusal> {
     let mut sink = Through(BufWriter::new(rt.alloc(), io::writer(rt))?);
     let written = put_directive(&mut sink, at, &block.directive(), seen, b"");
-    match handed_on(sink, written) {
-        Ok(()) => Ok(Status::Done),
-        Err(_) => Err(Refusal::Io),
-    }
+    status_of(handed_on(&mut sink, written))
 }

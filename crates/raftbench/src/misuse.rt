@@ -5,7 +5,7 @@ use std::alloc::Global;
 use std::str;
 
 /// What is wrong with the words.
-#[derive(Debug, Drop)]
+#[derive(Drop)]
 pub(crate) enum Misuse {
     /// A word is no text.
     NoText,
@@ -38,29 +38,48 @@ pub(crate) enum Misuse {
 impl Misuse {
     /// Says what a person wants to know.
     pub(crate) fn tell<R: Eprint + AllocGlobal>(&self, rt: &R) {
-        let _ = match self {
-            Misuse::NoText => eprintln!(rt; "the words are to be UTF-8"),
-            Misuse::NoCommand => return tell_help(rt),
-            Misuse::NoFile => eprintln!(rt; "FILE is missing: the file of a script"),
-            Misuse::Input => eprintln!(rt;
-                "-: a session's commands come from standard input, so its script stands in a file"
+        match self {
+            Misuse::NoCommand => tell_help(rt),
+            Misuse::Directive(name, meant) => tell_directive(rt, name.as_str(), *meant),
+            _ => {
+                let (option, word, wanted) = self.sentence();
+                let _ = eprintln!(rt; "{option}{word}{wanted}");
+            }
+        }
+    }
+
+    // The option, its text, and what was to stand there.
+    fn sentence(&self) -> (&str, &str, &str) {
+        match self {
+            Misuse::NoText => ("", "", "the words are to be UTF-8"),
+            Misuse::NoFile => ("", "", "FILE is missing: the file of a script"),
+            Misuse::Input => (
+                "-: ",
+                "",
+                "a session's commands come from standard input, so its script stands in a file",
             ),
-            Misuse::Every(text) => eprintln!(rt; "--every {text}: a number from 1 to 64"),
-            Misuse::Spacing => eprintln!(rt; "--every: a number from 1 to 64"),
-            Misuse::Color(text) => eprintln!(rt; "--color {text}: auto, always or never"),
-            Misuse::Format(text) => eprintln!(rt; "--format {text}: text, json or github"),
-            Misuse::NoTerminal => eprintln!(rt;
-                "--review: it asks on a terminal, and standard input or output is none"
+            Misuse::Every(text) => ("--every ", text.as_str(), ": a number from 1 to 64"),
+            Misuse::Spacing => ("--every", "", ": a number from 1 to 64"),
+            Misuse::Color(text) => ("--color ", text.as_str(), ": auto, always or never"),
+            Misuse::Format(text) => ("--format ", text.as_str(), ": text, json or github"),
+            Misuse::NoTerminal => (
+                "--review",
+                "",
+                ": it asks on a terminal, and standard input or output is none",
             ),
-            Misuse::Unseen => eprintln!(rt;
-                "--review: it shows what it asks about, so it goes with neither --quiet nor --format"
+            Misuse::Unseen => (
+                "--review",
+                "",
+                ": it shows what it asks about, so it goes with neither --quiet nor --format",
             ),
-            Misuse::Until(text) => eprintln!(rt; "--until {text}: the line of a directive"),
-            Misuse::Place(text) => eprintln!(rt;
-                "{text}: FILE:LINE, where a directive stands at the line or above it"
+            Misuse::Until(text) => ("--until ", text.as_str(), ": the line of a directive"),
+            Misuse::Place(text) => (
+                "",
+                text.as_str(),
+                ": FILE:LINE, where a directive stands at the line or above it",
             ),
-            Misuse::Directive(name, meant) => return tell_directive(rt, name.as_str(), *meant),
-        };
+            Misuse::NoCommand | Misuse::Directive(_, _) => ("", "", ""),
+        }
     }
 }
 

@@ -4,7 +4,7 @@ use crate::edge::opened;
 use crate::refusal::Refusal;
 use rb_bench::Status;
 use rb_frame::{back, front};
-use rb_line::Incoming;
+use rb_line::{Incoming, Source};
 use rb_pages::page_over;
 use rb_script::Through;
 use rb_steps::Frame;
@@ -18,20 +18,28 @@ pub(crate) fn page<R: Files + Input + Print + AllocGlobal>(
     file: &str,
     every: u64,
 ) -> Result<Status, Refusal> {
+    let name = name_of(file).as_bytes();
+    if file == "-" {
+        page_from(rt, &mut Incoming(rt.reader()), name, every)
+    } else {
+        page_from(rt, &mut Incoming(opened(rt, file)?), name, every)
+    }
+}
+
+fn page_from<R: Print + AllocGlobal, S: Source>(
+    rt: &R,
+    source: &mut S,
+    name: &[u8],
+    every: u64,
+) -> Result<Status, Refusal> {
     let alloc = rt.alloc();
     let (front, back) = (front(), back());
     let frame = Frame {
         front: &front,
         back: &back,
     };
-    let name = name_of(file).as_bytes();
     let mut writer = Through(BufWriter::new(alloc, io::writer(rt))?);
-    if file == "-" {
-        let mut source = Incoming(rt.reader());
-        return Ok(page_over(alloc, &mut source, &mut writer, frame, name, every)?);
-    }
-    let mut source = Incoming(opened(rt, file)?);
-    Ok(page_over(alloc, &mut source, &mut writer, frame, name, every)?)
+    Ok(page_over(alloc, source, &mut writer, frame, name, every)?)
 }
 
 /// What a script is called where it is shown: the last part of its path.

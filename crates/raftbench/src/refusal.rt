@@ -9,7 +9,7 @@ use std::alloc::AllocError;
 use std::io;
 
 /// Why the program ends early.
-#[derive(Debug, Drop)]
+#[derive(Drop)]
 pub(crate) enum Refusal {
     /// Help, or words that are not taken; the text is clap's.
     Clap(clap::Error),
@@ -25,7 +25,7 @@ pub(crate) enum Refusal {
 
 impl Refusal {
     /// Writes the one line that says why, and answers the status. Where somebody reads, what a person wants to know follows it.
-    pub(crate) fn tell<R: Eprint + Print + AllocGlobal>(self, rt: &R, is_read: bool) -> Status {
+    pub(crate) fn tell<R: Eprint + Print + AllocGlobal>(&self, rt: &R, is_read: bool) -> Status {
         match self {
             Refusal::Clap(error) => tell_clap(rt, error),
             Refusal::Usage(misuse) => {
@@ -41,7 +41,7 @@ impl Refusal {
                 Status::BadUsage
             }
             Refusal::Script(fault) => {
-                tell_script(rt, fault);
+                tell_script(rt, *fault);
                 Status::BadScript
             }
             Refusal::Unopened(path, error) => {
@@ -75,7 +75,7 @@ fn tell_script<R: Eprint>(rt: &R, fault: ScriptFault) {
 
 // Help was asked for, and goes to standard output: where that fails, what was asked for wasn't done. What says that words
 // are wrong goes to standard error, and they are wrong whether or not it gets there.
-fn tell_clap<R: Eprint + Print>(rt: &R, error: clap::Error) -> Status {
+fn tell_clap<R: Eprint + Print>(rt: &R, error: &clap::Error) -> Status {
     let went_out = error.print(rt).is_ok();
     if error.use_stderr() {
         Status::BadUsage

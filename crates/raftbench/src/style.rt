@@ -3,7 +3,7 @@
 use rb_formats::Format;
 
 /// What `--format` asks for.
-#[derive(Clone, Copy, Debug, PartialEq, Eq)]
+#[derive(Clone, Copy, PartialEq, Eq)]
 pub(crate) enum Style {
     /// Text for people.
     Text,

@@ -2,7 +2,7 @@
 
 use rb_number::number_of;
 use rb_suite::Target;
-use std::alloc::AllocError;
+use std::alloc::{AllocError, Global};
 use std::fs;
 use std::rt::Files;
 
@@ -23,10 +23,14 @@ pub(crate) fn targets<R: Files + AllocGlobal>(
     let mut all = Vec::new(alloc);
     for word in words {
         let (path, line) = named(rt, word.as_str(), accepts);
-        let path = String::from_str(alloc, path)?;
-        all.push(Target { path, line })?;
+        all.push(target(alloc, path, line)?)?;
     }
     Ok(all)
+}
+
+fn target(alloc: Global, path: &str, line: Option<usize>) -> Result<Target, AllocError> {
+    let path = String::from_str(alloc, path)?;
+    Ok(Target { path, line })
 }
 
 fn named<'a, R: Files>(rt: &R, word: &'a str, accepts: bool) -> (&'a str, Option<usize>) {
