@@ -4,7 +4,8 @@ ghost use Rattle.rb_script.specs.Reads.{Reads};
 
 use crate::accepting::accept;
 use crate::asked::Asked;
-use crate::picking::picked_heads;
+use crate::ending::{Ending, ending_of};
+use crate::picking::{named_heads, picked_of};
 use crate::reasons::asked_reasons;
 use crate::report::{Ran, Report};
 use crate::review::{Review, reviewed};
@@ -137,22 +138,12 @@ fn answer<M: Machine, R: Files + Input + AllocGlobal, W: Write + Drop, E: Write 
         mismatches: session.mismatches().len(),
         told,
     };
-    if asked.accepts {
-        settle(
-            rt,
-            asked,
-            ran,
-            session,
-            text,
-            whys,
-            has_warnings,
-            review,
-            report,
-        )
-    } else {
-        report.ran(alloc, ran);
-        Ok(())
-    }
+    let heads = named_heads(alloc, asked, session, bytes, path, report)?;
+    let picked = picked_of(&heads);
+    let ending = ending_of(asked, has_warnings, ran.mismatches);
+    settle(
+        rt, asked, ran, picked, ending, session, text, whys, review, report,
+    )
 }
 
 // Shows the lines that look like a slip, where they are wanted, and answers whether there are any.
@@ -174,44 +165,40 @@ fn warn<M: Machine, W: Write + Drop, E: Write + Drop>(
     Ok(!warnings.is_empty())
 }
 
-// Accepts what is named.
+// Does with the outputs what is to be done.
 fn settle<M: Machine, R: Files + Input + AllocGlobal, W: Write + Drop, E: Write + Drop>(
     rt: &R,
     asked: Asked<'_>,
     ran: Ran<'_>,
+    picked: Picked<'_>,
+    ending: Ending,
     session: &Session<M>,
     text: &Text,
     whys: &[Lines],
-    has_warnings: bool,
     review: &mut Review,
     report: &mut Report<W, E>,
 ) -> Result<(), Trouble>
     requires { Reads text.now.bytes.items session.now.script }
 {
-    let bytes = text.bytes.as_slice();
-    let heads = picked_heads(rt.alloc(), asked.targets, session, bytes, ran.path, report)?;
-    let picked = match &heads {
-        Some(heads) => Picked::Heads(heads.as_slice()),
-        None => Picked::All,
-    };
-    if has_warnings && !asked.is_forced {
-        leave(rt.alloc(), ran, report);
-        Ok(())
-    } else {
-        accept_picked(rt, asked, ran, picked, session, text, whys, review, report)
+    match ending {
+        Ending::Kept => report.ran(rt.alloc(), ran),
+        Ending::Refused => report.refuse_to_accept(rt.alloc(), ran),
+        Ending::Accepted => {
+            let wanted = Wanted {
+                picked,
+                errors: asked.accepts_errors,
+            };
+            accept(rt, wanted, ran, session, text, report);
+        }
+        Ending::Reviewed => {
+            return accept_reviewed(rt, asked, ran, picked, session, text, whys, review, report);
+        }
     }
+    Ok(())
 }
 
-// A script with warnings stays as it is.
-fn leave<W: Write + Drop, E: Write + Drop>(alloc: Global, ran: Ran<'_>, report: &mut Report<W, E>) {
-    report.ran(alloc, ran);
-    if ran.mismatches > 0 {
-        report.refuse_to_accept(ran.path);
-    }
-}
-
-// Accepts outputs of the directives that are picked: those that are said yes to, where that is asked.
-fn accept_picked<M: Machine, R: Files + Input + AllocGlobal, W: Write + Drop, E: Write + Drop>(
+// Accepts the outputs that are said yes to.
+fn accept_reviewed<M: Machine, R: Files + Input + AllocGlobal, W: Write + Drop, E: Write + Drop>(
     rt: &R,
     asked: Asked<'_>,
     ran: Ran<'_>,
@@ -224,18 +211,6 @@ fn accept_picked<M: Machine, R: Files + Input + AllocGlobal, W: Write + Drop, E:
 ) -> Result<(), Trouble>
     requires { Reads text.now.bytes.items session.now.script }
 {
-    if ran.mismatches == 0 {
-        report.ran(rt.alloc(), ran);
-        return Ok(());
-    }
-    if !asked.reviews {
-        let wanted = Wanted {
-            picked,
-            errors: asked.accepts_errors,
-        };
-        accept(rt, wanted, ran, session, text, report);
-        return Ok(());
-    }
     let bytes = text.bytes.as_slice();
     let said = reviewed(
         rt, asked, session, bytes, whys, ran.path, picked, review, report,

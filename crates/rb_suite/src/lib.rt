@@ -7,6 +7,7 @@
 mod accepting;
 mod asked;
 mod checking;
+mod ending;
 mod paths;
 mod picking;
 mod place;

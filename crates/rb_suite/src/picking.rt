@@ -2,10 +2,12 @@
 
 ghost use Rattle.rb_script.specs.Reads.{Reads};
 
+use crate::asked::Asked;
 use crate::place::place_at;
 use crate::report::Report;
 use crate::target::Target;
 use rb_check::Failure;
+use rb_checked::Picked;
 use rb_files::Trouble;
 use rb_machine::Machine;
 use rb_replay::Session;
@@ -14,9 +16,34 @@ use std::alloc::{AllocError, Global};
 use std::io;
 use std::io::Write;
 
-/// The lines of the heads of the script's directives that are named, in the order in which they are; none where all of it is. A directive
-/// whose output is the expected one already is told.
-pub(crate) fn picked_heads<M: Machine, W: Write + Drop, E: Write + Drop>(
+/// The lines of the heads of the script's directives that are named to be accepted, in the order in which they are; none where all of it is,
+/// or nothing is accepted. A directive whose output is the expected one already is told.
+pub(crate) fn named_heads<M: Machine, W: Write + Drop, E: Write + Drop>(
+    alloc: Global,
+    asked: Asked<'_>,
+    session: &Session<M>,
+    bytes: &[u8],
+    path: &str,
+    report: &mut Report<W, E>,
+) -> Result<Option<Vec<usize>>, Trouble>
+    requires { Reads bytes.now session.now.script }
+{
+    if asked.accepts {
+        picked_heads(alloc, asked.targets, session, bytes, path, report)
+    } else {
+        Ok(None)
+    }
+}
+
+/// The directives of these heads; all of them, where there are none.
+pub(crate) fn picked_of(heads: &Option<Vec<usize>>) -> Picked<'_> {
+    match heads {
+        Some(heads) => Picked::Heads(heads.as_slice()),
+        None => Picked::All,
+    }
+}
+
+fn picked_heads<M: Machine, W: Write + Drop, E: Write + Drop>(
     alloc: Global,
     targets: &[Target],
     session: &Session<M>,
@@ -54,19 +81,43 @@ fn named_lines(
     targets: &[Target],
     path: &str,
 ) -> Result<Option<Vec<usize>>, AllocError> {
-    let mut lines = Vec::new(alloc);
-    for target in targets {
-        if target.path.as_str() == path {
-            match target.line {
-                Some(line) => lines.push(line)?,
-                None => return Ok(None),
-            }
-        }
-    }
-    if lines.is_empty() {
+    if names_all(targets, path) {
         return Ok(None);
     }
-    Ok(Some(lines))
+    let lines = lines_of(alloc, targets, path)?;
+    if lines.is_empty() {
+        Ok(None)
+    } else {
+        Ok(Some(lines))
+    }
+}
+
+// Whether the script is named without a line.
+fn names_all(targets: &[Target], path: &str) -> bool {
+    for target in targets {
+        if target.path.as_str() == path && target.line.is_none() {
+            return true;
+        }
+    }
+    false
+}
+
+fn lines_of(alloc: Global, targets: &[Target], path: &str) -> Result<Vec<usize>, AllocError> {
+    let mut lines = Vec::new(alloc);
+    for target in targets {
+        if let Some(line) = line_in(target, path) {
+            lines.push(line)?;
+        }
+    }
+    Ok(lines)
+}
+
+fn line_in(target: &Target, path: &str) -> Option<usize> {
+    if target.path.as_str() == path {
+        target.line
+    } else {
+        None
+    }
 }
 
 // The last of the heads at each of the lines or above it.

@@ -257,8 +257,13 @@ impl<W: Write + Drop, E: Write + Drop> Report<W, E> {
         }
     }
 
-    /// A script into which nothing is written, since it has such lines.
-    pub(crate) fn refuse_to_accept(&mut self, path: &str) {
+    /// A script that ran, and into which nothing is written, since it has such lines.
+    pub(crate) fn refuse_to_accept(&mut self, alloc: Global, ran: Ran<'_>) {
+        self.ran(alloc, ran);
+        self.tell_unaccepted(ran.path);
+    }
+
+    fn tell_unaccepted(&mut self, path: &str) {
         if self.is_for_programs() {
             let message =
                 b"nothing was accepted, since it has warnings; --force accepts all the same";

@@ -76,14 +76,33 @@ pub(crate) fn reviewed<M: Machine, R: Input + AllocGlobal, W: Write + Drop, E: W
     requires { Reads bytes.now session.now.script }
 {
     let layout = layout_of(rt.alloc(), bytes)?;
-    let mut said = Vec::new(rt.alloc());
-    let gone_over = go_over(
-        rt, asked, session, bytes, whys, path, &layout, picked, &mut said, review, report,
+    let said = said_of(
+        rt, asked, session, bytes, whys, path, &layout, picked, review, report,
     );
     if *review == Review::Rest {
         *review = Review::Each;
     }
-    gone_over?;
+    said
+}
+
+fn said_of<M: Machine, R: Input + AllocGlobal, W: Write + Drop, E: Write + Drop>(
+    rt: &R,
+    asked: Asked<'_>,
+    session: &Session<M>,
+    bytes: &[u8],
+    whys: &[Lines],
+    path: &str,
+    layout: &Layout,
+    picked: Picked<'_>,
+    review: &mut Review,
+    report: &mut Report<W, E>,
+) -> Result<Vec<usize>, Trouble>
+    requires { Reads bytes.now session.now.script }
+{
+    let mut said = Vec::new(rt.alloc());
+    go_over(
+        rt, asked, session, bytes, whys, path, layout, picked, &mut said, review, report,
+    )?;
     Ok(said)
 }
 

@@ -1,0 +1,34 @@
+//! What is done with the outputs of a script.
+
+ghost use Rattle.std.specs.Prelude.{◌≡◌};
+ghost use Rattle.rb_suite.specs.Endings.{ending_of};
+
+use crate::asked::Asked;
+
+/// What is done with the outputs of a script.
+#[derive(Clone, Copy)]
+pub(crate) enum Ending {
+    /// They are shown, and no more: nothing is to be accepted, or none differs.
+    Kept,
+    /// None is accepted, since the script has warnings.
+    Refused,
+    /// Those that differ are accepted.
+    Accepted,
+    /// Those that differ are asked about.
+    Reviewed,
+}
+
+/// What is done with the outputs of a script, of which so many differ.
+pub(crate) fn ending_of(asked: Asked<'_>, has_warnings: bool, mismatches: usize) -> Ending
+    ensures { result ≡ ending_of asked.entry has_warnings mismatches }
+{
+    if !asked.accepts || mismatches == 0 {
+        Ending::Kept
+    } else if has_warnings && !asked.is_forced {
+        Ending::Refused
+    } else if asked.reviews {
+        Ending::Reviewed
+    } else {
+        Ending::Accepted
+    }
+}
