@@ -1,8 +1,8 @@
 //! `raftbench lsp`: an editor over standard input and output.
 
-use crate::refusal::Refusal;
 use rb_actions::lsp;
 use rb_line::Incoming;
+use rb_program::Refusal;
 use rb_script::Through;
 use rb_server::{ServeFault, Status};
 use std::io;

@@ -1,22 +1,10 @@
-//! `raftbench check PATH..`, `raftbench run|rewrite|session|page|chart FILE`, `raftbench look FILE:LINE`, `raftbench directives [NAME]`,
-//! `raftbench lsp`: the words, the files and the streams of the program.
+//! The program: its words are read, and what they ask for is done, or it is told why it isn't. The streams are the process's own.
 #![tactic(auto)]
 
-mod chart;
-mod clusters;
-mod colors;
-mod directives;
 mod edge;
 mod editing;
-mod look;
-mod misuse;
-mod page;
-mod refusal;
-mod spacing;
-mod style;
-mod target;
 
-use edge::Terminals;
+use rb_program::Terminals;
 use std::io::IsTerminal;
 use std::process::ExitCode;
 

@@ -1,9 +1,9 @@
 //! `raftbench chart FILE [--until LINE]`: the picture of a script.
 
-use crate::edge::{misused, opened};
-use crate::misuse::Misuse;
+use crate::misuse::{Misuse, misused};
 use crate::page::name_of;
 use crate::refusal::Refusal;
+use crate::running::{ended, opened};
 use rb_bench::Status;
 use rb_line::{Incoming, Source};
 use rb_number::number_of;
@@ -37,7 +37,7 @@ fn chart_from<R: Print + AllocGlobal, S: Source>(
 ) -> Result<Status, Refusal> {
     let alloc = rt.alloc();
     let mut writer = Through(BufWriter::new(alloc, io::writer(rt))?);
-    Ok(chart_over(alloc, source, &mut writer, name, last)?)
+    ended(chart_over(alloc, source, &mut writer, name, last))
 }
 
 // The line behind `--until`, where it is given.

@@ -9,7 +9,7 @@ use rb_suite::Runner;
 use std::alloc::{AllocError, Global};
 
 /// Clusters of nodes with split logs. No directive runs again, so as few are kept as there may be.
-#[derive(Drop)]
+#[derive(Clone, Copy)]
 pub(crate) struct Clusters;
 
 impl Runner for Clusters {

@@ -3,9 +3,9 @@
 ghost use Rattle.std.specs.Prelude.{◌≤◌, length};
 
 use crate::directives::{handed_on, status_of};
-use crate::edge::script;
 use crate::misuse::Misuse;
 use crate::refusal::Refusal;
+use crate::running::script;
 use crate::target::path_and_line;
 use rb_bench::Status;
 use rb_check::{Place, put_directive};

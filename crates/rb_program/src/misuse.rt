@@ -6,7 +6,7 @@ use std::str;
 
 /// What is wrong with the words.
 #[derive(Drop)]
-pub(crate) enum Misuse {
+pub enum Misuse {
     /// A word is no text.
     NoText,
     /// No subcommand is named.
@@ -80,6 +80,22 @@ impl Misuse {
             ),
             Misuse::NoCommand | Misuse::Directive(_, _) => ("", "", ""),
         }
+    }
+}
+
+/// What is wrong with the text of `--every`, where it isn't one that a session takes.
+pub(crate) fn misuse_of_every(alloc: Global, every: Option<&str>) -> Misuse {
+    match misused(alloc, every) {
+        Some(text) => Misuse::Every(text),
+        None => Misuse::Spacing,
+    }
+}
+
+/// The word, where it is given and there is memory for it.
+pub(crate) fn misused(alloc: Global, word: Option<&str>) -> Option<String> {
+    match String::from_str(alloc, word?) {
+        Ok(text) => Some(text),
+        Err(_) => None,
     }
 }
 

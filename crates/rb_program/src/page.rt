@@ -1,7 +1,7 @@
 //! `raftbench page FILE`: the page of a script.
 
-use crate::edge::opened;
 use crate::refusal::Refusal;
+use crate::running::{ended, opened};
 use rb_bench::Status;
 use rb_frame::{back, front};
 use rb_line::{Incoming, Source};
@@ -39,7 +39,7 @@ fn page_from<R: Print + AllocGlobal, S: Source>(
         back: &back,
     };
     let mut writer = Through(BufWriter::new(alloc, io::writer(rt))?);
-    Ok(page_over(alloc, source, &mut writer, frame, name, every)?)
+    ended(page_over(alloc, source, &mut writer, frame, name, every))
 }
 
 /// What a script is called where it is shown: the last part of its path.

@@ -1,5 +1,7 @@
 //! Why the program ends without having done what was asked.
 
+ghost use Rattle.std.specs.Prelude.{◌≢◌};
+
 use crate::misuse::Misuse;
 use rb_args::ChoiceFault;
 use rb_bench::{BenchFault, Status, script_fault_line, script_fault_name};
@@ -10,7 +12,7 @@ use std::io;
 
 /// Why the program ends early.
 #[derive(Drop)]
-pub(crate) enum Refusal {
+pub enum Refusal {
     /// Help, or words that are not taken; the text is clap's.
     Clap(clap::Error),
     Usage(Misuse),
@@ -25,11 +27,14 @@ pub(crate) enum Refusal {
 
 impl Refusal {
     /// Writes the one line that says why, and answers the status. Where somebody reads, what a person wants to know follows it.
-    pub(crate) fn tell<R: Eprint + Print + AllocGlobal>(&self, rt: &R, is_read: bool) -> Status {
+    pub fn tell<R: Eprint + Print + AllocGlobal>(&self, rt: &R, is_read: bool) -> Status
+        // No output was compared.
+        ensures { result ≢ Status.Mismatches }
+    {
         match self {
             Refusal::Clap(error) => tell_clap(rt, error),
             Refusal::Usage(misuse) => {
-                let _ = eprintln!(rt; "raftbench: bad usage");
+                say(rt, "bad usage");
                 if is_read {
                     misuse.tell(rt);
                 }
@@ -53,15 +58,21 @@ impl Refusal {
             }
             Refusal::Io => tell_io(rt),
             Refusal::OutOfMemory => {
-                let _ = eprintln!(rt; "raftbench: out of memory");
+                say(rt, "out of memory");
                 Status::OutOfMemory
             }
         }
     }
 }
 
-fn tell_io<R: Eprint>(rt: &R) -> Status {
-    let _ = eprintln!(rt; "raftbench: input or output failed");
+fn say<R: Eprint>(rt: &R, what: &str) {
+    let _ = eprintln!(rt; "raftbench: {what}");
+}
+
+fn tell_io<R: Eprint>(rt: &R) -> Status
+    ensures { result ≢ Status.Mismatches }
+{
+    say(rt, "input or output failed");
     Status::Failed
 }
 
@@ -75,7 +86,9 @@ fn tell_script<R: Eprint>(rt: &R, fault: ScriptFault) {
 
 // Help was asked for, and goes to standard output: where that fails, what was asked for wasn't done. What says that words
 // are wrong goes to standard error, and they are wrong whether or not it gets there.
-fn tell_clap<R: Eprint + Print>(rt: &R, error: &clap::Error) -> Status {
+fn tell_clap<R: Eprint + Print>(rt: &R, error: &clap::Error) -> Status
+    ensures { result ≢ Status.Mismatches }
+{
     let went_out = error.print(rt).is_ok();
     if error.use_stderr() {
         Status::BadUsage

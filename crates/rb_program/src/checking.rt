@@ -1,0 +1,163 @@
+//! `raftbench check PATH..`: scripts and folders of scripts.
+
+ghost use Rattle.std.specs.Prelude.{IfOk};
+ghost use Rattle.rb_program.specs.Ends.{IsRight};
+
+use crate::clusters::Clusters;
+use crate::colors::{Wish, colors, wish_of};
+use crate::ended::Ended;
+use crate::misuse::{Misuse, misuse_of_every, misused};
+use crate::refusal::Refusal;
+use crate::spacing::spacing;
+use crate::style::{Style, style_of};
+use crate::subcommands::Terminals;
+use crate::target::targets;
+use rb_args::CheckChoice;
+use rb_checked::Shown;
+use rb_replay::is_spacing;
+use rb_suite::{Asked, Target, check};
+use std::alloc::Global;
+use std::io::Write;
+use std::rt::{Env, Files};
+use std::time::Clock;
+
+// What was found right with the words.
+#[derive(Drop)]
+struct Wanted {
+    wish: Wish,
+    style: Style,
+    targets: Vec<Target>,
+}
+
+/// Checks scripts and folders of scripts.
+pub(crate) fn check_all<R: Files + Input + Print + Env + Clock + AllocGlobal, E: Write + Drop>(
+    rt: &R,
+    choice: &CheckChoice,
+    every: Option<&str>,
+    errors: E,
+    terminals: Terminals,
+) -> Result<Ended, Refusal>
+    ensures { IfOk result IsRight }
+{
+    let wanted = find_wanted(rt, choice, every, terminals)?;
+    check_wanted(rt, choice, &wanted, errors, terminals)
+}
+
+fn find_wanted<R: Files + AllocGlobal>(
+    rt: &R,
+    choice: &CheckChoice,
+    every: Option<&str>,
+    terminals: Terminals,
+) -> Result<Wanted, Refusal> {
+    let (wish, style) = colors_and_style(rt.alloc(), choice, every, terminals)?;
+    let targets = targets(rt, &choice.paths, accepts(choice))?;
+    Ok(Wanted {
+        wish,
+        style,
+        targets,
+    })
+}
+
+fn accepts(choice: &CheckChoice) -> bool {
+    choice.accepts || choice.accepts_errors || choice.reviews
+}
+
+fn check_wanted<R: Files + Input + Print + Env + Clock + AllocGlobal, E: Write + Drop>(
+    rt: &R,
+    choice: &CheckChoice,
+    wanted: &Wanted,
+    errors: E,
+    terminals: Terminals,
+) -> Result<Ended, Refusal>
+    ensures { IfOk result IsRight }
+{
+    let asked = Asked {
+        targets: &wanted.targets,
+        filters: &choice.filters,
+        accepts: accepts(choice),
+        accepts_errors: choice.accepts_errors,
+        is_forced: choice.is_forced,
+        reviews: choice.reviews,
+        is_quiet: choice.is_quiet,
+        explains: choice.explains && !choice.is_quiet && style == Style::Text,
+        shown: shown(choice, wanted.style),
+        format: wanted.style.format(),
+        colors: colors(rt, wanted.wish, terminals.output),
+        wants_progress: terminals.errors && !choice.reviews,
+    };
+    let status = check(rt, &mut Clusters, asked, errors)?;
+    Ok(Ended::Checked(status))
+}
+
+// What the report is to look like. What else is asked for is looked at too.
+fn colors_and_style(
+    alloc: Global,
+    choice: &CheckChoice,
+    every: Option<&str>,
+    terminals: Terminals,
+) -> Result<(Wish, Style), Refusal> {
+    if !is_usual(every) {
+        return Err(Refusal::OwnUsage(misuse_of_every(alloc, every)));
+    }
+    let wish = wish_asked(alloc, choice)?;
+    let style = style_asked(alloc, choice)?;
+    check_review(choice, style, terminals)?;
+    Ok((wish, style))
+}
+
+fn wish_asked(alloc: Global, choice: &CheckChoice) -> Result<Wish, Refusal> {
+    match wish_of(choice.color.as_deref()) {
+        Some(wish) => Ok(wish),
+        None => match misused(alloc, choice.color.as_deref()) {
+            Some(text) => Err(Refusal::OwnUsage(Misuse::Color(text))),
+            None => Err(Refusal::OutOfMemory),
+        },
+    }
+}
+
+fn style_asked(alloc: Global, choice: &CheckChoice) -> Result<Style, Refusal> {
+    match style_of(choice.format.as_deref()) {
+        Some(style) => Ok(style),
+        None => match misused(alloc, choice.format.as_deref()) {
+            Some(text) => Err(Refusal::OwnUsage(Misuse::Format(text))),
+            None => Err(Refusal::OutOfMemory),
+        },
+    }
+}
+
+// Whether there is somebody to ask, who sees what is asked about.
+fn check_review(choice: &CheckChoice, style: Style, terminals: Terminals) -> Result<(), Refusal> {
+    if !choice.reviews {
+        Ok(())
+    } else if choice.is_quiet || style != Style::Text {
+        Err(Refusal::OwnUsage(Misuse::Unseen))
+    } else if terminals.input && terminals.output {
+        Ok(())
+    } else {
+        Err(Refusal::OwnUsage(Misuse::NoTerminal))
+    }
+}
+
+// Whether the text of `--every` is a number that a session takes.
+fn is_usual(every: Option<&str>) -> bool {
+    match spacing(every) {
+        Some(every) => is_spacing(every),
+        None => false,
+    }
+}
+
+// How much of each script is shown; the least of what is asked for. Programs are told what differs, and no less;
+// where each mismatch is shown to be asked about, a line stands before those of a script.
+fn shown(choice: &CheckChoice, style: Style) -> Shown {
+    if style != Style::Text {
+        Shown::Differing
+    } else if choice.is_brief || choice.reviews {
+        Shown::Brief
+    } else if choice.is_first {
+        Shown::First
+    } else if choice.is_verbose {
+        Shown::All
+    } else {
+        Shown::Differing
+    }
+}

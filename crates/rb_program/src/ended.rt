@@ -1,0 +1,25 @@
+//! How a subcommand ended.
+
+ghost use Rattle.std.specs.Prelude.{◌≡◌};
+ghost use Rattle.rb_program.specs.Ends.{code_of};
+
+/// How a subcommand ended.
+#[derive(Clone, Copy)]
+pub enum Ended {
+    /// With what came of one script, or of no script.
+    Alone(rb_bench::Status),
+    /// With what came of a check of paths.
+    Checked(rb_check::Status),
+}
+
+impl Ended {
+    /// The number of the status.
+    pub fn code(self) -> u8
+        ensures { result ≡ code_of self }
+    {
+        match self {
+            Ended::Alone(status) => rb_bench::status_code(status),
+            Ended::Checked(status) => rb_check::status_code(status),
+        }
+    }
+}

@@ -1,0 +1,105 @@
+//! What is done for each subcommand.
+
+ghost use Rattle.std.specs.Prelude.{IfOk};
+ghost use Rattle.rb_program.specs.Ends.{IsRight};
+
+use crate::chart::chart;
+use crate::checking::check_all;
+use crate::directives::directives;
+use crate::ended::Ended;
+use crate::look::look_at;
+use crate::misuse::{Misuse, misuse_of_every};
+use crate::page::page;
+use crate::refusal::Refusal;
+use crate::running::{run, session};
+use crate::spacing::spacing;
+use rb_args::{Choice, Subcommand};
+use rb_bench::{Mode, Status};
+use std::alloc::Global;
+use std::io::Write;
+use std::rt::{Env, Files};
+use std::time::Clock;
+
+/// Which of the streams are terminals.
+#[derive(Clone, Copy)]
+pub struct Terminals {
+    pub input: bool,
+    pub output: bool,
+    pub errors: bool,
+}
+
+/// Does what the subcommand asks for, and tells how it ended. What `lsp` asks for is not done here.
+///
+/// # Errors
+///
+/// Why it was not done.
+pub fn carry_out<R: Files + Input + Print + Env + Clock + AllocGlobal, E: Write + Drop>(
+    rt: &R,
+    subcommand: Subcommand,
+    choice: &Choice,
+    errors: E,
+    terminals: Terminals,
+) -> Result<Ended, Refusal>
+    // What is found to be wrong with the words of a check is a refusal.
+    ensures { IfOk result IsRight }
+{
+    let every = choice.every.as_deref();
+    match subcommand {
+        Subcommand::Check => check_all(rt, &choice.check, every, errors, terminals),
+        Subcommand::Directives => alone(directives(rt, choice.name.as_deref())),
+        _ => alone(with_file(rt, subcommand, choice)),
+    }
+}
+
+fn alone(status: Result<Status, Refusal>) -> Result<Ended, Refusal>
+    ensures { IfOk result IsRight }
+{
+    Ok(Ended::Alone(status?))
+}
+
+// Does what is asked for with one file. What is wrong with `--every` is told with its text.
+fn with_file<R: Files + Input + Print + AllocGlobal>(
+    rt: &R,
+    subcommand: Subcommand,
+    choice: &Choice,
+) -> Result<Status, Refusal> {
+    match done_with_file(rt, subcommand, choice) {
+        Ok(status) => Ok(status),
+        Err(refusal) => Err(named(refusal, rt.alloc(), choice.every.as_deref())),
+    }
+}
+
+// With the text of `--every`, where it is that.
+fn named(refusal: Refusal, alloc: Global, every: Option<&str>) -> Refusal {
+    match refusal {
+        Refusal::Usage(Misuse::Spacing) => Refusal::Usage(misuse_of_every(alloc, every)),
+        other => other,
+    }
+}
+
+fn done_with_file<R: Files + Input + Print + AllocGlobal>(
+    rt: &R,
+    subcommand: Subcommand,
+    choice: &Choice,
+) -> Result<Status, Refusal> {
+    let Some(file) = &choice.file else {
+        return Err(Refusal::Usage(Misuse::NoFile));
+    };
+    if subcommand == Subcommand::Session && file.as_str() == "-" {
+        return Err(Refusal::Usage(Misuse::Input));
+    }
+    let Some(every) = spacing(choice.every.as_deref()) else {
+        return Err(Refusal::Usage(Misuse::Spacing));
+    };
+    match subcommand {
+        Subcommand::Run => run(rt, file.as_str(), Mode::Run, every),
+        Subcommand::Rewrite => run(rt, file.as_str(), Mode::Rewrite, every),
+        Subcommand::Session => session(rt, file.as_str(), every),
+        Subcommand::Look => look_at(rt, file.as_str()),
+        Subcommand::Page => page(rt, file.as_str(), every),
+        Subcommand::Chart => chart(rt, file.as_str(), choice.until.as_deref()),
+        Subcommand::Check | Subcommand::Directives | Subcommand::Lsp => {
+            Err(Refusal::Usage(Misuse::NoCommand))
+        }
+    }
+}
