@@ -79,7 +79,7 @@ fn check_wanted<R: Files + Input + Print + Env + Clock + AllocGlobal, E: Write +
         is_forced: choice.is_forced,
         reviews: choice.reviews,
         is_quiet: choice.is_quiet,
-        explains: choice.explains && !choice.is_quiet && style == Style::Text,
+        explains: choice.explains && !choice.is_quiet && wanted.style == Style::Text,
         shown: shown(choice, wanted.style),
         format: wanted.style.format(),
         colors: colors(rt, wanted.wish, terminals.output),
