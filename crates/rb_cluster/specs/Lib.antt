@@ -4,5 +4,6 @@ pub use Rattle.rb_directive.specs.Requests
 pub use Rattle.rb_step.specs.Node
 pub use Rattle.rb_machine.specs.Cluster
 pub use Rattle.rb_machine.specs.Outcome
+pub mod Lending
 pub mod Marks
 pub mod Told

@@ -49,9 +49,10 @@ impl<L: RaftLog> Cluster<L> {
         ensures { OnOk result (scene self.new screen.new ≡ campaign id (scene self.old screen.old)) }
     {
         let mut events = Vec::new(self.alloc);
-        let Some(node) = self.nodes.get_mut(place_of(id)) else {
+        let Some(shared) = self.nodes.get_mut(place_of(id)) else {
             return Ok(());
         };
+        let node = shared.to_change()?;
         node.campaign(&mut events)?;
         screen.show_events(&events)
     }
@@ -67,9 +68,10 @@ impl<L: RaftLog> Cluster<L> {
     {
         let bytes = Shared::new(Vec::from_slice(self.alloc, payload.bytes())?)?;
         let mut events = Vec::new(self.alloc);
-        let Some(node) = self.nodes.get_mut(place_of(id)) else {
+        let Some(shared) = self.nodes.get_mut(place_of(id)) else {
             return Ok(());
         };
+        let node = shared.to_change()?;
         node.propose(bytes, &mut events)?;
         screen.show_events(&events)
     }
@@ -79,9 +81,10 @@ impl<L: RaftLog> Cluster<L> {
         ensures { OnOk result (scene self.new screen.new ≡ tick_election id (scene self.old screen.old)) }
     {
         let mut events = Vec::new(self.alloc);
-        let Some(node) = self.nodes.get_mut(place_of(id)) else {
+        let Some(shared) = self.nodes.get_mut(place_of(id)) else {
             return Ok(());
         };
+        let node = shared.to_change()?;
         tick_times(node, ELECTION_TICKS, &mut events)?;
         screen.show_events(&events)
     }
@@ -91,20 +94,22 @@ impl<L: RaftLog> Cluster<L> {
         ensures { OnOk result (scene self.new screen.new ≡ tick_heartbeat id (scene self.old screen.old)) }
     {
         let mut events = Vec::new(self.alloc);
-        let Some(node) = self.nodes.get_mut(place_of(id)) else {
+        let Some(shared) = self.nodes.get_mut(place_of(id)) else {
             return Ok(());
         };
+        let node = shared.to_change()?;
         node.tick(&mut events)?;
         screen.show_events(&events)
     }
 
     /// A node's election timeout is to have so many ticks.
-    pub(crate) fn set_timeout(&mut self, id: u64, ticks: u64)
-        ensures { self.new ≡ set_timeout id ticks self.old }
+    pub(crate) fn set_timeout(&mut self, id: u64, ticks: u64) -> Result<(), AllocError>
+        ensures { OnOk result (self.new ≡ set_timeout id ticks self.old) }
     {
-        if let Some(node) = self.nodes.get_mut(place_of(id)) {
-            node.set_timeout(ticks);
+        if let Some(shared) = self.nodes.get_mut(place_of(id)) {
+            shared.to_change()?.set_timeout(ticks);
         }
+        Ok(())
     }
 
     /// A node is asked to hand the lead over to another.
@@ -117,9 +122,10 @@ impl<L: RaftLog> Cluster<L> {
         ensures { OnOk result (scene self.new screen.new ≡ transfer from to (scene self.old screen.old)) }
     {
         let mut events = Vec::new(self.alloc);
-        let Some(node) = self.nodes.get_mut(place_of(from)) else {
+        let Some(shared) = self.nodes.get_mut(place_of(from)) else {
             return screen.explain(None);
         };
+        let node = shared.to_change()?;
         let why = reason(node.status(), &transfer_message(from, to));
         node.transfer(to, &mut events)?;
         screen.show_events(&events)?;
@@ -127,20 +133,22 @@ impl<L: RaftLog> Cluster<L> {
     }
 
     /// A follower forgets its leader.
-    pub(crate) fn forget_leader(&mut self, id: u64)
-        ensures { self.new ≡ forget_leader id self.old }
+    pub(crate) fn forget_leader(&mut self, id: u64) -> Result<(), AllocError>
+        ensures { OnOk result (self.new ≡ forget_leader id self.old) }
     {
-        if let Some(node) = self.nodes.get_mut(place_of(id)) {
-            node.forget_leader();
+        if let Some(shared) = self.nodes.get_mut(place_of(id)) {
+            shared.to_change()?.forget_leader();
         }
+        Ok(())
     }
 
     /// It is reported to a node that another can't be reached.
-    pub(crate) fn report_unreachable(&mut self, id: u64, peer: u64)
-        ensures { self.new ≡ report_unreachable id peer self.old }
+    pub(crate) fn report_unreachable(&mut self, id: u64, peer: u64) -> Result<(), AllocError>
+        ensures { OnOk result (self.new ≡ report_unreachable id peer self.old) }
     {
-        if let Some(node) = self.nodes.get_mut(place_of(id)) {
-            node.report_unreachable(peer);
+        if let Some(shared) = self.nodes.get_mut(place_of(id)) {
+            shared.to_change()?.report_unreachable(peer);
         }
+        Ok(())
     }
 }

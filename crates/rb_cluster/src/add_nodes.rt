@@ -10,6 +10,7 @@ ghost use Rattle.rb_machine.specs.AddNodes.{id_set, config, options, base_term, 
 ghost use Rattle.rb_machine.specs.Scenes.{scene};
 
 use crate::cluster::Cluster;
+use crate::shared_node::SharedNode;
 use rb_directive::{AddNodes, IdList, MAX_ID, MAX_NODES};
 use rb_level::{DirectiveError, Word};
 use rb_machine::Screen;
@@ -39,7 +40,7 @@ fn is_low(asked: &AddNodes<'_>) -> bool
 #[tactic(auto, unfolding(rb_machine::specs::AddNodes::add_nodes_fault))]
 pub(crate) fn add_nodes_fault<L: RaftLog>(
     asked: &AddNodes<'_>,
-    nodes: &[Node<L>],
+    nodes: &[SharedNode<L>],
 ) -> Option<DirectiveError<'static>>
     ensures { result ≡ add_nodes_fault asked.now nodes.now }
 {
@@ -148,7 +149,7 @@ impl<L: RaftLog> Cluster<L> {
     {
         let mut events = Vec::new(self.alloc);
         let node = Node::new(self.alloc, id, start, options, &mut events)?;
-        self.nodes.push(node)?;
+        self.nodes.push(SharedNode::new(self.alloc, node)?)?;
         screen.show_events(&events)
     }
 

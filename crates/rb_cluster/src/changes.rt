@@ -70,9 +70,10 @@ impl<L: RaftLog> Cluster<L> {
     {
         let words = Shared::new(words_of(self.alloc, &asked.inputs)?)?;
         let mut events = Vec::new(self.alloc);
-        let Some(node) = self.nodes.get_mut(place_of(asked.id)) else {
+        let Some(shared) = self.nodes.get_mut(place_of(asked.id)) else {
             return Ok(());
         };
+        let node = shared.to_change()?;
         node.propose_change(transition_of(asked.transition), words, &mut events)?;
         screen.show_events(&events)
     }

@@ -4,8 +4,9 @@ ghost use Rattle.std.specs.Prelude.{◌≡◌, ◌-◌, ◌↔◌, IsTrue};
 ghost use Rattle.rb_machine.specs.Cluster.{empty};
 
 use crate::letter::Letter;
-use crate::lists::{Alike, Numbered, copies_of, have_numbers_of, same_list};
+use crate::lists::{copies_of, have_numbers_of, same_list};
 use crate::meter::Meter;
+use crate::shared_node::SharedNode;
 use rb_level::Level;
 use rb_machine::Machine;
 use rb_node::Node;
@@ -17,8 +18,8 @@ use std::marker::Model;
 /// The nodes that scripts speak of, the messages on their way between them, and the least level that is shown.
 #[derive(Drop)]
 pub struct Cluster<L: RaftLog> {
-    /// By id, from 1 on.
-    pub(crate) nodes: Vec<Node<L>>,
+    /// By id, from 1 on. A copy shares them.
+    pub(crate) nodes: Vec<SharedNode<L>>,
     pub(crate) pending: Vec<Letter>,
     pub(crate) level: Level,
     pub(crate) alloc: Global,
@@ -44,7 +45,7 @@ impl<L: RaftLog> Cluster<L> {
     ghost use Rattle.rb_machine.specs.Cluster.{node_at};
 
     /// The nodes: that with id 1, that with id 2, and so on.
-    pub fn nodes(&self) -> &[Node<L>]
+    pub fn nodes(&self) -> &[SharedNode<L>]
         ensures { result.now ≡ self.now.nodes }
     {
         &self.nodes
@@ -54,7 +55,10 @@ impl<L: RaftLog> Cluster<L> {
     pub(crate) fn node_with(&self, id: u64) -> Option<&Node<L>>
         ensures { MatchOption result (node_at self.now id ≡ None) (λ node. node_at self.now id ≡ Some node.now) }
     {
-        self.nodes.get(place_of(id))
+        match self.nodes.get(place_of(id)) {
+            Some(shared) => Some(shared.node()),
+            None => None,
+        }
     }
 }
 
@@ -120,21 +124,5 @@ impl<L: RaftLog> Cluster<L> {
         ensures { IsTrue result ↔ (self.now.nodes ≡ other.now.nodes) }
     {
         same_list(&self.nodes, &other.nodes)
-    }
-}
-
-impl<L: RaftLog> Alike for Node<L> {
-    fn try_copy(&self) -> Result<Node<L>, AllocError> {
-        Node::try_copy(self)
-    }
-
-    fn same(&self, other: &Node<L>) -> bool {
-        Node::same(self, other)
-    }
-}
-
-impl<L: RaftLog> Numbered for Node<L> {
-    fn has_numbers_of(&self, other: &Node<L>) -> bool {
-        Node::has_numbers_of(self, other)
     }
 }

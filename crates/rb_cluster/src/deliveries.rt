@@ -61,9 +61,10 @@ impl<L: RaftLog> Cluster<L> {
     {
         screen.show(&Item::Moved(Verb::Deliver, message))?;
         let mut events = Vec::new(self.alloc);
-        let Some(node) = self.nodes.get_mut(place_of(id)) else {
+        let Some(shared) = self.nodes.get_mut(place_of(id)) else {
             return screen.explain(None);
         };
+        let node = shared.to_change()?;
         let why = reason(node.status(), message);
         node.step(message, &mut events)?;
         screen.show_events(&events)?;

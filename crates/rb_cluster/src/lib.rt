@@ -19,6 +19,7 @@ mod outcome;
 mod pending;
 mod readies;
 mod rounds;
+mod shared_node;
 mod snapshots;
 mod views;
 
@@ -29,3 +30,4 @@ pub use laws::{
     rows_are_of_what_is_printed, views_change_nothing,
 };
 pub use meter::Meter;
+pub use shared_node::SharedNode;

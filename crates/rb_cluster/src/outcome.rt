@@ -14,23 +14,23 @@ ghost use Rattle.rb_machine.specs.Scenes.{scene, lines_of};
 
 use crate::add_nodes::add_nodes_fault;
 use crate::cluster::Cluster;
+use crate::shared_node::SharedNode;
 use rb_directive::{Asked, Named, Request, request};
 use rb_level::{DirectiveError, Level};
 use rb_machine::{Form, Machine, Screen, Way};
-use rb_node::Node;
 use rb_raftlog::RaftLog;
 use rb_script::{DirectiveRef, Lines};
 use rb_texts::Item;
 use std::alloc::{AllocError, Global};
 
 // Whether a node has this id.
-fn is_node<L: RaftLog>(nodes: &[Node<L>], id: u64) -> bool
+fn is_node<L: RaftLog>(nodes: &[SharedNode<L>], id: u64) -> bool
     ensures { result ≡ is_node nodes.now id }
 {
     1 <= id && id <= nodes.len() as u64
 }
 
-fn absent<'d, L: RaftLog>(nodes: &[Node<L>], id: u64) -> Option<DirectiveError<'d>>
+fn absent<'d, L: RaftLog>(nodes: &[SharedNode<L>], id: u64) -> Option<DirectiveError<'d>>
     ensures { result ≡ absent nodes.now id }
 {
     if is_node(nodes, id) {
@@ -40,7 +40,7 @@ fn absent<'d, L: RaftLog>(nodes: &[Node<L>], id: u64) -> Option<DirectiveError<'
 }
 
 // The first of the ids that no node has.
-fn first_absent<'d, L: RaftLog>(nodes: &[Node<L>], ids: &[u8]) -> Option<DirectiveError<'d>>
+fn first_absent<'d, L: RaftLog>(nodes: &[SharedNode<L>], ids: &[u8]) -> Option<DirectiveError<'d>>
     ensures { result ≡ first_absent nodes.now ids.now }
 {
     for id in ids {
@@ -53,7 +53,10 @@ fn first_absent<'d, L: RaftLog>(nodes: &[Node<L>], ids: &[u8]) -> Option<Directi
 }
 
 // The first node that must exist and doesn't.
-fn missing_node<'d, L: RaftLog>(nodes: &[Node<L>], named: &Named) -> Option<DirectiveError<'d>>
+fn missing_node<'d, L: RaftLog>(
+    nodes: &[SharedNode<L>],
+    named: &Named,
+) -> Option<DirectiveError<'d>>
     ensures { result ≡ missing_node nodes.now named.now }
 {
     match named {
@@ -148,19 +151,10 @@ impl<L: RaftLog> Cluster<L> {
             Request::Stabilize(ids, rounds) => self.stabilize(ids, *rounds, screen),
             Request::TickElection(id) => self.tick_election(*id, screen),
             Request::TickHeartbeat(id) => self.tick_heartbeat(*id, screen),
-            Request::SetRandomizedElectionTimeout(id, ticks) => {
-                self.set_timeout(*id, *ticks);
-                Ok(())
-            }
+            Request::SetRandomizedElectionTimeout(id, ticks) => self.set_timeout(*id, *ticks),
             Request::TransferLeadership(from, to) => self.transfer(*from, *to, screen),
-            Request::ForgetLeader(id) => {
-                self.forget_leader(*id);
-                Ok(())
-            }
-            Request::ReportUnreachable(id, peer) => {
-                self.report_unreachable(*id, *peer);
-                Ok(())
-            }
+            Request::ForgetLeader(id) => self.forget_leader(*id),
+            Request::ReportUnreachable(id, peer) => self.report_unreachable(*id, *peer),
             Request::SendSnapshot(from, to) => self.send_snapshot(*from, *to, screen),
             Request::Compact(id, index) => self.compact(*id, *index, screen),
             Request::LogLevel(level) => {

@@ -109,9 +109,10 @@ impl<L: RaftLog> Cluster<L> {
     {
         let mut events = Vec::new(self.alloc);
         let mut messages = Vec::new(self.alloc);
-        let Some(node) = self.nodes.get_mut(place_of(id)) else {
+        let Some(shared) = self.nodes.get_mut(place_of(id)) else {
             return Ok(());
         };
+        let node = shared.to_change()?;
         node.advance(&mut messages, &mut events)?;
         self.send_all(messages, screen)?;
         screen.show_events(&events)

@@ -103,9 +103,10 @@ impl<L: RaftLog> Cluster<L> {
     ) -> Result<(), AllocError>
         ensures { OnOk result (scene self.new screen.new ≡ compact id index (scene self.old screen.old)) }
     {
-        let Some(node) = self.nodes.get_mut(place_of(id)) else {
+        let Some(shared) = self.nodes.get_mut(place_of(id)) else {
             return Ok(());
         };
+        let node = shared.to_change()?;
         if node.compact(index).is_err() {
             return Err(AllocError);
         }

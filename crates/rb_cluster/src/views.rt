@@ -7,6 +7,7 @@ ghost use Rattle.rb_machine.specs.Scenes.{scene, showing_all};
 ghost use Rattle.rb_machine.specs.Views.{log_line, held_item, log_items, log_shown, view_item, status_items, status_shown, node_line, state_item, states_shown};
 
 use crate::cluster::Cluster;
+use crate::shared_node::SharedNode;
 use rb_machine::Screen;
 use rb_node::Node;
 use rb_raftlog::RaftLog;
@@ -93,11 +94,11 @@ fn node_line<L: RaftLog>(state: &State<L>) -> NodeLine<'_>
     }
 }
 
-fn show_states<L: RaftLog>(screen: &mut Screen, nodes: &[Node<L>]) -> Result<(), AllocError>
+fn show_states<L: RaftLog>(screen: &mut Screen, nodes: &[SharedNode<L>]) -> Result<(), AllocError>
     ensures { OnOk result (screen.new ≡ showing_all screen.old (map state_item nodes.now)) }
 {
     for node in nodes {
-        screen.show(&Item::RaftState(node_line(node.status())))?;
+        screen.show(&Item::RaftState(node_line(node.node().status())))?;
     }
     Ok(())
 }

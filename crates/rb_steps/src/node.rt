@@ -10,6 +10,7 @@ ghost use Rattle.rb_steps.specs.States.{added_rows, changed_rows, config_row, go
 
 use crate::fresh::keep_new;
 use crate::log::{keep_log, keep_log_from};
+use rb_cluster::SharedNode;
 use rb_node::Node;
 use rb_page::{Cell, flag, keep_row, role_name};
 use rb_raftlog::RaftLog;
@@ -169,25 +170,28 @@ fn keep_changed<L: RaftLog>(
 }
 
 // The node at an index, where there is one.
-fn old_at<L: RaftLog>(olds: &[Node<L>], index: usize) -> Option<&Node<L>>
+fn old_at<L: RaftLog>(olds: &[SharedNode<L>], index: usize) -> Option<&Node<L>>
     ensures { MatchOption result (slice_get olds.now index ≡ None) (λ node. slice_get olds.now index ≡ Some node.now) }
 {
-    olds.get(index)
+    match olds.get(index) {
+        Some(shared) => Some(shared.node()),
+        None => None,
+    }
 }
 
 // The node at an index.
-fn node_at<L: RaftLog>(nodes: &[Node<L>], index: usize) -> &Node<L>
+fn node_at<L: RaftLog>(nodes: &[SharedNode<L>], index: usize) -> &Node<L>
     requires { index < length nodes.now }
     ensures { slice_get nodes.now index ≡ Some result.now }
 {
-    &nodes[index]
+    nodes[index].node()
 }
 
 // Adds what of the node at an index is not as it was, or all of it where it wasn't there.
 fn keep_either<L: RaftLog>(
     alloc: Global,
     texts: &mut Lines,
-    olds: &[Node<L>],
+    olds: &[SharedNode<L>],
     index: usize,
     new: &Node<L>,
 ) -> Result<(), AllocError>
@@ -204,8 +208,8 @@ fn keep_either<L: RaftLog>(
 pub(crate) fn keep_states<L: RaftLog>(
     alloc: Global,
     texts: &mut Lines,
-    olds: &[Node<L>],
-    news: &[Node<L>],
+    olds: &[SharedNode<L>],
+    news: &[SharedNode<L>],
 ) -> Result<(), AllocError>
     requires { AreKept olds.now news.now }
     ensures { OnOk result (texts.new ≡ texts.old ++ texts_of (state_rows olds.now news.now)) }
