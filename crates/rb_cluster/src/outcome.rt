@@ -151,10 +151,19 @@ impl<L: RaftLog> Cluster<L> {
             Request::Stabilize(ids, rounds) => self.stabilize(ids, *rounds, screen),
             Request::TickElection(id) => self.tick_election(*id, screen),
             Request::TickHeartbeat(id) => self.tick_heartbeat(*id, screen),
-            Request::SetRandomizedElectionTimeout(id, ticks) => self.set_timeout(*id, *ticks),
+            Request::SetRandomizedElectionTimeout(id, ticks) => {
+                self.set_timeout(*id, *ticks)?;
+                Ok(())
+            }
             Request::TransferLeadership(from, to) => self.transfer(*from, *to, screen),
-            Request::ForgetLeader(id) => self.forget_leader(*id),
-            Request::ReportUnreachable(id, peer) => self.report_unreachable(*id, *peer),
+            Request::ForgetLeader(id) => {
+                self.forget_leader(*id)?;
+                Ok(())
+            }
+            Request::ReportUnreachable(id, peer) => {
+                self.report_unreachable(*id, *peer)?;
+                Ok(())
+            }
             Request::SendSnapshot(from, to) => self.send_snapshot(*from, *to, screen),
             Request::Compact(id, index) => self.compact(*id, *index, screen),
             Request::LogLevel(level) => {
