@@ -19,7 +19,6 @@ use Rattle.rb_check.specs.Whys.{below_of, reason_at, told_lines, told_same, told
 use Rattle.rb_check.proofs.DiffLaws.{join}
 
 pub untold-at : (at : ℕ) → reason_at [] at ≡ []
-unfolding reason_at
 untold-at at = ap below_of (slice_get_past [] at (omega arith))
 
 -- a text with no reason below it, and what follows
@@ -27,7 +26,7 @@ no_reason : (at : ℕ) (text rest other : List ℕ) → rest ≡ other → (text
 no_reason at text rest other e =
     ap (λ (r : List ℕ). (text ++ r) ++ rest) (untold-at at) ∙ ap (λ (t : List ℕ). t ++ rest) (append-nil text) ∙ ap (λ (l : List ℕ). text ++ l) e
 
-either : (t : Bool) (a b c d : List ℕ) → a ≡ c → b ≡ d → cond t a b ≡ cond t c d
+pub either : (t : Bool) (a b c d : List ℕ) → a ≡ c → b ≡ d → cond t a b ≡ cond t c d
 either true a b c d e f = e
 either false a b c d e f = f
 

@@ -34,7 +34,7 @@ below_of None = []
 below_of (Some reason) = below reason
 
 -- what stands below the line at a place, which counts from 0
-unfoldable pub reason_at : List Line → ℕ → List ℕ
+abbrev pub reason_at : List Line → ℕ → List ℕ
 reason_at why at = below_of (slice_get why at)
 
 -- ---- lines, from a place of the output on

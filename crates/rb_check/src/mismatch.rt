@@ -47,7 +47,8 @@ pub fn put_mismatch<S: Sink>(
     )
 }
 
-/// So, and below each line of the output that is shown the reason that belongs to it, behind `^ `.
+/// Writes what [`put_mismatch`] writes, and below each line of the output that is shown the reason that belongs to it, behind `^ `.
+/// On a failure what went out is a beginning of the text.
 pub fn put_told_mismatch<S: Sink>(
     sink: &mut S,
     place: Place<'_>,

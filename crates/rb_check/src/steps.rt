@@ -123,7 +123,8 @@ pub fn put_run<S: Sink>(
     put_told_run(sink, place, directive, output, Why::Untold, hint)
 }
 
-/// So, and below each line of the output the reason that belongs to it, behind `^ `.
+/// Writes what [`put_run`] writes, and below each line of the output the reason that belongs to it, behind `^ `. On a failure
+/// what went out is a beginning of the text.
 pub fn put_told_run<S: Sink>(
     sink: &mut S,
     place: Place<'_>,

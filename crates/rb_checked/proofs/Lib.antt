@@ -3,3 +3,4 @@ pub mod ShownLaws
 pub mod MismatchLaws
 pub mod AcceptLaws
 pub mod DoubtLaws
+pub mod WhyLaws

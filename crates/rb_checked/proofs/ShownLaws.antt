@@ -1,21 +1,19 @@
 -- What is shown of a script's directives.
 use Rattle.std.proofs.Common.{◌≡◌, ◌∙◌, ℕ, suc, ◌+◌, ◌-◌, ◌≤◌, Bool, true, false, List, [], ◌∷◌, length, drop, Some, refl, ap, sym, arith}
-use Rattle.std.specs.Prelude.{◌&&◌, ◌||◌, slice_get, slice_index, slice_index_or}
+use Rattle.std.specs.Prelude.{◌&&◌, ◌||◌, slice_get, slice_index}
 use Rattle.std.specs.List.{list_any}
 use Rattle.rb_script.specs.Lines.{Line}
 use Rattle.std.proofs.lemmas.Option.{get_or_from_slice_get}
 use Rattle.rb_script.specs.Marks.{is_lead}
-use Rattle.rb_script.specs.Script.{PlainBlock, PlainScript}
-use Rattle.rb_script.specs.Edits.{block_at_place}
+use Rattle.rb_script.specs.Script.{PlainScript}
 use Rattle.rb_replay.specs.Points.{IsRising}
 use Rattle.rb_replay.specs.Run.{outputs}
 use Rattle.rb_replay.specs.Report.{mismatches}
 use Rattle.rb_replay.proofs.RunLaws.{both, length-outputs}
 use Rattle.rb_replay.proofs.DifferingLaws.{AreAtMost}
-use Rattle.rb_check.specs.declared.colors.Colors.{Colors}
 use Rattle.rb_check.specs.Briefs.{brief_text}
 use Rattle.rb_check.proofs.PieceLaws.{drop-get}
-use Rattle.rb_checked.specs.Checked.{mismatch_shown, mismatch_at, brief_at, of_first, head_line, IsFirst}
+use Rattle.rb_checked.specs.Checked.{brief_at, of_first, head_line, IsFirst}
 use Rattle.rb_checked.specs.Errors.{is_error, is_mark, marked, error_count}
 
 -- one output more
@@ -67,17 +65,6 @@ pub head_line-is : (heads : List ℕ) (i line : ℕ) → slice_get heads i ≡ S
 head_line-is heads i line got =
     let on : i ≡ i + 1 - 1 = omega arith in
     sym (get_or_from_slice_get heads i line 0 got) ∙ ap (λ (k : ℕ). slice_index heads k) on
-
-pub mismatch-is : (colors : Colors) (path heads : List ℕ) (s : PlainScript) (i line : ℕ) (b : PlainBlock) (o : List Line)
-    → slice_get heads i ≡ Some line → slice_get s.blocks i ≡ Some b → slice_get (outputs s) i ≡ Some o → mismatch_shown colors path line b o ≡ mismatch_at colors path heads s (i + 1)
-mismatch-is colors path heads s i line b o head block output =
-    let on : i ≡ i + 1 - 1 = omega arith in
-    let none : PlainBlock = record { lead = []; head = []; input = []; expected = [] } in
-    ap (λ (n : ℕ). mismatch_shown colors path n b o) (head_line-is heads i line head)
-    ∙ ap (λ (c : PlainBlock). mismatch_shown colors path (head_line heads (i + 1)) c o) (sym (get_or_from_slice_get s.blocks i b none block))
-    ∙ ap (λ (k : ℕ). mismatch_shown colors path (head_line heads (i + 1)) (slice_index_or s.blocks k none) o) on
-    ∙ ap (λ (ls : List Line). mismatch_shown colors path (head_line heads (i + 1)) (block_at_place s.blocks (i + 1)) ls) (sym (get_or_from_slice_get (outputs s) i o [] output))
-    ∙ ap (λ (k : ℕ). mismatch_shown colors path (head_line heads (i + 1)) (block_at_place s.blocks (i + 1)) (slice_index_or (outputs s) k [])) on
 
 pub first-brief : (path heads : List ℕ) (s : PlainScript) (i m n line : ℕ) → IsFirst (i + 1) (mismatches s) → m ≡ length (mismatches s) → n ≡ length s.blocks → slice_get heads i ≡ Some line
     → brief_text path m n line ≡ of_first (brief_at path heads s) (mismatches s)

@@ -18,24 +18,37 @@ use Rattle.rb_checked.specs.Checked.{head_of, hint_of, match_shown, head_line, b
 
 -- ---- what a script's reasons are
 
+abbrev pub begins_ignored : Line → Bool
+begins_ignored line = bytes_eq (take 11 line) (codes "  ignored: ")
+
+abbrev pub begins_refused : Line → Bool
+begins_refused line = bytes_eq (take 11 line) (codes "  refused: ")
+
 -- a line that is a reason, and none of an output
 abbrev pub is_reason : Line → Bool
-is_reason line = bytes_eq (take 11 line) (codes "  ignored: ") || bytes_eq (take 11 line) (codes "  refused: ")
+is_reason line = begins_ignored line || begins_refused line
+
+abbrev pub or_nothing : Line → Line
+or_nothing line = if is_reason line then line else []
 
 -- the reason that stands first, where one does
 abbrev pub first_reason : List Line → Line
 first_reason [] = []
-first_reason (line ∷ ls) = if is_reason line then line else []
+first_reason (line ∷ ls) = or_nothing line
 
 -- of lines with reasons between, what stands below each that is none
 abbrev pub reasons_below : List Line → List Line
 reasons_below [] = []
 reasons_below (line ∷ ls) = if is_reason line then reasons_below ls else (first_reason ls ∷ reasons_below ls)
 
--- a reason that stands before all lines is that of the first line: nothing else was printed, so that is `ok`
+-- A reason that stands before all lines is that of the first line of the output: nothing else was printed, so that is `ok`.
+abbrev pub leading_reason : List Line → List Line
+leading_reason [] = []
+leading_reason (line ∷ ls) = if is_reason line then line ∷ [] else []
+
+-- the reason below each line of an output, by its lines with reasons between; an empty one is none
 abbrev pub reasons_of : List Line → List Line
-reasons_of [] = []
-reasons_of (line ∷ ls) = if is_reason line then line ∷ reasons_below ls else reasons_below (line ∷ ls)
+reasons_of explained = leading_reason explained ++ reasons_below explained
 
 -- what directives print with reasons, one after another
 abbrev pub explanations : Cluster → List PlainDirective → List (List Line)

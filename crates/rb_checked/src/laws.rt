@@ -12,6 +12,8 @@ ghost use Rattle.rb_checked.specs.declared.view.Shown.TheVariants.{Differing};
 ghost use Rattle.rb_checked.specs.declared.view.Shown.{Shown};
 ghost use Rattle.rb_checked.specs.Checked.{checked_text, mismatch_at, NoneIsNamed};
 ghost use Rattle.rb_checked.specs.Shows.{IsQuiet, told_of};
+ghost use Rattle.rb_checked.specs.Whys.{told_text};
+ghost use Rattle.rb_check.specs.Whys.{OnlyAdds};
 ghost use Rattle.rb_checked.specs.Errors.{is_unexpected};
 ghost use Rattle.rb_checked.specs.declared.wanted.Picked.TheVariants.{All};
 ghost use Rattle.rb_checked.specs.declared.wanted.Wanted.{Wanted};
@@ -30,6 +32,16 @@ pub fn mismatches_are_shown()
 pub fn matching_scripts_show_nothing()
     ensures found { (shown : Shown) (ls : List Line) (heads : List ℕ) (s : PlainScript) → IsQuiet shown s → told_of ls heads s ≡ record { first = None; errors = 0 } }
     ensures shown { (shown : Shown) (colors : Colors) (ls : List Line) (path heads : List ℕ) (s : PlainScript) → IsQuiet shown s → checked_text shown colors ls path heads s ≡ [] }
+{}
+
+/// With reasons, what is shown is what is shown without, and reasons between, each in a line of its own.
+pub fn reasons_stand_between_outputs()
+    ensures { (shown : Shown) (colors : Colors) (ls : List Line) (path : List ℕ) (whys : List (List Line)) (heads : List ℕ) (s : PlainScript) → OnlyAdds (checked_text shown colors ls path heads s) (told_text shown colors ls path whys heads s) }
+{}
+
+/// Where none are given, it is what is shown without.
+pub fn nothing_is_told_unasked()
+    ensures { (shown : Shown) (colors : Colors) (ls : List Line) (path heads : List ℕ) (s : PlainScript) → told_text shown colors ls path [] heads s ≡ checked_text shown colors ls path heads s }
 {}
 
 /// The line that is shown with a directive is the one on which its head begins.

@@ -1,34 +1,61 @@
 //! The reasons of an output, by what its directive prints with reasons between.
 
-ghost use Rattle.std.specs.Prelude.{◌≡◌, ◌++◌, ◌∷◌, [], drop, length, IfOk, OnOk};
-ghost use Rattle.rb_checked.specs.Whys.{is_reason, first_reason, reasons_below, reasons_of, why_at};
+ghost use Rattle.std.specs.Prelude.{◌≡◌, ◌<◌, ◌+◌, ◌++◌, drop, length, IfOk, OnOk};
+ghost use Rattle.rb_checked.specs.Whys.{begins_ignored, begins_refused, is_reason, or_nothing, first_reason, reasons_below, leading_reason, reasons_of, why_at};
 ghost use Rattle.rb_check.specs.Whys.{reasons_in};
 
 use rb_check::Why;
 use rb_script::Lines;
 use std::alloc::{AllocError, Global};
 
+fn is_ignored(line: &[u8]) -> bool
+    ensures { result ≡ begins_ignored line.now }
+{
+    line.len() >= 11 && &line[..11] == b"  ignored: ".as_slice()
+}
+
+fn is_refused(line: &[u8]) -> bool
+    ensures { result ≡ begins_refused line.now }
+{
+    line.len() >= 11 && &line[..11] == b"  refused: ".as_slice()
+}
+
 fn is_reason(line: &[u8]) -> bool
     ensures { result ≡ is_reason line.now }
 {
-    if line.len() < 11 {
-        return false;
-    }
-    let word = &line[..11];
-    word == b"  ignored: ".as_slice() || word == b"  refused: ".as_slice()
+    is_ignored(line) || is_refused(line)
+}
+
+// The line where it is a reason, else nothing.
+fn or_nothing(line: &[u8]) -> &[u8]
+    ensures { result.now ≡ or_nothing line.now }
+{
+    if is_reason(line) { line } else { b"" }
 }
 
 // The reason that stands at a place, where one does; else nothing.
+#[tactic(auto, using(crate::proofs::WhyLaws::first_there, crate::proofs::WhyLaws::first_past))]
 fn reason_at(explained: &Lines, at: usize) -> &[u8]
     ensures { result.now ≡ first_reason (drop at explained.now) }
 {
     if at < explained.len() {
-        let line = explained.line(at);
-        if is_reason(line) {
-            return line;
-        }
+        return or_nothing(explained.line(at));
     }
     b""
+}
+
+// Adds the reason that stands before all lines, where one does.
+fn push_leading(reasons: &mut Lines, explained: &Lines) -> Result<(), AllocError>
+    ensures { OnOk result (reasons.new ≡ reasons.old ++ leading_reason explained.now) }
+{
+    if explained.is_empty() {
+        return Ok(());
+    }
+    let first = explained.line(0);
+    if !is_reason(first) {
+        return Ok(());
+    }
+    reasons.push(first)
 }
 
 // Adds what stands below the line at a place, unless it is a reason itself.
@@ -39,7 +66,8 @@ fn push_below(reasons: &mut Lines, explained: &Lines, at: usize) -> Result<(), A
     if is_reason(explained.line(at)) {
         return Ok(());
     }
-    reasons.push(reason_at(explained, at + 1))
+    reasons.push(reason_at(explained, at + 1))?;
+    Ok(())
 }
 
 /// The reasons that stand below the lines of an output, in order, by what its directive prints with reasons between; an empty one is none.
@@ -47,10 +75,7 @@ pub fn reasons_of(alloc: Global, explained: &Lines) -> Result<Lines, AllocError>
     ensures { IfOk result (λ reasons. reasons ≡ reasons_of explained.now) }
 {
     let mut reasons = Lines::new(alloc);
-    let first = reason_at(explained, 0);
-    if !first.is_empty() {
-        reasons.push(first)?;
-    }
+    push_leading(&mut reasons, explained)?;
     for at in 0..explained.len() {
         push_below(&mut reasons, explained, at)?;
     }

@@ -359,3 +359,18 @@ outcome_explains (Ok a) c = unless_explains (fault a.request c) a c
 pub explains : (c : Cluster) (d : PlainDirective) → Explains (outcome c d).output (explanation c d)
 unfolding outcome explanation
 explains c d = outcome_explains (request d) c
+
+unless_same : (e : Option DirectiveError) (a : Asked) (c : Cluster) → (unless_refused forms.Explained e a c).cluster ≡ (unless_refused forms.Lines e a c).cluster
+unless_same (Some e) a c = refl
+unless_same None a c =
+    let t : Tells (λ (screen : Screen). effect a.request (scene c screen)) = effect_tells a.request c in
+    ap (λ (s : Scene). s.cluster) (t.is (screen_of forms.Explained a c)) ∙ sym (ap (λ (s : Scene). s.cluster) (t.is (screen_of forms.Lines a c)))
+
+outcome_same : (r : Result Asked DirectiveError) (c : Cluster) → (outcome_of forms.Explained r c).cluster ≡ (outcome_of forms.Lines r c).cluster
+outcome_same (Err e) c = refl
+outcome_same (Ok a) c = unless_same (fault a.request c) a c
+
+-- with reasons a directive leaves the same cluster
+pub explained_same : (c : Cluster) (d : PlainDirective) → (outcome_of forms.Explained (request d) c).cluster ≡ (outcome c d).cluster
+unfolding outcome
+explained_same c d = outcome_same (request d) c

@@ -230,4 +230,14 @@ impl<L: RaftLog> Cluster<L> {
         let mut copy = Machine::try_copy(self)?;
         copy.shown(Form::Explained, directive)
     }
+
+    /// Runs a directive, and gives what it prints with reasons between.
+    #[tactic(auto, unfolding(rb_machine::specs::Outcome::explanation))]
+    pub fn run_explained(&mut self, directive: &DirectiveRef<'_>) -> Result<Lines, AllocError>
+        ensures cluster { OnOk result (self.new ≡ (outcome self.old (plain directive.now)).cluster) }
+        ensures output { IfOk result (λ lines. lines ≡ explanation self.old (plain directive.now)) }
+    {
+        let lines = self.shown(Form::Explained, directive)?;
+        Ok(lines)
+    }
 }

@@ -1,7 +1,6 @@
 //! What the scripts of a check run on.
 
 use rb_cluster::{Cluster, Meter};
-use rb_machine::Machine;
 use rb_raftlog::SplitLog;
 use rb_replay::{Session, StartFault};
 use rb_script::{DirectiveRef, Lines};
@@ -29,9 +28,8 @@ impl Runner for Clusters {
         machine: Cluster<SplitLog>,
         directive: DirectiveRef<'_>,
     ) -> Result<(Cluster<SplitLog>, Lines), AllocError> {
-        let lines = machine.explanation(&directive)?;
-        let mut meter = Meter::new();
-        let (next, _) = machine.run(directive, &mut meter)?;
+        let mut next = machine;
+        let lines = next.run_explained(&directive)?;
         Ok((next, lines))
     }
 }

@@ -2,6 +2,7 @@
 
 ghost use Rattle.std.specs.Prelude.{◌≡◌, ◌++◌, ◌∷◌, [], IfOk, OnOk};
 ghost use Rattle.rb_checked.specs.Whys.{reasons_of, whys_of};
+ghost use Rattle.rb_suite.specs.Reasons.{differs, shows_outputs, asked_reasons};
 
 use crate::asked::Asked;
 use crate::runner::Runner;
@@ -17,19 +18,30 @@ pub(crate) fn asked_reasons<T: Runner>(
     runner: &mut T,
     asked: Asked<'_>,
     session: &Session<T::Machine>,
-) -> Result<Vec<Lines>, AllocError> {
-    if !asked.explains || !shows_outputs(asked, session) {
-        return Ok(Vec::new(alloc));
+) -> Result<Vec<Lines>, AllocError>
+    ensures { IfOk result (λ whys. whys.items ≡ asked_reasons asked.entry.explains asked.entry.shown asked.entry.reviews session.now.script) }
+{
+    if asked.explains && shows_outputs(asked.shown, asked.reviews, session) {
+        script_reasons(alloc, runner, session)
+    } else {
+        Ok(Vec::new(alloc))
     }
-    script_reasons(alloc, runner, session)
 }
 
-// Whether the output of a directive is shown.
-fn shows_outputs<M: Machine>(asked: Asked<'_>, session: &Session<M>) -> bool {
-    match asked.shown {
+fn differs<M: Machine>(session: &Session<M>) -> bool
+    ensures { result ≡ differs session.now.script }
+{
+    !session.mismatches().is_empty()
+}
+
+// Whether the output of a directive is shown, or asked about in a review.
+fn shows_outputs<M: Machine>(shown: Shown, reviews: bool, session: &Session<M>) -> bool
+    ensures { result ≡ shows_outputs shown reviews session.now.script }
+{
+    match shown {
         Shown::All => true,
-        Shown::Differing | Shown::First => !session.mismatches().is_empty(),
-        Shown::Brief => asked.reviews && !session.mismatches().is_empty(),
+        Shown::Differing | Shown::First => differs(session),
+        Shown::Brief => reviews && differs(session),
     }
 }
 

@@ -22,6 +22,7 @@ complete -c raftbench -n '__fish_seen_subcommand_from check' -s v -l verbose -d 
 complete -c raftbench -n '__fish_seen_subcommand_from check' -l first -d 'Show the first mismatch of each script alone'
 complete -c raftbench -n '__fish_seen_subcommand_from check' -l brief -d 'Show one line for each script that differs'
 complete -c raftbench -n '__fish_seen_subcommand_from check' -s q -l quiet -d 'Show nothing'
+complete -c raftbench -n '__fish_seen_subcommand_from check' -l why -d 'Tell why nothing came of a message, below the output that is shown'
 complete -c raftbench -n '__fish_seen_subcommand_from check' -l color -x -a 'auto always never' -d 'When to show colours'
 complete -c raftbench -n '__fish_seen_subcommand_from check page run rewrite session' -l every -x -a '1 4 16 64' -d 'Directives from one checkpoint to the next'
 complete -c raftbench -n '__fish_seen_subcommand_from check' -l format -x -a 'text json github' -d 'How what differs is written'

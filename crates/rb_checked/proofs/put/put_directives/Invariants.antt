@@ -2,12 +2,12 @@
 use Rattle.std.proofs.Common.{drop}
 use Rattle.rb_replay.specs.Run.{outputs}
 use Rattle.rb_check.proofs.PieceLaws.{Sent}
-use Rattle.rb_checked.specs.Checked.{all_shown}
+use Rattle.rb_checked.specs.Whys.{all_told}
 use Rattle.rb_checked.proofs.put.put_directives.Given as goal
 
 abbrev pub invariant-loop-i : goal.invariant-loop-i
 invariant-loop-i g l = record {
-  sent : Sent (g.S.Sink.held l.initial.sink) (g.S.Sink.held l.sink) (all_shown l.all l.view.colors l.text l.view.path.now l.heads l.session.script.blocks (outputs l.session.script))
-      (all_shown l.all l.view.colors l.text l.view.path.now (drop l.i l.heads) (drop l.i l.session.script.blocks) (drop l.i (outputs l.session.script)));
+  sent : Sent (g.S.Sink.held l.initial.sink) (g.S.Sink.held l.sink) (all_told l.all l.view.colors l.text l.view.path.now l.whys 0 l.heads l.session.script.blocks (outputs l.session.script))
+      (all_told l.all l.view.colors l.text l.view.path.now l.whys l.i (drop l.i l.heads) (drop l.i l.session.script.blocks) (drop l.i (outputs l.session.script)));
   takes : g.S.Sink.takes_all l.initial.sink → g.S.Sink.takes_all l.sink;
 }

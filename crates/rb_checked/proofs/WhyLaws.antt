@@ -1,0 +1,175 @@
+-- Reasons of a script's outputs: where they stand, and what they add.
+use Rattle.std.proofs.Common.{◌≡◌, ◌∙◌, ℕ, ◌+◌, ◌-◌, ◌≤◌, Bool, true, false, cond, List, [], ◌∷◌, ◌++◌, length, drop, Option, Some, Result, refl, ap, sym, subst, append_assoc, append-nil, arith}
+use Rattle.std.specs.Prelude.{IsErr, slice_get, slice_index_or}
+use Rattle.std.specs.Io.KnownBytes.{Appends}
+use Rattle.std.proofs.lemmas.List.{drop_all}
+use Rattle.std.proofs.lemmas.Option.{slice_get_past, slice_get_within, get_or_from_slice_get}
+use Rattle.rb_script.specs.declared.sink.WriteFault.{WriteFault}
+use Rattle.rb_script.specs.Lines.{Line}
+use Rattle.rb_script.specs.Script.{PlainBlock, PlainScript}
+use Rattle.rb_script.specs.Edits.{block_at_place}
+use Rattle.rb_script.specs.Writes.{AppendsFront, Writes}
+use Rattle.rb_replay.specs.Run.{outputs}
+use Rattle.rb_replay.specs.Report.{same_lines, mismatches}
+use Rattle.rb_replay.proofs.RunLaws.{both}
+use Rattle.rb_check.specs.declared.colors.Colors.{Colors}
+use Rattle.rb_check.specs.Whys.{OnlyAdds}
+use Rattle.rb_check.proofs.PieceLaws.{Sent, sent_along, sent_piece, sent_all, piece_exit, drop-get}
+use Rattle.rb_check.proofs.UntoldLaws.{either, untold-mismatch, untold-run}
+use Rattle.rb_check.proofs.AddedLaws.{as_it_is, both_add, either_adds, mismatch-adds, run-adds}
+use Rattle.rb_checked.specs.declared.view.Shown.{Shown}
+use Rattle.rb_checked.specs.declared.view.Shown.TheVariants as shown
+use Rattle.rb_checked.specs.Checked.{head_of, hint_of, head_line, match_shown, mismatch_shown, directive_shown, all_shown, mismatch_at, brief_at, of_first, checked_text}
+use Rattle.rb_checked.specs.Whys.{is_reason, or_nothing, first_reason, reasons_below, why_of, why_at, told_differing, told_match, told_directive, all_told, told_at, told_text}
+use Rattle.rb_checked.proofs.ShownLaws.{head_line-is}
+
+-- ---- one directive on
+
+told-step : (all : Bool) (colors : Colors) (ls : List Line) (path : List ℕ) (whys : List (List Line)) (heads : List ℕ) (bs : List PlainBlock) (os : List (List Line)) (i line : ℕ) (b : PlainBlock) (o w : List Line)
+    → slice_get heads i ≡ Some line → slice_get bs i ≡ Some b → slice_get os i ≡ Some o → w ≡ why_at whys i
+    → all_told all colors ls path whys i (drop i heads) (drop i bs) (drop i os) ≡ told_directive all colors ls path line b o w ++ all_told all colors ls path whys (i + 1) (drop (i + 1) heads) (drop (i + 1) bs) (drop (i + 1) os)
+told-step all colors ls path whys heads bs os i line b o w head block output why =
+    let rest = all_told all colors ls path whys (i + 1) (drop (i + 1) heads) (drop (i + 1) bs) (drop (i + 1) os) in
+    ap (λ (ns : List ℕ). all_told all colors ls path whys i ns (drop i bs) (drop i os)) (drop-get heads i line head)
+    ∙ ap (λ (cs : List PlainBlock). all_told all colors ls path whys i (line ∷ drop (i + 1) heads) cs (drop i os)) (drop-get bs i b block)
+    ∙ ap (λ (outs : List (List Line)). all_told all colors ls path whys i (line ∷ drop (i + 1) heads) (b ∷ drop (i + 1) bs) outs) (drop-get os i o output)
+    ∙ ap (λ (l : List Line). told_directive all colors ls path line b o l ++ rest) (sym why)
+
+none_left : (all : Bool) (colors : Colors) (ls : List Line) (path : List ℕ) (whys : List (List Line)) (i : ℕ) (heads : List ℕ) (bs : List PlainBlock) (os : List (List Line)) → bs ≡ [] → all_told all colors ls path whys i heads bs os ≡ []
+none_left all colors ls path whys i [] bs os none = refl
+none_left all colors ls path whys i (line ∷ heads) [] os none = refl
+none_left all colors ls path whys i (line ∷ heads) (b ∷ bs) os none = absurd cc
+
+pub told_sent : {old mid : Option (List ℕ)} {text : List ℕ} (new : Option (List ℕ)) (all : Bool) (colors : Colors) (ls : List Line) (path : List ℕ) (whys : List (List Line)) (heads : List ℕ) (bs : List PlainBlock) (os : List (List Line)) (i line : ℕ) (b : PlainBlock) (o w : List Line)
+    → slice_get heads i ≡ Some line → slice_get bs i ≡ Some b → slice_get os i ≡ Some o → w ≡ why_at whys i
+    → Sent old mid text (all_told all colors ls path whys i (drop i heads) (drop i bs) (drop i os)) → Appends mid new (told_directive all colors ls path line b o w)
+    → Sent old new text (all_told all colors ls path whys (i + 1) (drop (i + 1) heads) (drop (i + 1) bs) (drop (i + 1) os))
+told_sent new all colors ls path whys heads bs os i line b o w head block output why s wrote =
+    sent_piece new (told_directive all colors ls path line b o w) (all_told all colors ls path whys (i + 1) (drop (i + 1) heads) (drop (i + 1) bs) (drop (i + 1) os))
+    (sent_along (told-step all colors ls path whys heads bs os i line b o w head block output why) s) wrote
+
+-- the write of one failed
+pub told_exit : {X : Type 0} {old mid : Option (List ℕ)} {text : List ℕ} (r : Result X WriteFault) (new : Option (List ℕ)) (all : Bool) (colors : Colors) (ls : List Line) (path : List ℕ) (whys : List (List Line)) (heads : List ℕ) (bs : List PlainBlock) (os : List (List Line)) (i line : ℕ) (b : PlainBlock) (o w : List Line)
+    → slice_get heads i ≡ Some line → slice_get bs i ≡ Some b → slice_get os i ≡ Some o → w ≡ why_at whys i → IsErr r
+    → Sent old mid text (all_told all colors ls path whys i (drop i heads) (drop i bs) (drop i os)) → AppendsFront mid new (told_directive all colors ls path line b o w) → Writes r old new text
+told_exit r new all colors ls path whys heads bs os i line b o w head block output why failed s wrote =
+    piece_exit r new (told_directive all colors ls path line b o w) (all_told all colors ls path whys (i + 1) (drop (i + 1) heads) (drop (i + 1) bs) (drop (i + 1) os)) failed
+    (sent_along (told-step all colors ls path whys heads bs os i line b o w head block output why) s) wrote
+
+pub told_all : {old new : Option (List ℕ)} {text : List ℕ} (all : Bool) (colors : Colors) (ls : List Line) (path : List ℕ) (whys : List (List Line)) (heads : List ℕ) (bs : List PlainBlock) (os : List (List Line)) (i : ℕ) → length bs ≤ i
+    → Sent old new text (all_told all colors ls path whys i (drop i heads) (drop i bs) (drop i os)) → Appends old new text
+told_all all colors ls path whys heads bs os i past s = sent_all (none_left all colors ls path whys i (drop i heads) (drop i bs) (drop i os) (drop_all i bs past)) s
+
+-- the mismatch at an index
+pub told-is : (colors : Colors) (path : List ℕ) (whys : List (List Line)) (heads : List ℕ) (s : PlainScript) (i line : ℕ) (b : PlainBlock) (o w : List Line)
+    → slice_get heads i ≡ Some line → slice_get s.blocks i ≡ Some b → slice_get (outputs s) i ≡ Some o → w ≡ why_at whys i → told_differing colors path line b o w ≡ told_at colors path whys heads s (i + 1)
+told-is colors path whys heads s i line b o w head block output why =
+    let on : i ≡ i + 1 - 1 = omega arith in
+    let none : PlainBlock = record { lead = []; head = []; input = []; expected = [] } in
+    ap (λ (n : ℕ). told_differing colors path n b o w) (head_line-is heads i line head)
+    ∙ ap (λ (c : PlainBlock). told_differing colors path (head_line heads (i + 1)) c o w) (sym (get_or_from_slice_get s.blocks i b none block))
+    ∙ ap (λ (k : ℕ). told_differing colors path (head_line heads (i + 1)) (slice_index_or s.blocks k none) o w) on
+    ∙ ap (λ (ls : List Line). told_differing colors path (head_line heads (i + 1)) (block_at_place s.blocks (i + 1)) ls w) (sym (get_or_from_slice_get (outputs s) i o [] output))
+    ∙ ap (λ (k : ℕ). told_differing colors path (head_line heads (i + 1)) (block_at_place s.blocks (i + 1)) (slice_index_or (outputs s) k []) w) on
+    ∙ ap (λ (ls : List Line). told_differing colors path (head_line heads (i + 1)) (block_at_place s.blocks (i + 1)) (slice_index_or (outputs s) (i + 1 - 1) []) ls) why
+    ∙ ap (λ (k : ℕ). told_differing colors path (head_line heads (i + 1)) (block_at_place s.blocks (i + 1)) (slice_index_or (outputs s) (i + 1 - 1) []) (why_at whys k)) on
+
+-- ---- no reasons
+
+nothing_at : (i : ℕ) → why_at [] i ≡ []
+nothing_at i = ap why_of (slice_get_past [] i (omega arith))
+
+untold-match : (all : Bool) (ls : List Line) (path : List ℕ) (line : ℕ) (b : PlainBlock) (output : List Line) → told_match all ls path line b output [] ≡ match_shown all ls path line b output
+untold-match true ls path line b output = untold-run path line (head_of b) output (hint_of b output)
+untold-match false ls path line b output = refl
+
+untold-differing : (colors : Colors) (path : List ℕ) (line : ℕ) (b : PlainBlock) (output : List Line) → told_differing colors path line b output [] ≡ mismatch_shown colors path line b output
+untold-differing colors path line b output = untold-mismatch colors path line (head_of b) b.expected output (hint_of b output)
+
+untold-directive : (all : Bool) (colors : Colors) (ls : List Line) (path : List ℕ) (line : ℕ) (b : PlainBlock) (output : List Line) → told_directive all colors ls path line b output [] ≡ directive_shown all colors ls path line b output
+untold-directive all colors ls path line b output =
+    either (same_lines b.expected output) (told_match all ls path line b output []) (told_differing colors path line b output []) (match_shown all ls path line b output) (mismatch_shown colors path line b output)
+    (untold-match all ls path line b output) (untold-differing colors path line b output)
+
+untold-all : (all : Bool) (colors : Colors) (ls : List Line) (path : List ℕ) (i : ℕ) (heads : List ℕ) (bs : List PlainBlock) (os : List (List Line)) → all_told all colors ls path [] i heads bs os ≡ all_shown all colors ls path heads bs os
+untold-all all colors ls path i [] bs os = refl
+untold-all all colors ls path i (line ∷ heads) [] os = refl
+untold-all all colors ls path i (line ∷ heads) (b ∷ bs) [] = refl
+untold-all all colors ls path i (line ∷ heads) (b ∷ bs) (o ∷ os) =
+    both (λ (x y : List ℕ). x ++ y) (ap (λ (w : List Line). told_directive all colors ls path line b o w) (nothing_at i) ∙ untold-directive all colors ls path line b o)
+    (untold-all all colors ls path (i + 1) heads bs os)
+
+untold-at : (colors : Colors) (path heads : List ℕ) (s : PlainScript) (k : ℕ) → told_at colors path [] heads s k ≡ mismatch_at colors path heads s k
+untold-at colors path heads s k =
+    let line = head_line heads k in
+    let b = block_at_place s.blocks k in
+    let o = slice_index_or (outputs s) (k - 1) [] in
+    ap (λ (w : List Line). told_differing colors path line b o w) (nothing_at (k - 1)) ∙ untold-differing colors path line b o
+
+untold-first : (colors : Colors) (path heads : List ℕ) (s : PlainScript) (ks : List ℕ) → of_first (told_at colors path [] heads s) ks ≡ of_first (mismatch_at colors path heads s) ks
+untold-first colors path heads s [] = refl
+untold-first colors path heads s (k ∷ ks) = untold-at colors path heads s k
+
+pub untold : (wanted : Shown) (colors : Colors) (ls : List Line) (path heads : List ℕ) (s : PlainScript) → told_text wanted colors ls path [] heads s ≡ checked_text wanted colors ls path heads s
+untold shown.Differing colors ls path heads s = untold-all false colors ls path 0 heads s.blocks (outputs s)
+untold shown.All colors ls path heads s = untold-all true colors ls path 0 heads s.blocks (outputs s)
+untold shown.First colors ls path heads s = untold-first colors path heads s (mismatches s)
+untold shown.Brief colors ls path heads s = refl
+
+-- ---- what reasons add
+
+match-adds : (all : Bool) (ls : List Line) (path : List ℕ) (line : ℕ) (b : PlainBlock) (output why : List Line) → OnlyAdds (match_shown all ls path line b output) (told_match all ls path line b output why)
+match-adds true ls path line b output why = run-adds path line (head_of b) output why (hint_of b output)
+match-adds false ls path line b output why = as_it_is (match_shown false ls path line b output)
+
+differing-adds : (colors : Colors) (path : List ℕ) (line : ℕ) (b : PlainBlock) (output why : List Line) → OnlyAdds (mismatch_shown colors path line b output) (told_differing colors path line b output why)
+differing-adds colors path line b output why = mismatch-adds colors path line (head_of b) b.expected output why (hint_of b output)
+
+all-add : (all : Bool) (colors : Colors) (ls : List Line) (path : List ℕ) (whys : List (List Line)) (i : ℕ) (heads : List ℕ) (bs : List PlainBlock) (os : List (List Line))
+    → OnlyAdds (all_shown all colors ls path heads bs os) (all_told all colors ls path whys i heads bs os)
+all-add all colors ls path whys i [] bs os = as_it_is []
+all-add all colors ls path whys i (line ∷ heads) [] os = as_it_is []
+all-add all colors ls path whys i (line ∷ heads) (b ∷ bs) [] = as_it_is []
+all-add all colors ls path whys i (line ∷ heads) (b ∷ bs) (o ∷ os) =
+    both_add (either_adds (same_lines b.expected o) (match-adds all ls path line b o (why_at whys i)) (differing-adds colors path line b o (why_at whys i)))
+    (all-add all colors ls path whys (i + 1) heads bs os)
+
+first-adds : (colors : Colors) (path : List ℕ) (whys : List (List Line)) (heads : List ℕ) (s : PlainScript) (ks : List ℕ) → OnlyAdds (of_first (mismatch_at colors path heads s) ks) (of_first (told_at colors path whys heads s) ks)
+first-adds colors path whys heads s [] = as_it_is []
+first-adds colors path whys heads s (k ∷ ks) = differing-adds colors path (head_line heads k) (block_at_place s.blocks k) (slice_index_or (outputs s) (k - 1) []) (why_at whys (k - 1))
+
+pub told-adds : (wanted : Shown) (colors : Colors) (ls : List Line) (path : List ℕ) (whys : List (List Line)) (heads : List ℕ) (s : PlainScript) → OnlyAdds (checked_text wanted colors ls path heads s) (told_text wanted colors ls path whys heads s)
+told-adds shown.Differing colors ls path whys heads s = all-add false colors ls path whys 0 heads s.blocks (outputs s)
+told-adds shown.All colors ls path whys heads s = all-add true colors ls path whys 0 heads s.blocks (outputs s)
+told-adds shown.First colors ls path whys heads s = first-adds colors path whys heads s (mismatches s)
+told-adds shown.Brief colors ls path whys heads s = as_it_is (of_first (brief_at path heads s) (mismatches s))
+
+-- ---- the reasons of an output
+
+pub first_there : (ls : List Line) (at : ℕ) (line : Line) → slice_get ls at ≡ Some line → or_nothing line ≡ first_reason (drop at ls)
+first_there ls at line got = sym (ap (λ (l : List Line). first_reason l) (drop-get ls at line got))
+
+pub first_past : (ls : List Line) (at : ℕ) → length ls ≤ at → [] ≡ first_reason (drop at ls)
+first_past ls at past = sym (ap (λ (l : List Line). first_reason l) (drop_all at ls past))
+
+-- the line at a place, and what is behind it
+below-step : (ls : List Line) (at : ℕ) (line : Line) → slice_get ls at ≡ Some line
+    → reasons_below (drop at ls) ≡ cond (is_reason line) (reasons_below (drop (at + 1) ls)) (first_reason (drop (at + 1) ls) ∷ reasons_below (drop (at + 1) ls))
+below-step ls at line got = ap (λ (l : List Line). reasons_below l) (drop-get ls at line got)
+
+pub below-reason : (ls had : List Line) (at : ℕ) (line : Line) → slice_get ls at ≡ Some line → is_reason line ≡ true → had ++ reasons_below (drop (at + 1) ls) ≡ had ++ reasons_below (drop at ls)
+below-reason ls had at line got is =
+    ap (λ (l : List Line). had ++ l) (sym (below-step ls at line got ∙ ap (λ (t : Bool). cond t (reasons_below (drop (at + 1) ls)) (first_reason (drop (at + 1) ls) ∷ reasons_below (drop (at + 1) ls))) is))
+
+pub below-line : (ls had has : List Line) (at : ℕ) (line reason : Line) → slice_get ls at ≡ Some line → is_reason line ≡ false → reason ≡ first_reason (drop (at + 1) ls) → has ≡ had ++ reason ∷ []
+    → has ++ reasons_below (drop (at + 1) ls) ≡ had ++ reasons_below (drop at ls)
+below-line ls had has at line reason got is first more =
+    let rest = reasons_below (drop (at + 1) ls) in
+    ap (λ (l : List Line). l ++ rest) more
+    ∙ append_assoc had (reason ∷ []) rest
+    ∙ ap (λ (r : Line). had ++ (r ∷ rest)) first
+    ∙ ap (λ (l : List Line). had ++ l) (sym (below-step ls at line got ∙ ap (λ (t : Bool). cond t rest (first_reason (drop (at + 1) ls) ∷ rest)) is))
+
+-- all lines were looked at
+pub below-done : (ls has all : List Line) (at : ℕ) → length ls ≤ at → has ++ reasons_below (drop at ls) ≡ all → has ≡ all
+below-done ls has all at past so_far = sym (append-nil has) ∙ sym (ap (λ (l : List Line). has ++ reasons_below l) (drop_all at ls past)) ∙ so_far

@@ -1,0 +1,5 @@
+use Rattle.rb_checked.proofs.WhyLaws.{told-adds}
+use Rattle.rb_checked.proofs.laws.reasons_stand_between_outputs.Goals as goal
+
+pub returns : goal.returns
+returns c = told-adds
