@@ -1,5 +1,6 @@
 -- The values and the arguments of a head, and what is kept of them.
 use Rattle.std.proofs.Common.{◌≡◌, ◌≢◌, ℕ, ◌-◌, ◌≤◌, ◌<◌, zero, suc, Bool, true, false, cond, ◌&&◌, not, List, [], ◌∷◌, ◌++◌, length, drop, map, refl, ap, sym, subst, ◌∙◌, append_assoc, arith}
+use Rattle.smallvec.specs.SmallVec.{SmallVec}
 use Rattle.std.specs.Prelude.{Option, Some, None, Ok, Err, Vec, option_map, slice_get, nat_le}
 use Rattle.std.specs.Option.{is_some}
 use Rattle.std.specs.declared.alloc.Global.{Global}
@@ -468,7 +469,7 @@ module _ (head : List Line) (number : ℕ) (bytes skipped rest : List ℕ) (name
       ∙ ap (λ t. cond t (named (token head name) (arguments_of rest)) None) (some_token head name part some)
 
   -- the kept tokens are those of the head
-  pub head_found : (args : Vec Argument Global) → ParsesArguments head (Ok (Some args)) (arguments_of rest) → ParsesHead head (Ok (record { name = name; args = args })) (few_or number (head_at bytes))
+  pub head_found : (args : SmallVec Argument) → ParsesArguments head (Ok (Some args)) (arguments_of rest) → ParsesHead head (Ok (record { name = name; args = args })) (few_or number (head_at bytes))
   head_found args gives =
       let found : HeadThere = Some (token head name, gives.0) in
       let is : head_at bytes ≡ found = head_named ∙ ap (named (token head name)) gives.1 in (

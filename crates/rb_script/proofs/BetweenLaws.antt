@@ -33,3 +33,7 @@ pub take_between : (from to : ℕ) (ls : List Line) → from ≤ to → take to 
 take_between from to ls order =
     let whole : to ≡ from + (to - from) = omega (arith, order) in
     ap (λ (k : ℕ). take k ls) whole ∙ take-add from (to - from) ls
+
+-- a position of the lines is one between the two
+pub part_before : (from to i : ℕ) (all ls : List Line) → between from to all ≡ ls → to ≤ length all → i < length ls → i < to - from
+part_before from to i all ls whole within lt = omega (arith, lt, ap length whole, length-between from to all within)

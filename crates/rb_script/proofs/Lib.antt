@@ -1,7 +1,6 @@
 pub mod BetweenLaws
 pub mod FlatLaws
 pub mod WholeLaws
-pub mod KeptLaws
 pub mod LineLaws
 pub mod DirectiveLaws
 pub mod MarkLaws

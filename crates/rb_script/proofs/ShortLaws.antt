@@ -74,7 +74,7 @@ put_shorter : (b : ℕ) (line : Line) → length (put_before b line) ≤ suc (le
 put_shorter b [] = elim (eqb b 13) as (λ t. length (cond t [] (b ∷ [])) ≤ 1) [ true ↦ omega arith | false ↦ omega arith ]
 put_shorter b (c ∷ line) = omega arith
 
-returns_shorter : (line : Line) → length (without_returns line) ≤ length line
+pub returns_shorter : (line : Line) → length (without_returns line) ≤ length line
 unfolding without_returns
 returns_shorter [] = omega arith
 returns_shorter (b ∷ line) = omega (arith, put_shorter b (without_returns line), returns_shorter line)

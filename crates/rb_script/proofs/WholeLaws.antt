@@ -1,10 +1,14 @@
 -- Bytes that are the text of their lines.
-use Rattle.std.proofs.Common.{◌≡◌, ◌≢◌, ℕ, ◌+◌, ◌-◌, ◌<◌, true, false, cond, eqb, List, [], ◌∷◌, ◌++◌, length, get_or, map, zero, suc, eq-eqb, refl, ap, sym, ◌∙◌, append_assoc, length-append, append-nil, arith}
-use Rattle.std.specs.Prelude.{slice_get, Option, Some, None}
-use Rattle.std.proofs.lemmas.Bool.{ne_eqb, eqb-true}
+use Rattle.std.proofs.Common.{◌≡◌, ◌≢◌, ℕ, ◌+◌, ◌-◌, ◌<◌, ◌≤◌, true, false, cond, eqb, List, [], ◌∷◌, ◌++◌, length, take, drop, get_or, map, zero, suc, refl, ap, sym, subst, ◌∙◌, inl, inr, append_assoc, length-append, append-nil, arith}
+use Rattle.std.specs.Prelude.{slice_get, Some, None}
+use Rattle.std.proofs.Math.Seq.{get_or-append_seam, drop-append-add}
+use Rattle.std.proofs.lemmas.Bool.{ne_eqb, eqb-true, cases_lt}
+use Rattle.std.proofs.lemmas.List.{length-take, take_rest}
 use Rattle.std.proofs.lemmas.Option.{slice_get_within, slice_get-get_or, none-some}
 use Rattle.rb_script.specs.Lines.{Line, put_before, without_returns, in_first, cut, lines, line_text, text_of}
 use Rattle.rb_script.specs.Flat.{ends_of}
+use Rattle.rb_script.proofs.LineLaws.{lines_at, cut_none}
+use Rattle.rb_script.proofs.ShortLaws.{returns_shorter}
 
 -- ---- their text
 
@@ -49,12 +53,52 @@ text_none (b ∷ bytes) e =
 
 -- ---- where they end
 
+-- the first line stands before the first line feed, and what is behind it is the text of the other lines
+pub record NextLine (bytes : List ℕ) (feed : ℕ) (rest : List ℕ) : Type 0 where
+  pub line : Line
+  pub parts : lines bytes ≡ line ∷ lines rest
+  pub len : length line ≡ feed
+  pub clean : text_of (lines rest) ≡ rest
+
+behind_feed : (bytes : List ℕ) (feed : ℕ) → text_of (lines bytes) ≡ bytes → feed < length bytes → get_or bytes feed 0 ≡ 10 → ((k : ℕ) → k < feed → get_or bytes k 0 ≢ 10) → NextLine bytes feed (drop (feed + 1) bytes)
+behind_feed bytes feed clean lt at first =
+    let line = without_returns (take feed bytes) in
+    let rest = drop (feed + 1) bytes in
+    let whole_rest : take (length bytes - (feed + 1)) rest ≡ rest = take_rest bytes (feed + 1) in
+    let parts : lines bytes ≡ line ∷ lines rest = lines_at bytes line feed refl lt at first ∙ ap (λ (r : List ℕ). line ∷ lines r) whole_rest in
+    let text : line ++ 10 ∷ text_of (lines rest) ≡ bytes = sym (append_assoc line (10 ∷ []) (text_of (lines rest))) ∙ ap text_of (sym parts) ∙ clean in
+    let told : get_or bytes (length line) 0 ≡ 10 = ap (λ (t : List ℕ). get_or t (length line) 0) (sym text) ∙ get_or-append_seam line 10 (text_of (lines rest)) 0 in
+    let short : length line ≤ feed = omega (arith, returns_shorter (take feed bytes), length-take feed bytes) in
+    let len : length line ≡ feed = elim (cases_lt (length line) feed) [
+      | inl before ↦ absurd (first (length line) before told)
+      | inr le ↦ omega (arith, short, le)
+    ] in
+    record {
+      line = line;
+      parts = parts;
+      len = len;
+      clean = sym (drop-append-add line (10 ∷ text_of (lines rest)) 1) ∙ ap (drop (length line + 1)) text ∙ ap (λ (n : ℕ). drop (n + 1) bytes) len;
+    }
+
+pub next_line : (bytes : List ℕ) (feed : ℕ) (rest : List ℕ) → rest ≡ drop (feed + 1) bytes → text_of (lines bytes) ≡ bytes → feed < length bytes → get_or bytes feed 0 ≡ 10 → ((k : ℕ) → k < feed → get_or bytes k 0 ≢ 10) → NextLine bytes feed rest
+next_line bytes feed rest is clean lt at first = subst (λ (r : List ℕ). NextLine bytes feed r) (sym is) (behind_feed bytes feed clean lt at first)
+
+-- with no line feed no line is left
+pub none_left : (bytes : List ℕ) → text_of (lines bytes) ≡ bytes → ((k : ℕ) → k < length bytes → get_or bytes k 0 ≢ 10) → bytes ≡ []
+unfolding lines cut
+none_left [] clean none = refl
+none_left (b ∷ bytes) clean none =
+    let line = without_returns (b ∷ bytes) in
+    let text : line ++ 10 ∷ [] ≡ b ∷ bytes = sym (append-nil (line ++ 10 ∷ [])) ∙ ap text_of (sym (ap (map without_returns) (cut_none b bytes none))) ∙ clean in
+    let told : get_or (b ∷ bytes) (length line) 0 ≡ 10 = ap (λ (t : List ℕ). get_or t (length line) 0) (sym text) ∙ get_or-append_seam line 10 [] 0 in
+    absurd (none (length line) (omega (arith, ap length text, length-append line (10 ∷ []))) told)
+
 -- a line more, and where it ends
-pub ends_more : (so_far next : List ℕ) (end : ℕ) (ls rest : List Line) (line : Line) (all : List ℕ) → ls ≡ line ∷ rest → next ≡ so_far ++ (end + (length line + 1)) ∷ [] → so_far ++ ends_of end ls ≡ all → next ++ ends_of (end + (length line + 1)) rest ≡ all
+pub ends_more : (so_far next : List ℕ) (end feed : ℕ) (ls : List Line) {rest : List Line} {line : Line} → ls ≡ line ∷ rest → length line ≡ feed → (all : List ℕ) → next ≡ so_far ++ (end + (feed + 1)) ∷ [] → so_far ++ ends_of end ls ≡ all → next ++ ends_of (end + (feed + 1)) rest ≡ all
 unfolding ends_of
-ends_more so_far next end ls rest line all parts e is =
-    let there = end + (length line + 1) in
-    let same : there ≡ end + length line + 1 = omega arith in
+ends_more so_far next end feed ls {rest} {line} parts len all e is =
+    let there = end + (feed + 1) in
+    let same : there ≡ end + length line + 1 = omega (arith, len) in
     ap (λ (l : List ℕ). l ++ ends_of there rest) e
     ∙ append_assoc so_far (there ∷ []) (ends_of there rest)
     ∙ ap (λ (n : ℕ). so_far ++ (n ∷ ends_of n rest)) same
@@ -62,11 +106,11 @@ ends_more so_far next end ls rest line all parts e is =
     ∙ is
 
 -- the text that is left is shorter by the line
-pub left_less : (ls rest : List Line) (line : Line) (end total : ℕ) → ls ≡ line ∷ rest → end + length (text_of ls) ≡ total → end + (length line + 1) + length (text_of rest) ≡ total
-left_less ls rest line end total parts e =
-    let len : length (text_of ls) ≡ length line + 1 + length (text_of rest) =
+pub left_less : (ls : List Line) {rest : List Line} {line : Line} {feed : ℕ} → ls ≡ line ∷ rest → length line ≡ feed → (end total : ℕ) → end + length (text_of ls) ≡ total → end + (feed + 1) + length (text_of rest) ≡ total
+left_less ls {rest} {line} {feed} parts len end total e =
+    let all : length (text_of ls) ≡ length line + 1 + length (text_of rest) =
     ap (λ (l : List Line). length (text_of l)) parts ∙ length-append (line_text line) (text_of rest) ∙ ap (λ (n : ℕ). n + length (text_of rest)) (length-append line (10 ∷ [])) in
-    omega (arith, e, len)
+    omega (arith, e, all, len)
 
 -- no line is left
 pub ends_done : (so_far all : List ℕ) (end : ℕ) (rest : List ℕ) → rest ≡ [] → so_far ++ ends_of end (lines rest) ≡ all → so_far ≡ all

@@ -1,5 +1,5 @@
 -- Lines in one buffer: each with its LF, and where each ends. (This project's.)
-use Rattle.std.specs.Prelude.{◌≡◌, ℕ, ◌+◌, ◌-◌, zero, suc, List, [], ◌∷◌, length, take, drop, slice_index}
+use Rattle.std.specs.Prelude.{◌≡◌, ◌≤◌, ◌<◌, ◌^◌, ℕ, ◌+◌, ◌-◌, zero, suc, List, [], ◌∷◌, length, take, drop, slice_index}
 use Rattle.rb_script.specs.Lines.{Line, text_of}
 
 -- where the lines end, the first of which begins here
@@ -25,3 +25,7 @@ pub record IsFlat (ends text : List ℕ) : Type 0 where
 -- the lines from one position up to another
 abbrev pub between : ℕ → ℕ → List Line → List Line
 between from to ls = take (to - from) (drop from ls)
+
+-- a part is within the lines
+abbrev pub IsWithin : ℕ → ℕ → List Line → Type 0
+IsWithin from to ls = (from ≤ to) × (to ≤ length ls) × (to < 2 ^ 64)

@@ -9,6 +9,7 @@ use Rattle.rb_script.specs.declared.tokens.HeadFault.TheVariants as head_faults
 use Rattle.rb_script.specs.declared.fault.ScriptFault.{ScriptFault}
 use Rattle.rb_script.specs.declared.limits.TheConstants.{MAX_VALUES}
 use Rattle.std.specs.Prelude.{Vec}
+use Rattle.smallvec.specs.SmallVec.{SmallVec}
 use Rattle.std.specs.declared.alloc.Global.{Global}
 use Rattle.rb_script.specs.Lines.{Line}
 use Rattle.rb_script.specs.Directive.{PlainArgument}
@@ -54,11 +55,11 @@ ParsesArgument head (Err head_faults.Bad) left there = there ≡ None
 ParsesArgument head (Err head_faults.OutOfMemory) left there = Unit {0}
 
 -- the kept arguments are these, or these are too many
-abbrev pub KeepsArguments : List Line → Option (Vec Argument Global) → List PlainArgument → Type 0
+abbrev pub KeepsArguments : List Line → Option (SmallVec Argument) → List PlainArgument → Type 0
 KeepsArguments head None args = are_few args ≡ false
 KeepsArguments head (Some kept) args = (map (λ a. argument_of head (spanned a)) kept.items ≡ args) × (are_few args ≡ true) × AllByRecursion (λ a. AreParts head (spanned a)) kept.items
 
-abbrev pub ParsesArguments : List Line → Result (Option (Vec Argument Global)) HeadFault → ArgumentsThere → Type 0
+abbrev pub ParsesArguments : List Line → Result (Option (SmallVec Argument)) HeadFault → ArgumentsThere → Type 0
 ParsesArguments head (Ok kept) there = (args : List PlainArgument) × (there ≡ Some args) × KeepsArguments head kept args
 ParsesArguments head (Err head_faults.Bad) there = there ≡ None
 ParsesArguments head (Err head_faults.OutOfMemory) there = Unit {0}

@@ -3,11 +3,13 @@
 use crate::argument::Argument;
 use crate::directive::DirectiveRef;
 use crate::fault::ScriptFault;
+use crate::line_part::LinePart;
 use crate::lines::Lines;
 use crate::marks::RULE_LINE;
 use crate::reading;
 use crate::span::Span;
 use crate::writing::shown_len;
+use smallvec::SmallVec;
 use std::alloc::{AllocError, Global};
 use std::marker::Model;
 use std::rc::Rc;
@@ -18,11 +20,11 @@ const AROUND_LEN: usize = RULE_LINE.len() + 1;
 /// What stands above an expectation. The copies of a block share it.
 #[derive(Drop)]
 pub(crate) struct Front {
-    pub(crate) lead: Lines,
-    pub(crate) head: Lines,
-    pub(crate) input: Lines,
+    pub(crate) lead: LinePart,
+    pub(crate) head: LinePart,
+    pub(crate) input: LinePart,
     pub(crate) name: Span,
-    pub(crate) args: Vec<Argument>,
+    pub(crate) args: SmallVec<Argument, 1>,
 }
 
 /// A directive with its expectation, as lines: lead lines, the head, input lines and the expected lines.
@@ -95,7 +97,7 @@ impl Block {
         ensures head { result.head ≡ self.now.head }
     {
         let front: &Front = &self.front;
-        DirectiveRef::new(&front.head, front.name, &front.args, &front.input)
+        DirectiveRef::new(&front.head, front.name, front.args.as_slice(), &front.input)
     }
 
     /// The expected lines.

@@ -1,7 +1,7 @@
 //! A directive, as it stands in a block.
 
 use crate::argument::Argument;
-use crate::lines::Lines;
+use crate::line_part::LinePart;
 use crate::span::Span;
 use std::marker::Model;
 
@@ -9,10 +9,10 @@ use std::marker::Model;
 /// of the head. Positions of arguments and values count from 0.
 #[derive(Drop)]
 pub struct DirectiveRef<'a> {
-    head: &'a Lines,
+    head: &'a LinePart,
     name: Span,
     args: &'a [Argument],
-    inputs: &'a Lines,
+    inputs: &'a LinePart,
 }
 
 impl<'a> Model for DirectiveRef<'a> {
@@ -38,10 +38,10 @@ impl<'a> DirectiveRef<'a> {
 
     // The parts of a directive.
     pub(crate) fn new(
-        head: &'a Lines,
+        head: &'a LinePart,
         name: Span,
         args: &'a [Argument],
-        inputs: &'a Lines,
+        inputs: &'a LinePart,
     ) -> DirectiveRef<'a>
         requires { IsSpanned (record { head = head.now; name = name; args = map spanned args.now; inputs = inputs.now }) }
         ensures { result ≡ record { head = head.now; name = name; args = map spanned args.now; inputs = inputs.now } }

@@ -4,7 +4,7 @@ ghost use Rattle.std.specs.Prelude.{◌≡◌, ◌≢◌, ◌<◌, ◌≤◌, �
 ghost use Rattle.rb_script.specs.Lines.{lines, text_of, line_text};
 ghost use Rattle.rb_script.specs.Flat.{ends_of, parted, line_start, between, IsFlat};
 
-use crate::lines::next_line;
+use crate::lines::{line_feed, next_line};
 use memchr::memchr;
 use smallvec::SmallVec;
 use std::alloc::{AllocError, Global};
@@ -184,10 +184,10 @@ fn line_ends(alloc: Global, bytes: &[u8]) -> Result<SmallVec<usize, 4>, AllocErr
     let mut ends = SmallVec::new(alloc);
     let mut rest = bytes;
     let mut end = 0;
-    while let Some((line, after)) = next_line(rest) {
-        end += line.len() + 1;
+    while let Some(feed) = line_feed(rest) {
+        end += feed + 1;
         ends.push(end)?;
-        rest = after;
+        rest = &rest[feed + 1..];
     }
     Ok(ends)
 }

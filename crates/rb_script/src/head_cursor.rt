@@ -7,7 +7,7 @@ ghost use Rattle.rb_script.specs.Joined.{body, joined, behind_piece, while_of, a
 ghost use Rattle.rb_script.specs.Tokens.{line_at, token, IsPart};
 ghost use Rattle.rb_script.specs.ByteClasses.{is_of};
 
-use crate::lines::Lines;
+use crate::line_part::LinePart;
 use crate::marks::{continues, is_space};
 use crate::span::Span;
 use std::marker::Model;
@@ -72,7 +72,7 @@ fn body(line: &[u8]) -> &[u8]
 }
 
 /// What a line gives to the joined head, and whether the next line follows it.
-fn piece_of(head: &Lines, line: usize) -> (&[u8], bool)
+fn piece_of(head: &LinePart, line: usize) -> (&[u8], bool)
     requires { line < length head.now }
     ensures joined { joined (drop line head.now) ≡ result.0.now ++ behind_piece result.1 (drop (line + 1) head.now) }
     ensures part { result.0.now ≡ take (length result.0.now) (line_at head.now line) }
@@ -89,7 +89,7 @@ fn piece_of(head: &Lines, line: usize) -> (&[u8], bool)
 /// A position in a joined head: what is left of one line's piece, and the lines after it.
 #[derive(Drop)]
 pub(crate) struct HeadCursor<'a> {
-    head: &'a Lines,
+    head: &'a LinePart,
     line: usize,
     piece: &'a [u8],
     at: usize,
@@ -115,7 +115,7 @@ impl<'a> HeadCursor<'a> {
     ghost use Rattle.rb_script.specs.ByteClasses.{is_of, IsWithinLine};
 
     /// The beginning of the joined head.
-    pub(crate) fn new(head: &'a Lines) -> HeadCursor<'a>
+    pub(crate) fn new(head: &'a LinePart) -> HeadCursor<'a>
         requires { 0 < length head.now }
         ensures head { result.head ≡ head.now }
         ensures left { result.left ≡ joined head.now }

@@ -18,6 +18,7 @@ mod head_cursor;
 mod heading;
 mod laws;
 mod limits;
+mod line_part;
 mod lines;
 mod marks;
 mod reading;

@@ -3,9 +3,10 @@
 ghost use Rattle.std.specs.Prelude.{◌≡◌, ◌↔◌, ◌+◌, ◌<◌, ◌≤◌, ◌^◌, [], ◌∷◌, ◌++◌, length, slice_get, OnOk, IfOk, OnErr, MatchOption, IfSome, IfNone, IsTrue, Some, ℕ, ◌≢◌, slice_index, vec_capacity};
 ghost use Rattle.rb_script.specs.Lines.{lines, text_of, without_returns};
 ghost use Rattle.rb_script.specs.Flat.{between};
-ghost use Rattle.rb_script.specs.Kept.{kept_lines, IsKept};
+ghost use Rattle.rb_script.specs.Kept.{kept_lines};
 
 use crate::flat::FlatLines;
+use crate::line_part::LinePart;
 use crate::shared_lines::SharedLines;
 use memchr::memchr;
 use std::alloc::{AllocError, Global};
@@ -22,19 +23,17 @@ pub struct Lines {
 pub(crate) enum Kept {
     /// In memory of their own.
     Own(FlatLines),
-    /// As a part of lines that others share: those from the first position up to the second.
-    Part(SharedLines, usize, usize),
+    /// As a part of lines that others share.
+    Part(LinePart),
 }
 
 impl Model for Lines {
     ghost use Rattle.std.specs.Prelude.{List, ℕ};
-    ghost use Rattle.rb_script.specs.Kept.{kept_lines, IsKept};
+    ghost use Rattle.rb_script.specs.Kept.{kept_lines};
 
     ghost Value = { List (List ℕ) };
 
     ghost view = { λ a. kept_lines a.kept };
-
-    ghost invariant = { λ a. IsKept a.kept };
 }
 
 impl Lines {
@@ -54,7 +53,7 @@ impl Lines {
         ensures { IfOk result (λ part. part ≡ between from to all.now) }
     {
         Ok(Lines {
-            kept: Kept::Part(all.try_copy()?, from, to),
+            kept: Kept::Part(LinePart::new(all, from, to)?),
         })
     }
 
@@ -80,7 +79,7 @@ impl Lines {
     {
         match &self.kept {
             Kept::Own(own) => own.len(),
-            Kept::Part(_, from, to) => *to - *from,
+            Kept::Part(part) => part.len(),
         }
     }
 
@@ -98,7 +97,7 @@ impl Lines {
     {
         match &self.kept {
             Kept::Own(own) => own.line(i),
-            Kept::Part(all, from, _) => all.line(*from + i),
+            Kept::Part(part) => part.line(i),
         }
     }
 
@@ -108,7 +107,7 @@ impl Lines {
     {
         match &self.kept {
             Kept::Own(own) => own.text(),
-            Kept::Part(all, from, to) => all.text_between(*from, *to),
+            Kept::Part(part) => part.text(),
         }
     }
 
@@ -118,7 +117,7 @@ impl Lines {
     {
         let kept = match &self.kept {
             Kept::Own(own) => Kept::Own(own.try_copy()?),
-            Kept::Part(all, from, to) => Kept::Part(all.try_copy()?, *from, *to),
+            Kept::Part(part) => Kept::Part(part.try_copy()?),
         };
         Ok(Lines { kept })
     }
@@ -142,26 +141,24 @@ impl Lines {
     fn allocator(&self) -> Global {
         match &self.kept {
             Kept::Own(own) => own.allocator(),
-            Kept::Part(all, _, _) => all.allocator(),
+            Kept::Part(part) => part.allocator(),
         }
     }
 }
 
 impl Kept {
     ghost use Rattle.std.specs.Prelude.{◌≡◌, [], ◌∷◌, ◌++◌, OnOk, OnErr};
-    ghost use Rattle.rb_script.specs.Kept.{kept_lines, IsKept};
+    ghost use Rattle.rb_script.specs.Kept.{kept_lines};
 
     // Adds a line at the end. Shared lines stay as they are: they are copied first.
     fn push(&mut self, line: &[u8]) -> Result<(), AllocError>
-        requires { IsKept self.old }
-        ensures kept { IsKept self.new }
         ensures ok { OnOk result (kept_lines self.new ≡ kept_lines self.old ++ line.now ∷ []) }
         ensures err { OnErr result (kept_lines self.new ≡ kept_lines self.old) }
     {
         match self {
             Kept::Own(own) => own.push(line),
-            Kept::Part(all, from, to) => {
-                let mut own = all.copy_between(*from, *to)?;
+            Kept::Part(part) => {
+                let mut own = part.own()?;
                 own.push(line)?;
                 *self = Kept::Own(own);
                 Ok(())
@@ -202,7 +199,7 @@ pub fn lines_of(alloc: Global, bytes: &[u8]) -> Result<Lines, AllocError>
 }
 
 /// Where the first line feed stands.
-fn line_feed(bytes: &[u8]) -> Option<usize>
+pub(crate) fn line_feed(bytes: &[u8]) -> Option<usize>
     ensures none { IfNone result ((k : ℕ) → k < length bytes.now → slice_index bytes.now k ≢ 10) }
     ensures found { IfSome result (λ end. (end < length bytes.now) × (slice_index bytes.now end ≡ 10)) }
     ensures first { IfSome result (λ end. (k : ℕ) → k < end → slice_index bytes.now k ≢ 10) }

@@ -24,6 +24,7 @@ use crate::block::{Block, Front};
 use crate::fault::ScriptFault;
 use crate::flat::FlatLines;
 use crate::limits::{MAX_DIRECTIVES, MAX_LINE, MAX_SCRIPT};
+use crate::line_part::LinePart;
 use crate::lines::{Lines, next_line};
 use crate::marks::{Stop, continues, is_blank, is_rule};
 use crate::script::Script;
@@ -170,7 +171,7 @@ fn head_tokens(
     all: &SharedLines,
     start: usize,
     number: usize,
-) -> Result<(Lines, Tokens, usize), ScriptFault>
+) -> Result<(LinePart, Tokens, usize), ScriptFault>
     requires start { start ≤ length all.now }
     requires head { begins_lead (drop start all.now) ≡ false }
     ensures head { IfOk result (λ p. p.0 ≡ head_of (drop start all.now)) }
@@ -180,7 +181,7 @@ fn head_tokens(
     ensures failed { IfErr result (λ fault. Fails fault (few_or number (head_at (joined (head_of (drop start all.now)))))) }
 {
     let end = head(all, start);
-    let head = Lines::part(all, start, end)?;
+    let head = LinePart::new(all, start, end)?;
     let tokens = tokens_of(alloc, &head, number)?;
     Ok((head, tokens, end))
 }
@@ -190,7 +191,7 @@ fn below_head(
     all: &SharedLines,
     start: usize,
     number: usize,
-) -> Result<(Lines, Lines, usize), ScriptFault>
+) -> Result<(LinePart, Lines, usize), ScriptFault>
     requires { start ≤ length all.now }
     ensures gives { Gives (λ p. (p.0, p.1, drop p.2 all.now)) result (below_head (1 + length all.now) number (drop start all.now)) }
     ensures within { IfOk result (λ p. p.2 ≤ length all.now) }
@@ -199,7 +200,7 @@ fn below_head(
     if separator == all.len() {
         return Err(ScriptFault::NoSeparator(number));
     }
-    let input = Lines::part(all, start, separator)?;
+    let input = LinePart::new(all, start, separator)?;
     let Some((expected, after)) = expectation(all, separator + 1)? else {
         return Err(ScriptFault::NotClosed(separator + 1));
     };
@@ -210,7 +211,7 @@ fn below_head(
 fn block(
     alloc: Global,
     all: &SharedLines,
-    lead: Lines,
+    lead: LinePart,
     start: usize,
     number: usize,
 ) -> Result<(Block, usize), ScriptFault>
@@ -243,7 +244,7 @@ fn block(
 struct Parts {
     blocks: Vec<Rc<Block>>,
     heads: Vec<usize>,
-    tail: Lines,
+    tail: LinePart,
 }
 
 /// The blocks and the tail of the lines.
@@ -257,7 +258,7 @@ fn blocks(alloc: Global, all: &SharedLines) -> Result<Parts, ScriptFault>
     let mut at = 0;
     loop {
         let start = run(all, at, Stop::Head);
-        let lead = Lines::part(all, at, start)?;
+        let lead = LinePart::new(all, at, start)?;
         if start == all.len() {
             return Ok(Parts {
                 blocks: found,

@@ -2,7 +2,7 @@
 
 use crate::block::Block;
 use crate::fault::ScriptFault;
-use crate::lines::Lines;
+use crate::line_part::LinePart;
 use crate::reading;
 use std::alloc::Global;
 use std::marker::Model;
@@ -14,7 +14,7 @@ pub struct Script {
     pub(crate) alloc: Global,
     // scripts share blocks, so that an edit copies pointers
     pub(crate) blocks: Vec<Rc<Block>>,
-    pub(crate) tail: Rc<Lines>,
+    pub(crate) tail: Rc<LinePart>,
     // the length of the canonical text
     pub(crate) text_len: usize,
 }

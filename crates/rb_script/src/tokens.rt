@@ -13,16 +13,18 @@ use crate::argument::Argument;
 use crate::fault::ScriptFault;
 use crate::head_cursor::{ByteClass, HeadCursor};
 use crate::limits::{MAX_ARGUMENTS, MAX_VALUES};
-use crate::lines::Lines;
+use crate::line_part::LinePart;
 use crate::marks::is_space;
 use crate::span::Span;
+use smallvec::SmallVec;
 use std::alloc::{AllocError, AllocFailed, Global};
 
 /// Where the name and the arguments of a head stand.
 #[derive(Drop)]
 pub(crate) struct Tokens {
     pub(crate) name: Span,
-    pub(crate) args: Vec<Argument>,
+    // most heads have one argument
+    pub(crate) args: SmallVec<Argument, 1>,
 }
 
 /// Why a part of a head can't be read.
@@ -154,25 +156,44 @@ fn argument(alloc: Global, at: &mut HeadCursor<'_>) -> Result<Option<Argument>, 
     argument_of_key(alloc, key, at)
 }
 
+// One argument more, or nothing where they are too many. The first takes no memory.
+fn with_one_more(
+    found: Option<SmallVec<Argument, 1>>,
+    argument: Argument,
+) -> Result<Option<SmallVec<Argument, 1>>, AllocError>
+    ensures { IfOk result (λ r. option_map (λ v. v.items) r ≡ with_one MAX_ARGUMENTS (option_map (λ v. v.items) found) argument) }
+{
+    match found {
+        Some(mut items) if items.len() < MAX_ARGUMENTS => {
+            items.push(argument)?;
+            Ok(Some(items))
+        }
+        _ => Ok(None),
+    }
+}
+
 // One argument more, or nothing where they or its values are too many.
 fn with_argument(
-    found: Option<Vec<Argument>>,
+    found: Option<SmallVec<Argument, 1>>,
     argument: Option<Argument>,
-) -> Result<Option<Vec<Argument>>, AllocError>
+) -> Result<Option<SmallVec<Argument, 1>>, AllocError>
     ensures { IfOk result (λ r. (head : List Line) (so_far : List PlainArgument) (a : PlainArgument) →
         KeepsArguments head found so_far → KeepsArgument head argument a → KeepsArguments head r (so_far ++ a ∷ [])) }
 {
     match argument {
-        Some(argument) => with_item(found, argument, MAX_ARGUMENTS),
+        Some(argument) => with_one_more(found, argument),
         None => Ok(None),
     }
 }
 
 // The arguments up to the end of the head, or nothing where they or the values of one are too many.
-fn arguments(alloc: Global, at: &mut HeadCursor<'_>) -> Result<Option<Vec<Argument>>, HeadFault>
+fn arguments(
+    alloc: Global,
+    at: &mut HeadCursor<'_>,
+) -> Result<Option<SmallVec<Argument, 1>>, HeadFault>
     ensures gives { ParsesArguments at.old.head result (arguments_at (length at.old.left) at.old.left) }
 {
-    let mut found = Some(Vec::new(alloc));
+    let mut found = Some(SmallVec::new(alloc));
     loop {
         let first = at.peek();
         at.skip(ByteClass::Space);
@@ -191,7 +212,11 @@ fn arguments(alloc: Global, at: &mut HeadCursor<'_>) -> Result<Option<Vec<Argume
 
 /// Where the name and the arguments of the head that begins at this line stand.
 #[tactic(auto, unfolding(crate::specs::Heads::head_at, crate::specs::Heads::word_head))]
-pub(crate) fn tokens_of(alloc: Global, head: &Lines, number: usize) -> Result<Tokens, ScriptFault>
+pub(crate) fn tokens_of(
+    alloc: Global,
+    head: &LinePart,
+    number: usize,
+) -> Result<Tokens, ScriptFault>
     requires { 0 < length head.now }
     ensures gives { ParsesHead head.now result (few_or number (head_at (joined head.now))) }
 {
@@ -202,10 +227,7 @@ pub(crate) fn tokens_of(alloc: Global, head: &Lines, number: usize) -> Result<To
         return Err(ScriptFault::BadLine(number));
     }
     match arguments(alloc, &mut at) {
-        Ok(Some(mut args)) => {
-            args.shrink_to_fit();
-            Ok(Tokens { name, args })
-        }
+        Ok(Some(args)) => Ok(Tokens { name, args }),
         Ok(None) => Err(ScriptFault::TooManyArguments(number)),
         Err(HeadFault::Bad) => Err(ScriptFault::BadLine(number)),
         Err(HeadFault::OutOfMemory) => Err(ScriptFault::OutOfMemory),

@@ -9,8 +9,8 @@ returns-in-Ok-Some c =
     let same = c.skip.ensures.head ∙ c.new-at.ensures.head in
     let gap = c.skip.ensures.left ∙ ap (after_while is_space) c.new-at.ensures.left in
     record {
-      gives = rw c.shrink_to_fit.ensures.items (head_found c.args.head.now c.args.number (joined c.args.head.now) c.skip.new.self.left c.take-name.new.self.left c.take-name.result gap (rw same at c.take-name.ensures.token) c.take-name.ensures.left (rw same at c.take-name.ensures.part) c.if-name.false c.in-Ok-Some.args
-          (rw (c.in-Ok-Some.field-0-is, c.take-name.ensures.head, same) at c.in-Ok-Some.ensures.gives));
+      gives = head_found c.args.head.now c.args.number (joined c.args.head.now) c.skip.new.self.left c.take-name.new.self.left c.take-name.result gap (rw same at c.take-name.ensures.token) c.take-name.ensures.left (rw same at c.take-name.ensures.part) c.if-name.false c.in-Ok-Some.args
+          (rw (c.in-Ok-Some.field-0-is, c.take-name.ensures.head, same) at c.in-Ok-Some.ensures.gives);
     }
 
 pub returns-in-Ok-None : goal.returns-in-Ok-None

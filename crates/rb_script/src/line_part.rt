@@ -1,0 +1,92 @@
+//! A part of lines that others share.
+
+ghost use Rattle.std.specs.Prelude.{◌≡◌, ◌↔◌, ◌<◌, ◌≤◌, [], length, slice_get, IfOk, IsTrue, Some};
+ghost use Rattle.rb_script.specs.Lines.{text_of};
+ghost use Rattle.rb_script.specs.Flat.{between};
+
+use crate::flat::FlatLines;
+use crate::shared_lines::SharedLines;
+use std::alloc::{AllocError, Global};
+use std::marker::Model;
+
+/// The lines from one position up to another. A copy costs a pointer.
+#[derive(Drop)]
+pub(crate) struct LinePart {
+    all: SharedLines,
+    from: usize,
+    to: usize,
+}
+
+impl Model for LinePart {
+    ghost use Rattle.std.specs.Prelude.{List, ℕ};
+    ghost use Rattle.rb_script.specs.Flat.{between, IsWithin};
+
+    ghost Value = { List (List ℕ) };
+
+    ghost view = { λ p. between p.from p.to p.all };
+
+    ghost invariant = { λ p. IsWithin p.from p.to p.all };
+}
+
+impl LinePart {
+    /// The lines from one position up to another. Nothing is copied.
+    pub(crate) fn new(all: &SharedLines, from: usize, to: usize) -> Result<Self, AllocError>
+        requires order { from ≤ to }
+        requires within { to ≤ length all.now }
+        ensures { IfOk result (λ part. part ≡ between from to all.now) }
+    {
+        Ok(LinePart {
+            all: all.try_copy()?,
+            from,
+            to,
+        })
+    }
+
+    /// Where the memory is.
+    pub(crate) fn allocator(&self) -> Global {
+        self.all.allocator()
+    }
+
+    /// How many lines there are.
+    pub(crate) fn len(&self) -> usize
+        ensures { result ≡ length self.now }
+    {
+        self.to - self.from
+    }
+
+    /// Whether there are no lines.
+    pub(crate) fn is_empty(&self) -> bool
+        ensures { IsTrue result ↔ (self.now ≡ []) }
+    {
+        self.len() == 0
+    }
+
+    /// The line at position `i`, which counts from 0, without its end.
+    pub(crate) fn line(&self, i: usize) -> &[u8]
+        requires { i < length self.now }
+        ensures { slice_get self.now i ≡ Some result.now }
+    {
+        self.all.line(self.from + i)
+    }
+
+    /// The lines as one text, each with one LF.
+    pub(crate) fn text(&self) -> &[u8]
+        ensures { result.now ≡ text_of self.now }
+    {
+        self.all.text_between(self.from, self.to)
+    }
+
+    /// The same lines.
+    pub(crate) fn try_copy(&self) -> Result<Self, AllocError>
+        ensures { IfOk result (λ copy. copy ≡ self.now) }
+    {
+        LinePart::new(&self.all, self.from, self.to)
+    }
+
+    /// The same lines, in memory of their own.
+    pub(crate) fn own(&self) -> Result<FlatLines, AllocError>
+        ensures { IfOk result (λ copy. copy ≡ self.now) }
+    {
+        self.all.copy_between(self.from, self.to)
+    }
+}
