@@ -146,10 +146,10 @@ leader_stands never = cc
 -- ---- another log, and another message
 
 -- what of a node stands as the links have it
-pub record AreChained (ls : List Link) (log : LogValue) (sent waiting : List Message) : Type 0 where
+pub record AreChained (ls : List Link) (log : LogValue) (out answers : List Message) : Type 0 where
   pub logged : IsLinked ls log
-  pub sent : All (IsChain ls) sent
-  pub waiting : All (IsChain ls) waiting
+  pub sent : All (IsChain ls) out
+  pub waiting : All (IsChain ls) answers
 
 -- by the same links, as long as the log does not get shorter while the node leads
 pub still_linking : {w : World} (e : Essence) (log : LogValue) (sent waiting : List Message) → (w.setting.strict ≡ true → (ls : List Link) → Extends w.links ls → AreChained ls e.log e.sent e.waiting → AreChained ls log sent waiting) → (e.role ≡ role.Leader → last e.log ≤ last log) → Linking w e → Linking w (record e { log = log; sent = sent; waiting = waiting })
