@@ -1,5 +1,5 @@
 -- What a call of an argument's builder does to what clap reads of the argument.
-use Rattle.std.proofs.Common.{◌≡◌, ◌∙◌, ℕ, Some, Bool, Bor, ap}
+use Rattle.std.proofs.Common.{◌≡◌, ◌∙◌, Some, Bor, ap}
 use Rattle.clap.specs.Words.{Rule, Text, rule_of}
 use Rattle.clap.specs.declared.builder.arg.Arg.{Arg}
 use Rattle.clap.specs.declared.builder.action.ArgAction.{ArgAction}
@@ -8,14 +8,8 @@ use Rattle.clap.specs.declared.builder.texts.Texts.TheVariants.{One}
 pub rule_of-long : (a b : Arg) (name : Bor Text) (r : Rule) → b ≡ record a { long = Some name } → rule_of a ≡ r → rule_of b ≡ record r { long = Some name.now }
 rule_of-long a b name r made before = ap rule_of made ∙ ap (λ (r : Rule). record r { long = Some name.now }) before
 
-pub rule_of-short : (a b : Arg) (letter : ℕ) (r : Rule) → b ≡ record a { short = Some letter } → rule_of a ≡ r → rule_of b ≡ record r { short = Some letter }
-rule_of-short a b letter r made before = ap rule_of made ∙ ap (λ (r : Rule). record r { short = Some letter }) before
-
 pub rule_of-action : (a b : Arg) (action : ArgAction) (r : Rule) → b ≡ record a { action = Some action } → rule_of a ≡ r → rule_of b ≡ record r { action = Some action }
 rule_of-action a b action r made before = ap rule_of made ∙ ap (λ (r : Rule). record r { action = Some action }) before
-
-pub rule_of-required : (a b : Arg) (is_required : Bool) (r : Rule) → b ≡ record a { required = is_required } → rule_of a ≡ r → rule_of b ≡ record r { required = is_required }
-rule_of-required a b is_required r made before = ap rule_of made ∙ ap (λ (r : Rule). record r { required = is_required }) before
 
 pub rule_of-value_name : (a b : Arg) (name : Bor Text) (r : Rule) → b ≡ record a { val_names = One name } → rule_of a ≡ r → rule_of b ≡ record r { value_names = 1 }
 rule_of-value_name a b name r made before = ap rule_of made ∙ ap (λ (r : Rule). record r { value_names = 1 }) before
@@ -23,6 +17,3 @@ rule_of-value_name a b name r made before = ap rule_of made ∙ ap (λ (r : Rule
 -- its help isn't read
 pub rule_of-help : (a b : Arg) (text : Bor Text) (r : Rule) → b ≡ record a { help = Some text } → rule_of a ≡ r → rule_of b ≡ r
 rule_of-help a b text r made before = ap rule_of made ∙ before
-
-pub rule_of-hide : (a b : Arg) (is_hidden : Bool) (r : Rule) → b ≡ record a { hide = is_hidden } → rule_of a ≡ r → rule_of b ≡ r
-rule_of-hide a b is_hidden r made before = ap rule_of made ∙ before

@@ -1,9 +1,13 @@
 -- The command line. (This project's; a command, its arguments and their matches are clap's.)
-use Rattle.std.specs.Prelude.{◌≡◌, ℕ, Some, Result, IfOk, codes, true, false}
+use Rattle.std.specs.Prelude.{◌≡◌, ℕ, List, Some, Result, IfOk, codes, fold, true, false}
 use Rattle.clap.specs.Words.{App, Rule, Text, app_of, new_app, new_rule, with_rule, with_subcommand}
 use Rattle.clap.specs.declared.builder.command.Command.{Command}
 use Rattle.clap.specs.declared.builder.command.Command.TheViews.{out-Command}
 use Rattle.clap.specs.declared.builder.action.ArgAction.TheVariants.{Append, SetTrue}
+use Rattle.rb_args.specs.declared.table.Line.{Line}
+use Rattle.rb_args.specs.declared.table.Row.{Row}
+use Rattle.rb_args.specs.declared.table.Form.{Form}
+use Rattle.rb_args.specs.declared.table.Form.TheVariants.{File, Name, Paths, Value, Values, Flag, Letter}
 
 -- a value that stands by itself
 abbrev pub value_rule : Text → Rule
@@ -36,6 +40,32 @@ letter_rule letter name = record (flag_rule name) { short = Some letter }
 -- --NAME VALUE, any number of times
 abbrev pub many_rule : Text → Rule
 many_rule name = record (option_rule name) { action = Some Append }
+
+-- how clap takes an argument of this name
+abbrev pub rule_in : Form → Text → Rule
+rule_in File name = value_rule name
+rule_in Name name = value_rule name
+rule_in Paths name = record (value_rule name) { required = true; action = Some Append }
+rule_in (Value value) name = option_rule name
+rule_in (Values value) name = many_rule name
+rule_in Flag name = flag_rule name
+rule_in (Letter letter) name = letter_rule letter name
+
+-- how clap takes the argument of a row
+abbrev pub rule_of_row : Row → Rule
+rule_of_row row = rule_in row.form row.name.now
+
+-- .. and the arguments of these rows
+abbrev pub with_rows : List Row → App → App
+with_rows rows line = fold (λ a row. with_rule a (rule_of_row row)) line rows
+
+-- the subcommand of a line
+abbrev pub line_of : Line → App
+line_of line = with_rows line.rows.now (new_app line.name.now)
+
+-- .. and the subcommands of these lines
+abbrev pub with_lines : List Line → App → App
+with_lines lines app = fold (λ a line. with_subcommand a (line_of line).top) app lines
 
 -- .. [--NAME VALUE]
 abbrev pub with_option : Text → App → App

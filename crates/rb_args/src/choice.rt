@@ -3,7 +3,7 @@
 use clap::Error;
 
 /// What the program is asked to do.
-#[derive(Clone, Copy, Debug, PartialEq, Eq)]
+#[derive(Clone, Copy, PartialEq, Eq)]
 pub enum Subcommand {
     /// `run`: write the report of a script.
     Run,
@@ -26,7 +26,7 @@ pub enum Subcommand {
 }
 
 /// What the words choose. What they don't give is `None`.
-#[derive(Debug, Drop)]
+#[derive(Drop)]
 pub struct Choice {
     /// The subcommand.
     pub subcommand: Option<Subcommand>,
@@ -43,7 +43,7 @@ pub struct Choice {
 }
 
 /// What the words choose of `check`. Where another subcommand is meant, nothing of it is given.
-#[derive(Debug, Drop)]
+#[derive(Drop)]
 pub struct CheckChoice {
     /// Its PATHs, as they were given and in that order.
     pub paths: Vec<String>,
@@ -74,7 +74,7 @@ pub struct CheckChoice {
 }
 
 /// Why the words choose nothing.
-#[derive(Debug, Drop)]
+#[derive(Drop)]
 pub enum ChoiceFault {
     /// `clap` refuses the words, or they ask for help, which the error prints.
     Refused(Error),

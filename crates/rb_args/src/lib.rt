@@ -10,6 +10,7 @@
 mod choice;
 mod choosing;
 mod commands;
+mod table;
 
 pub use choice::{CheckChoice, Choice, ChoiceFault, Subcommand};
 pub use choosing::chosen;

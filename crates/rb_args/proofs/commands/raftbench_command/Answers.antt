@@ -1,8 +1,5 @@
 use Rattle.rb_args.proofs.commands.raftbench_command.Goals as goal
 
+-- the lines of the table are those of the command line
 pub returns : goal.returns
-returns c =
-    (c.with_help.ensures _
-    (c.with_views-command.ensures _
-    (c.with_files-command.ensures _
-    (c.with_subcommand-command.ensures _ _ (record { app = c.bare_command.ensures.app; local = c.bare_command.ensures.local }) c.check_command.ensures)))).app
+returns c = (c.with_lines.ensures _ (record { app = c.bare_command.ensures.app; local = c.bare_command.ensures.local })).app

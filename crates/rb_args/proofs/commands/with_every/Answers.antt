@@ -1,4 +1,0 @@
-use Rattle.rb_args.proofs.commands.with_every.Goals as goal
-
-pub returns : goal.returns
-returns c = λ line made. c.with_argument.ensures line _ made c.option_argument.ensures.rule

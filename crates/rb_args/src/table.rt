@@ -1,0 +1,151 @@
+//! The words of the command line: a line for each subcommand, and a row for each of its arguments.
+//!
+//! They are data. `CommandLine` says what clap is to make of a line and of a row, and what the whole command line is.
+
+/// How an argument is given.
+#[derive(Clone, Copy)]
+pub(crate) enum Form {
+    /// FILE. The program itself says that it is missing, so to clap it isn't required; how it is used says that it is.
+    File,
+    /// NAME, which need not be given.
+    Name,
+    /// PATH, one or more.
+    Paths,
+    /// --NAME VALUE
+    Value(&'static str),
+    /// --NAME VALUE, any number of times.
+    Values(&'static str),
+    /// --NAME
+    Flag,
+    /// --NAME, or -N
+    Letter(char),
+}
+
+/// An argument, and what help says of it.
+#[derive(Clone, Copy)]
+pub(crate) struct Row {
+    pub(crate) form: Form,
+    pub(crate) name: &'static str,
+    pub(crate) help: &'static str,
+}
+
+/// A subcommand, and what help says of it.
+#[derive(Clone, Copy)]
+pub(crate) struct Line {
+    pub(crate) name: &'static str,
+    pub(crate) about: &'static str,
+    /// How it is used, where it takes FILE.
+    pub(crate) usage: &'static str,
+    /// What its FILE is.
+    pub(crate) after: &'static str,
+    pub(crate) rows: &'static [Row],
+}
+
+const FILE: Row = Row {
+    form: Form::File,
+    name: "file",
+    help: "",
+};
+
+#[rattlefmt::skip]
+const EVERY: Row = Row { form: Form::Value("K"), name: "every", help: "Directives from one checkpoint to the next, 1 to 64 [default: 16]" };
+
+#[rattlefmt::skip]
+const CHECK: [Row; 14] = [
+    Row { form: Form::Paths, name: "path", help: "Script, or folder whose *.txt and those of its folders are the scripts" },
+    Row { form: Form::Flag, name: "accept", help: "Writes the outputs that came into the scripts, but new errors; of FILE:LINE that of one directive" },
+    Row { form: Form::Flag, name: "accept-errors", help: "Accepts new errors too" },
+    Row { form: Form::Flag, name: "force", help: "Accepts outputs of a script that has warnings too" },
+    Row { form: Form::Flag, name: "review", help: "Asks about each output that differs, on a terminal, and accepts those that you say" },
+    Row { form: Form::Values("WORD"), name: "filter", help: "Keeps the paths that have WORD in them, or with !WORD those that don't; given several times, each holds" },
+    Row { form: Form::Letter('v'), name: "verbose", help: "Shows each directive with its output" },
+    Row { form: Form::Flag, name: "first", help: "Shows the first mismatch of each script alone" },
+    Row { form: Form::Flag, name: "brief", help: "Shows one line for each script that differs" },
+    Row { form: Form::Letter('q'), name: "quiet", help: "Shows nothing: the status tells whether all match" },
+    Row { form: Form::Flag, name: "why", help: "Tells why nothing came of a message, below the output that is shown" },
+    EVERY,
+    Row { form: Form::Value("WHEN"), name: "color", help: "Shows colours: auto (on a terminal), always or never [default: auto]" },
+    Row { form: Form::Value("FORMAT"), name: "format", help: "Writes what differs as text, json or github (workflow commands) [default: text]" },
+];
+
+const FILE_ALONE: [Row; 1] = [FILE];
+
+const FILE_AND_EVERY: [Row; 2] = [FILE, EVERY];
+
+#[rattlefmt::skip]
+const FILE_AND_UNTIL: [Row; 2] = [
+    FILE,
+    Row { form: Form::Value("LINE"), name: "until", help: "Shows the directives up to the one at this line" },
+];
+
+#[rattlefmt::skip]
+const NAME: [Row; 1] = [Row { form: Form::Name, name: "name", help: "Directive to show" }];
+
+const FILE_OR_INPUT: &str = "FILE is a script's file; - is standard input";
+
+/// The subcommands, in the order in which help has them.
+pub(crate) static LINES: [Line; 9] = [
+    Line {
+        name: "check",
+        about: "Checks scripts and folders of scripts, and shows each line that differs",
+        usage: "",
+        after: "",
+        rows: &CHECK,
+    },
+    Line {
+        name: "run",
+        about: "Runs a script and reports where its output differs from what it expects",
+        usage: "raftbench run [OPTIONS] <FILE>",
+        after: FILE_OR_INPUT,
+        rows: &FILE_AND_EVERY,
+    },
+    Line {
+        name: "rewrite",
+        about: "Runs a script and writes it with the output that it gives",
+        usage: "raftbench rewrite [OPTIONS] <FILE>",
+        after: FILE_OR_INPUT,
+        rows: &FILE_AND_EVERY,
+    },
+    Line {
+        name: "session",
+        about: "Keeps a script and answers the edits that standard input asks for",
+        usage: "raftbench session [OPTIONS] <FILE>",
+        after: "FILE is a script's file",
+        rows: &FILE_AND_EVERY,
+    },
+    Line {
+        name: "look",
+        about: "Shows each node, its log and the messages on their way after a directive",
+        usage: "raftbench look <FILE:LINE>",
+        after: "FILE:LINE is a script's file and the line of a directive in it",
+        rows: &FILE_ALONE,
+    },
+    Line {
+        name: "page",
+        about: "Runs a script and writes a page that shows what it does, step by step",
+        usage: "raftbench page [OPTIONS] <FILE>",
+        after: FILE_OR_INPUT,
+        rows: &FILE_AND_EVERY,
+    },
+    Line {
+        name: "chart",
+        about: "Runs a script and writes a picture of what it does, as SVG",
+        usage: "raftbench chart [OPTIONS] <FILE>",
+        after: FILE_OR_INPUT,
+        rows: &FILE_AND_UNTIL,
+    },
+    Line {
+        name: "directives",
+        about: "Shows the directives of scripts, or one of them with what it takes and an example",
+        usage: "",
+        after: "",
+        rows: &NAME,
+    },
+    Line {
+        name: "lsp",
+        about: "Answers an editor on standard input and output, by the Language Server Protocol",
+        usage: "",
+        after: "",
+        rows: &[],
+    },
+];
