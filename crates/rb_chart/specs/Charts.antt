@@ -2,7 +2,6 @@
 -- `aria-labelledby`.)
 use Rattle.std.specs.Prelude.{ℕ, codes, decimal, List, ◌++◌}
 use Rattle.std.specs.List.{flat_map}
-use Rattle.rb_script.specs.Lines.{Line}
 use Rattle.rb_chart.specs.declared.shape.Shape.{Shape}
 use Rattle.rb_chart.specs.Escapes.{escaped}
 use Rattle.rb_chart.specs.Shapes.{shapes_text}
@@ -16,7 +15,7 @@ pub record PlainChart : Type 0 where
   pub under : List Shape
   pub over : List Shape
   pub texts : List Shape
-  pub words : List Line
+  pub words : List ℕ
 
 -- what stands before the shapes: the size, the title and what is told as they stand in texts of XML, how all looks, and the background
 abbrev pub front_text : List ℕ → ℕ → ℕ → List ℕ → List ℕ → List ℕ
@@ -27,7 +26,7 @@ front_text style width height title told =
     ++ (codes "</desc>\n" ++ (style ++ codes "<rect class=\"background\" width=\"100%\" height=\"100%\"/>\n")))))))))))))
 
 -- the shapes, layer by layer
-abbrev pub layers_text : List Line → List Shape → List Shape → List Shape → List ℕ
+abbrev pub layers_text : List ℕ → List Shape → List Shape → List Shape → List ℕ
 layers_text words under over texts = shapes_text words under ++ (shapes_text words over ++ shapes_text words texts)
 
 -- a picture, where this is how it looks

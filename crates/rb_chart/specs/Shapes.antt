@@ -1,7 +1,6 @@
 -- Shapes as elements of SVG. (SVG 2, W3C: paths in section 9.3, rectangles in 10.2, texts in 11; the classes are those of assets/style.svg.)
-use Rattle.std.specs.Prelude.{ℕ, codes, decimal, List, [], ◌++◌, Option, Some, None, slice_get}
+use Rattle.std.specs.Prelude.{ℕ, ◌-◌, ◌&&◌, nat_le, if◌then◌else◌, codes, decimal, List, [], ◌++◌, length, take, drop}
 use Rattle.std.specs.List.{flat_map}
-use Rattle.rb_script.specs.Lines.{Line}
 use Rattle.rb_message.specs.declared.role.Role.{Role}
 use Rattle.rb_texts.specs.States.{role_text}
 use Rattle.rb_chart.specs.declared.look.Fate.{Fate}
@@ -78,19 +77,18 @@ words_text look x y shown =
     codes "<text class=\"" ++ (look_text look ++ (codes "\" x=\"" ++ (decimal x ++ (codes "\" y=\"" ++ (decimal y
     ++ (codes "\">" ++ (shown ++ codes "</text>\n")))))))
 
--- no words where there are none at that place
-abbrev pub given : Option Line → Line
-given None = []
-given (Some words) = words
+-- the words from one position up to another; none where these are none
+abbrev pub part_of : ℕ → ℕ → List ℕ → List ℕ
+part_of from to words = if nat_le from to && nat_le to (length words) then take (to - from) (drop from words) else []
 
 -- a shape, where these are the words of all
-abbrev pub shape_text : List Line → Shape → List ℕ
+abbrev pub shape_text : List ℕ → Shape → List ℕ
 shape_text words (shapes.Edge y) = edge_text y
 shape_text words (shapes.Band role x y width height) = band_text role x y width height
 shape_text words (shapes.Arrow kind fate x y bend to_x to_y) = arrow_text kind fate x y bend to_x to_y
 shape_text words (shapes.Loop kind fate x y out to_y) = loop_text kind fate x y out to_y
 shape_text words (shapes.Cross x y) = cross_text x y
-shape_text words (shapes.Words look x y at) = words_text look x y (flat_map escaped (given (slice_get words at)))
+shape_text words (shapes.Words look x y from to) = words_text look x y (flat_map escaped (part_of from to words))
 
-abbrev pub shapes_text : List Line → List Shape → List ℕ
+abbrev pub shapes_text : List ℕ → List Shape → List ℕ
 shapes_text words ss = flat_map (shape_text words) ss

@@ -2,7 +2,6 @@
 
 use crate::shape::Shape;
 use crate::sizes::HEADING;
-use rb_script::Lines;
 use std::alloc::Global;
 use std::marker::Model;
 
@@ -18,8 +17,8 @@ pub struct Chart {
     pub(crate) under: Vec<Shape>,
     pub(crate) over: Vec<Shape>,
     pub(crate) texts: Vec<Shape>,
-    // the words of all shapes
-    pub(crate) words: Lines,
+    // the words of all shapes, one behind the other
+    pub(crate) words: Vec<u8>,
 }
 
 impl Model for Chart {
@@ -27,7 +26,7 @@ impl Model for Chart {
 
     ghost Value = { PlainChart };
 
-    ghost view = { λ c. record { width = c.width; height = c.height; title = c.title.items; told = c.told.items; under = c.under.items; over = c.over.items; texts = c.texts.items; words = c.words } };
+    ghost view = { λ c. record { width = c.width; height = c.height; title = c.title.items; told = c.told.items; under = c.under.items; over = c.over.items; texts = c.texts.items; words = c.words.items } };
 }
 
 impl Chart {
@@ -43,7 +42,7 @@ impl Chart {
             under: Vec::new(alloc),
             over: Vec::new(alloc),
             texts: Vec::new(alloc),
-            words: Lines::new(alloc),
+            words: Vec::new(alloc),
         }
     }
 

@@ -62,6 +62,18 @@ fn place_all(
     drafter.finish(chart)
 }
 
+// Places all that the steps tell.
+fn draw_on(
+    alloc: Global,
+    chart: &mut Chart,
+    bytes: &[u8],
+    steps: &Lines,
+    until: Option<u64>,
+) -> Result<(), AllocError> {
+    let mut drafter = Drafter::new(alloc, bytes)?;
+    place_all(chart, &mut drafter, steps, until)
+}
+
 // The picture, without its title.
 fn drawn(
     alloc: Global,
@@ -70,8 +82,7 @@ fn drawn(
     until: Option<u64>,
 ) -> Result<Chart, AllocError> {
     let mut chart = Chart::new(alloc);
-    let mut drafter = Drafter::new(alloc, bytes)?;
-    place_all(&mut chart, &mut drafter, steps, until)?;
+    draw_on(alloc, &mut chart, bytes, steps, until)?;
     Ok(chart)
 }
 

@@ -137,9 +137,7 @@ impl<'a> Drafter<'a> {
 
     // The line of a directive and its head.
     fn head(&self, chart: &mut Chart, line: u64, y: u64) -> Result<(), AllocError> {
-        let mut number = Vec::new(self.alloc);
-        add_pieces(&mut number, &[Piece::Number(line)])?;
-        chart.add_words(Look::LineNumber, LINE_X, y, number.as_slice(), MOST_HEAD)?;
+        add_line_number(self.alloc, chart, line, y)?;
         let head = shown(self.alloc, self.source.line())?;
         chart.add_words(Look::Head, HEAD_X, y, head.as_slice(), MOST_HEAD)
     }
@@ -163,21 +161,14 @@ impl<'a> Drafter<'a> {
     fn mark(&mut self, chart: &mut Chart, id: u64, mark: Mark<'_>) -> Result<u64, AllocError> {
         let words = mark_words(self.alloc, id, mark)?;
         let y = self.slots.next();
-        let x = middle(id).saturating_add(ASIDE);
-        chart.add_words(
+        add_mark(
+            chart,
+            self.slots.line,
+            id,
             mark_look(mark),
-            x,
-            y.saturating_sub(MARK_UP),
+            y,
             words.as_slice(),
-            MOST_MARK,
         )?;
-        let sentence = [
-            Piece::Bytes(b"node "),
-            Piece::Number(id),
-            Piece::Bytes(b": "),
-            Piece::Bytes(words.as_slice()),
-        ];
-        chart.tell(self.slots.line, &sentence)?;
         Ok(y)
     }
 
@@ -244,29 +235,7 @@ impl<'a> Drafter<'a> {
 
     fn label(&self, chart: &mut Chart, message: &Message<'_>, y: u64) -> Result<(), AllocError> {
         let words = message_words(self.alloc, message)?;
-        let kind = kind_of(message.message_type);
-        let is_left = message.to < message.from;
-        let look = if is_left {
-            Look::LeftLabel(kind)
-        } else {
-            Look::Label(kind)
-        };
-        let x = beside(middle(message.from), is_left, ASIDE);
-        chart.add_words(
-            look,
-            x,
-            y.saturating_sub(LABEL_UP),
-            words.as_slice(),
-            MOST_LABEL,
-        )?;
-        let sentence = [
-            Piece::Number(message.from),
-            Piece::Bytes(b" sends "),
-            Piece::Number(message.to),
-            Piece::Bytes(b" "),
-            Piece::Bytes(words.as_slice()),
-        ];
-        chart.tell(self.slots.line, &sentence)
+        add_label(chart, self.slots.line, message, y, words.as_slice())
     }
 
     fn deliver(&mut self, chart: &mut Chart, message: &Message<'_>) -> Result<(), AllocError> {
@@ -312,6 +281,64 @@ impl<'a> Drafter<'a> {
     ) -> Result<(), AllocError> {
         let words = message_words(self.alloc, message)?;
         tell_ended(chart, self.slots.line, message, words.as_slice(), ends)
+    }
+}
+
+// Adds the line of a directive, beside its head.
+fn add_line_number(alloc: Global, chart: &mut Chart, line: u64, y: u64) -> Result<(), AllocError> {
+    let mut number = Vec::new(alloc);
+    add_pieces(&mut number, &[Piece::Number(line)])?;
+    chart.add_words(Look::LineNumber, LINE_X, y, number.as_slice(), MOST_HEAD)
+}
+
+// Adds what a node tells in the directive at a line, in the slot whose middle is `y`.
+fn add_mark<'a>(
+    chart: &mut Chart,
+    line: u64,
+    id: u64,
+    look: Look,
+    y: u64,
+    words: &'a [u8],
+) -> Result<(), AllocError> {
+    let x = middle(id).saturating_add(ASIDE);
+    chart.add_words(look, x, y.saturating_sub(MARK_UP), words, MOST_MARK)?;
+    let sentence = [
+        Piece::Bytes(b"node "),
+        Piece::Number(id),
+        Piece::Bytes(b": "),
+        Piece::Bytes(words),
+    ];
+    chart.tell(line, &sentence)
+}
+
+// Adds the label of a message that is sent in the directive at a line.
+fn add_label<'a>(
+    chart: &mut Chart,
+    line: u64,
+    message: &Message<'_>,
+    y: u64,
+    words: &'a [u8],
+) -> Result<(), AllocError> {
+    let is_left = message.to < message.from;
+    let x = beside(middle(message.from), is_left, ASIDE);
+    let look = label_look(message, is_left);
+    chart.add_words(look, x, y.saturating_sub(LABEL_UP), words, MOST_LABEL)?;
+    let sentence = [
+        Piece::Number(message.from),
+        Piece::Bytes(b" sends "),
+        Piece::Number(message.to),
+        Piece::Bytes(b" "),
+        Piece::Bytes(words),
+    ];
+    chart.tell(line, &sentence)
+}
+
+fn label_look(message: &Message<'_>, is_left: bool) -> Look {
+    let kind = kind_of(message.message_type);
+    if is_left {
+        Look::LeftLabel(kind)
+    } else {
+        Look::Label(kind)
     }
 }
 

@@ -5,18 +5,15 @@ use crate::look::Look;
 use crate::shape::Shape;
 use crate::shown::cut;
 use rb_json::{Piece, add_pieces};
-use rb_script::Lines;
 use std::alloc::AllocError;
 
 // What stands for the rest of a text.
 const MORE: &str = "…";
 
 // Adds the beginning of a text.
-fn push_cut(words: &mut Lines, front: &[u8]) -> Result<(), AllocError> {
-    let mut text = words.new_text(front.len())?;
-    text.extend_from_slice(front)?;
-    text.extend_from_slice(MORE.as_bytes())?;
-    words.push(text.as_slice())
+fn add_cut(words: &mut Vec<u8>, front: &[u8]) -> Result<(), AllocError> {
+    words.extend_from_slice(front)?;
+    words.extend_from_slice(MORE.as_bytes())
 }
 
 impl Chart {
@@ -29,12 +26,19 @@ impl Chart {
         text: &[u8],
         most: usize,
     ) -> Result<(), AllocError> {
-        let at = self.words.len();
+        let from = self.words.len();
         match cut(text, most) {
-            Some(front) => push_cut(&mut self.words, front)?,
-            None => self.words.push(text)?,
+            Some(front) => add_cut(&mut self.words, front)?,
+            None => self.words.extend_from_slice(text)?,
         }
-        self.texts.push(Shape::Words { look, x, y, at })?;
+        let to = self.words.len();
+        self.texts.push(Shape::Words {
+            look,
+            x,
+            y,
+            from,
+            to,
+        })?;
         Ok(())
     }
 

@@ -1,16 +1,15 @@
 //! What a picture is made of. Places and sizes are in pixels, from the upper left corner on.
 
-ghost use Rattle.std.specs.Prelude.{◌≡◌, ◌++◌, OnOk, slice_get};
+ghost use Rattle.std.specs.Prelude.{◌≡◌, ◌++◌, OnOk};
 ghost use Rattle.std.specs.List.{flat_map};
 ghost use Rattle.rb_chart.specs.Escapes.{escaped};
-ghost use Rattle.rb_chart.specs.Shapes.{arrow_text, band_text, given, loop_text, shape_text, shapes_text, words_text};
+ghost use Rattle.rb_chart.specs.Shapes.{arrow_text, band_text, loop_text, part_of, shape_text, shapes_text, words_text};
 
 use crate::escape::escaped;
 use crate::look::{Fate, Kind, Look};
 use rb_json::{Piece, add_pieces};
 use rb_message::Role;
 use rb_page::role_name;
-use rb_script::Lines;
 use std::alloc::AllocError;
 
 /// A shape.
@@ -52,12 +51,13 @@ pub enum Shape {
         x: u64,
         y: u64,
     },
-    /// Words: those at a position among all.
+    /// Words: those from one position up to another among all.
     Words {
         look: Look,
         x: u64,
         y: u64,
-        at: usize,
+        from: usize,
+        to: usize,
     },
 }
 
@@ -190,18 +190,18 @@ fn add_words(svg: &mut Vec<u8>, look: Look, x: u64, y: u64, words: &[u8]) -> Res
     add_shown(svg, look, x, y, shown.as_slice())
 }
 
-// The words at a position; none where it is none.
-fn words_at(words: &Lines, at: usize) -> &[u8]
-    ensures { result.now ≡ given (slice_get words.now at) }
+// The words from one position up to another; none where these are none.
+fn words_at(words: &[u8], from: usize, to: usize) -> &[u8]
+    ensures { result.now ≡ part_of from to words.now }
 {
-    if at < words.len() {
-        words.line(at)
+    if from <= to && to <= words.len() {
+        &words[from..to]
     } else {
         &[]
     }
 }
 
-fn add_shape(svg: &mut Vec<u8>, words: &Lines, shape: Shape) -> Result<(), AllocError>
+fn add_shape(svg: &mut Vec<u8>, words: &[u8], shape: Shape) -> Result<(), AllocError>
     ensures { OnOk result (svg.new.items ≡ svg.old.items ++ shape_text words.now shape) }
 {
     match shape {
@@ -247,14 +247,20 @@ fn add_shape(svg: &mut Vec<u8>, words: &Lines, shape: Shape) -> Result<(), Alloc
                 Piece::Bytes(b"m-4 -4l8 8m0 -8l-8 8\"/>\n"),
             ],
         ),
-        Shape::Words { look, x, y, at } => add_words(svg, look, x, y, words_at(words, at)),
+        Shape::Words {
+            look,
+            x,
+            y,
+            from,
+            to,
+        } => add_words(svg, look, x, y, words_at(words, from, to)),
     }
 }
 
 /// Adds the shapes, where these are the words of all.
 pub(crate) fn add_shapes(
     svg: &mut Vec<u8>,
-    words: &Lines,
+    words: &[u8],
     shapes: &[Shape],
 ) -> Result<(), AllocError>
     ensures { OnOk result (svg.new.items ≡ svg.old.items ++ shapes_text words.now shapes.now) }

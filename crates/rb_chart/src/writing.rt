@@ -11,7 +11,6 @@ use crate::escape::escaped;
 use crate::shape::{Shape, add_shapes};
 use crate::style::STYLE;
 use rb_json::{Piece, add_pieces};
-use rb_script::Lines;
 use std::alloc::{AllocError, Global};
 
 // Adds what stands before the shapes, where the title and what is told are as they stand in texts of XML.
@@ -68,7 +67,7 @@ fn add_head(
 // Adds the shapes, layer by layer.
 fn add_layers(
     svg: &mut Vec<u8>,
-    words: &Lines,
+    words: &[u8],
     under: &[Shape],
     over: &[Shape],
     texts: &[Shape],
@@ -84,13 +83,14 @@ fn add_layers(
 fn add_chart(svg: &mut Vec<u8>, style: &[u8], chart: &Chart) -> Result<(), AllocError>
     ensures { OnOk result (svg.new.items ≡ svg.old.items ++ chart_text style.now chart.now) }
 {
+    let words = chart.words.as_slice();
     let title = chart.title.as_slice();
     let told = chart.told.as_slice();
     let under = chart.under.as_slice();
     let over = chart.over.as_slice();
     let texts = chart.texts.as_slice();
     add_head(svg, style, chart.width, chart.height, title, told)?;
-    add_layers(svg, &chart.words, under, over, texts)?;
+    add_layers(svg, words, under, over, texts)?;
     svg.extend_from_slice(b"</svg>\n")?;
     Ok(())
 }

@@ -1,27 +1,27 @@
 use Rattle.std.proofs.Common.{◌≡◌, ◌∙◌, ℕ, List, ◌++◌, ap, append_assoc}
 use Rattle.std.specs.Prelude.{codes}
 use Rattle.std.specs.List.{flat_map}
-use Rattle.rb_script.specs.Lines.{Line}
 use Rattle.rb_chart.specs.Escapes.{escaped}
 use Rattle.rb_chart.specs.declared.shape.Shape.{Shape}
 use Rattle.rb_chart.specs.Charts.{PlainChart, chart_text, front_text, layers_text}
 use Rattle.rb_chart.proofs.writing.add_chart.Goals as goal
 
-abbrev plain : ℕ → ℕ → List ℕ → List ℕ → List Shape → List Shape → List Shape → List Line → PlainChart
+abbrev plain : ℕ → ℕ → List ℕ → List ℕ → List Shape → List Shape → List Shape → List ℕ → PlainChart
 plain width height title told under over texts words =
     record { width = width; height = height; title = title; told = told; under = under; over = over; texts = texts; words = words }
 
 -- a picture in the parts in which it is added
-parted : (style : List ℕ) (k : PlainChart) (width height : ℕ) (title told t d : List ℕ) (words : List Line) (under over texts u o x : List Shape)
-    → plain width height title told under over texts words ≡ k → t ≡ title → d ≡ told → u ≡ under → o ≡ over → x ≡ texts
-    → front_text style width height (flat_map escaped t) (flat_map escaped d) ++ (layers_text words u o x ++ codes "</svg>\n") ≡ chart_text style k
-parted style k width height title told t d words under over texts u o x view p q r s v =
+parted : (style : List ℕ) (k : PlainChart) (width height : ℕ) (title told words t d w : List ℕ) (under over texts u o x : List Shape)
+    → plain width height title told under over texts words ≡ k → t ≡ title → d ≡ told → w ≡ words → u ≡ under → o ≡ over → x ≡ texts
+    → front_text style width height (flat_map escaped t) (flat_map escaped d) ++ (layers_text w u o x ++ codes "</svg>\n") ≡ chart_text style k
+parted style k width height title told words t d w under over texts u o x view p q m r s v =
     let end : List ℕ = codes "</svg>\n" in
     let front : List ℕ → List ℕ → List ℕ = λ a b. front_text style width height (flat_map escaped a) (flat_map escaped b) in
-    let layers : List Shape → List Shape → List Shape → List ℕ = λ a b e. layers_text words a b e ++ end in
-    ap (λ (y : List ℕ). front y d ++ layers u o x) p ∙ ap (λ (y : List ℕ). front title y ++ layers u o x) q
-    ∙ ap (λ (y : List Shape). front title told ++ layers y o x) r ∙ ap (λ (y : List Shape). front title told ++ layers under y x) s
-    ∙ ap (λ (y : List Shape). front title told ++ layers under over y) v ∙ ap (λ (c : PlainChart). chart_text style c) view
+    let layers : List ℕ → List Shape → List Shape → List Shape → List ℕ = λ l a b e. layers_text l a b e ++ end in
+    ap (λ (y : List ℕ). front y d ++ layers w u o x) p ∙ ap (λ (y : List ℕ). front title y ++ layers w u o x) q
+    ∙ ap (λ (y : List ℕ). front title told ++ layers y u o x) m
+    ∙ ap (λ (y : List Shape). front title told ++ layers words y o x) r ∙ ap (λ (y : List Shape). front title told ++ layers words under y x) s
+    ∙ ap (λ (y : List Shape). front title told ++ layers words under over y) v ∙ ap (λ (c : PlainChart). chart_text style c) view
 
 -- three parts behind what was there
 three : (t0 t1 t2 t3 x y z : List ℕ) → t1 ≡ t0 ++ x → t2 ≡ t1 ++ y → t3 ≡ t2 ++ z → t3 ≡ t0 ++ (x ++ (y ++ z))
@@ -34,8 +34,8 @@ returns c =
     let style = c.args.style.now in
     three c.args.svg.now.items c.add_head.new.svg.items c.add_layers.new.svg.items _
     (front_text style k.width k.height (flat_map escaped c.as_slice-title.result.now) (flat_map escaped c.as_slice-told.result.now))
-    (layers_text k.words c.as_slice-under.result.now c.as_slice-over.result.now c.as_slice-texts.result.now) (codes "</svg>\n")
+    (layers_text c.as_slice-words.result.now c.as_slice-under.result.now c.as_slice-over.result.now c.as_slice-texts.result.now) (codes "</svg>\n")
     c.in_ok-add_head.ensures c.in_ok-add_layers.ensures c.in_ok-extend_from_slice.ensures.items
     ∙ ap (λ (l : List ℕ). c.args.svg.now.items ++ l)
-    (parted style c.args.chart.now k.width k.height k.title.items k.told.items _ _ k.words k.under.items k.over.items k.texts.items _ _ _ c.chart.view_is
-    c.as_slice-title.ensures.value c.as_slice-told.ensures.value c.as_slice-under.ensures.value c.as_slice-over.ensures.value c.as_slice-texts.ensures.value)
+    (parted style c.args.chart.now k.width k.height k.title.items k.told.items k.words.items _ _ _ k.under.items k.over.items k.texts.items _ _ _ c.chart.view_is
+    c.as_slice-title.ensures.value c.as_slice-told.ensures.value c.as_slice-words.ensures.value c.as_slice-under.ensures.value c.as_slice-over.ensures.value c.as_slice-texts.ensures.value)
