@@ -26,8 +26,10 @@ function unframed(bytes) {
 }
 
 class Client {
-  // `hear` is called with each notification, `ended` with a sentence when the server is gone without having been asked to go.
-  constructor(program, hear, ended) {
+  // `hear` is called with each notification, `hasGone` with a sentence when the server is gone without having been asked to go, and
+  // `traced` with an arrow and each message, on its way to the server or from it.
+  constructor(program, { hear, hasGone, traced }) {
+    this.traced = traced;
     this.left = Buffer.alloc(0);
     this.waiting = new Map();
     this.last = 0;
@@ -35,9 +37,9 @@ class Client {
     this.server = spawn(program, ["lsp"], { stdio: ["pipe", "pipe", "ignore"] });
     this.server.stdout.on("data", (chunk) => this.take(chunk, hear));
     this.server.stdin.on("error", () => {});
-    this.server.on("error", (error) => ended(`${program} could not be started: ${error.message}`));
+    this.server.on("error", (error) => hasGone(`${program} could not be started: ${error.message}`));
     this.server.on("exit", (status) => {
-      if (!this.isEnding) ended(`${program} lsp ended with status ${status}`);
+      if (!this.isEnding) hasGone(`${program} lsp ended with status ${status}`);
     });
   }
 
@@ -45,6 +47,7 @@ class Client {
     const [messages, left] = unframed(Buffer.concat([this.left, chunk]));
     this.left = left;
     for (const message of messages) {
+      this.traced("<-", message);
       if (message.method !== undefined) hear(message.method, message.params);
       else if (this.waiting.has(message.id)) {
         this.waiting.get(message.id)(message);
@@ -53,15 +56,20 @@ class Client {
     }
   }
 
+  send(message) {
+    this.traced("->", message);
+    this.server.stdin.write(framed({ jsonrpc: "2.0", ...message }));
+  }
+
   notify(method, params) {
-    this.server.stdin.write(framed({ jsonrpc: "2.0", method, params }));
+    this.send({ method, params });
   }
 
   // The answer, with its result or its error.
   request(method, params) {
     const id = ++this.last;
     const answer = new Promise((resolve) => this.waiting.set(id, resolve));
-    this.server.stdin.write(framed({ jsonrpc: "2.0", id, method, params }));
+    this.send({ id, method, params });
     return answer;
   }
 

@@ -7,6 +7,7 @@ const { isScript } = require("./detect.js");
 
 let client;
 let shown;
+let output;
 
 function look(document) {
   if (document.languageId === "plaintext" && isScript(document.getText())) {
@@ -32,13 +33,22 @@ function hear(method, params) {
   }
 }
 
+function hasGone(why) {
+  client = undefined;
+  shown.clear();
+  vscode.window.showWarningMessage(why);
+}
+
+// Writes down what goes to the server and what comes, as the setting `lsp.trace` has it: nothing, the methods, or whole messages.
+function traced(arrow, message) {
+  const trace = vscode.workspace.getConfiguration("raftbench").get("lsp.trace");
+  if (trace === "messages") output.appendLine(`${arrow} ${message.method ?? "answer"} ${message.id ?? ""}`.trimEnd());
+  if (trace === "verbose") output.appendLine(`${arrow} ${JSON.stringify(message)}`);
+}
+
 function start() {
   const program = vscode.workspace.getConfiguration("raftbench").get("program");
-  client = new Client(program, hear, (why) => {
-    client = undefined;
-    shown.clear();
-    vscode.window.showWarningMessage(why);
-  });
+  client = new Client(program, { hear, hasGone, traced });
   client.begin();
 }
 
@@ -69,6 +79,40 @@ async function actions(document, { start, end }) {
   return (told ?? []).map((action) => actionOf(document, action));
 }
 
+// The protocol's kinds of words and symbols count from 1, the editor's from 0.
+function wordOf({ label, kind, documentation, textEdit }) {
+  const word = new vscode.CompletionItem(label, kind - 1);
+  word.documentation = documentation;
+  word.range = rangeOf(textEdit.range);
+  word.insertText = textEdit.newText;
+  return word;
+}
+
+// The words that a head can go on with.
+async function words(document, position) {
+  const told = await asked("completion", document, { position });
+  return (told ?? []).map(wordOf);
+}
+
+function symbolOf({ name, kind, range, selectionRange }) {
+  return new vscode.DocumentSymbol(name, "", kind - 1, rangeOf(range), rangeOf(selectionRange));
+}
+
+async function symbols(document) {
+  const told = await asked("documentSymbol", document, {});
+  return (told ?? []).map(symbolOf);
+}
+
+async function folds(document) {
+  const told = await asked("foldingRange", document, {});
+  return (told ?? []).map(({ startLine, endLine }) => new vscode.FoldingRange(startLine, endLine));
+}
+
+async function formatted(document, { tabSize, insertSpaces }) {
+  const told = await asked("formatting", document, { options: { tabSize, insertSpaces } });
+  return (told ?? []).map(({ range, newText }) => vscode.TextEdit.replace(rangeOf(range), newText));
+}
+
 function open(document) {
   if (document.languageId !== "raftbench") return;
   if (!client) start();
@@ -90,8 +134,10 @@ function close(document) {
 
 function activate(context) {
   shown = vscode.languages.createDiagnosticCollection("raftbench");
+  output = vscode.window.createOutputChannel("raftbench");
   context.subscriptions.push(
     shown,
+    output,
     vscode.workspace.onDidOpenTextDocument(look),
     vscode.workspace.onDidSaveTextDocument(look),
     vscode.workspace.onDidOpenTextDocument(open),
@@ -99,6 +145,10 @@ function activate(context) {
     vscode.workspace.onDidCloseTextDocument(close),
     vscode.languages.registerHoverProvider("raftbench", { provideHover: hover }),
     vscode.languages.registerCodeActionsProvider("raftbench", { provideCodeActions: actions }),
+    vscode.languages.registerCompletionItemProvider("raftbench", { provideCompletionItems: words }),
+    vscode.languages.registerDocumentSymbolProvider("raftbench", { provideDocumentSymbols: symbols }),
+    vscode.languages.registerFoldingRangeProvider("raftbench", { provideFoldingRanges: folds }),
+    vscode.languages.registerDocumentFormattingEditProvider("raftbench", { provideDocumentFormattingEdits: formatted }),
   );
   vscode.workspace.textDocuments.forEach(look);
   vscode.workspace.textDocuments.forEach(open);

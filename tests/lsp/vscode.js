@@ -53,9 +53,34 @@ class WorkspaceEdit {
   }
 }
 
+class CompletionItem {
+  constructor(label, kind) {
+    Object.assign(this, { label, kind });
+  }
+}
+
+class DocumentSymbol {
+  constructor(name, detail, kind, range, selectionRange) {
+    Object.assign(this, { name, detail, kind, range, selectionRange });
+  }
+}
+
+class FoldingRange {
+  constructor(...lines) {
+    this.lines = lines;
+  }
+}
+
 const providers = {};
+const provided = (language, provider) => Object.assign(providers, provider);
+const traced = [];
+const settings = { program: process.argv[2], "lsp.trace": "off" };
 const pretended = {
   CodeAction,
+  CompletionItem,
+  DocumentSymbol,
+  FoldingRange,
+  TextEdit: { replace: (range, text) => [range.numbers, text] },
   CodeActionKind: { QuickFix: "QuickFix", Source: "Source" },
   Diagnostic,
   Hover,
@@ -65,18 +90,22 @@ const pretended = {
   Uri: { parse: (text) => text },
   languages: {
     createDiagnosticCollection: () => ({ set: (uri, list) => shown.set(uri, list), clear: () => shown.clear() }),
-    registerHoverProvider: (language, provider) => Object.assign(providers, provider),
-    registerCodeActionsProvider: (language, provider) => Object.assign(providers, provider),
+    registerHoverProvider: provided,
+    registerCodeActionsProvider: provided,
+    registerCompletionItemProvider: provided,
+    registerDocumentSymbolProvider: provided,
+    registerFoldingRangeProvider: provided,
+    registerDocumentFormattingEditProvider: provided,
     setTextDocumentLanguage: (document, id) => {
       listeners.close.forEach((listener) => listener(document));
       document.languageId = id;
       listeners.open.forEach((listener) => listener(document));
     },
   },
-  window: { showWarningMessage: (text) => warnings.push(text) },
+  window: { showWarningMessage: (text) => warnings.push(text), createOutputChannel: () => ({ appendLine: (line) => traced.push(line) }) },
   workspace: {
     textDocuments: [],
-    getConfiguration: () => ({ get: () => process.argv[2] }),
+    getConfiguration: () => ({ get: (name) => settings[name] }),
     onDidOpenTextDocument: on("open"),
     onDidChangeTextDocument: on("change"),
     onDidCloseTextDocument: on("close"),
@@ -108,6 +137,18 @@ async function main() {
   const edits = [[uri, [2, 0, 3, 0], "ok\n"]];
   assert.deepStrictEqual(actions.map(({ title, kind, edit }) => [title, kind, edit.edits]), [["Expect what came", "QuickFix", edits], ["Expect what came everywhere", "Source", edits]]);
   assert.strictEqual(await providers.provideHover(document, { line: 3, character: 0 }), undefined);
+  assert.deepStrictEqual(traced, []);
+  settings["lsp.trace"] = "messages";
+  const symbols = await providers.provideDocumentSymbols(document);
+  assert.deepStrictEqual(symbols.map((it) => [it.name, it.kind, it.range.numbers, it.selectionRange.numbers]), [["log-level debug", 23, [0, 0, 3, 0], [0, 0, 1, 0]]]);
+  assert.deepStrictEqual(traced.map((line) => line.replace(/\d+$/, "N")), ["-> textDocument/documentSymbol N", "<- answer N"]);
+  settings["lsp.trace"] = "off";
+  const folds = await providers.provideFoldingRanges(document);
+  assert.deepStrictEqual(folds.map(({ lines }) => lines), [[0, 2]]);
+  const words = await providers.provideCompletionItems(document, { line: 0, character: 5 });
+  assert.deepStrictEqual(words.map((it) => [it.label, it.kind, it.insertText, it.range.numbers]), [["log-level", 2, "log-level", [0, 0, 0, 5]]]);
+  assert(words[0].documentation.length > 0);
+  assert.deepStrictEqual(await providers.provideDocumentFormattingEdits(document, { tabSize: 4, insertSpaces: true }), []);
   document.version = 2;
   listeners.change.forEach((listener) => listener({ document, contentChanges: [{ range, rangeLength: 2, text: "ok" }] }));
   await until(() => shown.get(uri)?.length === 0);
