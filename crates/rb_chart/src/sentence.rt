@@ -6,8 +6,8 @@ use std::alloc::{AllocError, Global};
 // What a hexadecimal digit of a row stands for.
 fn digit_of(b: u8) -> u8 {
     match b {
-        b'0'..=b'9' => b - b'0',
-        b'a'..=b'f' => b - b'a' + 10,
+        b'0'..=b'9' => b.wrapping_sub(b'0'),
+        b'a'..=b'f' => b.wrapping_sub(b'a').wrapping_add(10),
         _ => 0,
     }
 }
