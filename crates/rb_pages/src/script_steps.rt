@@ -1,6 +1,6 @@
 //! The steps of the script that some bytes are.
 
-ghost use Rattle.std.specs.Prelude.{◌≡◌, ◌≢◌, Err, IfErr, IfOk, IfSome, length};
+ghost use Rattle.std.specs.Prelude.{◌≡◌, ◌≢◌, ◌≤◌, ◌^◌, Err, IfErr, IfOk, IfSome, length};
 ghost use Rattle.rb_script.specs.Lines.{lines};
 ghost use Rattle.rb_script.specs.Script.{PlainScript};
 ghost use Rattle.rb_script.specs.Reads.{Reads};
@@ -14,10 +14,10 @@ ghost use Rattle.rb_pages.specs.Written.{AreRowsOf, AreStepsOf};
 use rb_bench::{BenchFault, Status};
 use rb_cluster::{Cluster, Meter};
 use rb_machine::Machine;
-use rb_raftlog::{RaftLog, SplitLog};
+use rb_raftlog::SplitLog;
 use rb_replay::Session;
 use rb_script::{Lines, head_lines};
-use rb_steps::steps_of;
+use rb_steps::{Shown, steps_of};
 use std::alloc::{AllocError, Global};
 
 /// The rows of a script behind the first, each as a text, and the status that a report of it would have.
@@ -44,11 +44,7 @@ fn heads<M: Machine>(
 }
 
 // The rows of the session's script, which the bytes are.
-fn rows<L: RaftLog>(
-    alloc: Global,
-    session: &Session<Cluster<L>>,
-    bytes: &[u8],
-) -> Result<Lines, AllocError>
+fn rows<M: Shown>(alloc: Global, session: &Session<M>, bytes: &[u8]) -> Result<Lines, AllocError>
     requires { Reads bytes.now session.now.script }
     ensures { IfOk result (AreRowsOf bytes.now session.now.script) }
 {
@@ -68,9 +64,9 @@ fn status<M: Machine>(session: &Session<M>) -> Status
 }
 
 // What a session holds of the script of the bytes, as steps.
-fn found<L: RaftLog>(
+fn found<M: Shown>(
     alloc: Global,
-    session: &Session<Cluster<L>>,
+    session: &Session<M>,
     bytes: &[u8],
 ) -> Result<ScriptSteps, BenchFault>
     requires { Reads bytes.now session.now.script }
@@ -84,6 +80,23 @@ fn found<L: RaftLog>(
         }),
         Err(_) => Err(BenchFault::OutOfMemory),
     }
+}
+
+// Reads the script of the bytes, runs it once on such a machine, and gives its steps.
+fn steps_on<M: Shown>(
+    alloc: Global,
+    bytes: &[u8],
+    meter: &mut M::Meter,
+) -> Result<ScriptSteps, BenchFault>
+    requires { M.Meter.count_of meter.old ≤ 2 ^ 62 }
+    ensures read { IfOk result (λ steps. AreStepsOf bytes.now steps.texts steps.status) }
+    ensures only { (s : PlainScript) → Reads bytes.now s → IfErr result (λ fault. fault ≡ BenchFault.OutOfMemory) }
+    ensures refused { IfErr result (λ fault. TellsFault fault (read_of bytes.now)) }
+    ensures early { IfSome (early_fault bytes.now) (λ fault. result ≡ Err (BenchFault.Script fault)) }
+    ensures own { IfErr result (λ fault. (fault ≢ BenchFault.Io) × (fault ≢ BenchFault.Spacing)) }
+{
+    let session: Session<M> = Session::run_once(alloc, bytes, meter)?;
+    found(alloc, &session, bytes)
 }
 
 /// Reads the script of the bytes, runs it once, and gives its steps.
@@ -102,6 +115,5 @@ pub fn read_steps(alloc: Global, bytes: &[u8]) -> Result<ScriptSteps, BenchFault
     ensures own { IfErr result (λ fault. (fault ≢ BenchFault.Io) × (fault ≢ BenchFault.Spacing)) }
 {
     let mut meter = Meter::new();
-    let session: Session<Cluster<SplitLog>> = Session::run_once(alloc, bytes, &mut meter)?;
-    found(alloc, &session, bytes)
+    steps_on::<Cluster<SplitLog>>(alloc, bytes, &mut meter)
 }

@@ -12,6 +12,7 @@ mod log;
 mod node;
 mod page;
 mod script;
+mod shown;
 mod step;
 mod steps;
 
@@ -20,4 +21,5 @@ pub use laws::{
     what_stands_still_has_no_row,
 };
 pub use page::{FORMAT, Frame, put_page, put_steps};
+pub use shown::Shown;
 pub use steps::steps_of;

@@ -5,7 +5,7 @@ ghost use Rattle.rb_texts.specs.States.{progress_state_text};
 ghost use Rattle.rb_page.specs.Kept.{texts_of};
 ghost use Rattle.rb_step.specs.Node.{PlainNode};
 ghost use Rattle.rb_steps.specs.Committed.{AreKept, IsKept};
-ghost use Rattle.rb_steps.specs.Rows.{new_rows};
+ghost use Rattle.rb_steps.specs.Rows.{new_rows, new_texts};
 ghost use Rattle.rb_steps.specs.States.{added_rows, changed_rows, config_row, gone_of, gone_rows, no_view_row, node_row, node_rows, standing, state_rows, view_row, view_rows};
 
 use crate::fresh::keep_new;
@@ -139,6 +139,19 @@ fn keep_added<L: RaftLog>(texts: &mut Lines, new: &State<L>) -> Result<(), Alloc
     keep_log_from(texts, new.id, &new.log, new.log.first_index() - 1)
 }
 
+// Adds what of a node's numbers, configuration and views is not among these rows.
+fn keep_fresh<L: RaftLog>(
+    alloc: Global,
+    texts: &mut Lines,
+    olds: &Lines,
+    new: &State<L>,
+) -> Result<(), AllocError>
+    ensures { OnOk result (texts.new ≡ texts.old ++ new_texts olds.now (texts_of (standing new.now))) }
+{
+    let news = standing(alloc, new)?;
+    keep_new(texts, olds, &news)
+}
+
 // Adds what of a node's numbers, configuration and views is not as it was.
 fn keep_restated<L: RaftLog>(
     alloc: Global,
@@ -149,8 +162,7 @@ fn keep_restated<L: RaftLog>(
     ensures { OnOk result (texts.new ≡ texts.old ++ texts_of (new_rows (standing old.now) (standing new.now))) }
 {
     let olds = standing(alloc, old)?;
-    let news = standing(alloc, new)?;
-    keep_new(texts, &olds, &news)?;
+    keep_fresh(alloc, texts, &olds, new)?;
     Ok(())
 }
 

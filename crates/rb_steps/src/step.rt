@@ -10,6 +10,7 @@ ghost use Rattle.rb_steps.specs.Steps.{step, step_texts};
 
 use crate::node::keep_states;
 use crate::script::keep_script;
+use crate::shown::Shown;
 use rb_cluster::{Cluster, Meter};
 use rb_machine::Machine;
 use rb_page::keep_texts;
@@ -62,21 +63,59 @@ fn keep_changes<L: RaftLog>(
     Ok(())
 }
 
-/// Adds the rows of a directive, and gives the cluster after it.
-pub(crate) fn keep_step<L: RaftLog>(
+impl<L: RaftLog> Shown for Cluster<L> {
+    fn after(&self, block: &Block) -> Result<(Cluster<L>, Lines), AllocError> {
+        run(self, block)
+    }
+
+    fn keep_happened(&self, texts: &mut Lines, block: &Block) -> Result<(), AllocError> {
+        keep_happened(texts, self, block)
+    }
+
+    fn keep_changes(
+        &self,
+        alloc: Global,
+        texts: &mut Lines,
+        after: &Cluster<L>,
+    ) -> Result<(), AllocError> {
+        keep_changes(alloc, texts, self, after)
+    }
+}
+
+// Adds the rows of a directive, after which a machine stands so, and which printed this.
+fn keep_rows<M: Shown>(
     alloc: Global,
     texts: &mut Lines,
-    cluster: &Cluster<L>,
+    machine: &M,
     block: &Block,
     line: usize,
-) -> Result<Cluster<L>, AllocError>
-    requires { AreSound cluster.now.nodes }
-    ensures texts { OnOk result (texts.new ≡ texts.old ++ step_texts (step line cluster.now block.now)) }
-    ensures cluster { IfOk result (λ after. after ≡ (outcome cluster.now (directive_of block.now)).cluster) }
+    after: &M,
+    output: &Lines,
+) -> Result<(), AllocError>
+    requires sound { AreSound (M.meaning machine.now).nodes }
+    requires after { M.meaning after.now ≡ (outcome (M.meaning machine.now) (directive_of block.now)).cluster }
+    requires output { output.now ≡ (outcome (M.meaning machine.now) (directive_of block.now)).output }
+    ensures { OnOk result (texts.new ≡ texts.old ++ step_texts (step line (M.meaning machine.now) block.now)) }
 {
-    let (after, output) = run(cluster, block)?;
-    keep_script(texts, line, block.expected(), &output)?;
-    keep_happened(texts, cluster, block)?;
-    keep_changes(alloc, texts, cluster, &after)?;
+    keep_script(texts, line, block.expected(), output)?;
+    machine.keep_happened(texts, block)?;
+    machine.keep_changes(alloc, texts, after)?;
+    Ok(())
+}
+
+/// Adds the rows of a directive, and gives the machine after it.
+pub(crate) fn keep_step<M: Shown>(
+    alloc: Global,
+    texts: &mut Lines,
+    machine: &M,
+    block: &Block,
+    line: usize,
+) -> Result<M, AllocError>
+    requires { AreSound (M.meaning machine.now).nodes }
+    ensures texts { OnOk result (texts.new ≡ texts.old ++ step_texts (step line (M.meaning machine.now) block.now)) }
+    ensures machine { IfOk result (λ after. M.meaning after ≡ (outcome (M.meaning machine.now) (directive_of block.now)).cluster) }
+{
+    let (after, output) = machine.after(block)?;
+    keep_rows(alloc, texts, machine, block, line, &after, &output)?;
     Ok(after)
 }

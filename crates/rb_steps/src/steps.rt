@@ -6,11 +6,10 @@ ghost use Rattle.rb_script.specs.declared.limits.TheConstants.{MAX_DIRECTIVES};
 ghost use Rattle.rb_page.specs.Kept.{texts_of};
 ghost use Rattle.rb_steps.specs.Steps.{end_row, source_row, step_texts, steps, steps_texts};
 
+use crate::shown::Shown;
 use crate::step::keep_step;
-use rb_cluster::Cluster;
 use rb_machine::Machine;
 use rb_page::{Cell, keep_row};
-use rb_raftlog::RaftLog;
 use rb_replay::Session;
 use rb_script::{Block, Lines};
 use std::alloc::{AllocError, Global};
@@ -33,20 +32,20 @@ fn number_at(numbers: &[usize], index: usize) -> usize
 }
 
 // Adds the rows of the directives.
-fn keep_directives<L: RaftLog>(
+fn keep_directives<M: Shown>(
     alloc: Global,
     texts: &mut Lines,
-    session: &Session<Cluster<L>>,
+    session: &Session<M>,
     heads: &[usize],
 ) -> Result<(), AllocError>
     requires { length heads.now ≡ length session.now.script.blocks }
     ensures { OnOk result (texts.new ≡ texts.old ++ flat_map step_texts (steps heads.now session.now.script)) }
 {
-    let mut cluster: Cluster<L> = Machine::empty(alloc)?;
+    let mut machine = M::empty(alloc)?;
     for i in 0..session.len() {
         let block = block_at(session, i);
-        let after = keep_step(alloc, texts, &cluster, block, number_at(heads, i))?;
-        cluster = after;
+        let after = keep_step(alloc, texts, &machine, block, number_at(heads, i))?;
+        machine = after;
     }
     Ok(())
 }
@@ -70,10 +69,27 @@ fn keep_source(texts: &mut Lines, bytes: &[u8]) -> Result<(), AllocError>
     keep_row(texts, b"text", &[Cell::Text(bytes)])
 }
 
-/// The rows of a session's script behind the first, each as a text, where these are its bytes and the lines on which its heads begin.
-pub fn steps_of<L: RaftLog>(
+// Adds the rows of a session's script behind the first.
+fn keep_all<M: Shown>(
     alloc: Global,
-    session: &Session<Cluster<L>>,
+    texts: &mut Lines,
+    session: &Session<M>,
+    bytes: &[u8],
+    heads: &[usize],
+) -> Result<(), AllocError>
+    requires { length heads.now ≡ length session.now.script.blocks }
+    ensures { OnOk result (texts.new ≡ texts.old ++ steps_texts bytes.now heads.now session.now.script) }
+{
+    keep_source(texts, bytes)?;
+    keep_directives(alloc, texts, session, heads)?;
+    keep_end(texts, session)?;
+    Ok(())
+}
+
+/// The rows of a session's script behind the first, each as a text, where these are its bytes and the lines on which its heads begin.
+pub fn steps_of<M: Shown>(
+    alloc: Global,
+    session: &Session<M>,
     bytes: &[u8],
     heads: &[usize],
 ) -> Result<Lines, AllocError>
@@ -81,8 +97,6 @@ pub fn steps_of<L: RaftLog>(
     ensures { IfOk result (λ texts. texts ≡ steps_texts bytes.now heads.now session.now.script) }
 {
     let mut texts = Lines::new(alloc);
-    keep_source(&mut texts, bytes)?;
-    keep_directives(alloc, &mut texts, session, heads)?;
-    keep_end(&mut texts, session)?;
+    keep_all(alloc, &mut texts, session, bytes, heads)?;
     Ok(texts)
 }

@@ -12,8 +12,8 @@ use Rattle.rb_steps.proofs.steps.keep_directives.Goals as goal
 
 pub loop-i-init : goal.loop-i-init
 loop-i-init g c = record {
-  rows = ap (λ (d : Cluster). c.args.texts.now ++ flat_map step_texts (steps_from c.args.heads.now d c.args.session.now.script.blocks)) c.in_ok-cluster.ensures;
-  sound = subst (λ (d : Cluster). AreSound d.nodes) (sym c.in_ok-cluster.ensures) begin_sound;
+  rows = ap (λ (d : Cluster). c.args.texts.now ++ flat_map step_texts (steps_from c.args.heads.now d c.args.session.now.script.blocks)) c.in_ok-machine.ensures;
+  sound = subst (λ (d : Cluster). AreSound d.nodes) (sym c.in_ok-machine.ensures) begin_sound;
 }
 
 pub loop-i-preserved : goal.loop-i-preserved
@@ -23,12 +23,12 @@ loop-i-preserved g c =
     let bs = c.args.session.now.script.blocks in
     let b = c.block_at-block.result.now in
     let line = c.number_at.result in
-    let before = c.loop-i.cluster in
+    let before = g.M.Machine.meaning c.loop-i.machine in
     record {
       rows = one_part c.loop-i.texts c.keep_step.new.texts (step_texts (step line before b)) _ _ _
-          (steps_more heads bs i line b before c.in_ok-after.after c.number_at.ensures c.block_at-block.ensures c.in_ok-after.ensures.cluster)
+          (steps_more heads bs i line b before (g.M.Machine.meaning c.in_ok-after.after) c.number_at.ensures c.block_at-block.ensures c.in_ok-after.ensures.machine)
           c.in_ok-after.ensures.texts c.loop-i.invariant.rows;
-      sound = subst (λ (d : Cluster). AreSound d.nodes) (sym c.in_ok-after.ensures.cluster) (stay_sound before (directive_of b) c.loop-i.invariant.sound);
+      sound = subst (λ (d : Cluster). AreSound d.nodes) (sym c.in_ok-after.ensures.machine) (stay_sound before (directive_of b) c.loop-i.invariant.sound);
     }
 
 pub returns : goal.returns
@@ -38,4 +38,4 @@ returns g c =
     let heads = drop i c.args.heads.now in
     let bs = drop i c.args.session.now.script.blocks in
     let none = drop_all i c.args.session.now.script.blocks (omega (arith, c.loop-i-test.false, c.len-i-end.ensures.len)) in
-    sym (append-nil t) ∙ ap (λ (ss : List Step). t ++ flat_map step_texts ss) (sym (steps_end heads c.loop-i.cluster bs none)) ∙ c.loop-i.invariant.rows
+    sym (append-nil t) ∙ ap (λ (ss : List Step). t ++ flat_map step_texts ss) (sym (steps_end heads (g.M.Machine.meaning c.loop-i.machine) bs none)) ∙ c.loop-i.invariant.rows

@@ -7,6 +7,6 @@ use Rattle.rb_steps.proofs.steps.keep_directives.Given as goal
 
 abbrev pub invariant-loop-i : goal.invariant-loop-i
 invariant-loop-i g l = record {
-  rows : l.texts ++ flat_map step_texts (steps_from (drop l.i l.heads) l.cluster (drop l.i l.session.script.blocks)) ≡ l.initial.texts ++ flat_map step_texts (steps l.heads l.session.script);
-  sound : AreSound l.cluster.nodes;
+  rows : l.texts ++ flat_map step_texts (steps_from (drop l.i l.heads) (g.M.Machine.meaning l.machine) (drop l.i l.session.script.blocks)) ≡ l.initial.texts ++ flat_map step_texts (steps l.heads l.session.script);
+  sound : AreSound (g.M.Machine.meaning l.machine).nodes;
 }

@@ -1,10 +1,9 @@
-use Rattle.std.proofs.Common.{◌∙◌, ◌++◌, ◌∷◌, [], List, ap}
+use Rattle.std.proofs.Common.{◌∷◌, []}
 use Rattle.std.specs.List.{flat_map}
-use Rattle.rb_script.specs.Lines.{Line}
 use Rattle.rb_page.specs.Kept.{texts_of}
 use Rattle.rb_steps.specs.Steps.{end_row, source_row, step_texts, steps}
 use Rattle.rb_steps.proofs.KeepLaws.{three_parts}
-use Rattle.rb_steps.proofs.steps.steps_of.Goals as goal
+use Rattle.rb_steps.proofs.steps.keep_all.Goals as goal
 
 pub returns : goal.returns
 returns g c =
@@ -12,6 +11,5 @@ returns g c =
     let source = texts_of (source_row c.args.bytes.now ∷ []) in
     let all = flat_map step_texts (steps c.args.heads.now s) in
     let last = texts_of (end_row s ∷ []) in
-    three_parts c.new-texts.result c.keep_source.new.texts c.keep_directives.new.texts c.keep_end.new.texts source all last
+    three_parts c.args.texts.now c.keep_source.new.texts c.keep_directives.new.texts c.keep_end.new.texts source all last
     c.in_ok-keep_source.ensures c.in_ok-keep_directives.ensures c.in_ok-keep_end.ensures
-    ∙ ap (λ (t : List Line). t ++ (source ++ (all ++ last))) c.new-texts.ensures
