@@ -33,15 +33,17 @@ fn or_nothing(line: &[u8]) -> &[u8]
     if is_reason(line) { line } else { b"" }
 }
 
-// The reason that stands at a place, where one does; else nothing.
-#[tactic(auto, using(crate::proofs::WhyLaws::first_there, crate::proofs::WhyLaws::first_past))]
-fn reason_at(explained: &Lines, at: usize) -> &[u8]
-    ensures { result.now ≡ first_reason (drop at explained.now) }
+// The reason that stands behind the line at a place, where one does; else nothing.
+#[tactic(auto, using(crate::proofs::WhyLaws::first_past))]
+fn reason_behind(explained: &Lines, at: usize) -> &[u8]
+    requires { at < length explained.now }
+    ensures { result.now ≡ first_reason (drop (at + 1) explained.now) }
 {
-    if at < explained.len() {
-        return or_nothing(explained.line(at));
+    let left = explained.len() - at;
+    if left == 1 {
+        return b"";
     }
-    b""
+    or_nothing(explained.line(at + 1))
 }
 
 // Adds the reason that stands before all lines, where one does.
@@ -66,7 +68,7 @@ fn push_below(reasons: &mut Lines, explained: &Lines, at: usize) -> Result<(), A
     if is_reason(explained.line(at)) {
         return Ok(());
     }
-    reasons.push(reason_at(explained, at + 1))?;
+    reasons.push(reason_behind(explained, at))?;
     Ok(())
 }
 

@@ -7,5 +7,5 @@ returns-then-is_reason c = below-reason c.args.explained.now c.args.reasons.now 
 
 pub returns : goal.returns
 returns c =
-    below-line c.args.explained.now c.args.reasons.now c.push.new.reasons c.args.at c.line.result.now c.reason_at.result.now c.line.ensures (sym c.is_reason.ensures ∙ c.if-is_reason.false) c.reason_at.ensures
-    c.in_ok-push.ensures
+    below-line c.args.explained.now c.args.reasons.now c.push.new.self c.args.at c.line.result.now c.reason_behind.result.now c.line.ensures (sym c.is_reason.ensures ∙ c.if-is_reason.false) c.reason_behind.ensures
+    c.in_ok-push.ensures.ok
