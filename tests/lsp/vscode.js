@@ -148,7 +148,8 @@ async function main() {
   const words = await providers.provideCompletionItems(document, { line: 0, character: 5 });
   assert.deepStrictEqual(words.map((it) => [it.label, it.kind, it.insertText, it.range.numbers]), [["log-level", 2, "log-level", [0, 0, 0, 5]]]);
   assert(words[0].documentation.length > 0);
-  assert.deepStrictEqual(await providers.provideDocumentFormattingEdits(document, { tabSize: 4, insertSpaces: true }), []);
+  // An empty line stands below each block of a canonical text (docs/SCRIPT-FORMAT.md).
+  assert.deepStrictEqual(await providers.provideDocumentFormattingEdits(document, { tabSize: 4, insertSpaces: true }), [[[3, 0, 3, 0], "\n"]]);
   document.version = 2;
   listeners.change.forEach((listener) => listener({ document, contentChanges: [{ range, rangeLength: 2, text: "ok" }] }));
   await until(() => shown.get(uri)?.length === 0);
