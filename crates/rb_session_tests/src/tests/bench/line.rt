@@ -5,6 +5,7 @@ use rb_line::{Fed, InputFault, LineBuffer, LineReader, Next, Source};
 use rb_script::{Lines, MAX_LINE};
 use std::alloc::Global;
 use std::process::Abort;
+use std::test::Fail;
 
 /// Ends the test where something isn't so. An assertion is dear to prove.
 fn is(rt: &impl Abort, so: bool, what: &str) {
@@ -200,4 +201,24 @@ fn feeds(rt: &impl Abort, line: &mut LineBuffer) {
 fn feeds_a_line(rt: HostRuntime) {
     let mut line = LineBuffer::new(rt.alloc()).expect(&rt, "memory");
     feeds(&rt, &mut line);
+}
+
+fn reads_two_lines(rt: &impl Abort, input: &mut LineReader) {
+    let mut reader: &[u8] = b"one\r\ntwo";
+    is(rt, input.next(&mut reader) == Ok(Next::Line), "a line");
+    is(rt, input.line() == b"one".as_slice(), "its text");
+    is(rt, input.next(&mut reader) == Ok(Next::Line), "another");
+    is(rt, input.line() == b"two".as_slice(), "its text");
+    is(rt, input.next(&mut reader) == Ok(Next::End), "the end");
+}
+
+// The room is taken at the start; no other call is refused any.
+#[test]
+fn reads_lines_under_refusals(rt: HostRuntime) -> Result<(), Fail> {
+    let Ok(mut input) = LineReader::new(rt.alloc(), 100) else {
+        println!(rt; "refused")?;
+        return Ok(());
+    };
+    reads_two_lines(&rt, &mut input);
+    Ok(())
 }
