@@ -7,11 +7,12 @@ ghost use Rattle.rb_machine.specs.Acts.{campaign, propose, ticked_times, tick_el
 ghost use Rattle.rb_machine.specs.Scenes.{scene};
 
 use crate::cluster::{Cluster, place_of};
+use rb_change::Shared;
 use rb_level::Word;
 use rb_machine::Screen;
 use rb_message::{Event, Message, MessageKind};
 use rb_node::Node;
-use rb_raftlog::{RaftLog, Shared};
+use rb_raftlog::RaftLog;
 use rb_step::ELECTION_TICKS;
 use rb_why::reason;
 use std::alloc::AllocError;

@@ -11,11 +11,12 @@ ghost use Rattle.rb_machine.specs.Scenes.{scene};
 
 use crate::cluster::Cluster;
 use crate::shared_node::SharedNode;
+use rb_change::{ConfState, Shared};
 use rb_directive::{AddNodes, IdList, MAX_ID, MAX_NODES};
 use rb_level::{DirectiveError, Word};
 use rb_machine::Screen;
 use rb_node::Node;
-use rb_raftlog::{ConfState, Content, RaftLog, Shared, Snapshot};
+use rb_raftlog::{Content, RaftLog, Snapshot};
 use rb_step::Options;
 use std::alloc::{AllocError, Global};
 

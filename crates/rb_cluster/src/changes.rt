@@ -2,44 +2,15 @@
 
 ghost use Rattle.std.specs.Prelude.{◌≡◌, IfOk, OnOk};
 ghost use Rattle.rb_directive.specs.Changes.{input_words};
-ghost use Rattle.rb_machine.specs.Changes.{transition_of, kind_of, word_of, words_of, propose_change};
+ghost use Rattle.rb_machine.specs.Changes.{words_of, propose_change};
 ghost use Rattle.rb_machine.specs.Scenes.{scene};
 
 use crate::cluster::{Cluster, place_of};
-use rb_directive::{Change, ChangeKind, Inputs, ProposeConfChange, change_of};
+use rb_change::{Shared, Word};
+use rb_directive::{Inputs, ProposeConfChange, change_of};
 use rb_machine::Screen;
-use rb_raftlog::{RaftLog, Shared, Transition, Word, WordKind};
+use rb_raftlog::RaftLog;
 use std::alloc::{AllocError, Global};
-
-fn transition_of(transition: rb_directive::Transition) -> Transition
-    ensures { result ≡ transition_of transition }
-{
-    match transition {
-        rb_directive::Transition::Auto => Transition::Auto,
-        rb_directive::Transition::Explicit => Transition::Explicit,
-        rb_directive::Transition::Implicit => Transition::Implicit,
-    }
-}
-
-fn kind_of(kind: ChangeKind) -> WordKind
-    ensures { result ≡ kind_of kind }
-{
-    match kind {
-        ChangeKind::Voter => WordKind::Voter,
-        ChangeKind::Learner => WordKind::Learner,
-        ChangeKind::Removed => WordKind::Remove,
-        ChangeKind::Updated => WordKind::Update,
-    }
-}
-
-fn word_of(change: Change) -> Word
-    ensures { result ≡ word_of change }
-{
-    Word {
-        kind: kind_of(change.kind),
-        id: u64::from(change.id),
-    }
-}
 
 // The changes that the words of the input are.
 #[tactic(auto, using(rb_directive::proofs::ChangeLaws::all_words))]
@@ -51,7 +22,7 @@ fn words_of(alloc: Global, inputs: &Inputs<'_>) -> Result<Vec<Word>, AllocError>
     let mut rest: &[u8] = &[];
     while let Some((word, line, after)) = inputs.next_word(from, rest) {
         if let Some(change) = change_of(word) {
-            words.push(word_of(change))?;
+            words.push(change)?;
         }
         from = line;
         rest = after;
@@ -74,7 +45,7 @@ impl<L: RaftLog> Cluster<L> {
             return Ok(());
         };
         let node = shared.to_change()?;
-        node.propose_change(transition_of(asked.transition), words, &mut events)?;
+        node.propose_change(asked.transition, words, &mut events)?;
         screen.show_events(&events)
     }
 }

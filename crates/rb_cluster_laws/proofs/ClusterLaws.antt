@@ -10,7 +10,7 @@ use Rattle.rb_directive.specs.declared.asking.Request.{Request}
 use Rattle.rb_directive.specs.declared.asking.Request.TheVariants as requests
 use Rattle.rb_directive.specs.declared.build.Asked.{Asked}
 use Rattle.rb_directive.specs.Requests.{request}
-use Rattle.rb_raftlog.specs.declared.conf_state.ConfState.{ConfState}
+use Rattle.rb_change.specs.declared.conf_state.ConfState.{ConfState}
 use Rattle.rb_raftlog.specs.declared.snapshot.Snapshot.{Snapshot}
 use Rattle.rb_raftlog.specs.Laws.{AreMatching}
 use Rattle.rb_step.specs.declared.options.Options.{Options}

@@ -7,7 +7,7 @@ use Rattle.rb_directive.specs.declared.asking.Request.{Request}
 use Rattle.rb_directive.specs.declared.asking.Request.TheVariants as requests
 use Rattle.rb_directive.specs.declared.build.Asked.{Asked}
 use Rattle.rb_directive.specs.Requests.{request}
-use Rattle.rb_raftlog.specs.declared.conf_state.ConfState.{ConfState}
+use Rattle.rb_change.specs.declared.conf_state.ConfState.{ConfState}
 use Rattle.rb_machine.specs.Cluster.{Cluster}
 use Rattle.rb_machine.specs.Outcome.{outcome}
 use Rattle.rb_cluster_laws.specs.Network.{AreStarted}

@@ -1,7 +1,7 @@
 -- Nodes, and what becomes of what they say: a message may be lost, may come late, more than once, and in any order (Ongaro's thesis,
 -- section 2.1)
 use Rattle.std.specs.Prelude.{ℕ, ◌≡◌, ◌+◌, List, [], ◌∷◌, ◌++◌, Option, Some, None, slice_get, slice_set}
-use Rattle.rb_raftlog.specs.declared.conf_state.ConfState.{ConfState}
+use Rattle.rb_change.specs.declared.conf_state.ConfState.{ConfState}
 use Rattle.rb_raftlog.specs.declared.snapshot.Snapshot.{Snapshot}
 use Rattle.rb_message.specs.declared.event.Event.{Event}
 use Rattle.rb_message.specs.declared.message.Message.{Message}

@@ -5,7 +5,7 @@ ghost use Rattle.rb_directive.specs.declared.asking.AddNodes.{AddNodes};
 ghost use Rattle.rb_directive.specs.declared.asking.Request.TheVariants as requests;
 ghost use Rattle.rb_directive.specs.declared.build.Asked.{Asked};
 ghost use Rattle.rb_directive.specs.Requests.{request};
-ghost use Rattle.rb_raftlog.specs.declared.conf_state.ConfState.{ConfState};
+ghost use Rattle.rb_change.specs.declared.conf_state.ConfState.{ConfState};
 ghost use Rattle.rb_raftlog.specs.Laws.{AreMatching};
 ghost use Rattle.rb_tracker.specs.Configs.{config_of};
 ghost use Rattle.rb_step.specs.Node.{PlainNode};

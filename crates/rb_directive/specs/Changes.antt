@@ -5,30 +5,30 @@ use Rattle.rb_script.specs.Lines.{Line}
 use Rattle.rb_words.specs.Words.{words}
 use Rattle.rb_level.specs.declared.directive_error.DirectiveError.{DirectiveError}
 use Rattle.rb_level.specs.declared.directive_error.DirectiveError.TheVariants as errors
-use Rattle.rb_directive.specs.declared.change.Change.{Change}
-use Rattle.rb_directive.specs.declared.change.ChangeKind.{ChangeKind}
-use Rattle.rb_directive.specs.declared.change.ChangeKind.TheVariants as kinds
-use Rattle.rb_directive.specs.declared.form.Transition.{Transition}
-use Rattle.rb_directive.specs.declared.form.Transition.TheVariants as transitions
+use Rattle.rb_change.specs.declared.change.Word as change
+use Rattle.rb_change.specs.declared.change.WordKind.{WordKind}
+use Rattle.rb_change.specs.declared.change.WordKind.TheVariants as kinds
+use Rattle.rb_change.specs.declared.change.Transition.{Transition}
+use Rattle.rb_change.specs.declared.change.Transition.TheVariants as transitions
 use Rattle.rb_directive.specs.Forms.{Word}
 use Rattle.rb_directive.specs.IdLists.{id_of}
 
 -- `v`, `l`, `r`, `u`
-abbrev pub kind_of : ℕ → Option ChangeKind
+abbrev pub kind_of : ℕ → Option WordKind
 kind_of letter =
     if letter == 118 then Some kinds.Voter
     else (if letter == 108 then Some kinds.Learner
-    else (if letter == 114 then Some kinds.Removed
-    else (if letter == 117 then Some kinds.Updated
+    else (if letter == 114 then Some kinds.Remove
+    else (if letter == 117 then Some kinds.Update
     else None)))
 
-abbrev pub with_id : Option ChangeKind → Option ℕ → Option Change
+abbrev pub with_id : Option WordKind → Option ℕ → Option change.Word
 with_id None id = None
 with_id (Some kind) None = None
 with_id (Some kind) (Some id) = Some (record { kind = kind; id = id })
 
 -- a letter and an id
-abbrev pub change_of : Word → Option Change
+abbrev pub change_of : Word → Option change.Word
 change_of [] = None
 change_of (letter ∷ digits) = with_id (kind_of letter) (id_of digits)
 

@@ -1,8 +1,8 @@
 -- What a word of a directive can say. (This project's.)
 use Rattle.std.specs.Prelude.{ℕ, Bool, true, false, nat_le, ◌&&◌, if◌then◌else◌, codes, List, Option, Some, None}
 use Rattle.std.specs.Str.{bytes_eq}
-use Rattle.rb_directive.specs.declared.form.Transition.{Transition}
-use Rattle.rb_directive.specs.declared.form.Transition.TheVariants as transitions
+use Rattle.rb_change.specs.declared.change.Transition.{Transition}
+use Rattle.rb_change.specs.declared.change.Transition.TheVariants as transitions
 
 abbrev pub Word : Type 0
 Word = List ℕ

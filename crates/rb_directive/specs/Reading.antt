@@ -5,7 +5,7 @@ use Rattle.rb_script.specs.Directive.{PlainArgument}
 use Rattle.rb_number.specs.Numbers.{number_of}
 use Rattle.rb_level.specs.Levels.{level_of}
 use Rattle.rb_level.specs.declared.level.Level.{Level}
-use Rattle.rb_directive.specs.declared.form.Transition.{Transition}
+use Rattle.rb_change.specs.declared.change.Transition.{Transition}
 use Rattle.rb_level.specs.declared.directive_error.DirectiveError.{DirectiveError}
 use Rattle.rb_level.specs.declared.directive_error.DirectiveError.TheVariants as errors
 use Rattle.rb_directive.specs.declared.table.Row.{Row}

@@ -9,7 +9,7 @@ use Rattle.rb_level.specs.declared.directive_error.DirectiveError.{DirectiveErro
 use Rattle.rb_level.specs.declared.directive_error.DirectiveError.TheVariants as errors
 use Rattle.rb_directive.specs.declared.name.Name.{Name}
 use Rattle.rb_directive.specs.declared.name.Name.TheVariants as names
-use Rattle.rb_directive.specs.declared.form.Transition.TheVariants as transitions
+use Rattle.rb_change.specs.declared.change.Transition.TheVariants as transitions
 use Rattle.rb_directive.specs.declared.table.Row.{Row}
 use Rattle.rb_directive.specs.declared.given.Given.{Given}
 use Rattle.rb_directive.specs.declared.asking.AddNodes.{AddNodes}

@@ -7,9 +7,9 @@ ghost use Rattle.std.specs.Prelude.{◌≡◌};
 ghost use Rattle.rb_directive.specs.Requests.{nodes_of};
 
 use crate::change::Inputs;
-use crate::form::Transition;
 use crate::id_list::IdList;
 use crate::message_type::TypeSet;
+use rb_change::Transition;
 use rb_level::{DirectiveError, Level, Word};
 
 /// `add-nodes`: new nodes, all of them alike.

@@ -9,13 +9,13 @@ ghost use Rattle.rb_directive.specs.Requests.{wanted, add_nodes, propose, propos
 
 use crate::asking::{AddNodes, DeliverMsgs, ProposeConfChange, Request};
 use crate::change::{Inputs, change_fault};
-use crate::form::Transition;
 use crate::given::Given;
 use crate::id_list::IdList;
 use crate::limits::{ROUNDS, WINDOW};
 use crate::name::Name;
 use crate::reading::read;
 use crate::table::{Row, row_of};
+use rb_change::Transition;
 use rb_level::{DirectiveError, Level, Word};
 use rb_script::DirectiveRef;
 

@@ -7,28 +7,12 @@ ghost use Rattle.std.specs.Prelude.{◌≡◌, ◌≤◌, ◌<◌, ◌∷◌, []
 ghost use Rattle.rb_script.specs.Tokens.{plain};
 ghost use Rattle.rb_directive.specs.Changes.{kind_of, change_of, words_left, input_words, first_bad, is_one, is_auto, fits, change_fault};
 
-use crate::form::{Transition, id_of};
+use crate::form::id_of;
+use rb_change::{Transition, WordKind};
 use rb_level::{DirectiveError, Word};
 use rb_script::DirectiveRef;
 use rb_words::first_word;
 use std::marker::Model;
-
-/// What a change does with its node.
-#[derive(Clone, Copy, Debug, PartialEq, Eq)]
-pub enum ChangeKind {
-    Voter,
-    Learner,
-    Removed,
-    /// Nothing.
-    Updated,
-}
-
-/// One change of a configuration.
-#[derive(Clone, Copy)]
-pub struct Change {
-    pub kind: ChangeKind,
-    pub id: u8,
-}
 
 /// The input lines of a directive. In contracts it is the list of the lines.
 #[derive(Drop)]
@@ -119,26 +103,29 @@ impl<'d> Inputs<'d> {
 }
 
 // What the letter of a change stands for.
-fn kind_of(letter: u8) -> Option<ChangeKind>
+fn kind_of(letter: u8) -> Option<WordKind>
     ensures { result ≡ kind_of letter }
 {
     match letter {
-        b'v' => Some(ChangeKind::Voter),
-        b'l' => Some(ChangeKind::Learner),
-        b'r' => Some(ChangeKind::Removed),
-        b'u' => Some(ChangeKind::Updated),
+        b'v' => Some(WordKind::Voter),
+        b'l' => Some(WordKind::Learner),
+        b'r' => Some(WordKind::Remove),
+        b'u' => Some(WordKind::Update),
         _ => None,
     }
 }
 
 /// The change that a word is: a letter and an id.
-pub fn change_of(word: &[u8]) -> Option<Change>
+pub fn change_of(word: &[u8]) -> Option<rb_change::Word>
     ensures { result ≡ change_of word.now }
 {
     let (letter, digits) = word.split_first()?;
     let kind = kind_of(*letter)?;
     let id = id_of(digits)?;
-    Some(Change { kind, id })
+    Some(rb_change::Word {
+        kind,
+        id: u64::from(id),
+    })
 }
 
 // Whether the words are as many as a change takes, and the transition is one that it has.

@@ -6,18 +6,8 @@ ghost use Rattle.rb_directive.specs.Forms.{within, flag_of, transition_of};
 ghost use Rattle.rb_directive.specs.IdLists.{id_of};
 
 use crate::limits::MAX_ID;
+use rb_change::Transition;
 use rb_number::number_of;
-
-/// How a cluster gets from one configuration to the next (etcd raft's documentation of configuration changes).
-#[derive(Clone, Copy, Debug, PartialEq, Eq)]
-pub enum Transition {
-    /// One change at once, several by a joint configuration that is left by itself.
-    Auto,
-    /// By a joint configuration, which a directive leaves.
-    Explicit,
-    /// By a joint configuration that is left by itself.
-    Implicit,
-}
 
 /// The number that a word is, where it is from `low` to `high`.
 pub(crate) fn number_within(word: &[u8], low: u64, high: u64) -> Option<u64>

@@ -5,9 +5,9 @@ ghost use Rattle.rb_directive.specs.Table.{after};
 ghost use Rattle.rb_directive.specs.Givens.{nothing, number_given, flag_given, bytes_given, level_given, ids_given, is_given, listed, excludes, number_set, flag_set, bytes_set, level_set, ids_set};
 
 use crate::argument::{Argument, Bytes, Flag, Ids, LevelFor, Number};
-use crate::form::Transition;
 use crate::id_list::IdList;
 use crate::message_type::TypeSet;
+use rb_change::Transition;
 use rb_level::{Level, Word};
 
 /// Where a word stands among the words of a directive.

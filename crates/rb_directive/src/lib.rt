@@ -23,8 +23,7 @@ mod table;
 pub use argument::{Argument, Bytes, Flag, Ids, LevelFor, Number};
 pub use asking::{AddNodes, DeliverMsgs, Named, ProposeConfChange, Request};
 pub use build::{Asked, request};
-pub use change::{Change, ChangeKind, Inputs, change_of};
-pub use form::Transition;
+pub use change::{Inputs, change_of};
 pub use id_list::IdList;
 pub use laws::{
     names_are_apart, names_say_what_is_asked_for, numbers_are_read, options_are_those_of_the_table,

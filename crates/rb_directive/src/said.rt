@@ -1,8 +1,9 @@
 //! An argument where it stands in a directive: its key, and the words that it says.
 
-use crate::form::{Transition, flag_of, id_of, number_within, transition_of};
+use crate::form::{flag_of, id_of, number_within, transition_of};
 use crate::id_list::IdList;
 use crate::message_type::{TypeSet, type_of};
+use rb_change::Transition;
 use rb_level::{Level, level_of};
 use rb_script::DirectiveRef;
 use std::marker::Model;

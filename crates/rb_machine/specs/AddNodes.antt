@@ -7,7 +7,7 @@ use Rattle.rb_level.specs.declared.directive_error.DirectiveError.TheVariants as
 use Rattle.rb_directive.specs.declared.asking.AddNodes.{AddNodes}
 use Rattle.rb_directive.specs.declared.limits.TheConstants.{MAX_ID, MAX_NODES}
 use Rattle.rb_directive.specs.IdLists.{holds}
-use Rattle.rb_raftlog.specs.declared.conf_state.ConfState.{ConfState}
+use Rattle.rb_change.specs.declared.conf_state.ConfState.{ConfState}
 use Rattle.rb_raftlog.specs.declared.snapshot.Snapshot.{Snapshot}
 use Rattle.rb_step.specs.declared.options.Options.{Options}
 use Rattle.rb_step.specs.Node.{PlainNode, Turn}

@@ -11,7 +11,7 @@ ghost use Rattle.rb_message.specs.Paged.{IsPaged};
 use crate::limits::{MAX_PAGES, PAGE};
 use crate::message::Message;
 use crate::messages::{copies_of, push_copies, same_messages};
-use rb_raftlog::Shared;
+use rb_change::Shared;
 use std::alloc::{AllocError, Global};
 use std::marker::Model;
 use std::mem;

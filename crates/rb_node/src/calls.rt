@@ -12,7 +12,8 @@ ghost use Rattle.rb_node.specs.Calls.{called, leader_forgotten, reported, IsComp
 
 use crate::node::Node;
 use rb_message::{Event, Message, MessageKind, Role};
-use rb_raftlog::{Body, CompactFault, RaftLog, Shared, Snapshot, Transition, Word};
+use rb_change::{Shared, Transition, Word};
+use rb_raftlog::{Body, CompactFault, RaftLog, Snapshot};
 use rb_step::State;
 use rb_tracker::ProgressState;
 use std::alloc::AllocError;

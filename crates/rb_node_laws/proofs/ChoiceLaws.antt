@@ -3,8 +3,8 @@ use Rattle.std.proofs.Common.{◌≡◌, ℕ, ◌+◌, ◌≤◌, ◌<◌, ◌�
 use Rattle.std.proofs.lemmas.Bool.{ltb-false, ltb-true, le-leb, lt-ltb, false≢true, eqb-false}
 use Rattle.rb_raftlog.specs.declared.entry.Body.{Body}
 use Rattle.rb_raftlog.specs.declared.entry.Body.TheVariants.{Payload, Change}
-use Rattle.rb_raftlog.specs.declared.entry.Transition.{Transition}
-use Rattle.rb_raftlog.specs.declared.entry.Word.{Word}
+use Rattle.rb_change.specs.declared.change.Transition.{Transition}
+use Rattle.rb_change.specs.declared.change.Word.{Word}
 use Rattle.rb_raftlog.specs.Log.{last, own, has_change}
 use Rattle.std.proofs.lemmas.Bool.Decides.{nat_tests}
 use Rattle.rb_tracker.proofs.SetLaws.{if_both}

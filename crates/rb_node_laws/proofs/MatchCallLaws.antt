@@ -5,9 +5,9 @@ use Rattle.std.specs.Map.{keys_of, lookup, remove_entry}
 use Rattle.rb_raftlog.specs.declared.entry.Body.{Body}
 use Rattle.rb_raftlog.specs.declared.entry.Body.TheVariants.{Payload, Change}
 use Rattle.rb_raftlog.specs.declared.entry.Entry.{Entry}
-use Rattle.rb_raftlog.specs.declared.entry.Transition.{Transition}
-use Rattle.rb_raftlog.specs.declared.entry.Transition.TheVariants.{Auto}
-use Rattle.rb_raftlog.specs.declared.entry.Word.{Word}
+use Rattle.rb_change.specs.declared.change.Transition.{Transition}
+use Rattle.rb_change.specs.declared.change.Transition.TheVariants.{Auto}
+use Rattle.rb_change.specs.declared.change.Word.{Word}
 use Rattle.rb_raftlog.specs.declared.raft_log.CompactFault.{CompactFault}
 use Rattle.rb_tracker.proofs.SetLaws.{if_both}
 use Rattle.rb_tracker.specs.Active.{unmarked_but, unmarked}

@@ -2,9 +2,9 @@
 use Rattle.rb_raftlog.specs.declared.entry.Body.{Body}
 use Rattle.rb_raftlog.specs.declared.entry.Body.TheVariants.{Payload, Change}
 use Rattle.rb_raftlog.specs.declared.entry.Entry.{Entry}
-use Rattle.rb_raftlog.specs.declared.entry.Transition.{Transition}
-use Rattle.rb_raftlog.specs.declared.entry.Transition.TheVariants.{Auto}
-use Rattle.rb_raftlog.specs.declared.entry.Word.{Word}
+use Rattle.rb_change.specs.declared.change.Transition.{Transition}
+use Rattle.rb_change.specs.declared.change.Transition.TheVariants.{Auto}
+use Rattle.rb_change.specs.declared.change.Word.{Word}
 use Rattle.rb_raftlog.specs.declared.raft_log.Appended.{Appended}
 use Rattle.rb_raftlog.specs.declared.raft_log.Appended.TheVariants.{Matched, Refused, BelowCommit}
 use Rattle.rb_raftlog.specs.declared.raft_log.CompactFault.{CompactFault}

@@ -13,7 +13,8 @@ ghost use Rattle.rb_page.specs.Spans.{spans_text};
 use crate::names::transition_name;
 use crate::piece::{Piece, put_pieces};
 use crate::span::{Span, put_spans};
-use rb_raftlog::{Body, Transition, Word};
+use rb_change::{Transition, Word};
+use rb_raftlog::Body;
 use rb_script::{Sink, WriteFault};
 use rb_tracker::Config;
 

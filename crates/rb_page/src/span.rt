@@ -15,7 +15,7 @@ ghost use Rattle.rb_page.specs.Spans.{span_text, spans_text};
 
 use crate::escape::{hex_digit, put_escaped};
 use itoa::Buffer;
-use rb_raftlog::{Word, WordKind};
+use rb_change::{Word, WordKind};
 use rb_script::{Sink, WriteFault};
 
 /// A part of a text.

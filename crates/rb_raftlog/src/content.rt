@@ -14,7 +14,7 @@ ghost use Rattle.rb_raftlog.specs.Packed.{joined};
 
 use crate::limits::{END, MAX_INDEX, PIECE};
 use crate::pages::Pages;
-use crate::shared::Shared;
+use rb_change::Shared;
 use std::alloc::{AllocError, Global};
 use std::marker::Model;
 use std::slice;

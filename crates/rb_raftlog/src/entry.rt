@@ -8,40 +8,8 @@
 
 ghost use Rattle.std.specs.Prelude.{◌≡◌, ◌↔◌, IsTrue, IfOk};
 
-use crate::shared::Shared;
+use rb_change::{Shared, Transition, Word};
 use std::alloc::AllocError;
-
-/// How a change of the configuration is made: at once or over a joint configuration, and whether that is left by itself
-/// (`ConfChangeTransition` in etcd's raft).
-#[derive(Clone, Copy, PartialEq, Eq, Debug)]
-pub enum Transition {
-    /// At once where one voter changes, else over a joint configuration that is left by itself.
-    Auto,
-    /// Over a joint configuration that a further change leaves.
-    Explicit,
-    /// Over a joint configuration that is left by itself.
-    Implicit,
-}
-
-/// What a word of a change does with its id (`ConfChangeType` in etcd's raft).
-#[derive(Clone, Copy, PartialEq, Eq, Debug)]
-pub enum WordKind {
-    /// Makes the node a voter.
-    Voter,
-    /// Makes it a learner.
-    Learner,
-    /// Takes it out of the configuration.
-    Remove,
-    /// Leaves the configuration as it is.
-    Update,
-}
-
-/// One word of a change: what becomes of which node.
-#[derive(Clone, Copy, PartialEq, Eq, Debug)]
-pub struct Word {
-    pub kind: WordKind,
-    pub id: u64,
-}
 
 /// What an entry brings.
 #[derive(Drop)]

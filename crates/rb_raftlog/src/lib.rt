@@ -4,7 +4,6 @@
 //! one, and [`Content`] what comes of applying payloads.
 #![tactic(auto)]
 
-mod conf_state;
 mod content;
 mod entries;
 mod entry;
@@ -17,16 +16,14 @@ mod pages;
 mod pieces;
 mod plain_store;
 mod raft_log;
-mod shared;
 mod snapshot;
 mod split_store;
 mod store;
 mod try_copy;
 
-pub use conf_state::ConfState;
 pub use content::Content;
 pub use entries::Entries;
-pub use entry::{Body, Entry, Transition, Word, WordKind};
+pub use entry::{Body, Entry};
 pub use entry_list::EntryList;
 pub use laws::{
     answers_say_what_is_held, appended_entries_match, appending_again_changes_nothing, bases_move,
@@ -40,7 +37,6 @@ pub use log::Log;
 pub use pieces::Pieces;
 pub use plain_store::PlainStore;
 pub use raft_log::{Appended, CompactFault, LogFault, RaftLog};
-pub use shared::Shared;
 pub use snapshot::Snapshot;
 pub use split_store::SplitStore;
 pub use store::Store;

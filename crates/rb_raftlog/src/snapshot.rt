@@ -5,8 +5,8 @@
 
 ghost use Rattle.std.specs.Prelude.{◌≡◌, ◌↔◌, IsTrue, IfOk};
 
-use crate::conf_state::ConfState;
 use crate::content::Content;
+use rb_change::ConfState;
 use std::alloc::AllocError;
 
 /// A node's content and configuration, as they are where the entry at an index, which is of a term, is applied.

@@ -6,7 +6,7 @@
 ghost use Rattle.std.specs.Prelude.{◌≡◌, ◌++◌, ◌+◌, ◌≤◌, length, take, IfOk, OnOk, OnErr};
 
 use crate::entry::Entry;
-use crate::shared::Shared;
+use rb_change::Shared;
 use std::alloc::AllocError;
 
 /// What can be copied.

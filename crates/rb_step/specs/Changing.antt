@@ -3,9 +3,9 @@ use Rattle.std.specs.Prelude.{ℕ, ◌+◌, true, Bool, ◌&&◌, not, List, [],
 use Rattle.rb_raftlog.specs.declared.entry.Body.{Body}
 use Rattle.rb_raftlog.specs.declared.entry.Body.TheVariants.{Payload, Change}
 use Rattle.rb_raftlog.specs.declared.entry.Entry.{Entry}
-use Rattle.rb_raftlog.specs.declared.entry.Transition.{Transition}
-use Rattle.rb_raftlog.specs.declared.entry.Transition.TheVariants.{Auto}
-use Rattle.rb_raftlog.specs.declared.entry.Word.{Word}
+use Rattle.rb_change.specs.declared.change.Transition.{Transition}
+use Rattle.rb_change.specs.declared.change.Transition.TheVariants.{Auto}
+use Rattle.rb_change.specs.declared.change.Word.{Word}
 use Rattle.rb_tracker.specs.Changes.{changed}
 use Rattle.rb_tracker.specs.Configs.{is_joint, is_voter, members, is_member}
 use Rattle.rb_tracker.specs.Progresses.{PlainProgress}

@@ -5,7 +5,7 @@
 
 ghost use Rattle.std.specs.Prelude.{◌≡◌, ◌+◌, ◌≤◌, [], length, IfOk, OnOk, Ok, Err};
 ghost use Rattle.rb_raftlog.specs.declared.entry.Body.TheVariants.{Change};
-ghost use Rattle.rb_raftlog.specs.declared.entry.Transition.TheVariants.{Auto};
+ghost use Rattle.rb_change.specs.declared.change.Transition.TheVariants.{Auto};
 ghost use Rattle.rb_raftlog.specs.declared.limits.TheConstants.{MAX_INDEX};
 ghost use Rattle.rb_message.specs.declared.event.Event.TheVariants.{Switched};
 ghost use Rattle.rb_step.specs.Node.{turn, told};
@@ -13,7 +13,8 @@ ghost use Rattle.rb_step.specs.Changing.{missing, without_stranger, without_stra
 
 use crate::state::State;
 use rb_message::{Event, Role};
-use rb_raftlog::{Body, Entry, RaftLog, Shared, Transition, Word};
+use rb_change::{Shared, Transition, Word};
+use rb_raftlog::{Body, Entry, RaftLog};
 use rb_tracker::{ChangeFault, Config};
 use std::alloc::AllocError;
 

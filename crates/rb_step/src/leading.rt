@@ -12,7 +12,8 @@ ghost use Rattle.rb_step.specs.Leading.{with_own, is_log_full, appended, appende
 
 use crate::state::State;
 use rb_message::{Event, MessageKind, Role};
-use rb_raftlog::{Body, Entry, MAX_INDEX, RaftLog, Shared};
+use rb_change::Shared;
+use rb_raftlog::{Body, Entry, MAX_INDEX, RaftLog};
 use rb_tracker::Progress;
 use std::alloc::AllocError;
 

@@ -31,7 +31,7 @@ use Rattle.rb_node_laws.proofs.CallLaws.{calls}
 use Rattle.rb_machine.specs.declared.screen.Form.TheVariants as forms
 use Rattle.rb_machine.specs.Acts.{ticked_times}
 use Rattle.rb_machine.specs.AddNodes.{added_each, began, nodes_added, options, start}
-use Rattle.rb_machine.specs.Changes.{transition_of, words_of}
+use Rattle.rb_machine.specs.Changes.{words_of}
 use Rattle.rb_machine.specs.Cluster.{Cluster, empty, node_at, changed_by}
 use Rattle.rb_machine.specs.Deliveries.{all_received, delivered, delivered_each, dropped, dropped_each, left_by, meets_any, msgs_delivered, received}
 use Rattle.rb_machine.specs.Outcome.{effect, fault, missing_node, outcome, outcome_of, own_fault, screen_of, unless_refused}
@@ -278,7 +278,7 @@ shows_status olds x (Some n) all = all
 has_effect : (olds : List PlainNode) (r : Request) (x : Scene) → own_fault r x.cluster ≡ None → HaveGoneOn olds x.cluster.nodes → HaveGoneOn olds (effect r x).cluster.nodes
 unfolding compact_error
 has_effect olds (requests.AddNodes asked) x may all = adds olds asked x all
-has_effect olds (requests.ProposeConfChange asked) x may all = acts olds x asked.id (Propose (bodies.Change (transition_of asked.transition) (words_of (input_words asked.inputs)))) all
+has_effect olds (requests.ProposeConfChange asked) x may all = acts olds x asked.id (Propose (bodies.Change asked.transition (words_of (input_words asked.inputs)))) all
 has_effect olds (requests.Campaign id) x may all = acts olds x id Campaign all
 has_effect olds (requests.Propose id payload) x may all = acts olds x id (Propose (bodies.Payload payload)) all
 has_effect olds (requests.ProcessReady ids) x may all = readies_each olds x ids all

@@ -27,11 +27,11 @@ use Rattle.rb_message.specs.Messages.{has_term}
 use Rattle.rb_raftlog.specs.declared.entry.Body.{Body}
 use Rattle.rb_raftlog.specs.declared.entry.Body.TheVariants as bodies
 use Rattle.rb_raftlog.specs.declared.entry.Entry.{Entry}
-use Rattle.rb_raftlog.specs.declared.entry.Transition.{Transition}
-use Rattle.rb_raftlog.specs.declared.entry.Transition.TheVariants as transitions
-use Rattle.rb_raftlog.specs.declared.entry.Word.{Word}
-use Rattle.rb_raftlog.specs.declared.entry.WordKind.{WordKind}
-use Rattle.rb_raftlog.specs.declared.entry.WordKind.TheVariants as words
+use Rattle.rb_change.specs.declared.change.Transition.{Transition}
+use Rattle.rb_change.specs.declared.change.Transition.TheVariants as transitions
+use Rattle.rb_change.specs.declared.change.Word.{Word}
+use Rattle.rb_change.specs.declared.change.WordKind.{WordKind}
+use Rattle.rb_change.specs.declared.change.WordKind.TheVariants as words
 use Rattle.rb_tracker.specs.declared.changes.ChangeFault.{ChangeFault}
 use Rattle.rb_tracker.specs.declared.changes.ChangeFault.TheVariants as faults
 use Rattle.rb_tracker.specs.declared.config.Config.{Config}

@@ -5,11 +5,11 @@ use Rattle.std.specs.List.{flat_map}
 use Rattle.rb_raftlog.specs.declared.entry.Body.{Body}
 use Rattle.rb_raftlog.specs.declared.entry.Body.TheVariants as bodies
 use Rattle.rb_raftlog.specs.declared.entry.Entry.{Entry}
-use Rattle.rb_raftlog.specs.declared.entry.Transition.{Transition}
-use Rattle.rb_raftlog.specs.declared.entry.Transition.TheVariants as transitions
-use Rattle.rb_raftlog.specs.declared.entry.Word.{Word}
-use Rattle.rb_raftlog.specs.declared.entry.WordKind.{WordKind}
-use Rattle.rb_raftlog.specs.declared.entry.WordKind.TheVariants as words
+use Rattle.rb_change.specs.declared.change.Transition.{Transition}
+use Rattle.rb_change.specs.declared.change.Transition.TheVariants as transitions
+use Rattle.rb_change.specs.declared.change.Word.{Word}
+use Rattle.rb_change.specs.declared.change.WordKind.{WordKind}
+use Rattle.rb_change.specs.declared.change.WordKind.TheVariants as words
 use Rattle.rb_texts.specs.Quoted.{quoted}
 
 -- a place in a log

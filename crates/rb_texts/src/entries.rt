@@ -8,7 +8,8 @@ ghost use Rattle.std.specs.List.{flat_map};
 ghost use Rattle.rb_texts.specs.Entries.{transition_text, letter, change_word, body_text, entry_text};
 
 use crate::piece::{Piece, add_pieces};
-use rb_raftlog::{Body, Entry, Transition, Word, WordKind};
+use rb_change::{Transition, Word, WordKind};
+use rb_raftlog::{Body, Entry};
 use std::alloc::AllocError;
 
 fn transition_name(transition: Transition) -> &'static [u8]

@@ -7,10 +7,10 @@ use Rattle.rb_tracker.specs.Quorum.{IsMajority, IsQuorum, ShareVoter}
 use Rattle.rb_tracker.specs.Changes.{with_voter, with_learner, without_member, done_by, done, differing, simple, entering, enter_joint, left, leave_joint, is_explicit, is_auto, changed, IsConfig}
 use Rattle.rb_tracker.specs.declared.config.Config.{Config}
 use Rattle.rb_tracker.specs.declared.changes.ChangeFault.{ChangeFault}
-use Rattle.rb_raftlog.specs.declared.entry.Transition.{Transition}
-use Rattle.rb_raftlog.specs.declared.entry.Word.{Word}
-use Rattle.rb_raftlog.specs.declared.entry.WordKind.{WordKind}
-use Rattle.rb_raftlog.specs.declared.entry.WordKind.TheVariants as kind
+use Rattle.rb_change.specs.declared.change.Transition.{Transition}
+use Rattle.rb_change.specs.declared.change.Word.{Word}
+use Rattle.rb_change.specs.declared.change.WordKind.{WordKind}
+use Rattle.rb_change.specs.declared.change.WordKind.TheVariants as kind
 use Rattle.rb_tracker.proofs.SetLaws.{if_both, same_id, self_id, not_false, not_true, ascending_with_id, ascending_filter, ascending_union}
 use Rattle.rb_tracker.proofs.QuorumLaws.{and_right, majorities_meet, near_majorities_meet, incoming_shares, incoming_majority, outgoing_majority}
 

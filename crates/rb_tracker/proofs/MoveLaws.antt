@@ -12,9 +12,9 @@ use Rattle.rb_tracker.specs.declared.config.Config.{Config}
 use Rattle.rb_tracker.specs.declared.votes.Votes.{Votes}
 use Rattle.rb_tracker.specs.declared.votes.VoteResult.{VoteResult}
 use Rattle.rb_tracker.specs.declared.votes.VoteResult.TheVariants.{Won, Lost, Pending}
-use Rattle.rb_raftlog.specs.declared.entry.Word.{Word}
-use Rattle.rb_raftlog.specs.declared.entry.WordKind.{WordKind}
-use Rattle.rb_raftlog.specs.declared.entry.WordKind.TheVariants as kind
+use Rattle.rb_change.specs.declared.change.Word.{Word}
+use Rattle.rb_change.specs.declared.change.WordKind.{WordKind}
+use Rattle.rb_change.specs.declared.change.WordKind.TheVariants as kind
 use Rattle.rb_tracker.proofs.SetLaws.{if_both, self_id, same_id, not_true}
 use Rattle.rb_tracker.proofs.CommitLaws.{count-cons}
 use Rattle.rb_tracker.proofs.QuorumLaws.{and_left, and_right}

@@ -6,11 +6,11 @@ use Rattle.rb_tracker.specs.Configs.{is_joint}
 use Rattle.rb_tracker.specs.declared.config.Config.{Config}
 use Rattle.rb_tracker.specs.declared.changes.ChangeFault.{ChangeFault}
 use Rattle.rb_tracker.specs.declared.changes.ChangeFault.TheVariants as fault
-use Rattle.rb_raftlog.specs.declared.entry.Transition.{Transition}
-use Rattle.rb_raftlog.specs.declared.entry.Transition.TheVariants.{Auto, Explicit, Implicit}
-use Rattle.rb_raftlog.specs.declared.entry.Word.{Word}
-use Rattle.rb_raftlog.specs.declared.entry.WordKind.{WordKind}
-use Rattle.rb_raftlog.specs.declared.entry.WordKind.TheVariants as kind
+use Rattle.rb_change.specs.declared.change.Transition.{Transition}
+use Rattle.rb_change.specs.declared.change.Transition.TheVariants.{Auto, Explicit, Implicit}
+use Rattle.rb_change.specs.declared.change.Word.{Word}
+use Rattle.rb_change.specs.declared.change.WordKind.{WordKind}
+use Rattle.rb_change.specs.declared.change.WordKind.TheVariants as kind
 
 abbrev pub with_voter : Config → ℕ → Config
 with_voter c id = record c { incoming = with_id c.incoming id; learners = without c.learners id; next = without c.next id }

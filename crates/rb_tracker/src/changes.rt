@@ -10,7 +10,7 @@ ghost use Rattle.rb_tracker.specs.Changes.{with_voter, as_learner, with_learner,
 
 use crate::config::Config;
 use crate::id_set::IdSet;
-use rb_raftlog::{Transition, Word, WordKind};
+use rb_change::{Transition, Word, WordKind};
 use std::alloc::AllocError;
 
 /// Why a configuration isn't changed. Of several reasons the first that holds is answered, in the order of each call.

@@ -8,7 +8,7 @@ ghost use Rattle.std.specs.Prelude.{◌≡◌, ◌↔◌, [], false, IsTrue, IfO
 ghost use Rattle.rb_tracker.specs.Configs.{is_joint, is_voter, is_member, voters, members, config_of, state_of};
 
 use crate::id_set::IdSet;
-use rb_raftlog::ConfState;
+use rb_change::ConfState;
 use std::alloc::{AllocError, Global};
 
 /// Who votes, who learns, and who learns once a joint configuration is left. Each set stands in a small vector of its own, ascending.

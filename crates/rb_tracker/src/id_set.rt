@@ -5,7 +5,7 @@
 ghost use Rattle.std.specs.Prelude.{◌≡◌, ◌≤◌, ◌↔◌, ◌==◌, [], length, IsTrue, IfOk, OnOk, OnErr};
 ghost use Rattle.rb_tracker.specs.Sets.{has, with_id, without, rank, union, set_of, IsAscending};
 
-use rb_raftlog::Shared;
+use rb_change::Shared;
 use smallvec::SmallVec;
 use std::alloc::{AllocError, Global};
 use std::marker::Model;

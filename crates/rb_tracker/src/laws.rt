@@ -5,10 +5,10 @@
 //! These are the facts of it that are about sets and counts alone, over all configurations, views and votes.
 ghost use Rattle.std.specs.Prelude.{◌≡◌, ◌≤◌, ◌<◌, ◌↔◌, ℕ, Bool, true, false, not, List, [], length, Ok};
 ghost use Rattle.indexmap.specs.Layout.{set_value_at};
-ghost use Rattle.rb_raftlog.specs.declared.conf_state.ConfState.{ConfState};
-ghost use Rattle.rb_raftlog.specs.declared.entry.Transition.{Transition};
-ghost use Rattle.rb_raftlog.specs.declared.entry.Word.{Word};
-ghost use Rattle.rb_raftlog.specs.declared.entry.WordKind.TheVariants as kind;
+ghost use Rattle.rb_change.specs.declared.conf_state.ConfState.{ConfState};
+ghost use Rattle.rb_change.specs.declared.change.Transition.{Transition};
+ghost use Rattle.rb_change.specs.declared.change.Word.{Word};
+ghost use Rattle.rb_change.specs.declared.change.WordKind.TheVariants as kind;
 ghost use Rattle.rb_tracker.specs.declared.config.Config.{Config};
 ghost use Rattle.rb_tracker.specs.declared.votes.Votes.{Votes};
 ghost use Rattle.rb_tracker.specs.declared.votes.VoteResult.TheVariants.{Won, Lost};

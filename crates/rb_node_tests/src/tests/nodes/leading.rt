@@ -4,7 +4,7 @@ use super::moves::{
     ALONE, JOINT, LEADS, LEADS_LONG, LEARNER, Move, ONE_IN_FLIGHT, START, Says, TWO, TWO_STEP_DOWN,
 };
 use super::seen::{Case, FOLLOWER, LEADER, Said, Seen, Told, case_rows};
-use rb_raftlog::{Transition, WordKind};
+use rb_change::{Transition, WordKind};
 
 /// What a leader of term 3 does then: node 2 holds 3/11, which is applied.
 const COMMITS: &[Move] = &[Move::Get(2, 3, Says::Accepted(11)), Move::Advance];

@@ -6,10 +6,8 @@ use super::moves::{Move, Says, Start};
 use super::seen::{Seen, seen_of};
 use rb_message::{Append, Event, Install, Message, MessageKind};
 use rb_node::Node;
-use rb_raftlog::{
-    Body, CompactFault, ConfState, Content, Entries, Entry, MAX_INDEX, RaftLog, Shared, Snapshot,
-    Transition, Word, WordKind,
-};
+use rb_change::{ConfState, Shared, Transition, Word, WordKind};
+use rb_raftlog::{Body, CompactFault, Content, Entries, Entry, MAX_INDEX, RaftLog, Snapshot};
 use std::alloc::{AllocError, Global};
 use std::process::Abort;
 

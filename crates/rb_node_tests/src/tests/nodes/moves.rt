@@ -1,6 +1,6 @@
 //! What a node is made to do, as plain values.
 
-use rb_raftlog::{Transition, WordKind};
+use rb_change::{Transition, WordKind};
 use rb_step::Options;
 
 /// What a message says.

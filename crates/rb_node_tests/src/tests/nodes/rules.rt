@@ -4,7 +4,7 @@ use super::moves::{
     ALONE, CHECKS, FOLLOWS, LEADS, Move, NO_VOTER, PRE_VOTE, SOUNDS_OUT, STANDS, START, Says, Start,
 };
 use super::seen::{CANDIDATE, Case, FOLLOWER, LEADER, PRECANDIDATE, Said, Seen, Told, case_rows};
-use rb_raftlog::{Transition, WordKind};
+use rb_change::{Transition, WordKind};
 
 /// It voted for node 2 in term 2.
 const VOTED: &[Move] = &[Move::Get(2, 2, Says::Vote(1, 10, false)), Move::Advance];

@@ -2,8 +2,8 @@
 
 use super::{are, number, put, voting};
 use Ask::{Enter, Entry, Leave, Simple};
-use rb_raftlog::Transition::{Auto, Explicit, Implicit};
-use rb_raftlog::{ConfState, Shared, Transition, Word, WordKind};
+use rb_change::Transition::{Auto, Explicit, Implicit};
+use rb_change::{ConfState, Shared, Transition, Word, WordKind};
 use rb_tracker::ChangeFault::{
     AlreadyJoint, MoreThanOneVoter, NoVoters, NotJoint, SimpleWhileJoint,
 };
