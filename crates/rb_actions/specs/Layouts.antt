@@ -13,6 +13,7 @@ use Rattle.rb_actions.specs.declared.layout.Layout.{Layout}
 
 -- the layout of bytes that are the script
 pub record IsLayout (encoding : Encoding) (bytes : List ℕ) (s : PlainScript) (layout : Layout) : Type 0 where
+  pub script_is : layout.script ≡ s
   pub lines_are : layout.lines ≡ lines bytes
   pub heads_are : layout.heads.items ≡ heads_of bytes s
   pub count : length layout.heads.items ≡ length s.blocks

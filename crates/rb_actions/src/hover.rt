@@ -77,13 +77,11 @@ fn add_line<M: Nodes>(
     encoding: Encoding,
     text: &[u8],
     session: &Session<M>,
-    script: &Script,
     layout: &Layout,
     line: usize,
     meter: &mut M::Meter,
 ) -> Result<(), AllocError>
     requires layout { IsLayout encoding text.now session.now.script layout.now }
-    requires same { script.now ≡ session.now.script }
     requires meter { M.Meter.count_of meter.old ≤ 2 ^ 62 }
     ensures { OnOk result (out.new.items ≡ out.old.items ++ hover_in encoding text.now session.now.script line 0 (heads_of text.now session.now.script) session.now.script.blocks (outputs session.now.script)) }
 {
@@ -97,7 +95,7 @@ fn add_line<M: Nodes>(
         let output = output_at(session, i);
         let extent = extent_of(&layout.lines, head, block);
         if has_line(span, extent) {
-            let shown = shown_at::<M>(alloc, script, i + 1, output, meter)?;
+            let shown = shown_at::<M>(alloc, &layout.script, i + 1, output, meter)?;
             let table = &layout.table;
             add_hover_text(out, encoding, text, table, extent, shown.as_slice())?;
             return Ok(());
@@ -105,22 +103,6 @@ fn add_line<M: Nodes>(
     }
     out.extend_from_slice(b"null")?;
     Ok(())
-}
-
-// The session's script, whose bytes these are, once more.
-fn script_of<M: Machine>(
-    alloc: Global,
-    _session: &Session<M>,
-    bytes: &[u8],
-) -> Result<Script, AllocError>
-    requires { Reads bytes.now _session.now.script }
-    ensures { IfOk result (λ script. script ≡ _session.now.script) }
-{
-    match Script::read(alloc, bytes) {
-        Ok(script) => Ok(script),
-        // Where they are a script it can be nothing else.
-        Err(_) => Err(AllocError),
-    }
 }
 
 // Adds what is shown of a position in a script that ran.
@@ -139,11 +121,8 @@ fn add_position<M: Nodes>(
     ensures { OnOk result (out.new.items ≡ out.old.items ++ hover_in encoding text.now session.now.script (line_at encoding position text.now) 0 (heads_of text.now session.now.script) session.now.script.blocks (outputs session.now.script)) }
 {
     let layout = layout_of(alloc, encoding, session, text)?;
-    let script = script_of(alloc, session, text)?;
     let line = line_at(encoding, position, text);
-    add_line(
-        alloc, out, encoding, text, session, &script, &layout, line, meter,
-    )
+    add_line(alloc, out, encoding, text, session, &layout, line, meter)
 }
 
 /// Adds what is shown of a position in a text: `null` where no directive stands there, and where the text is no script.

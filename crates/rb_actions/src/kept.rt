@@ -5,14 +5,16 @@
 
 ghost use Rattle.std.specs.Prelude.{◌≡◌, ◌+◌, ◌≤◌, ◌^◌, IfOk, OnOk, length};
 ghost use Rattle.rb_script.specs.declared.limits.TheConstants.{MAX_DIRECTIVES};
+ghost use Rattle.rb_script.specs.Lines.{lines};
 ghost use Rattle.rb_script.specs.Reads.{Reads};
+ghost use Rattle.rb_script.specs.HeadLines.{AreHeadLines};
 ghost use Rattle.rb_diagnostics.specs.Findings.{diagnostics_of};
 
 use rb_check::Table;
-use rb_diagnostics::{Diagnostic, of_bytes, of_fault};
+use rb_diagnostics::{Diagnostic, of_fault, of_session};
 use rb_machine::{Count, Machine};
 use rb_replay::Session;
-use rb_script::{Script, ScriptFault};
+use rb_script::{Script, ScriptFault, ScriptWithLines};
 use rb_server::MAX_DOCUMENTS;
 use std::alloc::{AllocError, Global};
 
@@ -109,23 +111,25 @@ impl<M: Machine> Sessions<M> {
     }
 }
 
-// What is to be said of a document whose text is this script.
-#[tactic(auto, using(rb_diagnostics::proofs::FindingLaws::of_read))]
-fn of_script<M: Machine>(
+// What is to be said of a document of whose text this was read.
+#[tactic(auto, using(rb_diagnostics::proofs::FindingLaws::of_lines))]
+fn of_read<M: Machine>(
     alloc: Global,
     table: &mut Table,
     sessions: &mut Sessions<M>,
     meter: &mut M::Meter,
     uri: &[u8],
-    bytes: &[u8],
-    script: Script,
+    _bytes: &[u8],
+    read: ScriptWithLines,
 ) -> Result<Vec<Diagnostic>, AllocError>
-    requires reads { Reads bytes.now script }
+    requires reads { Reads _bytes.now read.script }
+    requires lines { read.lines ≡ lines _bytes.now }
+    requires heads { AreHeadLines 1 (lines _bytes.now) read.script.blocks read.heads.items }
     requires meter { M.Meter.count_of meter.old ≤ 2 ^ 61 }
-    ensures { IfOk result (λ list. list.items ≡ diagnostics_of bytes.now) }
+    ensures { IfOk result (λ list. list.items ≡ diagnostics_of _bytes.now) }
 {
-    let session = sessions.turned(uri, script, meter)?;
-    let list = of_bytes(alloc, table, &session, bytes)?;
+    let session = sessions.turned(uri, read.script, meter)?;
+    let list = of_session(alloc, table, &session, &read.lines, read.heads.as_slice())?;
     sessions.keep(uri, session)?;
     Ok(list)
 }
@@ -147,8 +151,8 @@ pub(crate) fn of_document<M: Machine>(
     requires { M.Meter.count_of meter.old ≤ 2 ^ 61 }
     ensures { IfOk result (λ list. list.items ≡ diagnostics_of bytes.now) }
 {
-    match Script::read(alloc, bytes) {
-        Ok(script) => of_script(alloc, table, sessions, meter, uri, bytes, script),
+    match ScriptWithLines::read(alloc, bytes) {
+        Ok(read) => of_read(alloc, table, sessions, meter, uri, bytes, read),
         Err(ScriptFault::OutOfMemory) => Err(AllocError),
         Err(fault) => of_fault(alloc, fault),
     }

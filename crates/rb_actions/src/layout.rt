@@ -5,16 +5,16 @@ ghost use Rattle.rb_script.specs.Reads.{Reads};
 ghost use Rattle.rb_document.specs.declared.limits.TheConstants.{MAX_TEXT};
 ghost use Rattle.rb_actions.specs.Layouts.{IsLayout, line_at};
 
-use rb_diagnostics::heads_of;
 use rb_document::{Encoding, LineTable, Position, offset};
 use rb_machine::Machine;
 use rb_replay::Session;
-use rb_script::{Lines, lines_of};
+use rb_script::{Lines, Script, ScriptWithLines};
 use std::alloc::{AllocError, Global};
 
-/// A script's lines, those on which its heads begin, and where each begins for an editor.
+/// A script, its lines, those on which its heads begin, and where each begins for an editor.
 #[derive(Drop)]
 pub(crate) struct Layout {
+    pub(crate) script: Script,
     pub(crate) lines: Lines,
     pub(crate) heads: Vec<usize>,
     pub(crate) table: LineTable,
@@ -24,21 +24,24 @@ pub(crate) struct Layout {
 pub(crate) fn layout_of<M: Machine>(
     alloc: Global,
     encoding: Encoding,
-    session: &Session<M>,
+    _session: &Session<M>,
     bytes: &[u8],
 ) -> Result<Layout, AllocError>
-    requires reads { Reads bytes.now session.now.script }
+    requires reads { Reads bytes.now _session.now.script }
     requires bounded { length bytes.now ≤ MAX_TEXT }
-    ensures { IfOk result (λ layout. IsLayout encoding bytes.now session.now.script layout) }
+    ensures { IfOk result (λ layout. IsLayout encoding bytes.now _session.now.script layout) }
 {
-    let heads = heads_of(alloc, session, bytes)?;
-    let lines = lines_of(alloc, bytes)?;
     let table = LineTable::new(alloc, encoding, bytes)?;
-    Ok(Layout {
-        lines,
-        heads,
-        table,
-    })
+    match ScriptWithLines::read(alloc, bytes) {
+        Ok(read) => Ok(Layout {
+            script: read.script,
+            lines: read.lines,
+            heads: read.heads,
+            table,
+        }),
+        // Where they are a script it can be nothing else.
+        Err(_) => Err(AllocError),
+    }
 }
 
 /// The line of a script on which a position stands, counted from 0.

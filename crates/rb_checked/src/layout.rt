@@ -6,7 +6,7 @@ ghost use Rattle.rb_script.specs.Script.{PlainScript};
 ghost use Rattle.rb_script.specs.Reads.{Reads};
 ghost use Rattle.rb_script.specs.HeadLines.{AreHeadLines};
 
-use rb_script::{Lines, head_lines, lines_of};
+use rb_script::{Lines, ScriptWithLines};
 use std::alloc::{AllocError, Global};
 
 /// A script's lines, and those on which its heads begin.
@@ -27,10 +27,10 @@ pub fn layout_of(alloc: Global, bytes: &[u8]) -> Result<Layout, AllocError>
     ensures text { IfOk result (λ l. l.text ≡ lines bytes.now) }
     ensures heads { (s : PlainScript) → Reads bytes.now s → IfOk result (λ l. AreHeadLines 1 (lines bytes.now) s.blocks l.heads.items) }
 {
-    match head_lines(alloc, bytes) {
-        Ok(heads) => Ok(Layout {
-            text: lines_of(alloc, bytes)?,
-            heads,
+    match ScriptWithLines::read(alloc, bytes) {
+        Ok(read) => Ok(Layout {
+            text: read.lines,
+            heads: read.heads,
         }),
         // Where they are a script it can be nothing else.
         Err(_) => Err(AllocError),

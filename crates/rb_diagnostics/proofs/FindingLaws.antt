@@ -2,13 +2,16 @@
 use Rattle.std.proofs.Common.{◌≡◌, ◌∙◌, ℕ, ◌+◌, ◌≤◌, List, [], ◌∷◌, ◌++◌, length, drop, Option, Some, None, Err, refl, ap, sym, append_assoc, append-nil}
 use Rattle.std.specs.Prelude.{slice_get}
 use Rattle.std.proofs.lemmas.List.{drop_all}
-use Rattle.rb_script.specs.Lines.{Line}
+use Rattle.rb_script.specs.Lines.{Line, lines}
 use Rattle.rb_script.specs.declared.fault.ScriptFault.{ScriptFault}
 use Rattle.rb_script.specs.Script.{PlainBlock, PlainScript}
 use Rattle.rb_script.specs.Reads.{Reads}
 use Rattle.rb_script.specs.Reading.{read_of}
+use Rattle.rb_script.specs.HeadLines.{AreHeadLines}
 use Rattle.rb_script.proofs.ScriptLaws.{read_complete}
+use Rattle.rb_replay.specs.Run.{outputs}
 use Rattle.rb_check.proofs.PieceLaws.{drop-get}
+use Rattle.rb_offers.proofs.HeadLaws.{heads_are}
 use Rattle.rb_diagnostics.specs.Diagnostics.{PlainDiagnostic}
 use Rattle.rb_diagnostics.specs.Findings.{before, diagnostics_of, finding, findings, of_reading, of_script, refused}
 
@@ -54,6 +57,13 @@ said_last ls heads bs os i list total past far =
 pub of_read : (bytes : List ℕ) (s : PlainScript) → Reads bytes s → of_script bytes s ≡ diagnostics_of bytes
 unfolding diagnostics_of
 of_read bytes s reads = ap (of_reading bytes) (sym (read_complete bytes s reads))
+
+-- of one with its lines and those of its heads
+pub of_lines : (bytes : List ℕ) (s : PlainScript) (ls : List Line) (heads : List ℕ) → Reads bytes s → ls ≡ lines bytes → AreHeadLines 1 (lines bytes) s.blocks heads → findings ls heads s.blocks (outputs s) ≡ diagnostics_of bytes
+of_lines bytes s ls heads reads same are =
+    ap (λ (l : List Line). findings l heads s.blocks (outputs s)) same
+    ∙ ap (λ (ns : List ℕ). findings (lines bytes) ns s.blocks (outputs s)) (heads_are bytes s heads reads are)
+    ∙ of_read bytes s reads
 
 -- of what is none
 pub of_fault : (bytes : List ℕ) (fault : ScriptFault) → read_of bytes ≡ Err fault → refused fault ∷ [] ≡ diagnostics_of bytes

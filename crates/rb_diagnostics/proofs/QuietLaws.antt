@@ -12,7 +12,7 @@ use Rattle.rb_checked.specs.Errors.{is_error, is_unexpected, says_error}
 use Rattle.rb_diagnostics.specs.Diagnostics.{PlainDiagnostic}
 use Rattle.rb_offers.specs.Heads.{heads_of}
 use Rattle.rb_offers.specs.Texts.{list_text, listed}
-use Rattle.rb_diagnostics.specs.Findings.{before, diagnostics_of, finding, findings, is_quiet, of_script}
+use Rattle.rb_diagnostics.specs.Findings.{before, diagnostics_of, finding, findings, is_quiet}
 use Rattle.rb_diagnostics.specs.Texts.{diagnostic_text}
 use Rattle.rb_diagnostics.specs.Published.{diagnose}
 use Rattle.rb_diagnostics.specs.Laws.{IsQuietText}
@@ -60,10 +60,10 @@ not_so : (t : Bool) → not t ≡ true → t ≡ false
 not_so true h = absurd cc
 not_so false h = refl
 
-pub nothing_said : (bytes : List ℕ) (s : PlainScript) → is_quiet s ≡ true → [] ≡ of_script bytes s
-nothing_said bytes s is =
+pub nothing_said : (ls : List Line) (heads : List ℕ) (s : PlainScript) → is_quiet s ≡ true → [] ≡ findings ls heads s.blocks (outputs s)
+nothing_said ls heads s is =
     let p = both (length (mismatches s) == 0) (not (list_any is_error (outputs s))) is in
-    sym (quiet (lines bytes) (heads_of bytes s) s.blocks (outputs s) 1 (no_length (mismatches s) p.0) (not_so (list_any is_error (outputs s)) p.1))
+    sym (quiet ls heads s.blocks (outputs s) 1 (no_length (mismatches s) p.0) (not_so (list_any is_error (outputs s)) p.1))
 
 pub none_listed : (text : PlainDiagnostic → List ℕ) (ds : List PlainDiagnostic) → (length ds == 0) ≡ true → codes "[]" ≡ list_text text ds
 none_listed text ds none = sym (empty_list text ds (no_length ds none))

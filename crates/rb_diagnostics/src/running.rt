@@ -1,11 +1,8 @@
 //! What is to be said of a script that ran, and of what is none.
 
 ghost use Rattle.std.specs.Prelude.{◌≡◌, ◌++◌, [], ◌∷◌, IfOk, OnOk, length};
-ghost use Rattle.rb_script.specs.Lines.{lines};
-ghost use Rattle.rb_script.specs.Reads.{Reads};
 ghost use Rattle.rb_replay.specs.Run.{outputs};
-ghost use Rattle.rb_offers.specs.Heads.{heads_of};
-ghost use Rattle.rb_diagnostics.specs.Findings.{before, findings, of_script, or_first, refused};
+ghost use Rattle.rb_diagnostics.specs.Findings.{before, findings, or_first, refused};
 
 use crate::diagnostic::{Diagnostic, Kind};
 use crate::finding::finding;
@@ -14,7 +11,7 @@ use rb_check::{Table, fault_line, sentence};
 use rb_checked::{block_at, number_at, output_at};
 use rb_machine::Machine;
 use rb_replay::Session;
-use rb_script::{Lines, ScriptFault, head_lines, lines_of};
+use rb_script::{Lines, ScriptFault};
 use std::alloc::{AllocError, Global};
 
 // Puts one behind others, if there is one.
@@ -27,8 +24,8 @@ fn keep(list: &mut Vec<Diagnostic>, found: Option<Diagnostic>) -> Result<(), All
     }
 }
 
-// What is to be said of a script that ran, whose lines these are, with its heads on those.
-fn of_session<M: Machine>(
+// What is to be said of each directive of a script that ran, whose lines these are, with its heads on those.
+fn each_finding<M: Machine>(
     alloc: Global,
     table: &mut Table,
     session: &Session<M>,
@@ -49,44 +46,26 @@ fn of_session<M: Machine>(
     Ok(list)
 }
 
-/// The lines of the bytes on which the heads of the script begin, which the bytes are.
-pub fn heads_of<M: Machine>(
-    alloc: Global,
-    _session: &Session<M>,
-    bytes: &[u8],
-) -> Result<Vec<usize>, AllocError>
-    requires { Reads bytes.now _session.now.script }
-    ensures heads { IfOk result (λ heads. heads.items ≡ heads_of bytes.now _session.now.script) }
-    ensures count { IfOk result (λ heads. length heads.items ≡ length _session.now.script.blocks) }
-{
-    match head_lines(alloc, bytes) {
-        Ok(heads) => Ok(heads),
-        // Where they are a script it can be nothing else.
-        Err(_) => Err(AllocError),
-    }
-}
-
-/// What is to be said of the bytes, whose script ran.
+/// What is to be said of a script that ran, whose lines these are, with its heads on those.
 ///
 /// # Errors
 ///
 /// Where memory was refused.
 #[tactic(auto, using(crate::proofs::QuietLaws::nothing_said))]
-pub fn of_bytes<M: Machine>(
+pub fn of_session<M: Machine>(
     alloc: Global,
     table: &mut Table,
     session: &Session<M>,
-    bytes: &[u8],
+    text: &Lines,
+    heads: &[usize],
 ) -> Result<Vec<Diagnostic>, AllocError>
-    requires { Reads bytes.now session.now.script }
-    ensures { IfOk result (λ list. list.items ≡ of_script bytes.now session.now.script) }
+    requires { length heads.now ≡ length session.now.script.blocks }
+    ensures { IfOk result (λ list. list.items ≡ findings text.now heads.now session.now.script.blocks (outputs session.now.script)) }
 {
     if is_quiet(session) {
         return Ok(Vec::new(alloc));
     }
-    let heads = heads_of(alloc, session, bytes)?;
-    let text = lines_of(alloc, bytes)?;
-    of_session(alloc, table, session, &text, heads.as_slice())
+    each_finding(alloc, table, session, text, heads)
 }
 
 // What is to be said of what is no script.

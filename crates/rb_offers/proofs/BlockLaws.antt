@@ -22,6 +22,7 @@ use Rattle.rb_script.proofs.RunLaws.{head_run}
 use Rattle.rb_script.proofs.BlockLaws.{cut_lead, block_complete}
 use Rattle.rb_script.proofs.ScriptLaws.{read_sound, read_complete}
 use Rattle.rb_check.proofs.PieceLaws.{drop-get}
+use Rattle.rb_offers.proofs.HeadLaws.{heads_are}
 use Rattle.rb_offers.specs.declared.block_lines.BlockLines.{BlockLines}
 use Rattle.rb_offers.specs.declared.block_lines.TheConstants.{DOUBLE_LINES}
 use Rattle.rb_offers.specs.Heads.{behind_block, heads_at}
@@ -220,6 +221,21 @@ script_read bytes s is = ap found is
 pub script_none : (bytes : List ℕ) (fault : ScriptFault) → Fails fault (read_of bytes) → (fault ≡ OutOfMemory → ⊥) → script_of bytes ≡ None
 script_none bytes OutOfMemory fails other = absurd (other refl)
 script_none bytes fault fails other = script_refused bytes fault fails
+
+-- ---- what was read
+
+-- of a script
+pub blocks_read : (bytes : List ℕ) (s : PlainScript) (ls : List Line) (ns : List ℕ) → read_of bytes ≡ Ok s → ls ≡ lines bytes → AreHeadLines 1 (lines bytes) s.blocks ns → all_lines ls ns s.blocks ≡ blocks_of bytes
+unfolding blocks_of
+blocks_read bytes s ls ns is same heads =
+    ap (λ (l : List Line). all_lines l ns s.blocks) same
+    ∙ ap (λ (hs : List ℕ). all_lines (lines bytes) hs s.blocks) (heads_are bytes s ns (read_sound bytes s is) heads)
+    ∙ ap (of_script bytes) (sym (script_read bytes s is))
+
+-- of what is none
+pub blocks_none : (bytes : List ℕ) (fault : ScriptFault) → Fails fault (read_of bytes) → (fault ≡ OutOfMemory → ⊥) → [] ≡ blocks_of bytes
+unfolding blocks_of
+blocks_none bytes fault fails other = ap (of_script bytes) (sym (script_none bytes fault fails other))
 
 -- a loop over blocks, with the lines of their heads
 pub one_block : (ls : List Line) (ns : List ℕ) (bs : List PlainBlock) (i : ℕ) (b : PlainBlock) → i < length ns → slice_get bs (i + 1 - 1) ≡ Some b

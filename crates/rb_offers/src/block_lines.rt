@@ -3,12 +3,10 @@
 ghost use Rattle.std.specs.Prelude.{◌≡◌, ◌≢◌, ◌≤◌, ◌<◌, ◌^◌, ◌-◌, length, drop, slice_get, IfOk, IfSome, OnOk, Some};
 ghost use Rattle.rb_script.specs.declared.fault.ScriptFault.TheVariants.{OutOfMemory};
 ghost use Rattle.rb_script.specs.HeadLines.{AreHeadLines};
-ghost use Rattle.rb_script.specs.Lines.{lines};
 ghost use Rattle.rb_script.specs.Reads.{Reads, begins_rule};
 ghost use Rattle.rb_offers.specs.BlockLines.{StandsIn, all_lines, behind_head, block_lines, blocks_of, mark_lines, script_of};
-ghost use Rattle.rb_offers.specs.Heads.{heads_of};
 
-use rb_script::{Block, Lines, Script, ScriptFault, continues, head_lines, is_rule, lines_of};
+use rb_script::{Block, Lines, Script, ScriptFault, ScriptWithLines, continues, is_rule};
 use std::alloc::{AllocError, Global};
 
 /// The lines of a block, by their numbers in the text, which count from 0.
@@ -128,36 +126,16 @@ pub(crate) fn script_of(alloc: Global, bytes: &[u8]) -> Result<Option<Script>, A
     }
 }
 
-// The lines on which the heads of the script begin, which the bytes are.
-fn heads(alloc: Global, _script: &Script, bytes: &[u8]) -> Result<Vec<usize>, AllocError>
-    requires { Reads bytes.now _script.now }
-    ensures heads { IfOk result (λ heads. heads.items ≡ heads_of bytes.now _script.now) }
-    ensures stand { IfOk result (λ heads. AreHeadLines 1 (lines bytes.now) _script.now.blocks heads.items) }
-{
-    match head_lines(alloc, bytes) {
-        Ok(heads) => Ok(heads),
-        // Where they are a script it can be nothing else.
-        Err(_) => Err(AllocError),
-    }
-}
-
-// The lines of the blocks of the script, which the bytes are.
-fn of_script(alloc: Global, script: &Script, bytes: &[u8]) -> Result<Vec<BlockLines>, AllocError>
-    requires { Reads bytes.now script.now }
-    ensures { IfOk result (λ all. all.items ≡ all_lines (lines bytes.now) (heads_of bytes.now script.now) script.now.blocks) }
-{
-    let heads = heads(alloc, script, bytes)?;
-    let text = lines_of(alloc, bytes)?;
-    all_lines(alloc, &text, script, heads.as_slice())
-}
-
 /// The lines of each block of a text, where it is a script; else none.
-#[tactic(auto, unfolding(crate::specs::BlockLines::blocks_of))]
+#[tactic(auto, using(crate::proofs::BlockLaws::blocks_read, crate::proofs::BlockLaws::blocks_none))]
 pub(crate) fn blocks_of(alloc: Global, bytes: &[u8]) -> Result<Vec<BlockLines>, AllocError>
     ensures { IfOk result (λ all. all.items ≡ blocks_of bytes.now) }
 {
-    match script_of(alloc, bytes)? {
-        Some(script) => of_script(alloc, &script, bytes),
-        None => Ok(Vec::new(alloc)),
+    match ScriptWithLines::read(alloc, bytes) {
+        Ok(read) => all_lines(alloc, &read.lines, &read.script, read.heads.as_slice()),
+        Err(fault) => {
+            refused(fault)?;
+            Ok(Vec::new(alloc))
+        }
     }
 }

@@ -16,7 +16,7 @@ use rb_cluster::{Cluster, Meter};
 use rb_machine::Machine;
 use rb_raftlog::SplitLog;
 use rb_replay::Session;
-use rb_script::{Lines, head_lines};
+use rb_script::{Lines, ScriptWithLines};
 use rb_steps::{Shown, steps_of};
 use std::alloc::{AllocError, Global};
 
@@ -36,8 +36,8 @@ fn heads<M: Machine>(
     requires { Reads bytes.now _session.now.script }
     ensures { IfOk result (λ heads. AreHeadLines 1 (lines bytes.now) _session.now.script.blocks heads.items) }
 {
-    match head_lines(alloc, bytes) {
-        Ok(heads) => Ok(heads),
+    match ScriptWithLines::read(alloc, bytes) {
+        Ok(read) => Ok(read.heads),
         // Where they are a script it can be nothing else.
         Err(_) => Err(AllocError),
     }

@@ -12,7 +12,7 @@ use rb_check::{Place, put_directive};
 use rb_cluster::{Cluster, Meter};
 use rb_look::look;
 use rb_raftlog::SplitLog;
-use rb_script::{Block, Lines, MAX_DIRECTIVES, Script, ScriptFault, Through, head_lines};
+use rb_script::{Block, Lines, MAX_DIRECTIVES, Script, ScriptWithLines, Through};
 use rb_suite::place_at;
 use std::alloc::{AllocError, Global};
 use std::io;
@@ -29,25 +29,15 @@ pub(crate) fn look_at<R: Files + Print + AllocGlobal>(
         return Err(no_place(alloc, word));
     };
     let bytes = script(rt, path)?;
-    let Some((place, head)) = place_in(alloc, &bytes, line)? else {
+    let read = ScriptWithLines::read(alloc, &bytes)?;
+    let Some((place, head)) = place_at(&read.heads, line) else {
         return Err(no_place(alloc, word));
     };
     let at = Place {
         path: path.as_bytes(),
         line: head,
     };
-    let script = Script::read(alloc, &bytes)?;
-    show(rt, word, at, &script, place)
-}
-
-// The place of the last directive whose head begins at the line or above it, and the line of that head.
-fn place_in(
-    alloc: Global,
-    bytes: &[u8],
-    line: usize,
-) -> Result<Option<(usize, usize)>, ScriptFault> {
-    let heads = head_lines(alloc, bytes)?;
-    Ok(place_at(&heads, line))
+    show(rt, word, at, &read.script, place)
 }
 
 fn no_place(alloc: Global, word: &str) -> Refusal {

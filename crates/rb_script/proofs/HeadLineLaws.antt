@@ -1,23 +1,22 @@
 -- The lines on which heads begin: what a loop has found of them, and that they are those of the blocks.
-use Rattle.std.proofs.Common.{◌≡◌, ℕ, ◌+◌, ◌<◌, ◌≤◌, List, [], ◌∷◌, ◌++◌, length, take, drop, get_or, Some, Result, Ok, Err, refl, ap, sym, subst, ◌∙◌, append_assoc, length-append, arith, inl, inr, ◌⊎◌}
+use Rattle.std.proofs.Common.{◌≡◌, ℕ, ◌+◌, ◌<◌, List, [], ◌∷◌, ◌++◌, length, take, drop, get_or, Some, Result, Ok, Err, refl, ap, sym, subst, ◌∙◌, append_assoc, length-append, arith, inl, inr, ◌⊎◌}
 use Rattle.std.specs.Prelude.{slice_get, IfOk, IfErr}
 use Rattle.std.proofs.lemmas.List.{append-nil, take-append-drop, length-take-le, drop_more, length_push, get_or_push, get_or_append_left}
 use Rattle.std.proofs.lemmas.Option.{slice_get_cases, slice_get_within, get_or_from_slice_get}
 use Rattle.std.proofs.lemmas.Grind.{same_number_lists}
 use Rattle.rb_script.specs.declared.fault.ScriptFault.{ScriptFault}
 use Rattle.rb_script.specs.declared.fault.ScriptFault.TheVariants as faults
-use Rattle.rb_script.specs.declared.limits.TheConstants.{MAX_SCRIPT}
 use Rattle.rb_script.specs.Lines.{Line, lines}
 use Rattle.rb_script.specs.Marks.{rule}
-use Rattle.rb_script.specs.Script.{PlainBlock, PlainScript, text}
+use Rattle.rb_script.specs.Script.{PlainBlock, PlainScript}
 use Rattle.rb_script.specs.Reads.{ReadsPlain, ReadsDouble, ReadsBlock, ReadsSome, Reads}
-use Rattle.rb_script.specs.Results.{Fails}
+use Rattle.rb_script.specs.Results.{Fails, Gives}
 use Rattle.rb_script.specs.Blocks.{from_head}
-use Rattle.rb_script.specs.Reading.{capped, parts_of, read_of}
-use Rattle.rb_script.specs.HeadLines.{IsHeadLine, AreHeadLines, TellsHeads, StandsOn}
+use Rattle.rb_script.specs.Reading.{read_of}
+use Rattle.rb_script.specs.HeadLines.{IsHeadLine, AreHeadLines, StandsOn}
 use Rattle.rb_script.proofs.ResultLaws.{done, ok_is, memory_is}
 use Rattle.rb_script.proofs.BlockLaws.{cut_lead, block_complete}
-use Rattle.rb_script.proofs.ScriptLaws.{parts_sound, script_parts, read_complete, reads_once}
+use Rattle.rb_script.proofs.ScriptLaws.{read_sound, read_complete, reads_once}
 
 -- ---- the lines that were read stand before the rest
 
@@ -221,19 +220,21 @@ heads_once ls bs ns ms h k =
     same_number_lists ns ms (h.count ∙ sym k.count) (λ i within.
     let b = block_there bs i (omega (arith, h.count)) in line_once 1 ls (take i bs) b.0 (get_or ns i 0) (get_or ms i 0) (line_at 1 ls bs ns i b.0 h b.1) (line_at 1 ls bs ms i b.0 k b.1))
 
--- ---- what is told of bytes
+-- ---- what is read of bytes
 
--- where the text of what was read fits, the lines are those of the script's heads
-pub heads_told : (bytes : List ℕ) (s : PlainScript) (ns : List ℕ) (text_len : ℕ) → parts_of bytes ≡ Ok s → text_len ≡ capped (length (text s)) → text_len ≤ MAX_SCRIPT → AreHeadLines 1 (lines bytes) s.blocks ns → TellsHeads bytes ns
-heads_told bytes s ns text_len read is short heads =
-    record { script = s; reads = script_parts bytes s (parts_sound bytes s read) (omega (arith, is, short)); heads = heads }
-
--- they are those of any script that the bytes are
-pub heads_of_script : {V : Type 0} (items : V → List ℕ) (bytes : List ℕ) (result : Result V ScriptFault) → IfOk result (λ found. TellsHeads bytes (items found)) → (s : PlainScript) → Reads bytes s → IfOk result (λ found. AreHeadLines 1 (lines bytes) s.blocks (items found))
-heads_of_script items bytes (Ok found) h s r = subst (λ (t : PlainScript). AreHeadLines 1 (lines bytes) t.blocks (items found)) (reads_once bytes h.script s h.reads r) h.heads
-heads_of_script items bytes (Err e) h s r = tt
+-- the lines are those of any script that the bytes are
+pub heads_of_script : {V : Type 0} (script : V → PlainScript) (items : V → List ℕ) (bytes : List ℕ) (result : Result V ScriptFault) → Gives script result (read_of bytes)
+    → IfOk result (λ read. AreHeadLines 1 (lines bytes) (script read).blocks (items read)) → (s : PlainScript) → Reads bytes s → IfOk result (λ read. AreHeadLines 1 (lines bytes) s.blocks (items read))
+heads_of_script script items bytes (Ok read) is h s r =
+    subst (λ (t : PlainScript). AreHeadLines 1 (lines bytes) t.blocks (items read)) (reads_once bytes (script read) s (read_sound bytes (script read) is) r) h
+heads_of_script script items bytes (Err e) is h s r = tt
 
 -- a script is refused for want of memory alone
-pub only_memory : {V : Type 0} (bytes : List ℕ) (result : Result V ScriptFault) → IfErr result (λ e. Fails e (read_of bytes)) → (s : PlainScript) → Reads bytes s → IfErr result (λ e. e ≡ faults.OutOfMemory)
-only_memory bytes (Ok found) h s r = tt
-only_memory bytes (Err e) h s r = memory_is e s (subst (λ (read : Result PlainScript ScriptFault). Fails e read) (read_complete bytes s r) h)
+pub only_memory : {V : Type 0} (script : V → PlainScript) (bytes : List ℕ) (result : Result V ScriptFault) → Gives script result (read_of bytes) → (s : PlainScript) → Reads bytes s → IfErr result (λ e. e ≡ faults.OutOfMemory)
+only_memory script bytes (Ok read) is s r = tt
+only_memory script bytes (Err e) is s r = memory_is e s (subst (λ (read : Result PlainScript ScriptFault). Fails e read) (read_complete bytes s r) is)
+
+-- what is read is the script of the bytes
+pub found_script : {V : Type 0} (script : V → PlainScript) (bytes : List ℕ) (result : Result V ScriptFault) → Gives script result (read_of bytes) → IfOk result (λ read. Reads bytes (script read))
+found_script script bytes (Ok read) is = read_sound bytes (script read) is
+found_script script bytes (Err e) is = tt

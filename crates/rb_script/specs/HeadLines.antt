@@ -1,8 +1,8 @@
 -- On which lines of the bytes, as they are, the heads of blocks begin. (This project's. Lines count from 1.)
 use Rattle.std.specs.Prelude.{◌≡◌, ℕ, ◌+◌, List, ◌∷◌, ◌++◌, length, slice_index}
-use Rattle.rb_script.specs.Lines.{Line, lines}
-use Rattle.rb_script.specs.Script.{PlainBlock, PlainScript}
-use Rattle.rb_script.specs.Reads.{ReadsBlock, ReadsSome, Reads}
+use Rattle.rb_script.specs.Lines.{Line}
+use Rattle.rb_script.specs.Script.{PlainBlock}
+use Rattle.rb_script.specs.Reads.{ReadsBlock, ReadsSome}
 
 -- The lines are those of the blocks before, then the lead lines of this block, and then, from line n on, its head and
 -- what follows. The first of the lines has the number first.
@@ -19,12 +19,6 @@ pub record IsHeadLine (first : ℕ) (ls : List Line) (before : List PlainBlock) 
 pub record AreHeadLines (first : ℕ) (ls : List Line) (blocks : List PlainBlock) (ns : List ℕ) : Type 0 where
   pub count : length ns ≡ length blocks
   pub each : (before later : List PlainBlock) (b : PlainBlock) → blocks ≡ before ++ b ∷ later → IsHeadLine first ls before b (slice_index ns (length before))
-
--- the bytes are a script, and these are the lines of its heads
-pub record TellsHeads (bytes : List ℕ) (ns : List ℕ) : Type 0 where
-  pub script : PlainScript
-  pub reads : Reads bytes script
-  pub heads : AreHeadLines 1 (lines bytes) script.blocks ns
 
 -- the head stands in the lines, its first line on line n
 pub record StandsOn (ls head : List Line) (n : ℕ) : Type 0 where

@@ -3,8 +3,8 @@
 //! A script is a list of blocks and a tail of lines. A block is a directive with its expectation: lead lines
 //! (blank lines and comments), the head (a name and arguments), input lines, a line `----`, and the expected
 //! lines. [`Script::read`] reads the bytes of a script, [`Script::edited`] makes an edit of it, and
-//! [`Script::write_to`] writes its canonical text, which reads as the same script. [`head_lines`] gives the lines of
-//! the bytes the directives begin.
+//! [`Script::write_to`] writes its canonical text, which reads as the same script. [`ScriptWithLines`] is a script with the
+//! lines of its bytes, and those on which its directives begin.
 #![tactic(auto)]
 
 mod argument;
@@ -15,7 +15,6 @@ mod edits;
 mod fault;
 mod flat;
 mod head_cursor;
-mod heading;
 mod laws;
 mod limits;
 mod line_part;
@@ -27,13 +26,13 @@ mod shared_lines;
 mod sink;
 mod span;
 mod tokens;
+mod with_lines;
 mod writing;
 
 pub use block::Block;
 pub use directive::DirectiveRef;
 pub use edit::Edit;
 pub use fault::{EditFault, ScriptFault};
-pub use heading::head_lines;
 pub use laws::{
     blanks_are, directive_is_derived, double_expectations_end, expectations_are, faults_are,
     head_lines_are, heads_are_joined, lead_lines_are, plain_expectations_end, read_is_valid,
@@ -45,3 +44,4 @@ pub use marks::{continues, is_blank, is_rule, is_separator, is_space, without_fr
 pub use script::Script;
 pub use sink::{Sink, Through, WriteFault};
 pub use span::Span;
+pub use with_lines::ScriptWithLines;

@@ -29,6 +29,14 @@ impl Model for LinePart {
 }
 
 impl LinePart {
+    /// All of the lines. Nothing is copied.
+    pub(crate) fn whole(all: SharedLines) -> Self
+        ensures { result ≡ all }
+    {
+        let to = all.len();
+        LinePart { all, from: 0, to }
+    }
+
     /// The lines from one position up to another. Nothing is copied.
     pub(crate) fn new(all: &SharedLines, from: usize, to: usize) -> Result<Self, AllocError>
         requires order { from ≤ to }

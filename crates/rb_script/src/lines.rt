@@ -46,6 +46,15 @@ impl Lines {
         }
     }
 
+    /// All of the lines. Nothing is copied.
+    pub(crate) fn whole(all: SharedLines) -> Self
+        ensures { result ≡ all }
+    {
+        Lines {
+            kept: Kept::Part(LinePart::whole(all)),
+        }
+    }
+
     /// The lines from one position up to another. Nothing is copied.
     pub(crate) fn part(all: &SharedLines, from: usize, to: usize) -> Result<Self, AllocError>
         requires order { from ≤ to }

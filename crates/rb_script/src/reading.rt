@@ -18,7 +18,7 @@ ghost use Rattle.rb_script.specs.Flat.{between};
 ghost use Rattle.rb_script.specs.Script.{text};
 ghost use Rattle.rb_script.specs.Valid.{IsLine};
 ghost use Rattle.rb_script.specs.Shared.{values, parts_view};
-ghost use Rattle.rb_script.specs.HeadLines.{AreHeadLines, TellsHeads};
+ghost use Rattle.rb_script.specs.HeadLines.{AreHeadLines};
 
 use crate::block::{Block, Front};
 use crate::fault::ScriptFault;
@@ -30,6 +30,7 @@ use crate::marks::{Stop, continues, is_blank, is_rule};
 use crate::script::Script;
 use crate::shared_lines::SharedLines;
 use crate::tokens::{Tokens, tokens_of};
+use crate::with_lines::ScriptWithLines;
 use memchr::memrchr;
 use std::alloc::{AllocError, Global};
 use std::rc::Rc;
@@ -239,12 +240,13 @@ fn block(
     Ok((Block::new(front, expected), after))
 }
 
-/// The blocks with the lines on which their heads begin, and the tail.
+/// The blocks with the lines on which their heads begin, the tail, and all lines.
 #[derive(Drop)]
 struct Parts {
     blocks: Vec<Rc<Block>>,
     heads: Vec<usize>,
     tail: LinePart,
+    all: SharedLines,
 }
 
 /// The blocks and the tail of the lines.
@@ -252,6 +254,7 @@ fn blocks(alloc: Global, all: &SharedLines) -> Result<Parts, ScriptFault>
     requires { AllByRecursion IsLine all.now }
     ensures gives { Gives parts_view result (blocks_at MAX_DIRECTIVES (1 + length all.now) all.now) }
     ensures heads { IfOk result (λ p. AreHeadLines 1 all.now (parts_view p).blocks p.heads.items) }
+    ensures lines { IfOk result (λ p. p.all ≡ all.now) }
 {
     let mut found = Vec::new(alloc);
     let mut heads = Vec::new(alloc);
@@ -260,10 +263,12 @@ fn blocks(alloc: Global, all: &SharedLines) -> Result<Parts, ScriptFault>
         let start = run(all, at, Stop::Head);
         let lead = LinePart::new(all, at, start)?;
         if start == all.len() {
+            let all = all.try_copy()?;
             return Ok(Parts {
                 blocks: found,
                 heads,
                 tail: lead,
+                all,
             });
         }
         if found.len() == MAX_DIRECTIVES {
@@ -334,6 +339,7 @@ fn check_lines(bytes: &[u8]) -> Result<(), ScriptFault>
 fn read_parts(alloc: Global, bytes: &[u8]) -> Result<Parts, ScriptFault>
     ensures exact { Gives parts_view result (parts_of bytes.now) }
     ensures heads { IfOk result (λ p. AreHeadLines 1 (lines bytes.now) (parts_view p).blocks p.heads.items) }
+    ensures lines { IfOk result (λ p. p.all ≡ lines bytes.now) }
     ensures early { IfSome (early_fault bytes.now) (λ fault. result ≡ Err fault) }
 {
     if bytes.len() > MAX_SCRIPT {
@@ -355,10 +361,12 @@ fn text_len(parts: &Parts) -> usize
     total
 }
 
-/// The script of the bytes, or the first fault.
+/// The script of the bytes, with their lines and those of its heads, or the first fault.
 #[tactic(auto, unfolding(crate::specs::Reading::read_of, crate::specs::Reading::fits_text))]
-pub(crate) fn script(alloc: Global, bytes: &[u8]) -> Result<Script, ScriptFault>
-    ensures exact { Gives (λ s. s) result (read_of bytes.now) }
+pub(crate) fn with_lines(alloc: Global, bytes: &[u8]) -> Result<ScriptWithLines, ScriptFault>
+    ensures exact { Gives (λ read. read.script) result (read_of bytes.now) }
+    ensures lines { IfOk result (λ read. read.lines ≡ lines bytes.now) }
+    ensures heads { IfOk result (λ read. AreHeadLines 1 (lines bytes.now) read.script.blocks read.heads.items) }
     ensures early { IfSome (early_fault bytes.now) (λ fault. result ≡ Err fault) }
 {
     let parts = read_parts(alloc, bytes)?;
@@ -366,26 +374,28 @@ pub(crate) fn script(alloc: Global, bytes: &[u8]) -> Result<Script, ScriptFault>
     if text_len > MAX_SCRIPT {
         return Err(ScriptFault::TooLong);
     }
-    Ok(Script {
+    let script = Script {
         alloc,
         blocks: parts.blocks,
         tail: Rc::new(alloc, parts.tail)?,
         text_len,
+    };
+    Ok(ScriptWithLines {
+        script,
+        lines: Lines::whole(parts.all),
+        heads: parts.heads,
     })
 }
 
-/// The lines on which the heads of the blocks of the bytes begin, or the first fault.
-#[tactic(auto, unfolding(crate::specs::Reading::read_of, crate::specs::Reading::fits_text))]
-pub(crate) fn head_lines(alloc: Global, bytes: &[u8]) -> Result<Vec<usize>, ScriptFault>
-    ensures found { IfOk result (λ found. TellsHeads bytes.now found.items) }
-    ensures refused { IfErr result (λ fault. Fails fault (read_of bytes.now)) }
+/// The script of the bytes, or the first fault.
+pub(crate) fn script(alloc: Global, bytes: &[u8]) -> Result<Script, ScriptFault>
+    ensures exact { Gives (λ s. s) result (read_of bytes.now) }
     ensures early { IfSome (early_fault bytes.now) (λ fault. result ≡ Err fault) }
 {
-    let parts = read_parts(alloc, bytes)?;
-    if text_len(&parts) > MAX_SCRIPT {
-        return Err(ScriptFault::TooLong);
+    match with_lines(alloc, bytes) {
+        Ok(read) => Ok(read.script),
+        Err(fault) => Err(fault),
     }
-    Ok(parts.heads)
 }
 
 /// The block behind the pointer, or a copy of it where others share it.

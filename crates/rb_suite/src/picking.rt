@@ -11,7 +11,7 @@ use rb_checked::Picked;
 use rb_files::Trouble;
 use rb_machine::Machine;
 use rb_replay::Session;
-use rb_script::head_lines;
+use rb_script::ScriptWithLines;
 use std::alloc::{AllocError, Global};
 use std::io;
 use std::io::Write;
@@ -69,8 +69,8 @@ fn heads_of<M: Machine, W: Write + Drop, E: Write + Drop>(
     path: &str,
     report: &mut Report<W, E>,
 ) -> Result<Vec<usize>, Trouble> {
-    match head_lines(alloc, bytes) {
-        Ok(heads) => heads_at(alloc, lines, &heads, session, path, report),
+    match ScriptWithLines::read(alloc, bytes) {
+        Ok(read) => heads_at(alloc, lines, &read.heads, session, path, report),
         Err(_) => Err(Trouble::alone(Failure::OutOfMemory)),
     }
 }

@@ -1,17 +1,8 @@
-use Rattle.std.proofs.lemmas.Result.{err_from_is_err_and}
-use Rattle.rb_script.specs.declared.reading.Parts.{Parts}
+use Rattle.rb_script.specs.declared.with_lines.ScriptWithLines.{ScriptWithLines}
 use Rattle.rb_script.specs.Script.{PlainScript}
-use Rattle.rb_script.specs.Shared.{parts_view}
 use Rattle.rb_script.specs.Reading.{early_fault}
 use Rattle.rb_script.proofs.ResultLaws.{early_through}
-use Rattle.rb_script.proofs.ValidLaws.{script_valid}
 use Rattle.rb_script.proofs.reading.script.Goals as goal
 
-pub returns-in_err-parts-clause-early : goal.returns-in_err-parts-clause-early
-returns-in_err-parts-clause-early c =
-    let p = err_from_is_err_and c.from_residual.result c.from_residual.ensures.1 in
-    rw (p.1, p.2) (early_through Parts PlainScript (early_fault c.args.bytes.now) c.in_err-parts.field-0.0 c.in_err-parts.ensures.early)
-
-pub invariant_of-result : goal.invariant_of-result
-invariant_of-result c =
-    rw c.in_ok-new.ensures.ok (script_valid c.args.bytes.now (parts_view c.in_ok-parts.parts) c.text_len-text_len.result c.in_ok-parts.ensures.exact c.text_len-text_len.ensures c.if-text_len-gt-MAX_SCRIPT.false)
+pub returns-in-Err-clause-early : goal.returns-in-Err-clause-early
+returns-in-Err-clause-early c = early_through ScriptWithLines PlainScript (early_fault c.args.bytes.now) c.in-Err.fault c.in-Err.ensures.early

@@ -1,7 +1,7 @@
 use Rattle.std.proofs.Common.{arith}
 use Rattle.rb_replay.specs.Run.{outputs}
 use Rattle.rb_diagnostics.proofs.FindingLaws.{said_last, said_more}
-use Rattle.rb_diagnostics.proofs.running.of_session.Goals as goal
+use Rattle.rb_diagnostics.proofs.running.each_finding.Goals as goal
 
 pub loop-i-preserved : goal.loop-i-preserved
 loop-i-preserved g c =

@@ -2,7 +2,7 @@
 use Rattle.std.proofs.Common.{◌≡◌, ◌++◌, drop}
 use Rattle.rb_replay.specs.Run.{outputs}
 use Rattle.rb_diagnostics.specs.Findings.{findings}
-use Rattle.rb_diagnostics.proofs.running.of_session.Given as goal
+use Rattle.rb_diagnostics.proofs.running.each_finding.Given as goal
 
 abbrev pub invariant-loop-i : goal.invariant-loop-i
 invariant-loop-i g l =

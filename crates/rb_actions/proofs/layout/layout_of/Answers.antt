@@ -1,0 +1,15 @@
+use Rattle.rb_script.proofs.ScriptLaws.{reads_once}
+use Rattle.rb_offers.proofs.HeadLaws.{heads_are}
+use Rattle.rb_actions.proofs.layout.layout_of.Goals as goal
+
+pub returns-in-Ok : goal.returns-in-Ok
+returns-in-Ok g c =
+    let s = c.args._session.now.script in
+    let heads = c.in-Ok.ensures.same s c.requires.reads in
+    record {
+      script_is = reads_once c.args.bytes.now c.in-Ok.read.script s c.in-Ok.ensures.found c.requires.reads;
+      lines_are = c.in-Ok.ensures.lines;
+      heads_are = heads_are c.args.bytes.now s c.in-Ok.read.heads.items c.requires.reads heads;
+      count = heads.count;
+      table = c.in_ok-table.ensures;
+    }
