@@ -4,7 +4,7 @@ use Rattle.std.specs.Prelude.{slice_get}
 use Rattle.std.specs.List.{flat_map}
 use Rattle.std.proofs.lemmas.Bool.Decides.{nat_tests}
 use Rattle.std.proofs.lemmas.Option.{slice_get_within, get_or_from_slice_get, slice_get_cases}
-use Rattle.rb_raftlog.specs.Log.{LogValue, last, entry_at, found}
+use Rattle.rb_raftlog.specs.Log.{LogValue, last, entry_at, found, not_durable}
 use Rattle.rb_raftlog.specs.declared.entry.Entry.{Entry}
 use Rattle.rb_raftlog.specs.declared.raft_log.LogFault.{LogFault}
 use Rattle.rb_message.specs.declared.message.Message.{Message}
@@ -68,6 +68,13 @@ unfolding left_from
 left_first v i h =
     let none : i - v.base - 1 ≡ 0 = omega arith in
     ap (λ k. drop k v.entries) none
+
+-- the entries that aren't durable are those from the index after the last durable one on
+pub left_unsaved : (v : LogValue) (i : ℕ) → i ≡ v.durable + 1 → left_from v i ≡ not_durable v
+unfolding left_from
+left_unsaved v i h =
+    let same : i - v.base - 1 ≡ v.durable - v.base = omega arith in
+    ap (λ k. drop k v.entries) same
 
 entry_past : (v : LogValue) (i : ℕ) → v.base < i → entry_at v i ≡ found (slice_get v.entries (i - v.base - 1))
 entry_past v i h = grind (arith, nat_tests)

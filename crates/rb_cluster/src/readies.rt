@@ -1,6 +1,7 @@
 //! `process-ready`: what is ready at a node is printed and done.
 
 ghost use Rattle.std.specs.Prelude.{◌≡◌, ◌+◌, ◌++◌, OnOk, map};
+ghost use Rattle.rb_raftlog.specs.Log.{not_durable};
 ghost use Rattle.rb_node.specs.Readying.{ready, applying, others};
 ghost use Rattle.rb_texts.specs.Items as items;
 ghost use Rattle.rb_machine.specs.Entries.{entry_items};
@@ -34,20 +35,25 @@ fn show_snapshot<L: RaftLog>(screen: &mut Screen, view: &ReadyView<'_, L>) -> Re
     }
 }
 
+// Prints the entries of a log that aren't durable, as what is to be saved.
+fn show_unsaved<L: RaftLog>(screen: &mut Screen, log: &L) -> Result<(), AllocError>
+    ensures { OnOk result (screen.new ≡ showing_all screen.old (entry_items items.save ((L.plain log.now).durable + 1) (not_durable (L.plain log.now)))) }
+{
+    let _last = log.last_index();
+    for index in log.durable() + 1..log.last_index() + 1 {
+        match log.entry_at(index) {
+            Ok(entry) => screen.show(&Item::Save(index, entry))?,
+            Err(_) => unreachable!(),
+        }
+    }
+    Ok(())
+}
+
 // Prints the entries that are to be saved.
 fn show_saved<L: RaftLog>(screen: &mut Screen, node: &Node<L>) -> Result<(), AllocError>
     ensures { OnOk result (screen.new ≡ showing_all screen.old (entry_items items.save (node.now.log.durable + 1) (ready node.now).save)) }
 {
-    let log = &node.status().log;
-    let _last = log.last_index();
-    let mut index = log.durable();
-    let view = node.ready();
-    let entries = view.save();
-    for entry in entries {
-        index += 1;
-        screen.show(&Item::Save(index, entry))?;
-    }
-    Ok(())
+    show_unsaved(screen, &node.status().log)
 }
 
 // Prints the entries that are to be applied.
