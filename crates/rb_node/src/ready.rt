@@ -9,7 +9,7 @@ ghost use Rattle.rb_node.specs.Readying.{ready, hard_state, is_saved, has_ready,
 
 use crate::node::Node;
 use rb_message::{HardState, Mail};
-use rb_raftlog::{Entry, RaftLog};
+use rb_raftlog::{Entry, Pieces, RaftLog};
 use rb_step::State;
 use std::marker::Model;
 
@@ -113,9 +113,9 @@ impl<'a, L: RaftLog> ReadyView<'a, L> {
         Some((state.log.base_term(), state.log.first_index() - 1))
     }
 
-    /// The entries that aren't durable.
-    pub fn save(&self) -> &'a [Entry]
-        ensures { result.now ≡ (ready self.now).save }
+    /// The entries that aren't durable, in pieces.
+    pub fn save(&self) -> Pieces<'a>
+        ensures { result ≡ (ready self.now).save }
     {
         let state = self.state;
         state.log.not_durable()

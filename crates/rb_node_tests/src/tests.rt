@@ -1,3 +1,4 @@
+mod counting;
 mod logs;
 mod nodes;
 mod trackers;

@@ -8,12 +8,7 @@ take_past {X} (x ∷ xs) ys r =
     let e : suc (length xs) + r ≡ suc (length xs + r) = omega arith in
     ap (λ (n : ℕ). take n (x ∷ (xs ++ ys))) e ∙ ap (λ (l : List X). x ∷ l) (take_past xs ys r)
 
--- taking, and dropping, beyond a first part
-pub take_across : {X : Type 0} (xs ys : List X) (n : ℕ) → length xs ≤ n → take n (xs ++ ys) ≡ xs ++ take (n - length xs) ys
-take_across {X} xs ys n h =
-    let e : n ≡ length xs + (n - length xs) = omega arith in
-    ap (λ (m : ℕ). take m (xs ++ ys)) e ∙ take_past xs ys (n - length xs)
-
+-- dropping beyond a first part
 pub drop_across : {X : Type 0} (xs ys : List X) (n : ℕ) → length xs ≤ n → drop n (xs ++ ys) ≡ drop (n - length xs) ys
 drop_across {X} xs ys n h =
     let e : n ≡ length xs + (n - length xs) = omega arith in
@@ -30,12 +25,6 @@ grown {X} old es now new d n e f =
     f ∙ ap (λ (l : List X). l ++ take n (take (length es - d) (drop d es))) e
     ∙ ap (λ (l : List X). (old ++ take d es) ++ take n l) (take_rest es d)
     ∙ append_assoc old (take d es) (take n (drop d es)) ∙ ap (λ (l : List X). old ++ l) (take_parts es d n)
-
--- a slice of a second part
-pub tail_from : {X : Type 0} (xs ys slice es : List X) (from n : ℕ) → n ≡ length xs → slice ≡ ys → xs ++ ys ≡ es → n ≤ from → take (length slice - (from - n)) (drop (from - n) slice) ≡ drop from es
-tail_from {X} xs ys slice es from n size is whole low =
-    take_rest slice (from - n) ∙ ap (drop (from - n)) is ∙ ap (λ (m : ℕ). drop (from - m) ys) size
-    ∙ sym (drop_across xs ys from (omega arith)) ∙ ap (drop from) whole
 
 -- one more item is copied
 pub copied_more : {X : Type 0} (old now new es : List X) (from k : ℕ) (x d : X) → from ≤ k → k < length es → now ≡ old ++ take (k - from) (drop from es) → new ≡ now ++ x ∷ [] → x ≡ get_or es k d → new ≡ old ++ take (k + 1 - from) (drop from es)

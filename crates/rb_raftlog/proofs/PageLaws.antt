@@ -207,7 +207,7 @@ cut_even {X} ps at packed even h =
       sym (taken ps (at / PAGE) packed (omega arith)) ∙ ap (λ (n : ℕ). take n (joined ps)) e,
     )
 
-pub cut_odd : {X : Type 0} (ps qs : Sheets X) (at : ℕ) (d whole page : List X) → IsPacked ps → at < length (joined ps) → (at % PAGE ≡ 0 → ⊥) → whole ≡ get_or ps (at / PAGE) d → page ≡ take (at % PAGE) whole ++ [] → qs ≡ take (at / PAGE + 1) (set ps (at / PAGE) page) → IsPacked qs × (joined qs ≡ take at (joined ps))
+pub cut_odd : {X : Type 0} (ps qs : Sheets X) (at : ℕ) (d whole page : List X) → IsPacked ps → at < length (joined ps) → (at % PAGE ≡ 0 → ⊥) → whole ≡ get_or ps (at / PAGE) d → page ≡ take (at % PAGE) whole → qs ≡ take (at / PAGE + 1) (set ps (at / PAGE) page) → IsPacked qs × (joined qs ≡ take at (joined ps))
 cut_odd {X} ps qs at d whole page packed h odd whole_is page_is qs_is =
     let k : ℕ = at / PAGE in
     let r : ℕ = at % PAGE in
@@ -215,7 +215,7 @@ cut_odd {X} ps qs at d whole page packed h odd whole_is page_is qs_is =
     let in_all : PAGE * k + r < length (joined ps) = omega arith in
     let k_in : k < length ps = page_in ps k r packed in_all in
     let r_in : r < length (get_or ps k d) = entry_in ps k r d packed low in_all in
-    let is : page ≡ take r (get_or ps k d) = page_is ∙ append-nil (take r whole) ∙ ap (take r) whole_is in
+    let is : page ≡ take r (get_or ps k d) = page_is ∙ ap (take r) whole_is in
     let n : length page ≡ r = ap length is ∙ length-take-le r (get_or ps k d) (omega arith) in
     let e : qs ≡ take k ps ++ page ∷ [] = qs_is ∙ take_more_set ps k page k_in in
     let P : Sheets X → Type 0 = λ l. IsPacked l in (
@@ -224,9 +224,8 @@ cut_odd {X} ps qs at d whole page packed h odd whole_is page_is qs_is =
           ∙ sym (front_is ps k r d packed low in_all) ∙ ap (λ (m : ℕ). take m (joined ps)) (parts at),
     )
 
-pub push_even : {X : Type 0} (ps qs : Sheets X) (at : ℕ) (more page : List X) → IsPacked ps → at ≡ length (joined ps) → at % PAGE ≡ 0 → 0 < length more → length more ≤ PAGE → page ≡ more ++ [] → qs ≡ ps ++ page ∷ [] → IsPacked qs × (joined qs ≡ joined ps ++ more)
-push_even {X} ps qs at more page packed end even some fits page_is qs_is =
-    let is : page ≡ more = page_is ∙ append-nil more in
+pub push_even : {X : Type 0} (ps qs : Sheets X) (at : ℕ) (more page : List X) → IsPacked ps → at ≡ length (joined ps) → at % PAGE ≡ 0 → 0 < length more → length more ≤ PAGE → page ≡ more → qs ≡ ps ++ page ∷ [] → IsPacked qs × (joined qs ≡ joined ps ++ more)
+push_even {X} ps qs at more page packed end even some fits is qs_is =
     let n : length page ≡ length more = ap length is in
     let e : take (length ps) ps ++ page ∷ [] ≡ qs = ap (λ (l : Sheets X). l ++ page ∷ []) (take_all (length ps) ps (omega arith)) ∙ sym qs_is in
     let P : Sheets X → Type 0 = λ l. IsPacked l in (
@@ -240,14 +239,6 @@ last_in {X} ps at packed end odd = omega (arith, packed.few, enough ps packed)
 
 pub last_page : {X : Type 0} (ps : Sheets X) (at : ℕ) → IsPacked ps → at ≡ length (joined ps) → (at % PAGE ≡ 0 → ⊥) → at / PAGE < length ps
 last_page {X} ps at packed end odd = omega (arith, last_in ps at packed end odd)
-
-pub last_size : {X : Type 0} (ps : Sheets X) (at : ℕ) (d : List X) → IsPacked ps → at ≡ length (joined ps) → (at % PAGE ≡ 0 → ⊥) → length (get_or ps (at / PAGE) d) ≡ at % PAGE
-last_size {X} ps at d packed end odd =
-    let k : ℕ = at / PAGE in
-    let last : k + 1 ≡ length ps = last_in ps at packed end odd in
-    let all : joined ps ≡ joined (take k ps) ++ get_or ps k d =
-    ap joined (sym (take_all (k + 1) ps (omega arith))) ∙ joined_more ps k d (omega arith) in
-    omega (arith, packed.places k, ap length all, length-append (joined (take k ps)) (get_or ps k d))
 
 pub push_odd : {X : Type 0} (ps qs : Sheets X) (at : ℕ) (more d whole page : List X) → IsPacked ps → at ≡ length (joined ps) → (at % PAGE ≡ 0 → ⊥) → length more ≤ PAGE - at % PAGE → whole ≡ get_or ps (at / PAGE) d → page ≡ whole ++ more → qs ≡ set ps (at / PAGE) page → IsPacked qs × (joined qs ≡ joined ps ++ more)
 push_odd {X} ps qs at more d whole page packed end odd fits whole_is page_is qs_is =

@@ -3,9 +3,8 @@ use Rattle.std.specs.Prelude.{List, [], Option, Some, None}
 use Rattle.std.specs.declared.rc.Rc.{Rc}
 use Rattle.std.specs.declared.alloc.Global.{Global}
 use Rattle.rb_raftlog.specs.declared.entry.Entry.{Entry}
-use Rattle.rb_raftlog.specs.Held.{Held}
 
 -- where there is no pointer there are no entries
-abbrev pub entries_behind : Option (Rc Held Global) → List Entry
+abbrev pub entries_behind : Option (Rc (List Entry) Global) → List Entry
 entries_behind None = []
-entries_behind (Some pointer) = pointer.value.entries
+entries_behind (Some pointer) = pointer.value

@@ -7,7 +7,7 @@
 //! pages, so that a copy costs a pointer for each 64 pieces, some for the last ones, and the rest. Equal contents are cut at the
 //! same places. The rest always has the last bytes, as many as are shown, so these are there as one slice.
 
-ghost use Rattle.std.specs.Prelude.{◌≡◌, ◌+◌, ◌-◌, ◌<◌, ◌≤◌, ◌++◌, ◌↔◌, [], ◌∷◌, length, take, drop, IsTrue, IfOk, OnOk, OnErr};
+ghost use Rattle.std.specs.Prelude.{◌≡◌, ◌+◌, ◌<◌, ◌≤◌, ◌++◌, ◌↔◌, [], length, take, IsTrue, IfOk, OnOk};
 ghost use Rattle.rb_raftlog.specs.Content.{content_end};
 ghost use Rattle.rb_raftlog.specs.Cut.{IsCut};
 ghost use Rattle.rb_raftlog.specs.Packed.{joined};
@@ -17,7 +17,6 @@ use crate::pages::Pages;
 use rb_change::Shared;
 use std::alloc::{AllocError, Global};
 use std::marker::Model;
-use std::slice;
 
 /// Bytes that grow at their end. Contracts see the list of the bytes.
 #[derive(Drop)]
@@ -63,16 +62,6 @@ fn same_bytes(bytes: &[u8], others: &[u8]) -> bool
     bytes == others
 }
 
-/// Appends a piece, or leaves the pieces as they were.
-fn push_piece(pieces: &mut Pages<Shared<u8>>, piece: &Shared<u8>) -> Result<(), AllocError>
-    requires { length pieces.old < MAX_INDEX }
-    ensures ok { OnOk result (pieces.new ≡ pieces.old ++ piece.now ∷ []) }
-    ensures err { OnErr result (pieces.new ≡ pieces.old) }
-{
-    pieces.push_some(slice::from_ref(piece))?;
-    Ok(())
-}
-
 /// Appends the bytes, with which a piece is full, and cuts that off.
 fn cut_off(
     pieces: &mut Pages<Shared<u8>>,
@@ -92,7 +81,7 @@ fn cut_off(
     let (front, back) = whole.as_slice().split_at(PIECE);
     let piece = piece_of(alloc, front)?;
     let left = Vec::from_slice(alloc, back)?;
-    push_piece(pieces, &piece)?;
+    pieces.push(piece)?;
     *rest = left;
     Ok(())
 }

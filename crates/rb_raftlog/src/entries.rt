@@ -4,16 +4,15 @@
 //! message holds is one pointer to a list that never changes: its copies share it, and where the log that it is of has pages, it
 //! shares these too. No entries take no memory.
 
-ghost use Rattle.std.specs.Prelude.{◌≡◌, ◌<◌, ◌≤◌, ◌↔◌, [], length, slice_index_or, vec_len, IsTrue, IfOk};
+ghost use Rattle.std.specs.Prelude.{◌≡◌, ◌-◌, ◌<◌, ◌≤◌, ◌↔◌, [], length, drop, slice_index_or, vec_len, IsTrue, IfOk};
 ghost use Rattle.rb_raftlog.specs.Log.{last_of};
 
 use crate::entry::Entry;
-use crate::entry_list::EntryList;
+use crate::entry_list::{EntryList, Given, append_from};
 use crate::limits::MAX_INDEX;
+use crate::pages::Pages;
 use crate::pieces::Pieces;
-use crate::split_store::SplitStore;
-use crate::store::Store;
-use std::alloc::AllocError;
+use std::alloc::{AllocError, Global};
 use std::marker::Model;
 use std::rc::Rc;
 
@@ -21,7 +20,7 @@ use std::rc::Rc;
 #[derive(Drop)]
 pub struct Entries {
     // Nothing where there are no entries.
-    store: Option<Rc<SplitStore>>,
+    list: Option<Rc<Pages<Entry>>>,
 }
 
 impl Model for Entries {
@@ -31,7 +30,7 @@ impl Model for Entries {
 
     ghost Value = { List Entry };
 
-    ghost view = { λ e. entries_behind e.store };
+    ghost view = { λ e. entries_behind e.list };
 }
 
 impl Entries {
@@ -39,28 +38,43 @@ impl Entries {
     pub fn empty() -> Entries
         ensures { result ≡ [] }
     {
-        Entries { store: None }
+        Entries { list: None }
     }
 
-    /// The entries that a store holds.
-    pub(crate) fn of(store: SplitStore) -> Result<Entries, AllocError>
-        ensures { IfOk result (λ entries. entries ≡ store.entries) }
+    /// The entries of a list in pages.
+    pub(crate) fn of(list: Pages<Entry>) -> Result<Entries, AllocError>
+        ensures { IfOk result (λ entries. entries ≡ list) }
     {
-        if store.len() == 0 {
+        if list.len() == 0 {
             return Ok(Entries::empty());
         }
-        let alloc = store.allocator();
+        let alloc = list.allocator();
         Ok(Entries {
-            store: Some(Rc::new(alloc, store)?),
+            list: Some(Rc::new(alloc, list)?),
         })
     }
 
-    /// These entries, which are moved.
+    /// Copies of the entries from a place of a list on.
+    pub(crate) fn copied(
+        alloc: Global,
+        entries: &[Entry],
+        from: usize,
+    ) -> Result<Entries, AllocError>
+        requires from { from ≤ length entries.now }
+        requires fits { length entries.now - from ≤ MAX_INDEX }
+        ensures { IfOk result (λ shared. shared ≡ drop from entries.now) }
+    {
+        let mut list = Pages::new(alloc);
+        append_from(&mut list, &Given { entries }, from)?;
+        Entries::of(list)
+    }
+
+    /// These entries.
     pub fn from_vec(entries: Vec<Entry>) -> Result<Entries, AllocError>
         requires { vec_len entries ≤ MAX_INDEX }
         ensures { IfOk result (λ shared. shared ≡ entries.items) }
     {
-        Entries::of(SplitStore::unkept(entries))
+        Entries::copied(*entries.allocator(), &entries, 0)
     }
 
     /// How many entries there are.
@@ -100,9 +114,9 @@ impl Entries {
     pub fn pieces(&self) -> Pieces<'_>
         ensures { result ≡ self.now }
     {
-        match &self.store {
+        match &self.list {
             None => Pieces::one(&[]),
-            Some(store) => store.pieces(0),
+            Some(list) => Pieces::of(list, 0),
         }
     }
 
@@ -110,10 +124,10 @@ impl Entries {
     pub fn try_copy(&self) -> Result<Entries, AllocError>
         ensures { IfOk result (λ copy. copy ≡ self.now) }
     {
-        match &self.store {
+        match &self.list {
             None => Ok(Entries::empty()),
-            Some(store) => Ok(Entries {
-                store: Some(store.clone()?),
+            Some(list) => Ok(Entries {
+                list: Some(list.clone()?),
             }),
         }
     }
@@ -139,16 +153,16 @@ impl EntryList for Entries {
     ghost listed = { λ e. e };
 
     fn len(&self) -> usize {
-        match &self.store {
+        match &self.list {
             None => 0,
-            Some(store) => store.len(),
+            Some(list) => list.len(),
         }
     }
 
     fn entry(&self, k: usize) -> &Entry {
-        match &self.store {
+        match &self.list {
             None => unreachable!(),
-            Some(store) => store.entry(k),
+            Some(list) => list.item(k),
         }
     }
 }

@@ -5,6 +5,8 @@
 ghost use Rattle.std.specs.Prelude.{◌≡◌, ◌+◌, ◌-◌, ◌<◌, ◌≤◌, ◌++◌, length, drop, slice_index_or, OnOk};
 
 use crate::entry::Entry;
+use crate::limits::MAX_INDEX;
+use crate::pages::Pages;
 use std::alloc::AllocError;
 
 /// A list of entries.
@@ -54,6 +56,24 @@ pub(crate) fn push_from<E: EntryList>(
 {
     for k in from..entries.len() {
         copies.push(entries.entry(k).try_copy()?)?;
+    }
+    Ok(())
+}
+
+/// The same, into pages.
+pub(crate) fn append_from<E: EntryList>(
+    pages: &mut Pages<Entry>,
+    entries: &E,
+    from: usize,
+) -> Result<(), AllocError>
+    requires from { from ≤ length (E.listed entries.now) }
+    requires fits { length pages.old + (length (E.listed entries.now) - from) ≤ MAX_INDEX }
+    ensures ok { OnOk result (pages.new ≡ pages.old ++ drop from (E.listed entries.now)) }
+    ensures kept { length pages.old ≤ length pages.new }
+    ensures within { length pages.new ≤ length pages.old + (length (E.listed entries.now) - from) }
+{
+    for k in from..entries.len() {
+        pages.push(entries.entry(k).try_copy()?)?;
     }
     Ok(())
 }

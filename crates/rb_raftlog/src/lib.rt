@@ -44,5 +44,5 @@ pub use store::Store;
 /// A log whose entries are one list.
 pub type PlainLog = Log<PlainStore>;
 
-/// A log whose durable entries are in pages, which copies share; what isn't durable stands after them.
+/// A log whose entries are in pages, which copies share.
 pub type SplitLog = Log<SplitStore>;

@@ -291,8 +291,9 @@ impl<S: Store> RaftLog for Log<S> {
         self.store.push(entry)
     }
 
-    fn not_durable(&self) -> &[Entry] {
-        self.store.not_kept()
+    fn not_durable(&self) -> Pieces<'_> {
+        let _len = self.store.len();
+        self.store.pieces(self.store.kept())
     }
 
     fn mark_durable(&mut self) -> Result<(), AllocError> {

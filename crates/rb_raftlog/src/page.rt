@@ -3,7 +3,7 @@
 //! While a page is shared it never changes. One that nobody shares grows in place; in the place of another comes a new one.
 
 use crate::limits::PAGE;
-use crate::try_copy::{TryCopy, extend_copies, push_copies};
+use crate::try_copy::{TryCopy, push_copies};
 use std::alloc::{AllocError, Global};
 use std::marker::Model;
 use std::rc::Rc;
@@ -26,33 +26,46 @@ impl<T> Model for Page<T> {
 }
 
 impl<T: TryCopy> Page<T> {
-    ghost use Rattle.std.specs.Prelude.{◌≡◌, ◌<◌, ◌≤◌, ◌+◌, ◌++◌, length, IfOk, OnOk, OnErr};
+    ghost use Rattle.std.specs.Prelude.{◌≡◌, ◌<◌, ◌≤◌, ◌++◌, ◌∷◌, [], length, IfOk, OnOk, OnErr};
 
     /// A page of copies of these items.
-    pub(crate) fn joining(alloc: Global, front: &[T], back: &[T]) -> Result<Page<T>, AllocError>
-        requires some { 0 < length front.now + length back.now }
-        requires fits { length front.now + length back.now ≤ PAGE }
-        ensures { IfOk result (λ page. page ≡ front.now ++ back.now) }
+    pub(crate) fn of(alloc: Global, items: &[T]) -> Result<Page<T>, AllocError>
+        requires some { 0 < length items.now }
+        requires fits { length items.now ≤ PAGE }
+        ensures { IfOk result (λ page. page ≡ items.now) }
     {
-        let mut items = Vec::with_capacity(alloc, front.len() + back.len())?;
-        push_copies(&mut items, front)?;
-        push_copies(&mut items, back)?;
+        let mut copies = Vec::with_capacity(alloc, items.len())?;
+        push_copies(&mut copies, items)?;
         Ok(Page {
-            items: Rc::new(alloc, items)?,
+            items: Rc::new(alloc, copies)?,
         })
     }
 
-    /// Appends a copy of each item. Who shares the page keeps it as it was.
-    pub(crate) fn extend(&mut self, items: &[T]) -> Result<(), AllocError>
-        requires { length self.old + length items.now ≤ PAGE }
-        ensures ok { OnOk result (self.new ≡ self.old ++ items.now) }
+    /// A page of copies of these items, and one more behind them.
+    pub(crate) fn ending(alloc: Global, items: &[T], last: T) -> Result<Page<T>, AllocError>
+        requires { length items.now < PAGE }
+        ensures { IfOk result (λ page. page ≡ items.now ++ last ∷ []) }
+    {
+        let mut all = Vec::with_capacity(alloc, items.len() + 1)?;
+        push_copies(&mut all, items)?;
+        all.push(last)?;
+        Ok(Page {
+            items: Rc::new(alloc, all)?,
+        })
+    }
+
+    /// Appends an item. Who shares the page keeps it as it was.
+    pub(crate) fn push(&mut self, item: T) -> Result<(), AllocError>
+        requires { length self.old < PAGE }
+        ensures ok { OnOk result (self.new ≡ self.old ++ item ∷ []) }
         ensures err { OnErr result (self.new ≡ self.old) }
     {
         if let Some(own) = Rc::get_mut(&mut self.items) {
-            return extend_copies(own, items);
+            own.push(item)?;
+            return Ok(());
         }
         let alloc = *self.items.allocator();
-        let page = Page::joining(alloc, self.as_slice(), items)?;
+        let page = Page::ending(alloc, self.as_slice(), item)?;
         *self = page;
         Ok(())
     }

@@ -5,10 +5,10 @@
 //! the last grows in place while nobody shares it. Else, and where the list is cut, it is replaced by a new one with pointers to
 //! the items that stay.
 //!
-//! So a copy costs a pointer a page, a cut at most a page, a growth of a list that has its last page alone no more than what comes,
-//! of another at most a page more, and dropping takes no memory.
+//! So a copy costs a pointer a page, a cut at most a page, an item that is appended no more than itself where the list has its last
+//! page alone, else at most a page, and dropping takes no memory.
 
-ghost use Rattle.std.specs.Prelude.{◌≡◌, ◌+◌, ◌<◌, ◌≤◌, ◌++◌, length, take, drop, IfOk, OnOk, OnErr};
+ghost use Rattle.std.specs.Prelude.{◌≡◌, ◌+◌, ◌<◌, ◌≤◌, ◌++◌, ◌∷◌, [], length, take, drop, IfOk, OnOk, OnErr};
 ghost use Rattle.rb_raftlog.specs.Packed.{joined, IsPacked};
 
 use crate::limits::{MAX_INDEX, PAGE};
@@ -53,35 +53,27 @@ fn cut_pages<T: TryCopy>(pages: &mut Vec<Page<T>>, at: usize) -> Result<(), Allo
         return Ok(());
     }
     let alloc = *pages.allocator();
-    let page = Page::joining(alloc, &pages[k].as_slice()[..at % PAGE], &[])?;
+    let page = Page::of(alloc, &pages[k].as_slice()[..at % PAGE])?;
     pages[k] = page;
     pages.truncate(k + 1);
     Ok(())
 }
 
-/// Appends copies of the first items, as many as the last page has room for, or as a new page has where it has none, and gives
-/// how many.
-fn fill_page<T: TryCopy>(
-    pages: &mut Vec<Page<T>>,
-    at: usize,
-    items: &[T],
-) -> Result<usize, AllocError>
+/// Appends an item to the last page, or as a new page where that is full or there is none.
+fn push_item<T: TryCopy>(pages: &mut Vec<Page<T>>, at: usize, item: T) -> Result<(), AllocError>
     requires packed { IsPacked pages.old.items }
     requires end { at ≡ length (joined pages.old.items) }
-    requires some { 0 < length items.now }
-    ensures ok { IfOk result (λ n. (0 < n) × (n ≤ length items.now) × IsPacked pages.new.items × (joined pages.new.items ≡ joined pages.old.items ++ take n items.now)) }
+    ensures ok { OnOk result (IsPacked pages.new.items × (joined pages.new.items ≡ joined pages.old.items ++ item ∷ [])) }
     ensures err { OnErr result (pages.new.items ≡ pages.old.items) }
 {
-    let n = items.len().min(PAGE - at % PAGE);
-    let more = &items[..n];
     if at % PAGE == 0 {
         let alloc = *pages.allocator();
-        let page = Page::joining(alloc, more, &[])?;
+        let page = Page::ending(alloc, &[], item)?;
         pages.push(page)?;
-        return Ok(n);
+        return Ok(());
     }
-    pages[at / PAGE].extend(more)?;
-    Ok(n)
+    pages[at / PAGE].push(item)?;
+    Ok(())
 }
 
 /// Drops the first k pages.
@@ -106,7 +98,7 @@ fn copied<T: TryCopy>(alloc: Global, pages: &[Page<T>]) -> Result<Vec<Page<T>>, 
 }
 
 impl<T: TryCopy> Pages<T> {
-    ghost use Rattle.std.specs.Prelude.{[], slice_index_or};
+    ghost use Rattle.std.specs.Prelude.{slice_index_or};
 
     pub(crate) fn new(alloc: Global) -> Pages<T>
         ensures { result ≡ [] }
@@ -159,28 +151,14 @@ impl<T: TryCopy> Pages<T> {
         Ok(())
     }
 
-    /// Appends copies of the first items, at least one, and gives how many.
-    pub(crate) fn push_some(&mut self, items: &[T]) -> Result<usize, AllocError>
-        requires some { 0 < length items.now }
-        requires fits { length self.old + length items.now ≤ MAX_INDEX }
-        ensures ok { IfOk result (λ n. (0 < n) × (n ≤ length items.now) × (self.new ≡ self.old ++ take n items.now)) }
+    /// Appends an item.
+    pub(crate) fn push(&mut self, item: T) -> Result<(), AllocError>
+        requires { length self.old < MAX_INDEX }
+        ensures ok { OnOk result (self.new ≡ self.old ++ item ∷ []) }
         ensures err { OnErr result (self.new ≡ self.old) }
     {
-        let n = fill_page(&mut self.pages, self.skip + self.len, items)?;
-        self.len += n;
-        Ok(n)
-    }
-
-    /// Appends a copy of each item.
-    pub(crate) fn extend(&mut self, items: &[T]) -> Result<(), AllocError>
-        requires { length self.old + length items.now ≤ MAX_INDEX }
-        ensures ok { OnOk result (self.new ≡ self.old ++ items.now) }
-        ensures within { length self.new ≤ length self.old + length items.now }
-    {
-        let mut done = 0;
-        while done < items.len() {
-            done += self.push_some(&items[done..])?;
-        }
+        push_item(&mut self.pages, self.skip + self.len, item)?;
+        self.len += 1;
         Ok(())
     }
 

@@ -1,9 +1,10 @@
 //! Entries in pieces.
 //!
-//! A log lends its entries as they lie: a part of a page, whole pages, and what is in no page. Nothing is copied to read them.
+//! A log lends its entries as they lie: one slice, or the rest of a page and the pages after it. Nothing is copied to read them.
 
 use crate::entry::Entry;
 use crate::page::Page;
+use crate::pages::Pages;
 use std::marker::Model;
 
 /// Entries, in slices one after another. Contracts see the list of the entries.
@@ -11,7 +12,6 @@ use std::marker::Model;
 pub struct Pieces<'a> {
     front: &'a [Entry],
     pages: &'a [Page<Entry>],
-    back: &'a [Entry],
 }
 
 impl<'a> Model for Pieces<'a> {
@@ -21,24 +21,29 @@ impl<'a> Model for Pieces<'a> {
 
     ghost Value = { List Entry };
 
-    ghost view = { λ p. p.front.now ++ (joined p.pages.now ++ p.back.now) };
+    ghost view = { λ p. p.front.now ++ joined p.pages.now };
 }
 
 impl<'a> Pieces<'a> {
-    ghost use Rattle.std.specs.Prelude.{◌≡◌, ◌<◌, ◌++◌, [], length, IfNone, IfSome};
-    ghost use Rattle.rb_raftlog.specs.Packed.{joined};
-
-    pub(crate) fn new(front: &'a [Entry], pages: &'a [Page<Entry>], back: &'a [Entry]) -> Pieces<'a>
-        ensures { result ≡ front.now ++ (joined pages.now ++ back.now) }
-    {
-        Pieces { front, pages, back }
-    }
+    ghost use Rattle.std.specs.Prelude.{◌≡◌, ◌<◌, ◌≤◌, ◌++◌, [], length, drop, IfNone, IfSome};
 
     /// One slice.
     pub(crate) fn one(front: &'a [Entry]) -> Pieces<'a>
         ensures { result ≡ front.now }
     {
-        Pieces::new(front, &[], &[])
+        Pieces { front, pages: &[] }
+    }
+
+    /// What a list in pages has from a place on.
+    pub(crate) fn of(all: &'a Pages<Entry>, from: usize) -> Pieces<'a>
+        requires { from ≤ length all.now }
+        ensures { result ≡ drop from all.now }
+    {
+        if from == all.len() {
+            return Pieces::one(&[]);
+        }
+        let (front, pages) = all.from(from);
+        Pieces { front, pages }
     }
 
     /// Takes the next piece, which has at least one entry.
@@ -55,11 +60,6 @@ impl<'a> Pieces<'a> {
         if !self.pages.is_empty() {
             let piece = self.pages[0].as_slice();
             self.pages = &self.pages[1..];
-            return Some(piece);
-        }
-        if !self.back.is_empty() {
-            let piece = self.back;
-            self.back = &[];
             return Some(piece);
         }
         None

@@ -1,12 +1,13 @@
 //! Entries as one list, and how many of them are durable.
 
-ghost use Rattle.std.specs.Prelude.{◌≡◌, ◌≤◌, length, drop, IfOk};
+ghost use Rattle.std.specs.Prelude.{◌≡◌, IfOk};
 
 use crate::entries::Entries;
 use crate::entry::Entry;
-use crate::entry_list::{EntryList, Given, push_from};
+use crate::entry_list::{EntryList, push_from};
 use crate::pieces::Pieces;
 use crate::store::Store;
+use crate::try_copy::push_copies;
 use std::alloc::{AllocError, Global};
 use std::marker::Model;
 
@@ -28,13 +29,12 @@ impl Model for PlainStore {
     ghost invariant = { λ s. s.kept ≤ length s.entries.items };
 }
 
-/// Copies of the entries from a place on.
-fn copies_from(alloc: Global, entries: &[Entry], from: usize) -> Result<Vec<Entry>, AllocError>
-    requires { from ≤ length entries.now }
-    ensures { IfOk result (λ copies. copies.items ≡ drop from entries.now) }
+/// Copies of the entries.
+fn copies_of(alloc: Global, entries: &[Entry]) -> Result<Vec<Entry>, AllocError>
+    ensures { IfOk result (λ copies. copies.items ≡ entries.now) }
 {
-    let mut copies = Vec::with_capacity(alloc, entries.len() - from)?;
-    push_from(&mut copies, &Given { entries }, from)?;
+    let mut copies = Vec::with_capacity(alloc, entries.len())?;
+    push_copies(&mut copies, entries)?;
     Ok(copies)
 }
 
@@ -66,11 +66,7 @@ impl Store for PlainStore {
     }
 
     fn share(&self, from: usize) -> Result<Entries, AllocError> {
-        Entries::from_vec(copies_from(*self.entries.allocator(), &self.entries, from)?)
-    }
-
-    fn not_kept(&self) -> &[Entry] {
-        &self.entries[self.kept..]
+        Entries::copied(*self.entries.allocator(), &self.entries, from)
     }
 
     fn cut(&mut self, n: usize) -> Result<(), AllocError> {
@@ -108,7 +104,7 @@ impl Store for PlainStore {
     fn try_copy(&self) -> Result<PlainStore, AllocError> {
         let kept = self.kept;
         Ok(PlainStore {
-            entries: copies_from(*self.entries.allocator(), &self.entries, 0)?,
+            entries: copies_of(*self.entries.allocator(), &self.entries)?,
             kept,
         })
     }

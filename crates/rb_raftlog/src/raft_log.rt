@@ -6,8 +6,8 @@
 //! is durable, up to an index.
 //!
 //! Contracts see a log as one plain record, whatever holds the entries: its base, the base's term, the list of entries, and the last
-//! durable index. In what is said of costs, n is the number of entries, p the number of pages, about n / 64, and t how many entries
-//! aren't durable. A copy of an entry costs a pointer.
+//! durable index. In what is said of costs, n is the number of entries, and p the number of pages, about n / 64. A copy of an entry
+//! costs a pointer.
 
 ghost use Rattle.std.specs.Prelude.{◌≡◌, ◌≢◌, ◌+◌, ◌<◌, ◌≤◌, ◌↔◌, Ok, Err, length, IsTrue, IfOk, IfErr, OnOk};
 ghost use Rattle.rb_raftlog.specs.Log.{LogValue, IsLog, IsCompacted, fresh, first, last, last_term, is_up_to_date, term_at, entry_at, entries_from, entries_after, has_change, hint, appended, answer, own, not_durable, made_durable, restored};
@@ -100,7 +100,7 @@ pub trait RaftLog: Drop {
         ensures { result ≡ entries_from (plain self.now) from };
 
     /// The entries past an index, as a message holds them; all of them where the index is below the base. A plain log copies each of
-    /// them; a split one copies a pointer for each page of them, and those that aren't durable.
+    /// them; a split one copies a pointer for each page of them.
     fn entries_after(&self, index: u64) -> Result<Entries, AllocError>
         ensures { IfOk result (λ entries. entries ≡ entries_after (plain self.now) index) };
 
@@ -140,16 +140,16 @@ pub trait RaftLog: Drop {
         ensures log { OnOk result (plain self.new ≡ appended (plain self.old) prev prev_term entries.now commit) }
         ensures answer { IfOk result (λ told. told ≡ answer (plain self.old) prev prev_term entries.now commit) };
 
-    /// Appends an entry of one's own. It costs the one entry.
+    /// Appends an entry of one's own. It costs the one entry, and in a split log whose last page is shared at most a page more.
     fn push_own(&mut self, entry: Entry) -> Result<(), AllocError>
         requires { last (plain self.old) < MAX_INDEX }
         ensures { OnOk result (plain self.new ≡ own (plain self.old) entry) };
 
-    /// The entries past the last durable one.
-    fn not_durable(&self) -> &[Entry]
-        ensures { result.now ≡ not_durable (plain self.now) };
+    /// The entries past the last durable one, in pieces. It costs no search and copies nothing.
+    fn not_durable(&self) -> Pieces<'_>
+        ensures { result ≡ not_durable (plain self.now) };
 
-    /// Makes all entries durable. A plain log only counts; a split one copies pointers to the t entries, and at most a page more.
+    /// Makes all entries durable. Both logs only count.
     fn mark_durable(&mut self) -> Result<(), AllocError>
         ensures { OnOk result (plain self.new ≡ made_durable (plain self.old)) };
 
@@ -165,7 +165,7 @@ pub trait RaftLog: Drop {
         requires { snapshot.now.index ≤ MAX_INDEX }
         ensures { plain self.new ≡ restored snapshot.now };
 
-    /// The same log once more. A plain log copies n entries; a split one p pointers to pages, and the t entries that aren't durable.
+    /// The same log once more. A plain log copies n entries; a split one p pointers to pages.
     fn try_copy(&self) -> Result<Self, AllocError>
         ensures { IfOk result (λ copy. plain copy ≡ plain self.now) };
 

@@ -46,10 +46,6 @@ pub trait Store: Drop {
         requires fits { length (held self.now).entries ≤ MAX_INDEX }
         ensures { IfOk result (λ entries. entries ≡ drop from (held self.now).entries) };
 
-    /// The entries that aren't durable.
-    fn not_kept(&self) -> &[Entry]
-        ensures { result.now ≡ drop (held self.now).kept (held self.now).entries };
-
     /// Leaves the first n entries.
     fn cut(&mut self, n: usize) -> Result<(), AllocError>
         ensures ok { OnOk result (held self.new ≡ cut (held self.old) n) }

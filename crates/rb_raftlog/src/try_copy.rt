@@ -3,7 +3,7 @@
 //! What lists and pages hold is copied by pointers. A copy takes a count of a shared list up by one, which can be refused, so it
 //! answers a `Result`, and where it succeeds the copy is equal.
 
-ghost use Rattle.std.specs.Prelude.{◌≡◌, ◌++◌, ◌+◌, ◌≤◌, length, take, IfOk, OnOk, OnErr};
+ghost use Rattle.std.specs.Prelude.{◌≡◌, ◌++◌, ◌+◌, ◌≤◌, length, IfOk, OnOk};
 
 use crate::entry::Entry;
 use rb_change::Shared;
@@ -32,24 +32,10 @@ impl TryCopy for Shared<u8> {
 pub(crate) fn push_copies<T: TryCopy>(copies: &mut Vec<T>, items: &[T]) -> Result<(), AllocError>
     ensures ok { OnOk result (copies.new.items ≡ copies.old.items ++ items.now) }
     ensures kept { length copies.old.items ≤ length copies.new.items }
-    ensures front { take (length copies.old.items) copies.new.items ≡ copies.old.items }
     ensures within { length copies.new.items ≤ length copies.old.items + length items.now }
 {
     for item in items {
         copies.push(item.try_copy()?)?;
-    }
-    Ok(())
-}
-
-/// Appends a copy of each item, or changes nothing.
-pub(crate) fn extend_copies<T: TryCopy>(copies: &mut Vec<T>, items: &[T]) -> Result<(), AllocError>
-    ensures ok { OnOk result (copies.new.items ≡ copies.old.items ++ items.now) }
-    ensures err { OnErr result (copies.new.items ≡ copies.old.items) }
-{
-    let len = copies.len();
-    if let Err(fault) = push_copies(copies, items) {
-        copies.truncate(len);
-        return Err(fault);
     }
     Ok(())
 }

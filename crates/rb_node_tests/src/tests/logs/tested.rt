@@ -5,6 +5,7 @@
 
 ghost use Rattle.std.specs.Prelude.{◌≤◌};
 
+use crate::tests::counting::entries_in;
 use rb_raftlog::{Appended, Body, CompactFault, Entries, Entry, LogFault, MAX_INDEX, RaftLog};
 use std::alloc::{AllocError, Global};
 
@@ -73,17 +74,10 @@ fn item_of(entry: &Entry) -> Option<Item> {
 }
 
 fn count<L: RaftLog>(log: &L, from: u64) -> usize {
-    let mut count = 0usize;
-    if let Ok(pieces) = log.entries(from) {
-        let mut rest = pieces;
-        for _ in 0..100_000 {
-            match rest.next() {
-                Some(piece) => count = count.saturating_add(piece.len()),
-                None => break,
-            }
-        }
+    match log.entries(from) {
+        Ok(pieces) => entries_in(pieces),
+        Err(_) => 0,
     }
-    count
 }
 
 impl<L: RaftLog> Tested for L {
@@ -161,7 +155,7 @@ impl<L: RaftLog> Tested for L {
     }
 
     fn unsaved(&self) -> usize {
-        self.not_durable().len()
+        entries_in(self.not_durable())
     }
 
     fn hint_for(&self, index: u64, term: u64) -> u64 {

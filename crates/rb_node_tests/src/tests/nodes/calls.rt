@@ -3,6 +3,7 @@
 use super::making::{Player, played};
 use super::moves::{ALONE, FOLLOWS, LEADS, Move, START, Says};
 use super::seen::{Said, kind_said};
+use crate::tests::counting::entries_in;
 use rb_message::{HardState, Message};
 use rb_node::{HEARTBEAT_TICKS, MAX_TICKS, Node, ReadyView, limits_are};
 use rb_raftlog::{CompactFault, Entry, RaftLog};
@@ -30,7 +31,7 @@ pub fn ready_of<L: RaftLog>(node: &Node<L>) -> Ready {
     (
         ready.hard().map(numbers),
         ready.snapshot(),
-        ready.save().len(),
+        entries_in(ready.save()),
         ready.apply_len(),
         ready.sent().len(),
         ready.waiting().len(),
@@ -83,9 +84,9 @@ fn applies_second<L: RaftLog>(ready: &ReadyView<'_, L>, entry: &Entry) -> bool {
 /// Whether the second entry that is to be applied is the second that is to be saved.
 pub fn applies_what_it_saves<L: RaftLog>(node: &Node<L>) -> bool {
     let ready = node.ready();
-    match ready.save().get(1) {
-        Some(entry) => applies_second(&ready, entry),
-        None => false,
+    match ready.save().next() {
+        Some([_, entry, ..]) => applies_second(&ready, entry),
+        _ => false,
     }
 }
 

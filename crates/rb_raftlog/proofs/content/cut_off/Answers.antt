@@ -8,17 +8,17 @@ split_at-requires c = omega (arith, c.requires.full, ap length c.in_ok-whole.ens
 pub returns-clause-cut : goal.returns-clause-cut
 returns-clause-cut c =
     let step =
-    cut_off_is c.args.pieces.now c.push_piece.new.pieces c.args.rest.now.items c.args.bytes.now c.as_slice.result.now _ c.in_ok-left.left.items c.requires.cut
+    cut_off_is c.args.pieces.now c.push.new.self c.args.rest.now.items c.args.bytes.now c.as_slice.result.now _ c.in_ok-left.left.items c.requires.cut
     (omega (arith, c.requires.full))
     (c.as_slice.ensures.value ∙ c.in_ok-whole.ensures ∙ ap (λ (l : List ℕ). l ++ c.args.bytes.now) c.deref.ensures.value)
-    (c.in_ok-piece.ensures ∙ c.split_at.ensures.front) (c.in_ok-left.ensures.items ∙ c.split_at.ensures.back) c.in_ok-push_piece.ensures.ok in
+    (c.in_ok-piece.ensures ∙ c.split_at.ensures.front) (c.in_ok-left.ensures.items ∙ c.split_at.ensures.back) c.in_ok-push.ensures.ok in
     step.0
 
 pub returns-clause-ok : goal.returns-clause-ok
 returns-clause-ok c =
     let step =
-    cut_off_is c.args.pieces.now c.push_piece.new.pieces c.args.rest.now.items c.args.bytes.now c.as_slice.result.now _ c.in_ok-left.left.items c.requires.cut
+    cut_off_is c.args.pieces.now c.push.new.self c.args.rest.now.items c.args.bytes.now c.as_slice.result.now _ c.in_ok-left.left.items c.requires.cut
     (omega (arith, c.requires.full))
     (c.as_slice.ensures.value ∙ c.in_ok-whole.ensures ∙ ap (λ (l : List ℕ). l ++ c.args.bytes.now) c.deref.ensures.value)
-    (c.in_ok-piece.ensures ∙ c.split_at.ensures.front) (c.in_ok-left.ensures.items ∙ c.split_at.ensures.back) c.in_ok-push_piece.ensures.ok in
+    (c.in_ok-piece.ensures ∙ c.split_at.ensures.front) (c.in_ok-left.ensures.items ∙ c.split_at.ensures.back) c.in_ok-push.ensures.ok in
     step.1
