@@ -19,14 +19,14 @@ loop-index-init g c =
 pub unreachable-requires : goal.unreachable-requires
 unreachable-requires g c =
     let v : LogValue = g.L.RaftLog.plain c.args.log.now in
-    let above : v.base < c.loop-index.index = omega (arith, c.durable-index.ensures, c.last_index-_last.ensures.sound.above_base) in
+    let above : v.base < c.loop-index.index = omega (arith, c.durable-index.ensures, c.last_index-last.ensures.sound.above_base) in
     let below : c.loop-index.index < last v + 1 = omega (arith, c.last_index-index-end.ensures.value) in
     entry_held v c.loop-index.index c.in-Err.field-0 above below c.in-Err.ensures.none
 
 pub loop-index-preserved : goal.loop-index-preserved
 loop-index-preserved g c =
     let v : LogValue = g.L.RaftLog.plain c.args.log.now in
-    let above : v.base < c.loop-index.index = omega (arith, c.durable-index.ensures, c.last_index-_last.ensures.sound.above_base) in
+    let above : v.base < c.loop-index.index = omega (arith, c.durable-index.ensures, c.last_index-last.ensures.sound.above_base) in
     let all : Screen = showing_all c.args.screen.now (entry_items items.save (v.durable + 1) (not_durable v)) in
     entry_shown items.save v c.loop-index.index c.in-Ok.entry.now c.loop-index.screen c.show.new.self all above c.in-Ok.ensures.found c.in_ok-show-in-Ok.ensures c.loop-index.invariant
 
