@@ -11,8 +11,8 @@ ghost use Rattle.rb_step.specs.Step.{stepped};
 ghost use Rattle.rb_node.specs.Calls.{called, leader_forgotten, reported, IsCompactedTo};
 
 use crate::node::Node;
-use rb_message::{Event, Message, MessageKind, Role};
 use rb_change::{Shared, Transition, Word};
+use rb_message::{Event, Message, MessageKind, Role};
 use rb_raftlog::{Body, CompactFault, RaftLog, Snapshot};
 use rb_step::State;
 use rb_tracker::ProgressState;

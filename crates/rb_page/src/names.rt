@@ -7,8 +7,8 @@ ghost use Rattle.rb_texts.specs.Messages.{type_text};
 ghost use Rattle.rb_texts.specs.States.{role_text};
 ghost use Rattle.rb_page.specs.MessageRows.{verb_name};
 
-use rb_message::{MessageType, Role, WhyNoCampaign, WhyReplaced};
 use rb_change::Transition;
+use rb_message::{MessageType, Role, WhyNoCampaign, WhyReplaced};
 use rb_texts::Verb;
 use rb_tracker::{ChangeFault, VoteResult};
 

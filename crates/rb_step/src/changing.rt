@@ -12,8 +12,8 @@ ghost use Rattle.rb_step.specs.Node.{turn, told};
 ghost use Rattle.rb_step.specs.Changing.{missing, without_stranger, without_strangers, stranger_given_up, joined_by, joined, revised, steps_down, led_on, switched, change_applied, body_applied, applied_one, applied_all, leaves_joint, joint_left};
 
 use crate::state::State;
-use rb_message::{Event, Role};
 use rb_change::{Shared, Transition, Word};
+use rb_message::{Event, Role};
 use rb_raftlog::{Body, Entry, RaftLog};
 use rb_tracker::{ChangeFault, Config};
 use std::alloc::AllocError;

@@ -11,8 +11,8 @@ ghost use Rattle.rb_step.specs.Node.{turn, told};
 ghost use Rattle.rb_step.specs.Leading.{with_own, is_log_full, appended, appended_change, new_view, with_view_of, with_views, in_lead, leading, led, can_commit, commits_or_tells, checked_commit};
 
 use crate::state::State;
-use rb_message::{Event, MessageKind, Role};
 use rb_change::Shared;
+use rb_message::{Event, MessageKind, Role};
 use rb_raftlog::{Body, Entry, MAX_INDEX, RaftLog};
 use rb_tracker::Progress;
 use std::alloc::AllocError;

@@ -2,8 +2,8 @@
 
 use super::making::{Player, played};
 use super::moves::{ALONE, FOLLOWS, Move, START, Says, Start};
-use rb_node::Node;
 use rb_change::{Transition, WordKind};
+use rb_node::Node;
 use rb_raftlog::RaftLog;
 use std::alloc::Global;
 use std::process::Abort;

@@ -4,9 +4,9 @@ use super::calls::{Gone, Ready, applies_what_it_saves, gone_out, ready_of, snaps
 use super::held::{Held, held_of};
 use super::moves::{Move, Says, Start};
 use super::seen::{Seen, seen_of};
+use rb_change::{ConfState, Shared, Transition, Word, WordKind};
 use rb_message::{Append, Event, Install, Message, MessageKind};
 use rb_node::Node;
-use rb_change::{ConfState, Shared, Transition, Word, WordKind};
 use rb_raftlog::{Body, CompactFault, Content, Entries, Entry, MAX_INDEX, RaftLog, Snapshot};
 use std::alloc::{AllocError, Global};
 use std::process::Abort;
