@@ -6,5 +6,6 @@ pub mod LogLaws
 pub mod MatchLaws
 pub mod PageLaws
 pub mod PlaceLaws
+pub mod SumLaws
 pub mod TermLaws
 pub mod VoteLaws

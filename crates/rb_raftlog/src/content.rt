@@ -6,13 +6,15 @@
 //! It is cut into pieces of PIECE bytes, which never change and which copies share, and a rest behind them. The pieces stand in
 //! pages, so that a copy costs a pointer for each 64 pieces, some for the last ones, and the rest. Equal contents are cut at the
 //! same places. The rest always has the last bytes, as many as are shown, so these are there as one slice.
+//!
+//! A sum of all bytes goes with them, so that contents of one length that differ anywhere are mostly told by two numbers.
 
-ghost use Rattle.std.specs.Prelude.{◌≡◌, ◌+◌, ◌<◌, ◌≤◌, ◌++◌, ◌↔◌, [], length, take, IsTrue, IfOk, OnOk};
-ghost use Rattle.rb_raftlog.specs.Content.{content_end};
+ghost use Rattle.std.specs.Prelude.{◌≡◌, ◌+◌, ◌<◌, ◌≤◌, ◌++◌, ◌↔◌, [], length, take, IsTrue, IfOk, OnOk, OnErr};
+ghost use Rattle.rb_raftlog.specs.Content.{content_end, content_sum, sum_with, sum_from};
 ghost use Rattle.rb_raftlog.specs.Cut.{IsCut};
 ghost use Rattle.rb_raftlog.specs.Packed.{joined};
 
-use crate::limits::{END, MAX_INDEX, PIECE};
+use crate::limits::{END, FACTOR, MAX_INDEX, PIECE};
 use crate::pages::Pages;
 use rb_change::Shared;
 use std::alloc::{AllocError, Global};
@@ -25,18 +27,21 @@ pub struct Content {
     pieces: Pages<Shared<u8>>,
     // Fewer than PIECE + END bytes, and at least END of them where there are pieces.
     rest: Vec<u8>,
+    // The sum of all bytes.
+    sum: u64,
 }
 
 impl Model for Content {
-    ghost use Rattle.std.specs.Prelude.{List, ℕ, ◌++◌};
+    ghost use Rattle.std.specs.Prelude.{◌≡◌, List, ℕ, ◌++◌};
     ghost use Rattle.rb_raftlog.specs.Packed.{joined};
+    ghost use Rattle.rb_raftlog.specs.Content.{content_sum};
     ghost use Rattle.rb_raftlog.specs.Cut.{IsCut};
 
     ghost Value = { List ℕ };
 
     ghost view = { λ c. joined c.pieces ++ c.rest.items };
 
-    ghost invariant = { λ c. IsCut c.pieces c.rest.items };
+    ghost invariant = { λ c. IsCut c.pieces c.rest.items × (c.sum ≡ content_sum (joined c.pieces ++ c.rest.items)) };
 }
 
 /// A list of a part of the bytes.
@@ -62,6 +67,25 @@ fn same_bytes(bytes: &[u8], others: &[u8]) -> bool
     bytes == others
 }
 
+/// A sum with one byte more.
+#[tactic(auto, unfolding(crate::specs::Content::sum_with))]
+fn sum_with(sum: u64, byte: u8) -> u64
+    ensures { result ≡ sum_with sum byte }
+{
+    sum.wrapping_mul(FACTOR).wrapping_add(u64::from(byte))
+}
+
+/// A sum with these bytes more.
+fn sum_from(sum: u64, bytes: &[u8]) -> u64
+    ensures { result ≡ sum_from sum bytes.now }
+{
+    let mut so_far = sum;
+    for byte in bytes {
+        so_far = sum_with(so_far, *byte);
+    }
+    so_far
+}
+
 /// Appends the bytes, with which a piece is full, and cuts that off.
 fn cut_off(
     pieces: &mut Pages<Shared<u8>>,
@@ -72,6 +96,7 @@ fn cut_off(
     requires full { length rest.old.items + length bytes.now ≡ PIECE + END }
     ensures cut { IsCut pieces.new rest.new.items }
     ensures ok { OnOk result (joined pieces.new ++ rest.new.items ≡ (joined pieces.old ++ rest.old.items) ++ bytes.now) }
+    ensures err { OnErr result (joined pieces.new ++ rest.new.items ≡ joined pieces.old ++ rest.old.items) }
 {
     if pieces.len() as u64 >= MAX_INDEX {
         return Err(AllocError);
@@ -84,6 +109,21 @@ fn cut_off(
     pieces.push(piece)?;
     *rest = left;
     Ok(())
+}
+
+/// Appends the bytes, and cuts a piece off where one is full.
+fn grow(pieces: &mut Pages<Shared<u8>>, rest: &mut Vec<u8>, bytes: &[u8]) -> Result<(), AllocError>
+    requires cut { IsCut pieces.old rest.old.items }
+    requires fits { length rest.old.items + length bytes.now ≤ PIECE + END }
+    ensures cut { IsCut pieces.new rest.new.items }
+    ensures ok { OnOk result (joined pieces.new ++ rest.new.items ≡ (joined pieces.old ++ rest.old.items) ++ bytes.now) }
+    ensures err { OnErr result (joined pieces.new ++ rest.new.items ≡ joined pieces.old ++ rest.old.items) }
+{
+    if rest.len() + bytes.len() < PIECE + END {
+        rest.extend_from_slice(bytes)?;
+        return Ok(());
+    }
+    cut_off(pieces, rest, bytes)
 }
 
 /// Whether the two lists of pieces are equal.
@@ -109,6 +149,7 @@ impl Content {
         Content {
             pieces: Pages::new(alloc),
             rest: Vec::new(alloc),
+            sum: 0,
         }
     }
 
@@ -143,11 +184,9 @@ impl Content {
         ensures { IfOk result (λ n. (0 < n) × (n ≤ length bytes.now) × (self.new ≡ self.old ++ take n bytes.now)) }
     {
         let n = bytes.len().min(PIECE + END - self.rest.len());
-        if self.rest.len() + n < PIECE + END {
-            self.rest.extend_from_slice(&bytes[..n])?;
-            return Ok(n);
-        }
-        cut_off(&mut self.pieces, &mut self.rest, &bytes[..n])?;
+        let first = &bytes[..n];
+        grow(&mut self.pieces, &mut self.rest, first)?;
+        self.sum = sum_from(self.sum, first);
         Ok(n)
     }
 
@@ -170,13 +209,29 @@ impl Content {
         Ok(Content {
             pieces: self.pieces.copy_from(0)?,
             rest: Vec::from_slice(*self.rest.allocator(), &self.rest)?,
+            sum: self.sum,
         })
     }
 
-    /// Whether both are the same bytes. Contents of different lengths are told at once, then their ends are looked at.
-    pub fn same(&self, other: &Content) -> bool
+    /// A sum of the bytes, without going over them. Equal contents have equal sums, and different ones mostly different sums.
+    pub fn sum(&self) -> u64
+        ensures { result ≡ content_sum self.now }
+    {
+        let _rest = &self.rest;
+        self.sum
+    }
+
+    // Whether both are the same bytes. Their ends are looked at first.
+    fn has_bytes_of(&self, other: &Content) -> bool
         ensures { IsTrue result ↔ (self.now ≡ other.now) }
     {
         same_bytes(&self.rest, &other.rest) && same_pieces(&self.pieces, &other.pieces)
+    }
+
+    /// Whether both are the same bytes. Contents of different sums are told at once, then their ends are looked at.
+    pub fn same(&self, other: &Content) -> bool
+        ensures { IsTrue result ↔ (self.now ≡ other.now) }
+    {
+        self.sum() == other.sum() && self.has_bytes_of(other)
     }
 }

@@ -21,6 +21,10 @@ pub(crate) const PIECE: usize = 1_024;
 /// How many of the last bytes of a content are there as one slice.
 pub(crate) const END: usize = 32;
 
+/// By what the sum of a content is multiplied before the next byte goes in. It is odd, so no bit of the sum is lost, and its bits are
+/// mixed (Knuth's factor of a random number generator in 64 bits).
+pub(crate) const FACTOR: u64 = 6_364_136_223_846_793_005;
+
 /// The limits that definitions name are these numbers.
 pub fn limits_are()
     ensures index { MAX_INDEX ≡ 2000000000 }

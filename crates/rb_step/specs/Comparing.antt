@@ -1,5 +1,6 @@
 -- Comparing two nodes: what is a number or a flag, and the rest
 use Rattle.std.specs.Prelude.{◌≡◌, length}
+use Rattle.rb_raftlog.specs.Content.{content_sum}
 use Rattle.rb_raftlog.specs.Log.{last}
 use Rattle.rb_step.specs.Node.{PlainNode}
 
@@ -16,10 +17,11 @@ HaveSameCounters a b =
     (a.elapsed ≡ b.elapsed) × (a.heartbeat_elapsed ≡ b.heartbeat_elapsed) × (a.timeout ≡ b.timeout)
     × (a.saved ≡ b.saved) × (a.options ≡ b.options)
 
+-- lists of the same lengths, and contents of the same sum
 abbrev pub HaveSameLengths : PlainNode → PlainNode → Type 0
 HaveSameLengths a b =
     (length a.sent ≡ length b.sent) × (length a.waiting ≡ length b.waiting)
-    × (length a.content ≡ length b.content) × (last a.log ≡ last b.log)
+    × (length a.content ≡ length b.content) × (last a.log ≡ last b.log) × (content_sum a.content ≡ content_sum b.content)
 
 abbrev pub HaveSameNumbers : PlainNode → PlainNode → Type 0
 HaveSameNumbers a b = HaveSameRole a b × HaveSameIndexes a b × HaveSameCounters a b × HaveSameLengths a b

@@ -129,10 +129,11 @@ impl<L: RaftLog> State<L> {
             && self.waiting.len() == other.waiting.len()
             && self.content.len() == other.content.len()
             && self.log.last_index() == other.log.last_index()
+            && self.content.sum() == other.content.sum()
     }
 
-    /// Whether both have the same numbers, and lists of the same lengths. It costs the same however long the lists are, so who
-    /// compares many nodes asks for this of all of them first.
+    /// Whether both have the same numbers, lists of the same lengths, and contents of the same sum. It costs the same however long
+    /// these are, so who compares many nodes asks for this of all of them first.
     pub fn has_numbers_of(&self, other: &State<L>) -> bool
         ensures { IsTrue result ↔ HaveSameNumbers self.now other.now }
     {
