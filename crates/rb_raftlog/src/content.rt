@@ -7,7 +7,7 @@
 //! pages, so that a copy costs a pointer for each 64 pieces, some for the last ones, and the rest. Equal contents are cut at the
 //! same places. The rest always has the last bytes, as many as are shown, so these are there as one slice.
 //!
-//! A sum of all bytes goes with them, so that contents of one length that differ anywhere are mostly told by two numbers.
+//! A sum of all bytes goes with them, so that contents of one length that differ anywhere are usually told by two numbers.
 
 ghost use Rattle.std.specs.Prelude.{◌≡◌, ◌+◌, ◌<◌, ◌≤◌, ◌++◌, ◌↔◌, [], length, take, IsTrue, IfOk, OnOk, OnErr};
 ghost use Rattle.rb_raftlog.specs.Content.{content_end, content_sum, sum_with, sum_from};
@@ -213,7 +213,7 @@ impl Content {
         })
     }
 
-    /// A sum of the bytes, without going over them. Equal contents have equal sums, and different ones mostly different sums.
+    /// A sum of the bytes, without going over them. Equal contents have equal sums, and different ones usually different sums.
     pub fn sum(&self) -> u64
         ensures { result ≡ content_sum self.now }
     {
