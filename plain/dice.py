@@ -6,7 +6,7 @@ import random
 from .directives import LEVELS, TYPES
 
 WHOLE = list(range(1, 33))
-# Numbers that an argument mostly doesn't take.
+# Numbers that an argument usually doesn't take.
 ODD_NUMBERS = ["0", "33", "+1", "-1", "00000000002", "4294967297", "2000000001", "1001", "x", "1.0", "é", "257", "65"]
 ODD_NAMES = ["add-node", "campaign2", "Campaign", "process-append-thread", "_breakpoint", "subtest", "-", "#", "n" * 70, 'q"\\', "né"]
 ODD_OPTIONS = ["async-storage-writes=true", "id=1", "voter=1", "k=", "k=(1,2)", "n=1", "Log-Level=none", "o" * 70 + "=1", "rounds=1", "type=MsgApp"]
@@ -165,7 +165,7 @@ class Dice(random.Random):
         return "raft-state"
 
     def wrong(self):
-        """A directive with something wrong in it, mostly."""
+        """A directive, usually with something wrong in it."""
         if self.some(0.25):
             return self.choice(WRONG_HEADS), []
         head, given = self.any_directive()
@@ -259,7 +259,7 @@ class Dice(random.Random):
         return head, given if given or self.some(0.98) else ["an input that nothing looks at"]
 
     def quiet_directive(self):
-        """One that leaves the cluster as it is, mostly."""
+        """One that usually leaves the cluster as it is."""
         return self.choice([self.raft_state, self.raft_log, self.status, self.stabilize, self.log_level])(), []
 
     # Openings: lists of heads with their inputs
