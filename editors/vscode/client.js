@@ -39,6 +39,7 @@ class Client {
     this.server.stdin.on("error", () => {});
     this.server.on("error", (error) => hasGone(`${program} could not be started: ${error.message}`));
     this.server.on("exit", (status) => {
+      this.waiting.forEach((answer) => answer({}));
       if (!this.isEnding) hasGone(`${program} lsp ended with status ${status}`);
     });
   }
@@ -65,7 +66,7 @@ class Client {
     this.send({ method, params });
   }
 
-  // The answer, with its result or its error.
+  // The answer, with its result or its error; with neither where the server has gone.
   request(method, params) {
     const id = ++this.last;
     const answer = new Promise((resolve) => this.waiting.set(id, resolve));

@@ -5,6 +5,10 @@ const vscode = require("vscode");
 const { Client } = require("./client.js");
 const { isScript } = require("./detect.js");
 
+// Behind these an option's values begin: typing one of them offers the values.
+const BEFORE_VALUES = ["=", "(", ","];
+// The documents that the server has been told of.
+const served = new Set();
 let client;
 let shown;
 let output;
@@ -35,6 +39,7 @@ function hear(method, params) {
 
 function hasGone(why) {
   client = undefined;
+  served.clear();
   shown.clear();
   vscode.window.showWarningMessage(why);
 }
@@ -113,23 +118,34 @@ async function formatted(document, { tabSize, insertSpaces }) {
   return (told ?? []).map(({ range, newText }) => vscode.TextEdit.replace(rangeOf(range), newText));
 }
 
+function tell(document) {
+  const { languageId, version } = document;
+  const uri = document.uri.toString();
+  if (languageId !== "raftbench" || served.has(uri)) return;
+  served.add(uri);
+  client.notify("textDocument/didOpen", { textDocument: { uri, languageId, version, text: document.getText() } });
+}
+
+// A server that is started hears of each script that is open, also of those that another one served before it went.
 function open(document) {
   if (document.languageId !== "raftbench") return;
-  if (!client) start();
-  const { languageId, version } = document;
-  client.notify("textDocument/didOpen", { textDocument: { uri: document.uri.toString(), languageId, version, text: document.getText() } });
+  if (!client) {
+    start();
+    vscode.workspace.textDocuments.forEach(tell);
+  }
+  tell(document);
 }
 
 function change(event) {
-  if (event.document.languageId !== "raftbench" || !client || event.contentChanges.length === 0) return;
+  if (!served.has(event.document.uri.toString()) || event.contentChanges.length === 0) return;
   const { uri, version } = event.document;
   const contentChanges = event.contentChanges.map(({ range, text }) => ({ range: { start: range.start, end: range.end }, text }));
   client.notify("textDocument/didChange", { textDocument: { uri: uri.toString(), version }, contentChanges });
 }
 
 function close(document) {
-  if (document.languageId !== "raftbench" || !client) return;
-  client.notify("textDocument/didClose", { textDocument: { uri: document.uri.toString() } });
+  const uri = document.uri.toString();
+  if (served.delete(uri)) client.notify("textDocument/didClose", { textDocument: { uri } });
 }
 
 function activate(context) {
@@ -145,7 +161,7 @@ function activate(context) {
     vscode.workspace.onDidCloseTextDocument(close),
     vscode.languages.registerHoverProvider("raftbench", { provideHover: hover }),
     vscode.languages.registerCodeActionsProvider("raftbench", { provideCodeActions: actions }),
-    vscode.languages.registerCompletionItemProvider("raftbench", { provideCompletionItems: words }),
+    vscode.languages.registerCompletionItemProvider("raftbench", { provideCompletionItems: words }, ...BEFORE_VALUES),
     vscode.languages.registerDocumentSymbolProvider("raftbench", { provideDocumentSymbols: symbols }),
     vscode.languages.registerFoldingRangeProvider("raftbench", { provideFoldingRanges: folds }),
     vscode.languages.registerDocumentFormattingEditProvider("raftbench", { provideDocumentFormattingEdits: formatted }),

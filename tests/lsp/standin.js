@@ -1,0 +1,159 @@
+"use strict";
+// An editor that only pretends: as much of Visual Studio Code's API as the extension of editors/vscode calls. What it makes refuses what the
+// editor's own types refuse.
+
+const assert = require("assert");
+const Module = require("module");
+const path = require("path");
+
+class Position {
+  constructor(line, character) {
+    assert(Number.isInteger(line) && Number.isInteger(character) && line >= 0 && character >= 0, "a position counts from 0");
+    Object.assign(this, { line, character });
+  }
+
+  isAfter({ line, character }) {
+    return this.line > line || (this.line === line && this.character > character);
+  }
+}
+
+class Range {
+  constructor(startLine, startCharacter, endLine, endCharacter) {
+    this.start = new Position(startLine, startCharacter);
+    this.end = new Position(endLine, endCharacter);
+    assert(!this.start.isAfter(this.end), "a range ends before it begins");
+  }
+
+  get numbers() {
+    return [this.start.line, this.start.character, this.end.line, this.end.character];
+  }
+
+  contains({ start, end }) {
+    return !this.start.isAfter(start) && !end.isAfter(this.end);
+  }
+}
+
+class Diagnostic {
+  constructor(range, message, severity) {
+    assert(range instanceof Range && message && [0, 1, 2, 3].includes(severity));
+    Object.assign(this, { range, message, severity });
+  }
+}
+
+class MarkdownString {
+  appendCodeblock(text, language) {
+    Object.assign(this, { text, language });
+    return this;
+  }
+}
+
+class Hover {
+  constructor(contents, range) {
+    assert(contents instanceof MarkdownString && range instanceof Range);
+    Object.assign(this, { contents, range });
+  }
+}
+
+class CodeAction {
+  constructor(title, kind) {
+    assert(title && Object.values(CodeActionKind).includes(kind));
+    Object.assign(this, { title, kind });
+  }
+}
+
+const CodeActionKind = { QuickFix: { value: "quickfix" }, Source: { value: "source" } };
+
+class TextEdit {
+  constructor(range, newText) {
+    assert(range instanceof Range && typeof newText === "string");
+    Object.assign(this, { range, newText });
+  }
+
+  static replace(range, newText) {
+    return new TextEdit(range, newText);
+  }
+}
+
+class WorkspaceEdit {
+  edits = [];
+
+  replace(uri, range, newText) {
+    this.edits.push([uri, new TextEdit(range, newText)]);
+  }
+}
+
+class CompletionItem {
+  constructor(label, kind) {
+    assert(label && Number.isInteger(kind));
+    Object.assign(this, { label, kind });
+  }
+}
+
+class DocumentSymbol {
+  constructor(name, detail, kind, range, selectionRange) {
+    assert(name && range.contains(selectionRange), "a symbol has a name, and its selection stands in its range");
+    Object.assign(this, { name, detail, kind, range, selectionRange });
+  }
+}
+
+class FoldingRange {
+  constructor(start, end) {
+    assert(Number.isInteger(start) && Number.isInteger(end));
+    Object.assign(this, { start, end });
+  }
+}
+
+// An editor with these settings. In `shown` are the diagnostics of each document, in `providers` what the extension gives when it is asked, and the
+// characters behind which words are asked for; in `warnings` and `lines` what it says and what it writes down. `tell` calls what listens.
+function editor(settings) {
+  const listeners = { open: [], change: [], close: [], save: [] };
+  const [shown, providers, warnings, lines, documents] = [new Map(), { characters: [] }, [], [], []];
+  const on = (name) => (listener) => listeners[name].push(listener);
+  const tell = (name, event) => listeners[name].forEach((listener) => listener(event));
+  const provided = (language, provider, ...characters) => {
+    assert(language === "raftbench" && characters.every((it) => it.length === 1));
+    Object.assign(providers, provider);
+    providers.characters.push(...characters);
+  };
+  // As for the editor, a document in another language is another document.
+  const setTextDocumentLanguage = async (document, id) => {
+    tell("close", document);
+    document.languageId = id;
+    tell("open", document);
+  };
+  const registered = ["Hover", "CodeActions", "CompletionItem", "DocumentSymbol", "FoldingRange", "DocumentFormattingEdit"];
+  const languages = {
+    createDiagnosticCollection: () => ({ set: (uri, list) => shown.set(uri, list), clear: () => shown.clear() }),
+    setTextDocumentLanguage,
+    ...Object.fromEntries(registered.map((name) => [`register${name}Provider`, provided])),
+  };
+  const window = { showWarningMessage: (text) => warnings.push(text), createOutputChannel: () => ({ appendLine: (line) => lines.push(line) }) };
+  const workspace = {
+    textDocuments: documents,
+    getConfiguration: () => ({ get: (name) => settings[name] }),
+    onDidOpenTextDocument: on("open"),
+    onDidChangeTextDocument: on("change"),
+    onDidCloseTextDocument: on("close"),
+    onDidSaveTextDocument: on("save"),
+  };
+  const types = { CodeAction, CodeActionKind, CompletionItem, Diagnostic, DocumentSymbol, FoldingRange, Hover, MarkdownString, Position, Range, TextEdit, WorkspaceEdit };
+  return { api: { ...types, Uri: { parse: (text) => text }, languages, window, workspace }, shown, providers, warnings, lines, documents, tell };
+}
+
+// The extension, with this for the editor's API.
+function extension(api) {
+  const load = Module._load;
+  Module._load = (name, ...others) => (name === "vscode" ? api : load(name, ...others));
+  return require(path.join(__dirname, "../../editors/vscode/extension.js"));
+}
+
+// Waits until something holds, and fails where it doesn't come.
+async function until(holds, what) {
+  for (let tries = 0; tries < 3000; tries++) {
+    if (await holds()) return;
+    await new Promise((go) => setTimeout(go, 20));
+  }
+  assert.fail(`it didn't come: ${what()}`);
+}
+
+module.exports = { editor, extension, until, Position };
