@@ -1,6 +1,8 @@
 """A client of the language server, without an editor: frames messages, and reads what comes. (LSP 3.17, base protocol.)"""
 import json
+import pathlib
 import resource
+import shlex
 import subprocess
 
 MOST_SECONDS = 120
@@ -44,10 +46,30 @@ def changed(uri, version, *changes):
     return notification("textDocument/didChange", textDocument={"uri": uri, "version": version}, contentChanges=list(changes))
 
 
+def recorder(program, room):
+    """A program that runs this one, and writes into the folder what it is sent and what it tells."""
+    script = pathlib.Path(room, "recorder")
+    sent, told, run = (shlex.quote(str(it)) for it in (room / "sent", room / "told", program))
+    script.write_text(f'#!/bin/bash\ntee {sent} | {run} "$@" | tee {told}\nexit "${{PIPESTATUS[1]}}"\n')
+    script.chmod(0o755)
+    return script
+
+
+def recorded(room):
+    """What a recorder wrote, as a conversation: of each message whether the client sent it, and the message."""
+    return [(from_client, message) for from_client, name in ((True, "sent"), (False, "told")) for message in unframed((room / name).read_bytes())]
+
+
 class Client:
     """A server that runs, and the conversation with it. As a context it is ended behind the block. It may have so many bytes of addresses."""
 
+    # Where it is a list, the conversation of each client that begins is kept in it.
+    kept = None
+
     def __init__(self, program, addresses=None):
+        self.talk = []
+        if self.kept is not None:
+            self.kept.append(self.talk)
         narrow = addresses and (lambda: resource.setrlimit(resource.RLIMIT_AS, (addresses, addresses)))
         self.server = subprocess.Popen([program, "lsp"], stdin=subprocess.PIPE, stdout=subprocess.PIPE, stderr=subprocess.PIPE, preexec_fn=narrow)
 
@@ -58,7 +80,12 @@ class Client:
         self.server.kill()
         self.server.communicate()
 
+    def keep(self, from_client, body):
+        if self.kept is not None:
+            self.talk.append((from_client, body))
+
     def send(self, body):
+        self.keep(True, body)
         self.server.stdin.write(framed(body))
         self.server.stdin.flush()
 
@@ -69,8 +96,9 @@ class Client:
             if not line:
                 raise EOFError("the server wrote nothing more")
             length = int(line.removeprefix(b"Content-Length: "))
-        body = self.server.stdout.read(length)
-        return json.loads(body)
+        body = json.loads(self.server.stdout.read(length))
+        self.keep(False, body)
+        return body
 
     def ask(self, number, method, **params):
         """The result of a request, or what is wrong with it."""
