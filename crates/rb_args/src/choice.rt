@@ -26,7 +26,6 @@ pub enum Subcommand {
 }
 
 /// What the words choose. What they don't give is `None`.
-#[derive(Drop)]
 pub struct Choice {
     /// The subcommand.
     pub subcommand: Option<Subcommand>,
@@ -42,8 +41,21 @@ pub struct Choice {
     pub check: CheckChoice,
 }
 
+// Written out, as that of what is said to `check`: so giving one back is a call wherever it is owned, and is proved here alone.
+impl Drop for Choice {
+    fn drop(self) {
+        let Choice {
+            subcommand: _,
+            file: _,
+            name: _,
+            every: _,
+            until: _,
+            check: _,
+        } = self;
+    }
+}
+
 /// What the words choose of `check`. Where another subcommand is meant, nothing of it is given.
-#[derive(Drop)]
 pub struct CheckChoice {
     /// Its PATHs, as they were given and in that order.
     pub paths: Vec<String>,
@@ -71,6 +83,26 @@ pub struct CheckChoice {
     pub is_quiet: bool,
     /// Whether `--why` is given.
     pub explains: bool,
+}
+
+impl Drop for CheckChoice {
+    fn drop(self) {
+        let CheckChoice {
+            paths: _,
+            filters: _,
+            color: _,
+            format: _,
+            accepts: _,
+            accepts_errors: _,
+            is_forced: _,
+            reviews: _,
+            is_verbose: _,
+            is_first: _,
+            is_brief: _,
+            is_quiet: _,
+            explains: _,
+        } = self;
+    }
 }
 
 /// Why the words choose nothing.

@@ -92,32 +92,29 @@ fn given(alloc: Global, name: &str, inner: &ArgMatches<'_>) -> Result<Choice, Al
     ensures { IfOk result (IsChoiceOf (Some (name.now, rows_of (found_of inner.now)))) }
 {
     let check = check_choice(alloc, inner)?;
-    let file = text_of(alloc, inner, "file")?;
-    let about = text_of(alloc, inner, "name")?;
-    let every = text_of(alloc, inner, "every")?;
-    let until = text_of(alloc, inner, "until")?;
-    Ok(Choice {
+    let mut choice = Choice {
         subcommand: named_by(name),
-        file,
-        name: about,
-        every,
-        until,
+        file: None,
+        name: None,
+        every: None,
+        until: None,
         check,
-    })
+    };
+    choice.file = text_of(alloc, inner, "file")?;
+    choice.name = text_of(alloc, inner, "name")?;
+    choice.every = text_of(alloc, inner, "every")?;
+    choice.until = text_of(alloc, inner, "until")?;
+    Ok(choice)
 }
 
 fn check_choice(alloc: Global, inner: &ArgMatches<'_>) -> Result<CheckChoice, AllocError>
     ensures { IfOk result (IsCheckOf (Some (rows_of (found_of inner.now)))) }
 {
-    let paths = texts_of(alloc, inner, "path")?;
-    let filters = texts_of(alloc, inner, "filter")?;
-    let color = text_of(alloc, inner, "color")?;
-    let format = text_of(alloc, inner, "format")?;
-    Ok(CheckChoice {
-        paths,
-        filters,
-        color,
-        format,
+    let mut check = CheckChoice {
+        paths: Vec::new(alloc),
+        filters: Vec::new(alloc),
+        color: None,
+        format: None,
         accepts: is_given(inner, "accept"),
         accepts_errors: is_given(inner, "accept-errors"),
         is_forced: is_given(inner, "force"),
@@ -127,7 +124,12 @@ fn check_choice(alloc: Global, inner: &ArgMatches<'_>) -> Result<CheckChoice, Al
         is_brief: is_given(inner, "brief"),
         is_quiet: is_given(inner, "quiet"),
         explains: is_given(inner, "why"),
-    })
+    };
+    check.paths = texts_of(alloc, inner, "path")?;
+    check.filters = texts_of(alloc, inner, "filter")?;
+    check.color = text_of(alloc, inner, "color")?;
+    check.format = text_of(alloc, inner, "format")?;
+    Ok(check)
 }
 
 // The subcommand of this name.
