@@ -1,9 +1,9 @@
 //! The command line, made for `clap` of its table.
 
-ghost use Rattle.std.specs.Prelude.{◌≡◌, IfOk, codes, false};
+ghost use Rattle.std.specs.Prelude.{◌≡◌, IfOk, codes, false, fold};
 ghost use Rattle.clap.specs.Words.{App, app_of, new_app, rule_of, with_rule, with_subcommand};
 ghost use Rattle.clap.specs.declared.builder.command.Command.TheViews.{out-Command};
-ghost use Rattle.rb_args.specs.CommandLine.{IsMade, command_line, line_of, rule_of_row, with_lines, with_rows, with_version, flag_rule, option_rule, value_rule};
+ghost use Rattle.rb_args.specs.CommandLine.{IsMade, command_line, line_of, rule_of_row, with_version, flag_rule, option_rule, value_rule};
 
 use crate::table::{Form, LINES, Line, Row};
 use clap::{Arg, ArgAction, Command};
@@ -19,7 +19,7 @@ type Made<'a> = Result<Command<'a>, AllocError>;
 pub(crate) fn raftbench_command<'a>(alloc: Global) -> Made<'a>
     ensures { IfOk result (λ command. app_of command ≡ command_line) }
 {
-    with_lines(Ok(bare_command(alloc)), alloc, &LINES)
+    with_parts(Ok(bare_command(alloc)), alloc, &LINES)
 }
 
 // raftbench, without a subcommand.
@@ -42,23 +42,49 @@ fn described<'a>(alloc: Global, name: &'a str, about: &'a str) -> Command<'a>
     Command::new(alloc, name).about(about)
 }
 
-// The subcommands of these lines more.
-fn with_lines<'a>(command: Made<'a>, alloc: Global, lines: &[Line]) -> Made<'a>
-    ensures { (app : App) → IsMade command.entry app → IsMade result (with_lines lines.now app) }
+// What a command takes: a subcommand, or an argument.
+trait Part: Copy {
+    // the command line with it
+    ghost added: { App → Self → App };
+
+    // The command with it.
+    fn added<'a>(self, alloc: Global, command: Command<'a>) -> Made<'a>
+        ensures { (out-Command command.entry).has_globals ≡ false → IsMade result (added (app_of command.entry) self) };
+}
+
+impl Part for Line {
+    ghost added = { λ app line. with_subcommand app (line_of line).top };
+
+    fn added<'a>(self, alloc: Global, command: Command<'a>) -> Made<'a> {
+        with_made(command, line_command(alloc, self))
+    }
+}
+
+impl Part for Row {
+    ghost added = { λ app row. with_rule app (rule_of_row row) };
+
+    fn added<'a>(self, alloc: Global, command: Command<'a>) -> Made<'a> {
+        command.arg(argument(alloc, self))
+    }
+}
+
+// These parts more.
+fn with_parts<'a, P: Part>(command: Made<'a>, alloc: Global, parts: &[P]) -> Made<'a>
+    ensures { (app : App) → IsMade command.entry app → IsMade result (fold P.added app parts.now) }
 {
     let mut made = command;
-    for line in lines {
-        made = with_line(made, alloc, *line);
+    for part in parts {
+        made = with_part(made, alloc, *part);
     }
     made
 }
 
-// One subcommand more. It is made only where there was memory so far, so nothing of it is given back.
-fn with_line<'a>(command: Made<'a>, alloc: Global, line: Line) -> Made<'a>
-    ensures { (app : App) → IsMade command.entry app → IsMade result (with_subcommand app (line_of line).top) }
+// One part more. It is made only where there was memory so far, so nothing of it is given back.
+fn with_part<'a, P: Part>(command: Made<'a>, alloc: Global, part: P) -> Made<'a>
+    ensures { (app : App) → IsMade command.entry app → IsMade result (P.added app part) }
 {
     let command = command?;
-    with_made(command, line_command(alloc, line))
+    part.added(alloc, command)
 }
 
 fn with_made<'a>(command: Command<'a>, one: Made<'a>) -> Made<'a>
@@ -72,7 +98,7 @@ fn with_made<'a>(command: Command<'a>, one: Made<'a>) -> Made<'a>
 fn line_command<'a>(alloc: Global, line: Line) -> Made<'a>
     ensures { IsMade result (line_of line) }
 {
-    with_rows(Ok(helped_command(alloc, line)), alloc, line.rows)
+    with_parts(Ok(helped_command(alloc, line)), alloc, line.rows)
 }
 
 // The subcommand of the line, without an argument.
@@ -86,25 +112,6 @@ fn helped_command<'a>(alloc: Global, line: Line) -> Command<'a>
     } else {
         command.override_usage(line.usage).after_help(line.after)
     }
-}
-
-// The arguments of these rows more.
-fn with_rows<'a>(command: Made<'a>, alloc: Global, rows: &[Row]) -> Made<'a>
-    ensures { (app : App) → IsMade command.entry app → IsMade result (with_rows rows.now app) }
-{
-    let mut made = command;
-    for row in rows {
-        made = with_row(made, alloc, *row);
-    }
-    made
-}
-
-// One argument more. It is made only where there was memory so far, so it need not be given back.
-fn with_row<'a>(command: Made<'a>, alloc: Global, row: Row) -> Made<'a>
-    ensures { (app : App) → IsMade command.entry app → IsMade result (with_rule app (rule_of_row row)) }
-{
-    let command = command?;
-    command.arg(argument(alloc, row))
 }
 
 // The argument of the row.

@@ -1,8 +1,8 @@
--- The arguments of the rows so far are made.
-use Rattle.std.proofs.Common.{take}
+-- The parts so far are made.
+use Rattle.std.proofs.Common.{fold, take}
 use Rattle.clap.specs.Words.{App}
-use Rattle.rb_args.specs.CommandLine.{IsMade, with_rows}
-use Rattle.rb_args.proofs.commands.with_rows.Given as goal
+use Rattle.rb_args.specs.CommandLine.{IsMade}
+use Rattle.rb_args.proofs.commands.with_parts.Given as goal
 
-abbrev pub invariant-loop-row : goal.invariant-loop-row
-invariant-loop-row l = (app : App) → IsMade l.initial.made app → IsMade l.made (with_rows (take l.row-index l.rows) app)
+abbrev pub invariant-loop-part : goal.invariant-loop-part
+invariant-loop-part g l = (app : App) → IsMade l.initial.made app → IsMade l.made (fold g.P.Part.added app (take l.part-index l.parts))
