@@ -1,5 +1,5 @@
 -- Where the lines of a script begin in its text. (docs/SCRIPT-FORMAT.md: they end at LF alone; an editor's end at CR and CR LF too.)
-use Rattle.std.specs.Prelude.{◌≡◌, ℕ, zero, suc, ◌==◌, if◌then◌else◌, List, [], ◌∷◌, get_or}
+use Rattle.std.specs.Prelude.{◌≡◌, ◌≢◌, ℕ, zero, suc, ◌==◌, ◌<◌, nat_lt, if◌then◌else◌, List, [], ◌∷◌, length, get_or, slice_index}
 use Rattle.rb_document.specs.declared.position.Encoding.{Encoding}
 use Rattle.rb_document.specs.declared.position.Position.{Position}
 use Rattle.rb_document.specs.declared.line_table.LineTable.{LineTable}
@@ -15,6 +15,19 @@ feed_start (suc n) (b ∷ bytes) = suc (if b == 10 then feed_start n bytes else 
 abbrev pub start_of : Encoding → ℕ → List ℕ → Position
 start_of encoding n text = position_of encoding (feed_start n text) text
 
+-- no byte is CR
+abbrev pub HasNoReturn : List ℕ → Type 0
+HasNoReturn text = (k : ℕ) → k < length text → slice_index text k ≢ 13
+
+-- how many bytes are LF
+unfoldable pub feed_count : List ℕ → ℕ
+feed_count [] = 0
+feed_count (b ∷ bytes) = if b == 10 then suc (feed_count bytes) else feed_count bytes
+
+-- where line n begins by the table
+abbrev pub given : LineTable → ℕ → Position
+given table n = if nat_lt n table.plain then record { line = n; character = 0 } else get_or table.starts.items n table.end
+
 -- the table gives each line's beginning
 abbrev pub IsTable : Encoding → List ℕ → LineTable → Type 0
-IsTable encoding text table = (n : ℕ) → get_or table.starts.items n table.end ≡ start_of encoding n text
+IsTable encoding text table = (n : ℕ) → given table n ≡ start_of encoding n text

@@ -2,7 +2,7 @@
 use Rattle.std.proofs.Common.{◌≡◌, ◌-◌, ◌≤◌, length}
 use Rattle.rb_document.specs.Places.{position_of}
 use Rattle.rb_document.proofs.TableLaws.{StartsStand}
-use Rattle.rb_document.proofs.line_table.LineTable.new.Given as goal
+use Rattle.rb_document.proofs.line_table.LineTable.of_all.Given as goal
 
 abbrev pub invariant-loop-next : goal.invariant-loop-next
 invariant-loop-next l = record {

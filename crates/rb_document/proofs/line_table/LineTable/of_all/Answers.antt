@@ -3,7 +3,8 @@ use Rattle.std.proofs.lemmas.Bool.{ne_eqb}
 use Rattle.rb_document.specs.declared.position.Position.{Position}
 use Rattle.rb_document.specs.Places.{position_of}
 use Rattle.rb_document.proofs.TableLaws.{first_stands, line_stands, part_stands, stands_to, all_stand}
-use Rattle.rb_document.proofs.line_table.LineTable.new.Goals as goal
+use Rattle.rb_document.proofs.PlainLaws.{given_all}
+use Rattle.rb_document.proofs.line_table.LineTable.of_all.Goals as goal
 
 pub loop-next-init : goal.loop-next-init
 unfolding position_of
@@ -40,4 +41,4 @@ pub returns : goal.returns
 returns c =
     let text = c.args.text.now in
     let whole = stands_to c.args.encoding text c.loop-next.at (length text) c.loop-next.starts.items c.loop-next.invariant.within (omega arith) c.in_default.ensures.last c.loop-next.invariant.stand in
-    all_stand c.args.encoding text c.loop-next.starts.items (length text) c.position_on-end.result refl c.position_on-end.ensures whole
+    λ n. given_all c.loop-next.starts.items c.position_on-end.result _ n (all_stand c.args.encoding text c.loop-next.starts.items (length text) c.position_on-end.result refl c.position_on-end.ensures whole n)
