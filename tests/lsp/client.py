@@ -50,7 +50,8 @@ def recorder(program, room):
     """A program that runs this one, and writes into the folder what it is sent and what it tells."""
     script = pathlib.Path(room, "recorder")
     sent, told, run = (shlex.quote(str(it)) for it in (room / "sent", room / "told", program))
-    script.write_text(f'#!/bin/bash\ntee {sent} | {run} "$@" | tee {told}\nexit "${{PIPESTATUS[1]}}"\n')
+    # It ends when the program does, also where more could still be sent.
+    script.write_text(f'#!/bin/bash\n{run} "$@" < <(tee {sent}) | tee {told}\nexit "${{PIPESTATUS[0]}}"\n')
     script.chmod(0o755)
     return script
 
@@ -61,15 +62,11 @@ def recorded(room):
 
 
 class Client:
-    """A server that runs, and the conversation with it. As a context it is ended behind the block. It may have so many bytes of addresses."""
+    """A server that runs, and the conversation with it. As a context it is ended behind the block. It may have so many bytes of addresses. What is
+    said stands in `talk`, as recorded() has it, where it is to be kept."""
 
-    # Where it is a list, the conversation of each client that begins is kept in it.
-    kept = None
-
-    def __init__(self, program, addresses=None):
-        self.talk = []
-        if self.kept is not None:
-            self.kept.append(self.talk)
+    def __init__(self, program, addresses=None, *, keeps=False):
+        self.talk, self.keeps = [], keeps
         narrow = addresses and (lambda: resource.setrlimit(resource.RLIMIT_AS, (addresses, addresses)))
         self.server = subprocess.Popen([program, "lsp"], stdin=subprocess.PIPE, stdout=subprocess.PIPE, stderr=subprocess.PIPE, preexec_fn=narrow)
 
@@ -81,7 +78,7 @@ class Client:
         self.server.communicate()
 
     def keep(self, from_client, body):
-        if self.kept is not None:
+        if self.keeps:
             self.talk.append((from_client, body))
 
     def send(self, body):

@@ -186,7 +186,7 @@ async function blocksAreFolded(browser) {
 
 async function outlineIsShown(browser) {
   await act(browser, "action.quickOutline");
-  await browser.sees(".quick-input-list", "deliver-msgs 3 type=MsgVoteResp");
+  await browser.sees(".quick-input-list", "process-ready 2 3");
   await browser.picture("outline");
   await browser.press("Escape", 27);
 }
