@@ -1,12 +1,12 @@
 -- What a notification makes of the text of a document. (LSP 3.17, "DidOpenTextDocument Notification", "DidChangeTextDocument
 -- Notification" and "DidCloseTextDocument Notification".)
-use Rattle.std.specs.Prelude.{ℕ, nat_le, if◌then◌else◌, List, length, Option, Some, None, option_and_then, codes}
+use Rattle.std.specs.Prelude.{ℕ, Bool, false, nat_le, if◌then◌else◌, List, length, Option, Some, None, is_none, is_some, option_and_then, codes}
 use Rattle.serde_json.specs.Data.{Data, Items, no_items, item}
-use Rattle.serde_json.specs.Find.{get, as_array}
+use Rattle.serde_json.specs.Find.{get, as_array, as_null}
 use Rattle.rb_document.specs.declared.limits.TheConstants.{MAX_TEXT}
 use Rattle.rb_document.specs.declared.position.Encoding.{Encoding}
 use Rattle.rb_document.specs.Changes.{changed_by}
-use Rattle.rb_rpc.specs.Params.{range_at, text_at, text_below}
+use Rattle.rb_rpc.specs.Params.{as_range, range_at, text_at, text_below}
 use Rattle.rb_server.specs.declared.method.Method.{Method}
 use Rattle.rb_server.specs.declared.method.Method.TheVariants.{DidOpen, DidChange}
 
@@ -14,10 +14,16 @@ use Rattle.rb_server.specs.declared.method.Method.TheVariants.{DidOpen, DidChang
 abbrev pub fitting : List ℕ → Option (List ℕ)
 fitting text = if nat_le (length text) MAX_TEXT then Some text else None
 
--- the text with one change; where that has no range it is the whole text
+-- what stands where a range may stand is something else; a range may be left out, or be null
+abbrev pub is_unfit : Option Data → Bool
+is_unfit None = false
+is_unfit (Some d) = if is_some (as_null d) then false else is_none (as_range d)
+
+-- The text with one change. Where that has no range it is the whole text; where it has something else there, nobody knows what it replaces,
+-- and it can't be made.
 abbrev pub with_change : Encoding → Data → List ℕ → Option (List ℕ) → Option (List ℕ)
 with_change encoding d text None = None
-with_change encoding d text (Some new) = fitting (changed_by encoding (range_at (codes "range") d) new text)
+with_change encoding d text (Some new) = if is_unfit (get (codes "range") d) then None else fitting (changed_by encoding (range_at (codes "range") d) new text)
 
 unfoldable pub changed_once : Encoding → Data → List ℕ → Option (List ℕ)
 changed_once encoding d text = with_change encoding d text (text_at (codes "text") d)

@@ -1,8 +1,9 @@
 //! What a notification makes of the text of a document.
 
-ghost use Rattle.std.specs.Prelude.{◌≡◌, ◌≤◌, if◌then◌else◌, Some, None, IfOk, length, map};
+ghost use Rattle.std.specs.Prelude.{◌≡◌, ◌≤◌, if◌then◌else◌, Some, None, IfOk, codes, length, map};
+ghost use Rattle.serde_json.specs.Find.{get};
 ghost use Rattle.serde_json.specs.View.{items_of, view};
-ghost use Rattle.rb_server.specs.Changes.{changed_all, changed_once, fitting, text_after, with_changes};
+ghost use Rattle.rb_server.specs.Changes.{changed_all, changed_once, fitting, is_unfit, text_after, with_changes};
 
 use crate::method::Method;
 use rb_document::{ChangeFault, Document, Encoding};
@@ -25,6 +26,16 @@ fn opened(alloc: Global, text: &[u8]) -> Result<Option<Document>, AllocError>
     }
 }
 
+// Whether a change has something else where a range may stand. It may be left out, or be null.
+fn has_unfit_range(change: &Value) -> bool
+    ensures { result ≡ is_unfit (get (codes "range") (view change.now)) }
+{
+    match change.get("range") {
+        None => false,
+        Some(range) => !range.is_null() && range_at(change, "range").is_none(),
+    }
+}
+
 // Makes one change. Whether it could be made.
 #[tactic(auto, unfolding(crate::specs::Changes::changed_once))]
 fn change_once(
@@ -37,6 +48,9 @@ fn change_once(
     let Some(text) = text_at(change, "text") else {
         return Ok(false);
     };
+    if has_unfit_range(change) {
+        return Ok(false);
+    }
     match document.change(encoding, range_at(change, "range"), text.as_bytes()) {
         Ok(()) => {
             // `text` says that the text is short enough.
