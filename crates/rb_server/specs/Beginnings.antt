@@ -1,7 +1,7 @@
 -- What a client offers at `initialize`, and what the server can do. (LSP 3.17, "Initialize Request" and "PositionEncodingKind".)
 use Rattle.std.specs.Prelude.{ℕ, Bool, true, false, ◌||◌, List, Option, Some, None, codes, if◌then◌else◌, is_some, option_and_then}
 use Rattle.std.specs.Str.{bytes_eq}
-use Rattle.serde_json.specs.Data.{Data, boolean, number, string, object, no_members, member, unsigned}
+use Rattle.serde_json.specs.Data.{Data, array, boolean, item, member, no_items, no_members, number, object, string, unsigned}
 use Rattle.serde_json.specs.Find.{get, at, as_str, as_object}
 use Rattle.rb_document.specs.declared.position.Encoding.{Encoding}
 use Rattle.rb_document.specs.declared.position.Encoding.TheVariants.{Utf8, Utf16}
@@ -39,12 +39,16 @@ encoding_name Utf16 = codes "utf-16"
 unfoldable pub synchronizes : Data
 synchronizes = object (member (codes "change") (number (unsigned 2)) (member (codes "openClose") (boolean true) no_members))
 
+-- it is asked for words where one of these is typed, behind each of which an option's values begin ("CompletionOptions")
+unfoldable pub completes : Data
+completes = object (member (codes "triggerCharacters") (array (item (string (codes "=")) (item (string (codes "(")) (item (string (codes ",")) no_items)))) no_members)
+
 -- what it can be told and asked
 unfoldable pub capabilities : Encoding → Data
 capabilities encoding =
     object
     (member (codes "codeActionProvider") (boolean true)
-    (member (codes "completionProvider") (object no_members)
+    (member (codes "completionProvider") completes
     (member (codes "documentFormattingProvider") (boolean true)
     (member (codes "documentSymbolProvider") (boolean true)
     (member (codes "foldingRangeProvider") (boolean true)

@@ -2,7 +2,7 @@
 
 ghost use Rattle.std.specs.Prelude.{◌≡◌, false, IfOk, option_map};
 ghost use Rattle.serde_json.specs.View.{view};
-ghost use Rattle.rb_server.specs.Beginnings.{capabilities, chosen_encoding, encoding_name, initialized, names_bytes, offered, offers_bytes, synchronizes};
+ghost use Rattle.rb_server.specs.Beginnings.{capabilities, chosen_encoding, completes, encoding_name, initialized, names_bytes, offered, offers_bytes, synchronizes};
 
 use rb_document::Encoding;
 use serde_json::{Value, json};
@@ -70,14 +70,23 @@ fn synchronizes(alloc: Global) -> Result<Value, AllocError>
     json!(in alloc; {"openClose": true, "change": 2})
 }
 
+// That it is asked for words where one of these is typed: behind each an option's values begin.
+#[tactic(auto, unfolding(crate::specs::Beginnings::completes))]
+fn completes(alloc: Global) -> Result<Value, AllocError>
+    ensures { IfOk result (λ value. view value ≡ completes) }
+{
+    json!(in alloc; {"triggerCharacters": ["=", "(", ","]})
+}
+
 // What it can be told and asked.
 #[tactic(auto, unfolding(crate::specs::Beginnings::capabilities))]
 fn capabilities(alloc: Global, encoding: Encoding) -> Result<Value, AllocError>
     ensures { IfOk result (λ value. view value ≡ capabilities encoding) }
 {
     let name = encoding_name(encoding);
+    let completes = completes(alloc)?;
     let synchronizes = synchronizes(alloc)?;
-    json!(in alloc; {"codeActionProvider": true, "completionProvider": {}, "documentFormattingProvider": true, "documentSymbolProvider": true, "foldingRangeProvider": true, "hoverProvider": true, "positionEncoding": name, "textDocumentSync": synchronizes})
+    json!(in alloc; {"codeActionProvider": true, "completionProvider": completes, "documentFormattingProvider": true, "documentSymbolProvider": true, "foldingRangeProvider": true, "hoverProvider": true, "positionEncoding": name, "textDocumentSync": synchronizes})
 }
 
 /// What is answered to `initialize`: what the server can do.
