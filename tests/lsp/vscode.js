@@ -5,6 +5,7 @@
 
 const assert = require("assert");
 const standin = require("./standin.js");
+const { Client } = require("../../editors/vscode/client.js");
 
 const program = process.argv[2];
 const settings = { program, "lsp.trace": "off" };
@@ -54,6 +55,14 @@ async function offersWhatTheTextHas(document) {
   assert.deepStrictEqual(edits.map(({ range, newText }) => [range.numbers, newText]), [[[3, 0, 3, 0], "\n"]]);
 }
 
+// The extension names the characters where words are asked for before a server runs: they are those that the server names.
+async function asksWhereTheServerSays() {
+  const server = new Client(program, { hear() {}, hasGone: assert.fail, traced() {} });
+  const { result } = await server.begin();
+  assert.deepStrictEqual(providers.characters, result.capabilities.completionProvider.triggerCharacters);
+  assert.strictEqual(await server.end(), 0);
+}
+
 async function followsAChange(document) {
   document.version = 2;
   tell("change", { document, contentChanges: [{ range: new api.Range(2, 0, 2, 2), rangeLength: 2, text: "ok" }] });
@@ -88,6 +97,7 @@ async function main() {
   await accepts(document);
   await writesDownTheConversation(document);
   await offersWhatTheTextHas(document);
+  await asksWhereTheServerSays();
   await followsAChange(document);
   tell("close", other);
   tell("close", document);
