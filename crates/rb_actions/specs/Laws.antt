@@ -1,5 +1,5 @@
 -- What holds of what an editor is told. (This project's.)
-use Rattle.std.specs.Prelude.{◌≡◌, ◌⊎◌, ℕ, ◌≤◌, Bool, true, false, List, [], ◌∷◌, ◌++◌, length, take, drop, slice_index, Option}
+use Rattle.std.specs.Prelude.{◌≡◌, ℕ, ◌≤◌, Bool, true, false, List, [], ◌∷◌, ◌++◌, length, take, drop, slice_index, Option}
 use Rattle.std.specs.List.{AllByRecursion}
 use Rattle.serde_json.specs.Data.{Data}
 use Rattle.rb_script.specs.Lines.{Line}
@@ -14,19 +14,21 @@ use Rattle.rb_document.specs.Changes.{changed, spliced}
 use Rattle.rb_document.specs.Tables.{feed_start, start_of}
 use Rattle.rb_rpc.specs.Said.{notification}
 use Rattle.rb_server.specs.Replies.{PlainServer, On, told_of, turned_by}
-use Rattle.rb_server.specs.Laws.{Publishes}
+use Rattle.rb_server.specs.Methods.{method_of}
+use Rattle.rb_server.specs.Notices.{notice_of}
+use Rattle.rb_server.specs.Laws.{IsPublished}
 use Rattle.rb_checked.specs.Accepting.{accepted_lines}
 use Rattle.rb_actions.specs.declared.extent.Extent.{Extent}
 use Rattle.rb_actions.specs.Extents.{extent_of}
 use Rattle.rb_actions.specs.Actions.{all_but_new_errors, form, is_accepted}
 use Rattle.rb_actions.specs.Meanings.{meaning}
 
--- Whatever was sent before: what goes out for a notification is what one fresh run of a document's text gives, as the text then stands, or, where
--- memory is refused for it, the one diagnostic that says so.
+-- Whatever was sent before: what goes out for a notification is what one fresh run of its document's text gives, as the text then stands, or, where
+-- memory is refused for it, the one diagnostic that says so. Nothing goes out only where it tells of no document.
 abbrev pub TextsHaveOneRun : Type 0
 TextsHaveOneRun = (no_memory : Bool) (server next : PlainServer) (method : List ℕ) (params : Option Data)
     → turned_by server (notification method params) ≡ On next
-    → (told_of meaning no_memory server (notification method params) ≡ []) ⊎ Publishes meaning no_memory next (told_of meaning no_memory server (notification method params))
+    → IsPublished meaning no_memory next (notice_of server.phase (method_of method) params) (told_of meaning no_memory server (notification method params))
 
 -- a directive expects its output where that is accepted, and else what it did, as `check --accept` has it
 abbrev pub AcceptsAsCheckDoes : Type 0

@@ -2,8 +2,8 @@
 
 ghost use Rattle.rb_actions.specs.Laws.{AcceptsAsCheckDoes, EditedLinesRead, EditsReplaceLines, TextsHaveOneRun};
 
-/// Whatever was sent before: what goes out for a notification is what one fresh run of a document's text gives, as the text then stands, or,
-/// where memory is refused for it, the one diagnostic that says so.
+/// Whatever was sent before: what goes out for a notification is what one fresh run of its document's text gives, as the text then stands, or,
+/// where memory is refused for it, the one diagnostic that says so. Nothing goes out only where it tells of no document.
 pub fn texts_have_one_run()
     ensures { TextsHaveOneRun }
 {}

@@ -1,9 +1,9 @@
 -- What goes out for a notification are the diagnostics of a text as it stands.
-use Rattle.std.proofs.Common.{◌≡◌, ◌⊎◌, inl, inr, ℕ, List, [], Bool, true, false, Option, Some, None, refl, subst}
+use Rattle.std.proofs.Common.{◌≡◌, ℕ, List, Bool, true, false, Option, Some, None, refl, subst}
 use Rattle.std.specs.Prelude.{codes, if◌then◌else◌}
 use Rattle.serde_json.specs.Data.{Data}
 use Rattle.rb_document.specs.declared.position.Encoding.{Encoding}
-use Rattle.rb_rpc.specs.Params.{number_below, text_below}
+use Rattle.rb_rpc.specs.Params.{text_below}
 use Rattle.rb_server.specs.declared.method.Method.{Method}
 use Rattle.rb_server.specs.declared.method.Method.TheVariants.{Initialize, Shutdown, Exit, DidOpen, DidChange, DidClose, Asks, Unknown}
 use Rattle.rb_server.specs.declared.phase.Phase.{Phase}
@@ -12,7 +12,7 @@ use Rattle.rb_server.specs.Methods.{is_of_documents}
 use Rattle.rb_server.specs.Meanings.{Meaning}
 use Rattle.rb_server.specs.Notices.{Notice, notice_of, notice_text, with_uri}
 use Rattle.rb_server.specs.Replies.{PlainServer, On, noticed_by, published, with_notice}
-use Rattle.rb_server.specs.Laws.{Publishes}
+use Rattle.rb_server.specs.Laws.{IsPublished}
 
 -- a notice is taken where the server runs
 abbrev IsOf : Phase → Option Notice → Type 0
@@ -33,25 +33,25 @@ notice_is (Running encoding) method None = tt
 notice_is (Running encoding) method (Some d) = taken_is (is_of_documents method) encoding method d (text_below (codes "textDocument") (codes "uri") d)
 notice_is Stopped method params = tt
 
-one_is : (meaning : Meaning) (no_memory : Bool) (next : PlainServer) (notice : Option Notice) → IsOf next.phase notice → (notice_text meaning no_memory notice next.documents ≡ []) ⊎ Publishes meaning no_memory next (notice_text meaning no_memory notice next.documents)
-one_is meaning no_memory next None is = inl refl
-one_is meaning no_memory next (Some n) is = inr (record { encoding = n.encoding; uri = n.uri; version = number_below (codes "textDocument") (codes "version") n.given; running = is; text_is = refl })
+one_is : (meaning : Meaning) (no_memory : Bool) (next : PlainServer) (notice : Option Notice) → IsOf next.phase notice → IsPublished meaning no_memory next notice (notice_text meaning no_memory notice next.documents)
+one_is meaning no_memory next None is = refl
+one_is meaning no_memory next (Some n) is = record { running = is; text_is = refl }
 
 -- a notification that is no `exit`
 after_is : (meaning : Meaning) (no_memory : Bool) (server next : PlainServer) (method : Method) (params : Option Data) → On (with_notice server method params) ≡ On next
-    → (notice_text meaning no_memory (notice_of server.phase method params) (with_notice server method params).documents ≡ [])
-    ⊎ Publishes meaning no_memory next (notice_text meaning no_memory (notice_of server.phase method params) (with_notice server method params).documents)
+    → IsPublished meaning no_memory next (notice_of server.phase method params) (notice_text meaning no_memory (notice_of server.phase method params) (with_notice server method params).documents)
 after_is meaning no_memory server next method params e =
     let is : with_notice server method params ≡ next = cc in
-    let text = notice_text meaning no_memory (notice_of server.phase method params) (with_notice server method params).documents in
-    subst (λ (s : PlainServer). (text ≡ []) ⊎ Publishes meaning no_memory s text) is
-    (one_is meaning no_memory (with_notice server method params) (notice_of server.phase method params) (notice_is server.phase method params))
+    let notice = notice_of server.phase method params in
+    let text = notice_text meaning no_memory notice (with_notice server method params).documents in
+    subst (λ (s : PlainServer). IsPublished meaning no_memory s notice text) is
+    (one_is meaning no_memory (with_notice server method params) notice (notice_is server.phase method params))
 
 pub diagnosed : (meaning : Meaning) (no_memory : Bool) (server next : PlainServer) (method : Method) (params : Option Data) → noticed_by server method params ≡ On next
-    → (published meaning no_memory server method params ≡ []) ⊎ Publishes meaning no_memory next (published meaning no_memory server method params)
+    → IsPublished meaning no_memory next (notice_of server.phase method params) (published meaning no_memory server method params)
 diagnosed meaning no_memory server next Initialize params e = after_is meaning no_memory server next Initialize params e
 diagnosed meaning no_memory server next Shutdown params e = after_is meaning no_memory server next Shutdown params e
-diagnosed meaning no_memory server next Exit params e = inl refl
+diagnosed meaning no_memory server next Exit params e = absurd cc
 diagnosed meaning no_memory server next DidOpen params e = after_is meaning no_memory server next DidOpen params e
 diagnosed meaning no_memory server next DidChange params e = after_is meaning no_memory server next DidChange params e
 diagnosed meaning no_memory server next DidClose params e = after_is meaning no_memory server next DidClose params e

@@ -1,13 +1,16 @@
 -- Bytes have one conversation.
-use Rattle.std.proofs.Common.{◌≡◌, ℕ, ◌≤◌, ◌⊎◌, inl, inr, Bool, false, List, [], ◌++◌, Option, Some, None, length, refl, ap, sym, subst, ◌∙◌, arith, append_assoc, append-nil, length-append}
+use Rattle.std.proofs.Common.{◌≡◌, ◌≢◌, ℕ, ◌≤◌, ◌⊎◌, inl, inr, Bool, true, false, List, [], ◌++◌, Option, Some, None, length, refl, ap, sym, subst, ◌∙◌, arith, append_assoc, append-nil, length-append}
 use Rattle.httparse.specs.Grammar.{LineEnd, crlf, lf, print_end}
 use Rattle.serde_json.specs.Read.{read}
-use Rattle.rb_rpc.specs.Messages.{IsMessage, HasNoMessage, NeverHasMessage}
+use Rattle.rb_rpc.specs.Messages.{IsMessage, HasNoMessage, NeverHasMessage, frame}
 use Rattle.rb_rpc.specs.Said.{Said, said}
 use Rattle.rb_rpc.proofs.MessageLaws.{one_message}
+use Rattle.rb_rpc.proofs.FrameLaws.{framed_is_message}
 use Rattle.rb_server.specs.declared.phase.Status.{Status}
+use Rattle.rb_server.specs.declared.phase.Status.TheVariants.{Closed}
 use Rattle.rb_server.specs.Meanings.{Meaning}
 use Rattle.rb_server.specs.Replies.{PlainServer, On, Over}
+use Rattle.rb_server.specs.Laws.{is_left}
 use Rattle.rb_server.specs.Talk.{Hears, told, goes, Begins, stands, goes_on, Ends, exits, closes, cuts_off, strays, Talks}
 
 -- ---- a message
@@ -46,59 +49,88 @@ heard_one all b c r q g h m n x y =
 
 -- ---- the end
 
-pub record Exits (meaning : Meaning) (server : PlainServer) (all text : List ℕ) : Type 0 where
+pub record Exits (meaning : Meaning) (server : PlainServer) (all : List ℕ) (status : Status) (text : List ℕ) : Type 0 where
   pub body : List ℕ
   pub rest : List ℕ
   pub heard : Option Said
-  pub status : Status
   pub message : IsMessage all body rest
   pub hears : Hears body heard
   pub over : goes server heard ≡ Over status
   pub text_is : text ≡ told meaning false server heard
 
-abbrev pub IsEnd : Meaning → PlainServer → List ℕ → List ℕ → Type 0
-IsEnd meaning server all text = (HasNoMessage all × (text ≡ [])) ⊎ Exits meaning server all text
+-- nothing is left, or bytes are with which no message begins
+pub record IsLeft (all : List ℕ) (status : Status) (text : List ℕ) : Type 0 where
+  pub none : HasNoMessage all
+  pub text_is : text ≡ []
+  pub status_is : ((all ≡ []) × (status ≡ Closed)) ⊎ ((all ≢ []) × (is_left status ≡ true))
 
-end_of : {meaning : Meaning} {server : PlainServer} {all text : List ℕ} {status : Status} → Ends meaning server all status text → IsEnd meaning server all text
-end_of (exits server status all body rest heard m h over) = inr (record { body = body; rest = rest; heard = heard; status = status; message = m; hears = h; over = over; text_is = refl })
-end_of (closes server all is) = inl (subst HasNoMessage (sym is) none_in_none, refl)
-end_of (cuts_off server all none some) = inl (none, refl)
-end_of (strays server all never) = inl (none_now all never, refl)
+abbrev pub IsEnd : Meaning → PlainServer → List ℕ → Status → List ℕ → Type 0
+IsEnd meaning server all status text = IsLeft all status text ⊎ Exits meaning server all status text
 
-one_end : (meaning : Meaning) (server : PlainServer) (all x y : List ℕ) → IsEnd meaning server all x → IsEnd meaning server all y → x ≡ y
-one_end meaning server all x y (inl a) (inl b) = a.1 ∙ sym b.1
-one_end meaning server all x y (inl a) (inr e) = absurd (a.0 e.body e.rest e.message)
-one_end meaning server all x y (inr e) (inl b) = absurd (b.0 e.body e.rest e.message)
-one_end meaning server all x y (inr e) (inr f) =
-    e.text_is ∙ ap (told meaning false server) (heard_one all e.body f.body e.rest f.rest e.heard f.heard e.message f.message e.hears f.hears).0 ∙ sym f.text_is
+-- one begins with no bytes and more
+never_in_none : (all : List ℕ) → NeverHasMessage all → all ≢ []
+never_in_none all never is =
+    let message : IsMessage (frame [] ++ []) [] [] = framed_is_message [] [] (omega arith) in
+    subst NeverHasMessage is never (frame [] ++ []) [] [] message
+
+end_of : {meaning : Meaning} {server : PlainServer} {all text : List ℕ} {status : Status} → Ends meaning server all status text → IsEnd meaning server all status text
+end_of (exits server status all body rest heard m h over) = inr (record { body = body; rest = rest; heard = heard; message = m; hears = h; over = over; text_is = refl })
+end_of (closes server all is) = inl (record { none = subst HasNoMessage (sym is) none_in_none; text_is = refl; status_is = inl (is, refl) })
+end_of (cuts_off server all none some) = inl (record { none = none; text_is = refl; status_is = inr (some, refl) })
+end_of (strays server all never) = inl (record { none = none_now all never; text_is = refl; status_is = inr (never_in_none all never, refl) })
+
+-- the same is written, and it ends the same way
+abbrev pub AreOne : Status → Status → List ℕ → List ℕ → Type 0
+AreOne s t x y = (x ≡ y) × ((s ≡ t) ⊎ ((is_left s ≡ true) × (is_left t ≡ true)))
+
+statuses_one : (all : List ℕ) (s t : Status) → ((all ≡ []) × (s ≡ Closed)) ⊎ ((all ≢ []) × (is_left s ≡ true)) → ((all ≡ []) × (t ≡ Closed)) ⊎ ((all ≢ []) × (is_left t ≡ true))
+    → (s ≡ t) ⊎ ((is_left s ≡ true) × (is_left t ≡ true))
+statuses_one all s t (inl a) (inl b) = inl (a.1 ∙ sym b.1)
+statuses_one all s t (inl a) (inr b) = absurd (b.0 a.0)
+statuses_one all s t (inr a) (inl b) = absurd (a.0 b.0)
+statuses_one all s t (inr a) (inr b) = inr (a.1, b.1)
+
+one_end : (meaning : Meaning) (server : PlainServer) (all x y : List ℕ) (s t : Status) → IsEnd meaning server all s x → IsEnd meaning server all t y → AreOne s t x y
+one_end meaning server all x y s t (inl a) (inl b) = (a.text_is ∙ sym b.text_is, statuses_one all s t a.status_is b.status_is)
+one_end meaning server all x y s t (inl a) (inr e) = absurd (a.none e.body e.rest e.message)
+one_end meaning server all x y s t (inr e) (inl b) = absurd (b.none e.body e.rest e.message)
+one_end meaning server all x y s t (inr e) (inr f) =
+    let same = (heard_one all e.body f.body e.rest f.rest e.heard f.heard e.message f.message e.hears f.hears).0 in
+    let both : Over s ≡ Over t = sym e.over ∙ ap (goes server) same ∙ f.over in
+    let status : s ≡ t = cc in
+    (e.text_is ∙ ap (told meaning false server) same ∙ sym f.text_is, inl status)
 
 -- where a message is answered and the server goes on, it doesn't end
-no_end : (meaning : Meaning) (server next : PlainServer) (all body rest text : List ℕ) (heard : Option Said) → IsMessage all body rest → Hears body heard → goes server heard ≡ On next → IsEnd meaning server all text → ⊥
-no_end meaning server next all body rest text heard m h on (inl a) = a.0 body rest m
-no_end meaning server next all body rest text heard m h on (inr e) =
+no_end : (meaning : Meaning) (server next : PlainServer) (all body rest text : List ℕ) (status : Status) (heard : Option Said) → IsMessage all body rest → Hears body heard → goes server heard ≡ On next → IsEnd meaning server all status text → ⊥
+no_end meaning server next all body rest text status heard m h on (inl a) = a.none body rest m
+no_end meaning server next all body rest text status heard m h on (inr e) =
     let same = (heard_one all body e.body rest e.rest heard e.heard m e.message h e.hears).0 in
-    let both : On next ≡ Over e.status = sym on ∙ ap (goes server) same ∙ e.over in
+    let both : On next ≡ Over status = sym on ∙ ap (goes server) same ∙ e.over in
     cc
 
 -- ---- all of it
 
-one_text : (meaning : Meaning) {server last other : PlainServer} {all left more a b : List ℕ} {r s : List Bool} (x y : List ℕ) → r ≡ s → Begins meaning server all r last left a → IsEnd meaning last left x → Begins meaning server all s other more b → IsEnd meaning other more y → a ++ x ≡ b ++ y
-one_text meaning x y same_refusals (stands server all) e (stands server' all') f = one_end meaning server all x y e f
-one_text meaning x y same_refusals (stands server all) e (goes_on server' next last all' body rest left text heard none later m h on b) f = absurd (no_end meaning server next all body rest x heard m h on e)
-one_text meaning x y same_refusals (goes_on server next last all body rest left text heard none later m h on b) e (stands server' all') f = absurd (no_end meaning server next all body rest y heard m h on f)
-one_text meaning x y same_refusals (goes_on server next last all body rest left text heard none later m h on b) e (goes_on server' next' last' all' body' rest' left' text' heard' none' later' m' h' on' b') f =
+one_text : (meaning : Meaning) {server last other : PlainServer} {all left more a b : List ℕ} {r s : List Bool} (p q : Status) (x y : List ℕ) → r ≡ s → Begins meaning server all r last left a → IsEnd meaning last left p x
+    → Begins meaning server all s other more b → IsEnd meaning other more q y → AreOne p q (a ++ x) (b ++ y)
+one_text meaning p q x y same_refusals (stands server all) e (stands server' all') f = one_end meaning server all x y p q e f
+one_text meaning p q x y same_refusals (stands server all) e (goes_on server' next last all' body rest left text heard none later m h on b) f = absurd (no_end meaning server next all body rest x p heard m h on e)
+one_text meaning p q x y same_refusals (goes_on server next last all body rest left text heard none later m h on b) e (stands server' all') f = absurd (no_end meaning server next all body rest y q heard m h on f)
+one_text meaning p q x y same_refusals (goes_on server next last all body rest left text heard none later m h on b) e (goes_on server' next' last' all' body' rest' left' text' heard' none' later' m' h' on' b') f =
     let memory : none ≡ none' = cc in
     let laters : later ≡ later' = cc in
     let same = heard_one all body body' rest rest' heard heard' m m' h h' in
     let both : On next ≡ On next' = sym on ∙ ap (goes server) same.0 ∙ on' in
     let nexts : next ≡ next' = cc in
-    let moved = subst (λ (p : PlainServer). Begins meaning p rest later' last' left' text') (sym nexts) (subst (λ (l : List ℕ). Begins meaning next' l later' last' left' text') (sym same.1) b') in
-    let rests : text ++ x ≡ text' ++ y = one_text meaning x y laters b e moved f in
-    append_assoc (told meaning none server heard) text x
-    ∙ ap (λ (l : List ℕ). told meaning none server heard ++ l) rests
-    ∙ ap (λ (o : Option Said). told meaning none server o ++ (text' ++ y)) same.0
-    ∙ ap (λ (n : Bool). told meaning n server heard' ++ (text' ++ y)) memory
-    ∙ sym (append_assoc (told meaning none' server heard') text' y)
+    let moved = subst (λ (n : PlainServer). Begins meaning n rest later' last' left' text') (sym nexts) (subst (λ (l : List ℕ). Begins meaning next' l later' last' left' text') (sym same.1) b') in
+    let rests = one_text meaning p q x y laters b e moved f in
+    let first : told meaning none server heard ≡ told meaning none' server heard' = ap (told meaning none server) same.0 ∙ ap (λ (n : Bool). told meaning n server heard') memory in
+    let is = append_assoc (told meaning none server heard) text x
+    ∙ ap (λ (l : List ℕ). told meaning none server heard ++ l) rests.0
+    ∙ ap (λ (l : List ℕ). l ++ (text' ++ y)) first
+    ∙ sym (append_assoc (told meaning none' server heard') text' y) in
+    (is, rests.1)
 
-pub one_conversation : (meaning : Meaning) (all : List ℕ) (refusals : List Bool) (s t : Status) (x y : List ℕ) → Talks meaning all refusals s x → Talks meaning all refusals t y → x ≡ y
-one_conversation meaning all refusals s t x y a b = a.text_is ∙ one_text meaning a.ending b.ending refl a.begins (end_of a.ends) b.begins (end_of b.ends) ∙ sym b.text_is
+pub one_conversation : (meaning : Meaning) (all : List ℕ) (refusals : List Bool) (s t : Status) (x y : List ℕ) → Talks meaning all refusals s x → Talks meaning all refusals t y → AreOne s t x y
+one_conversation meaning all refusals s t x y a b =
+    let one = one_text meaning s t a.ending b.ending refl a.begins (end_of a.ends) b.begins (end_of b.ends) in
+    (a.text_is ∙ one.0 ∙ sym b.text_is, one.1)

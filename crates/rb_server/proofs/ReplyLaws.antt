@@ -20,63 +20,66 @@ use Rattle.rb_server.specs.Laws.{Answers, done, refused, answered}
 
 -- ---- the id
 
-beginning_answers : (meaning : Meaning) (server : PlainServer) (encoding : Option Encoding) (id : Data) → Answers meaning server id (body_text (initialize_answer encoding id))
-beginning_answers meaning server None id = refused id InvalidParams (codes "params is no object")
-beginning_answers meaning server (Some encoding) id = done id (initialized encoding)
+beginning_answers : (meaning : Meaning) (server : PlainServer) (method : Method) (params : Option Data) (encoding : Option Encoding) (id : Data) → Answers meaning server method params id (body_text (initialize_answer encoding id))
+beginning_answers meaning server method params None id = refused id InvalidParams (codes "params is no object")
+beginning_answers meaning server method params (Some encoding) id = done id (initialized encoding)
 
-unfit_answers : (meaning : Meaning) (server : PlainServer) (id : Data) → Answers meaning server id (body_text (unfit id))
+unfit_answers : (meaning : Meaning) (server : PlainServer) (method : Method) (params : Option Data) (id : Data) → Answers meaning server method params id (body_text (unfit id))
 unfolding unfit
-unfit_answers meaning server id = refused id InvalidParams (codes "the method takes other params")
+unfit_answers meaning server method params id = refused id InvalidParams (codes "the method takes other params")
 
-no_memory_answers : (meaning : Meaning) (server : PlainServer) (id : Data) → Answers meaning server id (body_text (no_memory_for id))
+no_memory_answers : (meaning : Meaning) (server : PlainServer) (method : Method) (params : Option Data) (id : Data) → Answers meaning server method params id (body_text (no_memory_for id))
 unfolding no_memory_for
-no_memory_answers meaning server id = refused id InternalError (codes "no memory for an answer")
+no_memory_answers meaning server method params id = refused id InternalError (codes "no memory for an answer")
 
-text_answers : (meaning : Meaning) (no_memory : Bool) (server : PlainServer) (encoding : Encoding) (asked : Asked) (uri : List ℕ) (id : Data) (text : Option (List ℕ)) → server.phase ≡ Running encoding
-    → text_of uri server.documents ≡ text → Answers meaning server id (of_text meaning no_memory encoding asked uri id text)
+text_answers : (meaning : Meaning) (no_memory : Bool) (server : PlainServer) (encoding : Encoding) (question : Question) (asked : Asked) (given : Data) (uri : List ℕ) (id : Data) (text : Option (List ℕ))
+    → server.phase ≡ Running encoding → uri_of given ≡ Some uri → asked_of question given ≡ Some asked → text_of uri server.documents ≡ text
+    → Answers meaning server (Asks question) (Some given) id (of_text meaning no_memory encoding asked uri id text)
 unfolding not_open
-text_answers meaning no_memory server encoding asked uri id None running is = refused id InvalidParams (codes "the document isn't open")
-text_answers meaning true server encoding asked uri id (Some text) running is = no_memory_answers meaning server id
-text_answers meaning false server encoding asked uri id (Some text) running is = answered id encoding asked uri text running is
+text_answers meaning no_memory server encoding question asked given uri id None running named asks is = refused id InvalidParams (codes "the document isn't open")
+text_answers meaning true server encoding question asked given uri id (Some text) running named asks is = no_memory_answers meaning server (Asks question) (Some given) id
+text_answers meaning false server encoding question asked given uri id (Some text) running named asks is = answered id given encoding question asked uri text running refl refl named asks is
 
-asked_answers : (meaning : Meaning) (no_memory : Bool) (server : PlainServer) (encoding : Encoding) (id : Data) (uri : Option (List ℕ)) (asked : Option Asked) → server.phase ≡ Running encoding
-    → Answers meaning server id (with_asked meaning no_memory encoding server.documents id uri asked)
-asked_answers meaning no_memory server encoding id None asked running = unfit_answers meaning server id
-asked_answers meaning no_memory server encoding id (Some uri) None running = unfit_answers meaning server id
-asked_answers meaning no_memory server encoding id (Some uri) (Some asked) running = text_answers meaning no_memory server encoding asked uri id (text_of uri server.documents) running refl
+asked_answers : (meaning : Meaning) (no_memory : Bool) (server : PlainServer) (encoding : Encoding) (question : Question) (given : Data) (id : Data) (uri : Option (List ℕ)) (asked : Option Asked)
+    → server.phase ≡ Running encoding → uri_of given ≡ uri → asked_of question given ≡ asked
+    → Answers meaning server (Asks question) (Some given) id (with_asked meaning no_memory encoding server.documents id uri asked)
+asked_answers meaning no_memory server encoding question given id None asked running named asks = unfit_answers meaning server (Asks question) (Some given) id
+asked_answers meaning no_memory server encoding question given id (Some uri) None running named asks = unfit_answers meaning server (Asks question) (Some given) id
+asked_answers meaning no_memory server encoding question given id (Some uri) (Some asked) running named asks =
+    text_answers meaning no_memory server encoding question asked given uri id (text_of uri server.documents) running named asks refl
 
 question_answers : (meaning : Meaning) (no_memory : Bool) (server : PlainServer) (encoding : Encoding) (question : Question) (params : Option Data) (id : Data) → server.phase ≡ Running encoding
-    → Answers meaning server id (question_body meaning no_memory encoding server.documents question params id)
-question_answers meaning no_memory server encoding question None id running = unfit_answers meaning server id
-question_answers meaning no_memory server encoding question (Some d) id running = asked_answers meaning no_memory server encoding id (uri_of d) (asked_of question d) running
+    → Answers meaning server (Asks question) params id (question_body meaning no_memory encoding server.documents question params id)
+question_answers meaning no_memory server encoding question None id running = unfit_answers meaning server (Asks question) None id
+question_answers meaning no_memory server encoding question (Some d) id running = asked_answers meaning no_memory server encoding question d id (uri_of d) (asked_of question d) running refl refl
 
-too_early : (meaning : Meaning) (server : PlainServer) (id : Data) → Answers meaning server id (body_text (failure id ServerNotInitialized (codes "initialize comes first")))
-too_early meaning server id = refused id ServerNotInitialized (codes "initialize comes first")
+too_early : (meaning : Meaning) (server : PlainServer) (method : Method) (params : Option Data) (id : Data) → Answers meaning server method params id (body_text (failure id ServerNotInitialized (codes "initialize comes first")))
+too_early meaning server method params id = refused id ServerNotInitialized (codes "initialize comes first")
 
-no_method : (meaning : Meaning) (server : PlainServer) (id : Data) → Answers meaning server id (body_text (failure id MethodNotFound (codes "there is no such method")))
-no_method meaning server id = refused id MethodNotFound (codes "there is no such method")
+no_method : (meaning : Meaning) (server : PlainServer) (method : Method) (params : Option Data) (id : Data) → Answers meaning server method params id (body_text (failure id MethodNotFound (codes "there is no such method")))
+no_method meaning server method params id = refused id MethodNotFound (codes "there is no such method")
 
 body_has_id : (meaning : Meaning) (no_memory : Bool) (server : PlainServer) (phase : Phase) (method : Method) (params : Option Data) (id : Data) → server.phase ≡ phase
-    → Answers meaning server id (body_in meaning no_memory server.documents phase method params id)
-body_has_id meaning no_memory server Fresh Initialize params id is = beginning_answers meaning server (chosen_encoding params) id
-body_has_id meaning no_memory server Fresh Shutdown params id is = too_early meaning server id
-body_has_id meaning no_memory server Fresh Exit params id is = too_early meaning server id
-body_has_id meaning no_memory server Fresh DidOpen params id is = too_early meaning server id
-body_has_id meaning no_memory server Fresh DidChange params id is = too_early meaning server id
-body_has_id meaning no_memory server Fresh DidClose params id is = too_early meaning server id
-body_has_id meaning no_memory server Fresh (Asks question) params id is = too_early meaning server id
-body_has_id meaning no_memory server Fresh Unknown params id is = too_early meaning server id
+    → Answers meaning server method params id (body_in meaning no_memory server.documents phase method params id)
+body_has_id meaning no_memory server Fresh Initialize params id is = beginning_answers meaning server Initialize params (chosen_encoding params) id
+body_has_id meaning no_memory server Fresh Shutdown params id is = too_early meaning server Shutdown params id
+body_has_id meaning no_memory server Fresh Exit params id is = too_early meaning server Exit params id
+body_has_id meaning no_memory server Fresh DidOpen params id is = too_early meaning server DidOpen params id
+body_has_id meaning no_memory server Fresh DidChange params id is = too_early meaning server DidChange params id
+body_has_id meaning no_memory server Fresh DidClose params id is = too_early meaning server DidClose params id
+body_has_id meaning no_memory server Fresh (Asks question) params id is = too_early meaning server (Asks question) params id
+body_has_id meaning no_memory server Fresh Unknown params id is = too_early meaning server Unknown params id
 body_has_id meaning no_memory server (Running encoding) Initialize params id is = refused id InvalidRequest (codes "initialize came before")
 body_has_id meaning no_memory server (Running encoding) Shutdown params id is = done id null
-body_has_id meaning no_memory server (Running encoding) Exit params id is = no_method meaning server id
-body_has_id meaning no_memory server (Running encoding) DidOpen params id is = no_method meaning server id
-body_has_id meaning no_memory server (Running encoding) DidChange params id is = no_method meaning server id
-body_has_id meaning no_memory server (Running encoding) DidClose params id is = no_method meaning server id
+body_has_id meaning no_memory server (Running encoding) Exit params id is = no_method meaning server Exit params id
+body_has_id meaning no_memory server (Running encoding) DidOpen params id is = no_method meaning server DidOpen params id
+body_has_id meaning no_memory server (Running encoding) DidChange params id is = no_method meaning server DidChange params id
+body_has_id meaning no_memory server (Running encoding) DidClose params id is = no_method meaning server DidClose params id
 body_has_id meaning no_memory server (Running encoding) (Asks question) params id is = question_answers meaning no_memory server encoding question params id is
-body_has_id meaning no_memory server (Running encoding) Unknown params id is = no_method meaning server id
+body_has_id meaning no_memory server (Running encoding) Unknown params id is = no_method meaning server Unknown params id
 body_has_id meaning no_memory server Stopped method params id is = refused id InvalidRequest (codes "shutdown came before")
 
-pub answer_has_id : (meaning : Meaning) (no_memory : Bool) (server : PlainServer) (method : Method) (params : Option Data) (id : Data) → Answers meaning server id (answer_body meaning no_memory server method params id)
+pub answer_has_id : (meaning : Meaning) (no_memory : Bool) (server : PlainServer) (method : Method) (params : Option Data) (id : Data) → Answers meaning server method params id (answer_body meaning no_memory server method params id)
 answer_has_id meaning no_memory server method params id = body_has_id meaning no_memory server server.phase method params id refl
 
 -- ---- the text that is named

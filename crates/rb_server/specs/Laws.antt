@@ -1,33 +1,41 @@
 -- What holds of all answers, of what is published, and of conversations.
-use Rattle.std.specs.Prelude.{◌≡◌, ◌⊎◌, ℕ, Bool, true, false, List, [], Option, Some, None}
+use Rattle.std.specs.Prelude.{◌≡◌, ◌⊎◌, ℕ, Bool, true, false, List, [], Option, Some, None, codes}
 use Rattle.serde_json.specs.Data.{Data}
 use Rattle.serde_json.specs.Written.{compact_text}
 use Rattle.rb_document.specs.declared.position.Encoding.{Encoding}
 use Rattle.rb_rpc.specs.Messages.{frame}
+use Rattle.rb_rpc.specs.Params.{number_below}
 use Rattle.rb_rpc.specs.Said.{Said, request, notification, response}
 use Rattle.rb_rpc.specs.Answers.{success, failure}
 use Rattle.rb_rpc.specs.declared.answer.ErrorCode.{ErrorCode}
 use Rattle.rb_server.specs.declared.phase.Phase.TheVariants.{Running}
 use Rattle.rb_server.specs.declared.phase.Status.{Status}
+use Rattle.rb_server.specs.declared.phase.Status.TheVariants.{CutOff, NoMessage}
+use Rattle.rb_server.specs.declared.method.Method.{Method}
+use Rattle.rb_server.specs.declared.method.Method.TheVariants.{Asks}
+use Rattle.rb_server.specs.declared.method.Question.{Question}
 use Rattle.rb_server.specs.declared.asked.Asked.{Asked}
 use Rattle.rb_server.specs.Documents.{text_of}
 use Rattle.rb_server.specs.Meanings.{Meaning}
-use Rattle.rb_server.specs.Questions.{answer_text, body_text, named_text, no_memory_for}
-use Rattle.rb_server.specs.Notices.{list_publication, no_memory_list, publication}
+use Rattle.rb_server.specs.Methods.{method_of}
+use Rattle.rb_server.specs.Questions.{answer_text, asked_of, body_text, named_text, no_memory_for, uri_of}
+use Rattle.rb_server.specs.Notices.{Notice, list_publication, no_memory_list, notice_of, publication}
 use Rattle.rb_server.specs.Replies.{PlainServer, On, reply, told_of, turned_by}
 use Rattle.rb_server.specs.Talk.{Talks}
 
--- The text of an answer to the request with this id: a result, a refusal, or what the text of a document that is open means, as it stands.
-pub data Answers (meaning : Meaning) (server : PlainServer) : Data → List ℕ → Type 0 where
-  done : (id result : Data) → Answers meaning server id (body_text (success id result))
-  refused : (id : Data) (code : ErrorCode) (message : List ℕ) → Answers meaning server id (body_text (failure id code message))
-  answered : (id : Data) (encoding : Encoding) (asked : Asked) (uri text : List ℕ) → server.phase ≡ Running encoding → text_of uri server.documents ≡ Some text
-      → Answers meaning server id (answer_text id (meaning.answer encoding asked uri text))
+-- The text of an answer to the request of this method with this id: a result, a refusal, or what is asked of the text, as it stands, of the
+-- document that the request names.
+pub data Answers (meaning : Meaning) (server : PlainServer) (method : Method) (params : Option Data) : Data → List ℕ → Type 0 where
+  done : (id result : Data) → Answers meaning server method params id (body_text (success id result))
+  refused : (id : Data) (code : ErrorCode) (message : List ℕ) → Answers meaning server method params id (body_text (failure id code message))
+  answered : (id given : Data) (encoding : Encoding) (question : Question) (asked : Asked) (uri text : List ℕ) → server.phase ≡ Running encoding → method ≡ Asks question → params ≡ Some given
+      → uri_of given ≡ Some uri → asked_of question given ≡ Some asked → text_of uri server.documents ≡ Some text
+      → Answers meaning server method params id (answer_text id (meaning.answer encoding asked uri text))
 
 -- each request has one answer
 abbrev pub RequestsHaveOneAnswer : Type 0
 RequestsHaveOneAnswer = (meaning : Meaning) (no_memory : Bool) (server : PlainServer) (id : Data) (method : List ℕ) (params : Option Data)
-    → (answer : List ℕ) × (reply meaning no_memory server (request id method params) ≡ Some answer) × Answers meaning server id answer
+    → (answer : List ℕ) × (reply meaning no_memory server (request id method params) ≡ Some answer) × Answers meaning server (method_of method) params id answer
 
 -- a notification has none, and neither has an answer
 abbrev pub NotificationsHaveNoAnswer : Type 0
@@ -45,19 +53,23 @@ TextsAreAnswered = (meaning : Meaning) (no_memory : Bool) (server other : PlainS
 abbrev pub ResultsStandInAnswers : Type 0
 ResultsStandInAnswers = (id result : Data) → answer_text id (compact_text result) ≡ body_text (success id result)
 
--- the diagnostics of a document's text as it stands go out, or the one that says that memory was refused, where it was, and nothing else
-pub record Publishes (meaning : Meaning) (no_memory : Bool) (server : PlainServer) (text : List ℕ) : Type 0 where
-  pub encoding : Encoding
-  pub uri : List ℕ
-  pub version : Option ℕ
-  pub running : server.phase ≡ Running encoding
-  pub text_is : text ≡ frame (publication meaning no_memory encoding uri version (text_of uri server.documents))
+-- The diagnostics of a document's text as it stands go out, or the one that says that memory was refused, where it was, and nothing else: of the
+-- document that the notification names, with its URI, and with the version that the notification says.
+pub record Publishes (meaning : Meaning) (no_memory : Bool) (server : PlainServer) (notice : Notice) (text : List ℕ) : Type 0 where
+  pub running : server.phase ≡ Running notice.encoding
+  pub text_is : text
+      ≡ frame (publication meaning no_memory notice.encoding notice.uri (number_below (codes "textDocument") (codes "version") notice.given) (text_of notice.uri server.documents))
 
--- whatever was sent before: what goes out for a notification are the diagnostics of a text as it then stands
+-- what goes out where the server stands here after a notification: nothing alone where that tells of no document
+abbrev pub IsPublished : Meaning → Bool → PlainServer → Option Notice → List ℕ → Type 0
+IsPublished meaning no_memory server None text = text ≡ []
+IsPublished meaning no_memory server (Some notice) text = Publishes meaning no_memory server notice text
+
+-- whatever was sent before: what goes out for a notification are the diagnostics of its document's text as it then stands
 abbrev pub TextsAreDiagnosed : Type 0
 TextsAreDiagnosed = (meaning : Meaning) (no_memory : Bool) (server next : PlainServer) (method : List ℕ) (params : Option Data)
     → turned_by server (notification method params) ≡ On next
-    → (told_of meaning no_memory server (notification method params) ≡ []) ⊎ Publishes meaning no_memory next (told_of meaning no_memory server (notification method params))
+    → IsPublished meaning no_memory next (notice_of server.phase (method_of method) params) (told_of meaning no_memory server (notification method params))
 
 -- What goes out says that memory was refused: for a notification the one diagnostic of a document, and for a request an error with its id.
 pub data TellsRefusal : Said → List ℕ → Type 0 where
@@ -68,6 +80,14 @@ pub data TellsRefusal : Said → List ℕ → Type 0 where
 abbrev pub RefusalsAreTold : Type 0
 RefusalsAreTold = (meaning : Meaning) (server : PlainServer) (what : Said) → (told_of meaning true server what ≡ told_of meaning false server what) ⊎ TellsRefusal what (told_of meaning true server what)
 
--- what is written depends on the bytes alone, and on the messages for which memory was refused
+-- how a conversation ends over bytes that are left and begin no message
+abbrev pub is_left : Status → Bool
+is_left CutOff = true
+is_left NoMessage = true
+is_left status = false
+
+-- What is written depends on the bytes alone, and on the messages for which memory was refused; and so does how it ends. Where bytes are left with
+-- which no message ever begins, either of two statuses says so, and a program ends with one for both.
 abbrev pub ConversationsAreOne : Type 0
-ConversationsAreOne = (meaning : Meaning) (all : List ℕ) (refusals : List Bool) (s t : Status) (x y : List ℕ) → Talks meaning all refusals s x → Talks meaning all refusals t y → x ≡ y
+ConversationsAreOne = (meaning : Meaning) (all : List ℕ) (refusals : List Bool) (s t : Status) (x y : List ℕ) → Talks meaning all refusals s x → Talks meaning all refusals t y
+    → (x ≡ y) × ((s ≡ t) ⊎ ((is_left s ≡ true) × (is_left t ≡ true)))

@@ -2,7 +2,8 @@
 
 ghost use Rattle.rb_server.specs.Laws.{ConversationsAreOne, NotificationsHaveNoAnswer, RefusalsAreTold, RequestsHaveOneAnswer, ResultsStandInAnswers, TextsAreAnswered, TextsAreDiagnosed};
 
-/// Wherever the server stands, a request has one answer, which has the request's id.
+/// Wherever the server stands, a request has one answer, which has the request's id, and says what is asked of no other text than that of the
+/// document that the request names.
 pub fn requests_have_one_answer()
     ensures { RequestsHaveOneAnswer }
 {}
@@ -28,13 +29,14 @@ pub fn refusals_are_told()
     ensures { RefusalsAreTold }
 {}
 
-/// Bytes have one conversation: whatever pieces they come in, the same is written, where memory is refused for the same messages.
+/// Bytes have one conversation: whatever pieces they come in, the same is written, and it ends the same way, where memory is refused for the
+/// same messages. Over bytes with which no message ever begins two statuses may say so.
 pub fn conversations_are_one()
     ensures { ConversationsAreOne }
 {}
 
-/// Whatever was sent before: what goes out for a notification are the diagnostics of a document's text as it then stands, or the one that
-/// says that memory was refused for them.
+/// Whatever was sent before: what goes out for a notification are the diagnostics of its document's text as it then stands, or the one that
+/// says that memory was refused for them, with the document's URI and the version that it says; nothing alone where it tells of none.
 pub fn texts_are_diagnosed()
     ensures { TextsAreDiagnosed }
 {}
