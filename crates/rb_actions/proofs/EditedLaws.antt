@@ -75,11 +75,11 @@ parts_of front b separator after =
     append_assoc front (b.head ++ (b.input ++ separator ∷ [])) after
     ∙ ap (λ (l : List Line). front ++ l) (append_assoc b.head (b.input ++ separator ∷ []) after ∙ ap (λ (l : List Line). b.head ++ l) (append_assoc b.input (separator ∷ []) after))
 
-up_to_len : (front : List Line) (b : PlainBlock) (separator : Line) → length (up_to front b separator) ≡ length front + length b.head + length b.input + 1
+pub up_to_len : (front : List Line) (b : PlainBlock) (separator : Line) → length (up_to front b separator) ≡ length front + length b.head + length b.input + 1
 up_to_len front b separator =
     omega (arith, length-append front (b.head ++ (b.input ++ separator ∷ [])), length-append b.head (b.input ++ separator ∷ []), length-append b.input (separator ∷ []))
 
-stands : (front : List Line) (b : PlainBlock) (separator : Line) (after : List Line) (d : Bool) (k line : ℕ) → IsContinued b.head → list_all (λ line. not (is_separator line)) b.input ≡ true → is_separator separator ≡ true
+pub stands : (front : List Line) (b : PlainBlock) (separator : Line) (after : List Line) (d : Bool) (k line : ℕ) → IsContinued b.head → list_all (λ line. not (is_separator line)) b.input ≡ true → is_separator separator ≡ true
     → line ≡ length front + 1 → begins_rule after ≡ d → expectation_len d (length b.expected) ≡ k → k ≤ length after
     → extent_of (up_to front b separator ++ after) line b ≡ record { head = length front; expected = length (up_to front b separator); end = length (up_to front b separator) + k; is_double = d }
 stands front b separator after d k line continued inputs separates line_is begins len within_after =
@@ -114,6 +114,7 @@ pub record Edited (before ls rest : List Line) (b : PlainBlock) (output : List L
   pub made : with_lines (before ++ ls) (extent_of (before ++ ls) (length before + length b.lead + 1) b) output ≡ before ++ more
   pub reads : ReadsBlock more (expecting b output) rest
   pub first : begins_blank more ≡ begins_blank ls
+  pub behind : length before + 1 ≤ (extent_of (before ++ ls) (length before + length b.lead + 1) b).expected
 
 readable : (output : List Line) → AllByRecursion IsSolid output → is_readable output ≡ true
 readable output solid = (and_parts (is_readable output) (list_all is_text_line output) (solid_expected output solid)).0
@@ -135,7 +136,8 @@ edited before ls rest b output tail d k r solid begins len within_after left rea
     let behind = form d output ++ tail in
     let joined = λ (after : List Line). sym (append_assoc before b.lead (b.head ++ (b.input ++ r.separator ∷ after))) ∙ sym (parts_of front b r.separator after) in
     let whole : before ++ ls ≡ up_to front b r.separator ++ r.after = ap (λ (l : List Line). before ++ l) r.parts ∙ joined r.after in
-    let there = stands front b r.separator r.after d k line r.head.1 r.input r.separates line_is begins len within_after in record {
+    let there = stands front b r.separator r.after d k line r.head.1 r.input r.separates line_is begins len within_after in
+    let at : (extent_of (before ++ ls) line b).expected ≡ length (up_to front b r.separator) = ap (λ (l : List Line). (extent_of l line b).expected) whole ∙ ap (λ (e : Extent). e.expected) there in record {
       more = b.lead ++ (b.head ++ (b.input ++ r.separator ∷ behind));
       made = ap (λ (l : List Line). with_lines l (extent_of l line b) output) whole
           ∙ ap (λ (e : Extent). with_lines (up_to front b r.separator ++ r.after) e output) there
@@ -155,6 +157,7 @@ edited before ls rest b output tail d k r solid begins len within_after left rea
         expected = reads;
       };
       first = same_first b.lead b.head b.input r.separator behind r.after ∙ ap begins_blank (sym r.parts);
+      behind = omega (arith, at, up_to_len front b r.separator, length-append before b.lead);
     }
 
 -- a blank line is no rule

@@ -1,19 +1,19 @@
 -- A script's lines with what came in the place of an expectation read as the script that expects it there.
-use Rattle.std.proofs.Common.{◌≡◌, ◌∙◌, ℕ, ◌+◌, true, false, ◌⊎◌, inl, inr, List, [], ◌∷◌, ◌++◌, length, refl, ap, sym, subst, arith, append_assoc}
+use Rattle.std.proofs.Common.{◌≡◌, ◌∙◌, ℕ, ◌+◌, ◌<◌, ◌≤◌, Bool, true, false, ◌⊎◌, inl, inr, List, [], ◌∷◌, ◌++◌, length, refl, ap, sym, subst, arith, append_assoc, length-append}
 use Rattle.std.proofs.lemmas.List.{append_cancel_right}
-use Rattle.std.specs.Prelude.{slice_index}
-use Rattle.std.specs.List.{AllByRecursion}
+use Rattle.std.specs.Prelude.{not, slice_index}
+use Rattle.std.specs.List.{list_all, AllByRecursion}
 use Rattle.rb_script.specs.Lines.{Line}
-use Rattle.rb_script.specs.Marks.{is_blank, rule}
+use Rattle.rb_script.specs.Marks.{is_blank, is_rule, is_separator, rule}
 use Rattle.rb_script.specs.Script.{PlainBlock, expecting}
-use Rattle.rb_script.specs.Reads.{ReadsBlock, ReadsDouble, ReadsPlain, ReadsSome, begins_blank, begins_rule}
+use Rattle.rb_script.specs.Reads.{IsContinued, ReadsBlock, ReadsDouble, ReadsPlain, ReadsSome, begins_blank, begins_rule}
 use Rattle.rb_script.specs.HeadLines.{AreHeadLines, IsHeadLine}
 use Rattle.rb_script.specs.LineParts.{IsSolid}
 use Rattle.rb_script.proofs.ResultLaws.{done, ok_is}
 use Rattle.rb_script.proofs.BlockLaws.{block_complete}
-use Rattle.rb_actions.specs.Extents.{extent_of}
+use Rattle.rb_actions.specs.Extents.{expectation_len, extent_of}
 use Rattle.rb_actions.specs.Laws.{with_lines}
-use Rattle.rb_actions.proofs.EditedLaws.{either_closed, parts_of, up_to}
+use Rattle.rb_actions.proofs.EditedLaws.{either_closed, parts_of, stands, up_to, up_to_len}
 
 -- ---- what follows a block
 
@@ -39,16 +39,49 @@ record Before (ls rest : List Line) (xs : List PlainBlock) : Type 0 where
   parts : ls ≡ front ++ rest
   reads : (other : List Line) → begins_blank other ≡ begins_blank rest → ReadsSome (front ++ other) xs other
 
-record BeforeOne (ls rest : List Line) (x : PlainBlock) : Type 0 where
-  front : List Line
-  parts : ls ≡ front ++ rest
-  reads : (other : List Line) → begins_blank other ≡ begins_blank rest → ReadsBlock (front ++ other) x other
+-- and so one block, whose expectation begins on a line of its own, and ends with it
+pub record BeforeOne (ls rest : List Line) (x : PlainBlock) : Type 0 where
+  pub front : List Line
+  pub parts : ls ≡ front ++ rest
+  pub reads : (other : List Line) → begins_blank other ≡ begins_blank rest → ReadsBlock (front ++ other) x other
+  pub up : ℕ
+  pub len : ℕ
+  pub is_double : Bool
+  pub stands : (before other : List Line)
+      → extent_of (before ++ (front ++ other)) (length before + length x.lead + 1) x
+      ≡ record { head = length before + length x.lead; expected = length before + up; end = length before + up + len; is_double = is_double }
+  pub some : 1 ≤ up
+  pub within : up + len ≤ length front
+  pub above : up < length front
 
--- an expectation, up to what follows
-one_before : (ls rest q : List Line) (x : PlainBlock) (r : ReadsBlock ls x rest) → r.after ≡ q ++ rest
+-- by the lines above an expectation of k lines
+stands_by : (x : PlainBlock) (separator : Line) (q before other : List Line) (d : Bool) (k : ℕ) → IsContinued x.head → list_all (λ line. not (is_separator line)) x.input ≡ true → is_separator separator ≡ true
+    → begins_rule (q ++ other) ≡ d → expectation_len d (length x.expected) ≡ k → k ≤ length q
+    → extent_of (before ++ ((up_to x.lead x separator ++ q) ++ other)) (length before + length x.lead + 1) x
+    ≡ record { head = length before + length x.lead; expected = length before + length (up_to x.lead x separator); end = length before + length (up_to x.lead x separator) + k; is_double = d }
+stands_by x separator q before other d k continued inputs separates begins len most =
+    let up = up_to x.lead x separator in
+    let front = before ++ x.lead in
+    let after = q ++ other in
+    let line = length before + length x.lead + 1 in
+    let lines : before ++ ((up ++ q) ++ other) ≡ up_to front x separator ++ after =
+    ap (λ (l : List Line). before ++ l) (append_assoc up q other ∙ parts_of x.lead x separator after)
+    ∙ sym (append_assoc before x.lead (x.head ++ (x.input ++ separator ∷ after)))
+    ∙ sym (parts_of front x separator after) in
+    let head : length front ≡ length before + length x.lead = length-append before x.lead in
+    let expected : length (up_to front x separator) ≡ length before + length up = omega (arith, up_to_len front x separator, up_to_len x.lead x separator, head) in
+    ap (λ (l : List Line). extent_of l line x) lines
+    ∙ stands front x separator after d k line continued inputs separates (omega (arith, head)) begins len (omega (arith, most, length-append q other))
+    ∙ ap (λ (h : ℕ). record { head = h; expected = length (up_to front x separator); end = length (up_to front x separator) + k; is_double = d }) head
+    ∙ ap (λ (m : ℕ). record { head = length before + length x.lead; expected = m; end = m + k; is_double = d }) expected
+
+-- an expectation of k lines, up to what follows
+one_before : (ls rest q : List Line) (x : PlainBlock) (r : ReadsBlock ls x rest) (d : Bool) (k : ℕ) → r.after ≡ q ++ rest → ((other : List Line) → begins_rule (q ++ other) ≡ d)
+    → expectation_len d (length x.expected) ≡ k → k ≤ length q → 1 ≤ length q
     → ((other : List Line) → begins_blank other ≡ begins_blank rest → ReadsPlain (q ++ other) x.expected other ⊎ ReadsDouble (q ++ other) x.expected other) → BeforeOne ls rest x
-one_before ls rest q x r parts expected =
-    let up = up_to x.lead x r.separator in record {
+one_before ls rest q x r d k parts begins len most some expected =
+    let up = up_to x.lead x r.separator in
+    let whole : length (up ++ q) ≡ length up + length q = length-append up q in record {
       front = up ++ q;
       parts = r.parts ∙ sym (parts_of x.lead x r.separator r.after) ∙ ap (λ (l : List Line). up ++ l) parts ∙ sym (append_assoc up q rest);
       reads = λ other same. record {
@@ -63,6 +96,13 @@ one_before ls rest q x r parts expected =
         readable = r.readable;
         expected = expected other same;
       };
+      up = length up;
+      len = k;
+      is_double = d;
+      stands = λ before other. stands_by x r.separator q before other d k r.head.1 r.input r.separates (begins other) len most;
+      some = omega (arith, up_to_len x.lead x r.separator);
+      within = omega (arith, most, whole);
+      above = omega (arith, some, whole);
     }
 
 same_rule : (expected : List Line) (blank : Line) (rest other : List Line) → begins_rule (expected ++ blank ∷ rest) ≡ begins_rule (expected ++ blank ∷ other)
@@ -75,13 +115,10 @@ behind_blank expected blank rest = append_assoc expected (blank ∷ []) rest
 plain_before : (ls rest : List Line) (x : PlainBlock) (r : ReadsBlock ls x rest) → (rest ≡ [] → ⊥) → (p : ReadsPlain r.after x.expected rest)
     → ((blank : Line) × (is_blank blank ≡ true) × (r.after ≡ x.expected ++ blank ∷ rest)) ⊎ ((r.after ≡ x.expected) × (rest ≡ [])) → BeforeOne ls rest x
 plain_before ls rest x r some p (inl c) =
-    one_before ls rest (x.expected ++ c.0 ∷ []) x r (c.2 ∙ sym (behind_blank x.expected c.0 rest))
-    (λ other same.
-    inl (record {
-      first = ap begins_rule (behind_blank x.expected c.0 other) ∙ same_rule x.expected c.0 other rest ∙ ap begins_rule (sym c.2) ∙ p.first;
-      none_blank = p.none_blank;
-      closed = inl (c.0, c.1, behind_blank x.expected c.0 other);
-    }))
+    let plain = λ (other : List Line). ap begins_rule (behind_blank x.expected c.0 other) ∙ same_rule x.expected c.0 other rest ∙ ap begins_rule (sym c.2) ∙ p.first in
+    let len : length (x.expected ++ c.0 ∷ []) ≡ length x.expected + 1 = length-append x.expected (c.0 ∷ []) in
+    one_before ls rest (x.expected ++ c.0 ∷ []) x r false (length x.expected) (c.2 ∙ sym (behind_blank x.expected c.0 rest)) plain refl (omega (arith, len)) (omega (arith, len))
+    (λ other same. inl (record { first = plain other; none_blank = p.none_blank; closed = inl (c.0, c.1, behind_blank x.expected c.0 other) }))
 plain_before ls rest x r some p (inr c) = absurd (some c.1)
 
 -- the rules of the double form, and what stands between them
@@ -91,21 +128,30 @@ ruled expected more = rule ∷ expected ++ rule ∷ rule ∷ more
 behind_rules : (expected more rest : List Line) → ruled expected more ++ rest ≡ ruled expected (more ++ rest)
 behind_rules expected more rest = ap (λ (l : List Line). rule ∷ l) (append_assoc expected (rule ∷ rule ∷ more) rest)
 
+ruled_len : (expected more : List Line) → length (ruled expected more) ≡ length expected + 3 + length more
+ruled_len expected more = let len : length (expected ++ rule ∷ rule ∷ more) ≡ length expected + length (rule ∷ rule ∷ more) = length-append expected (rule ∷ rule ∷ more) in omega (arith, len)
+
+rule_first : is_rule rule ≡ true
+unfolding is_rule
+rule_first = refl
+
 double_before : (ls rest : List Line) (x : PlainBlock) (r : ReadsBlock ls x rest) (q : ReadsDouble r.after x.expected rest)
     → ((blank : Line) × (is_blank blank ≡ true) × (q.more ≡ blank ∷ rest)) ⊎ ((begins_blank rest ≡ false) × (q.more ≡ rest)) → BeforeOne ls rest x
 double_before ls rest x r q (inl c) =
-    one_before ls rest (ruled x.expected (c.0 ∷ [])) x r (q.parts ∙ ap (ruled x.expected) c.2 ∙ sym (behind_rules x.expected (c.0 ∷ []) rest))
+    one_before ls rest (ruled x.expected (c.0 ∷ [])) x r true (length x.expected + 3) (q.parts ∙ ap (ruled x.expected) c.2 ∙ sym (behind_rules x.expected (c.0 ∷ []) rest)) (λ other. rule_first) refl
+    (omega (arith, ruled_len x.expected (c.0 ∷ []))) (omega (arith, ruled_len x.expected (c.0 ∷ [])))
     (λ other same. inr (record { more = c.0 ∷ other; parts = behind_rules x.expected (c.0 ∷ []) other; closed = inl (c.0, c.1, refl) }))
 double_before ls rest x r q (inr c) =
-    one_before ls rest (ruled x.expected []) x r (q.parts ∙ ap (ruled x.expected) c.1 ∙ sym (behind_rules x.expected [] rest))
+    one_before ls rest (ruled x.expected []) x r true (length x.expected + 3) (q.parts ∙ ap (ruled x.expected) c.1 ∙ sym (behind_rules x.expected [] rest)) (λ other. rule_first) refl
+    (omega (arith, ruled_len x.expected [])) (omega (arith, ruled_len x.expected []))
     (λ other same. inr (record { more = other; parts = behind_rules x.expected [] other; closed = inr (same ∙ c.0, refl) }))
 
-block_before : (ls rest : List Line) (x : PlainBlock) (r : ReadsBlock ls x rest) → (rest ≡ [] → ⊥) → ReadsPlain r.after x.expected rest ⊎ ReadsDouble r.after x.expected rest → BeforeOne ls rest x
+pub block_before : (ls rest : List Line) (x : PlainBlock) (r : ReadsBlock ls x rest) → (rest ≡ [] → ⊥) → ReadsPlain r.after x.expected rest ⊎ ReadsDouble r.after x.expected rest → BeforeOne ls rest x
 block_before ls rest x r some (inl p) = plain_before ls rest x r some p p.closed
 block_before ls rest x r some (inr q) = double_before ls rest x r q q.closed
 
 -- lines that stand before others begin alike, whatever these are, if they begin alike
-begin_alike : (front rest other : List Line) → begins_blank other ≡ begins_blank rest → begins_blank (front ++ other) ≡ begins_blank (front ++ rest)
+pub begin_alike : (front rest other : List Line) → begins_blank other ≡ begins_blank rest → begins_blank (front ++ other) ≡ begins_blank (front ++ rest)
 begin_alike [] rest other same = same
 begin_alike (line ∷ front) rest other same = refl
 
@@ -127,7 +173,7 @@ all_before ls rest (x ∷ xs) some reads =
 
 -- ---- the script
 
-some_lines : (lead head input : List Line) (separator : Line) (after : List Line) → lead ++ (head ++ (input ++ separator ∷ after)) ≡ [] → ⊥
+pub some_lines : (lead head input : List Line) (separator : Line) (after : List Line) → lead ++ (head ++ (input ++ separator ∷ after)) ≡ [] → ⊥
 some_lines [] [] [] separator after none = cc
 some_lines [] [] (line ∷ input) separator after none = cc
 some_lines [] (line ∷ head) input separator after none = cc

@@ -4,3 +4,5 @@ pub mod ActionLaws
 pub mod RangeLaws
 pub mod EditedLaws
 pub mod EditedScriptLaws
+pub mod CutLaws
+pub mod AppliedLaws

@@ -7,7 +7,7 @@ use Rattle.rb_document.specs.Places.{begins, feeds, is_place_behind, offset}
 use Rattle.rb_document.specs.Changes.{changed, spliced}
 use Rattle.rb_document.specs.Tables.{feed_start, start_of}
 use Rattle.rb_document.proofs.PositionLaws.{place_returns}
-use Rattle.rb_actions.specs.Laws.{lines_range}
+use Rattle.rb_actions.specs.Edits.{lines_range}
 
 no_feed : (b : Bool) → not (b && false) ≡ true
 no_feed true = refl
@@ -29,7 +29,7 @@ place_more true b n bytes e ended going is = ended (λ z. no_return b e) is
 place_more false b n bytes e ended going is = going is
 
 -- a line begins at a place, where a character begins there
-line_is_place : (before n : ℕ) (bytes : List ℕ) → (n ≡ 0 → (before == 13) ≡ false) → begins (drop (feed_start n bytes) bytes) ≡ true → is_place_behind before (feed_start n bytes) bytes ≡ true
+pub line_is_place : (before n : ℕ) (bytes : List ℕ) → (n ≡ 0 → (before == 13) ≡ false) → begins (drop (feed_start n bytes) bytes) ≡ true → is_place_behind before (feed_start n bytes) bytes ≡ true
 unfolding feed_start is_place_behind
 line_is_place before zero bytes other is = between_lines before bytes (other refl) is
 line_is_place before (suc n) [] other is = no_feed (before == 13)
@@ -41,7 +41,7 @@ both_grow true a b c d first second = omega arith
 both_grow false a b c d first second = omega arith
 
 -- a later line begins later
-lines_grow : (n m : ℕ) (bytes : List ℕ) → n ≤ m → feed_start n bytes ≤ feed_start m bytes
+pub lines_grow : (n m : ℕ) (bytes : List ℕ) → n ≤ m → feed_start n bytes ≤ feed_start m bytes
 unfolding feed_start
 lines_grow zero m bytes less = omega arith
 lines_grow (suc n) zero bytes less = absurd (omega (arith, less))

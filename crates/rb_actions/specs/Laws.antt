@@ -1,17 +1,18 @@
 -- What holds of what an editor is told. (This project's.)
-use Rattle.std.specs.Prelude.{◌≡◌, ℕ, ◌≤◌, Bool, true, false, List, [], ◌∷◌, ◌++◌, length, take, drop, slice_index, Option}
+use Rattle.std.specs.Prelude.{◌≡◌, ℕ, ◌≤◌, Bool, true, false, List, ◌∷◌, ◌++◌, length, take, drop, slice_index, Option}
 use Rattle.std.specs.List.{AllByRecursion}
 use Rattle.serde_json.specs.Data.{Data}
-use Rattle.rb_script.specs.Lines.{Line}
+use Rattle.rb_script.specs.declared.limits.TheConstants.{MAX_SCRIPT, MAX_LINE}
+use Rattle.rb_script.specs.Lines.{Line, lines}
 use Rattle.rb_script.specs.LineParts.{IsSolid}
 use Rattle.rb_script.specs.HeadLines.{AreHeadLines}
-use Rattle.rb_script.specs.Reads.{ReadsSome}
-use Rattle.rb_script.specs.Script.{PlainBlock, expecting}
+use Rattle.rb_script.specs.Reads.{Reads, ReadsSome}
+use Rattle.rb_script.specs.Script.{PlainBlock, PlainScript, expecting, text}
+use Rattle.rb_replay.specs.Run.{outputs}
 use Rattle.rb_document.specs.declared.position.Encoding.{Encoding}
-use Rattle.rb_document.specs.declared.position.Range.{Range}
 use Rattle.rb_document.specs.Places.{begins}
 use Rattle.rb_document.specs.Changes.{changed, spliced}
-use Rattle.rb_document.specs.Tables.{feed_start, start_of}
+use Rattle.rb_document.specs.Tables.{feed_start}
 use Rattle.rb_rpc.specs.Said.{notification}
 use Rattle.rb_server.specs.Replies.{PlainServer, On, told_of, turned_by}
 use Rattle.rb_server.specs.Methods.{method_of}
@@ -19,8 +20,10 @@ use Rattle.rb_server.specs.Notices.{notice_of}
 use Rattle.rb_server.specs.Laws.{IsPublished}
 use Rattle.rb_checked.specs.Accepting.{accepted_lines}
 use Rattle.rb_actions.specs.declared.extent.Extent.{Extent}
+use Rattle.rb_actions.specs.declared.extent.Span.{Span}
 use Rattle.rb_actions.specs.Extents.{extent_of}
-use Rattle.rb_actions.specs.Actions.{all_but_new_errors, form, is_accepted}
+use Rattle.rb_actions.specs.Actions.{all_but_new_errors, edits_of, form, is_accepted}
+use Rattle.rb_actions.specs.Edits.{edits_asked, edits_made, lines_range, listed, with_wanted}
 use Rattle.rb_actions.specs.Meanings.{meaning}
 
 -- Whatever was sent before: what goes out for a notification is what one fresh run of its document's text gives, as the text then stands, or, where
@@ -34,10 +37,6 @@ TextsHaveOneRun = (no_memory : Bool) (server next : PlainServer) (method : List 
 abbrev pub AcceptsAsCheckDoes : Type 0
 AcceptsAsCheckDoes = (ls : List Line) (line : ℕ) (b : PlainBlock) (output : List Line)
     → (is_accepted ls line b output ≡ true → accepted_lines all_but_new_errors ls line b output ≡ output) × (is_accepted ls line b output ≡ false → accepted_lines all_but_new_errors ls line b output ≡ b.expected)
-
--- the range of the lines of a script from `first` on, up to `behind`, as edits have it
-abbrev pub lines_range : Encoding → List ℕ → ℕ → ℕ → Range
-lines_range encoding text first behind = record { start = start_of encoding first text; end = start_of encoding behind text }
 
 -- An editor that puts a text in the place of such a range puts it in the place of these lines, and of nothing else, where each line begins with
 -- a character, as in UTF-8.
@@ -56,3 +55,21 @@ abbrev pub EditedLinesRead : Type 0
 EditedLinesRead = (ls tail : List Line) (before later : List PlainBlock) (b : PlainBlock) (output : List Line) (heads : List ℕ)
     → ReadsSome ls (before ++ b ∷ later) tail → AreHeadLines 1 ls (before ++ b ∷ later) heads → AllByRecursion IsSolid output
     → ReadsSome (with_lines ls (extent_of ls (slice_index heads (length before)) b) output) (before ++ expecting b output ∷ later) tail
+
+-- what is sent of an action are its edits, one behind another
+abbrev pub EditsAreSent : Type 0
+EditsAreSent = (encoding : Encoding) (text : List ℕ) (s : PlainScript) (span : Option Span) → edits_of encoding text s span ≡ listed false (edits_asked encoding text s span)
+
+-- bytes and the script that they are to be are short enough for a script
+pub record AreShort (bytes : List ℕ) (s : PlainScript) : Type 0 where
+  pub short : length bytes ≤ MAX_SCRIPT
+  pub short_lines : AllByRecursion (λ line. length line ≤ MAX_LINE) (lines bytes)
+  pub short_text : length (text s) ≤ MAX_SCRIPT
+
+-- The text that an editor makes by an action's edits reads as the script in which each directive that is wanted expects what came of it, and the
+-- others what they did, where each line begins with a character, as in UTF-8, and the text doesn't become too long.
+abbrev pub EditedTextsRead : Type 0
+EditedTextsRead = (encoding : Encoding) (bytes : List ℕ) (s : PlainScript) (span : Option Span)
+    → Reads bytes s → AllByRecursion (λ output. AllByRecursion IsSolid output) (outputs s) → ((n : ℕ) → begins (drop (feed_start n bytes) bytes) ≡ true)
+    → AreShort (edits_made encoding bytes (edits_asked encoding bytes s span)) (with_wanted bytes s span)
+    → Reads (edits_made encoding bytes (edits_asked encoding bytes s span)) (with_wanted bytes s span)

@@ -1,6 +1,6 @@
 //! Laws of what an editor is told, for whoever reads the contracts. No call does anything.
 
-ghost use Rattle.rb_actions.specs.Laws.{AcceptsAsCheckDoes, EditedLinesRead, EditsReplaceLines, TextsHaveOneRun};
+ghost use Rattle.rb_actions.specs.Laws.{AcceptsAsCheckDoes, EditedLinesRead, EditedTextsRead, EditsAreSent, EditsReplaceLines, TextsHaveOneRun};
 
 /// Whatever was sent before: what goes out for a notification is what one fresh run of its document's text gives, as the text then stands, or,
 /// where memory is refused for it, the one diagnostic that says so. Nothing goes out only where it tells of no document.
@@ -21,4 +21,15 @@ pub fn edits_replace_lines()
 /// A script's lines, with an output in the place of a directive's expectation, read as the script in which the directive expects the output.
 pub fn edited_lines_read()
     ensures { EditedLinesRead }
+{}
+
+/// What is sent of an action are its edits, in order.
+pub fn edits_are_sent()
+    ensures { EditsAreSent }
+{}
+
+/// The text that an editor makes by an action's edits reads as the script in which each directive that is wanted expects what came of it, and
+/// the others what they did, where the text doesn't become too long.
+pub fn edited_texts_read()
+    ensures { EditedTextsRead }
 {}

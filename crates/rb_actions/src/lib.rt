@@ -17,4 +17,7 @@ mod replacement;
 mod run;
 
 pub use bench::lsp;
-pub use laws::{accepts_as_check_does, edited_lines_read, edits_replace_lines, texts_have_one_run};
+pub use laws::{
+    accepts_as_check_does, edited_lines_read, edited_texts_read, edits_are_sent,
+    edits_replace_lines, texts_have_one_run,
+};
