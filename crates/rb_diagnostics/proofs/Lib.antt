@@ -1,2 +1,3 @@
 pub mod FindingLaws
 pub mod QuietLaws
+pub mod MismatchLaws

@@ -1,5 +1,5 @@
 -- What is to be said of a text: of each directive of one fresh run, or of what is no script. (This project's.)
-use Rattle.std.specs.Prelude.{ℕ, ◌-◌, ◌==◌, Bool, ◌&&◌, not, if◌then◌else◌, List, [], ◌∷◌, length, take, Option, Some, None, Result, Ok, Err}
+use Rattle.std.specs.Prelude.{ℕ, ◌-◌, ◌==◌, Bool, false, ◌&&◌, not, if◌then◌else◌, List, [], ◌∷◌, length, take, Option, Some, None, Result, Ok, Err}
 use Rattle.std.specs.List.{list_any}
 use Rattle.rb_script.specs.declared.fault.ScriptFault.{ScriptFault}
 use Rattle.rb_script.specs.Lines.{Line, lines}
@@ -46,6 +46,11 @@ findings ls [] bs os = []
 findings ls (line ∷ heads) [] os = []
 findings ls (line ∷ heads) (b ∷ bs) [] = []
 findings ls (line ∷ heads) (b ∷ bs) (output ∷ os) = before (finding ls line b output) (findings ls heads bs os)
+
+-- the place is the first of some
+abbrev pub stands_first : ℕ → List ℕ → Bool
+stands_first place [] = false
+stands_first place (p ∷ places) = p == place
 
 -- of a script that has no such directive, which is seen without its text
 abbrev pub is_quiet : PlainScript → Bool

@@ -1,6 +1,6 @@
 //! What is to be said of a directive that ran.
 
-ghost use Rattle.std.specs.Prelude.{◌≡◌, IfOk};
+ghost use Rattle.std.specs.Prelude.{◌≡◌, not, IfOk};
 ghost use Rattle.rb_replay.specs.Report.{same_lines};
 ghost use Rattle.rb_diagnostics.specs.Findings.{diff_message, error_output, finding, mismatch};
 
@@ -9,12 +9,6 @@ use rb_check::{Colors, Table, put_diff};
 use rb_checked::{first_line, is_unexpected};
 use rb_script::{Block, Lines, Through};
 use std::alloc::{AllocError, Global};
-
-fn is_same(lines: &Lines, other: &Lines) -> bool
-    ensures { result ≡ same_lines lines.now other.now }
-{
-    lines.same(other)
-}
 
 // The diff that `check` shows, without the end of its last line.
 fn diff_message(
@@ -60,19 +54,22 @@ fn error_output(alloc: Global, line: usize, output: &Lines) -> Result<Diagnostic
     })
 }
 
-/// What is to be said of a directive, whose head begins on a line, of the lines of a script.
+/// What is to be said of a directive, whose head begins on a line, of the lines of a script. Whether its output is another than the expected
+/// one is known.
 #[tactic(auto, unfolding(crate::specs::Findings::finding))]
 pub(crate) fn finding(
     alloc: Global,
     table: &mut Table,
     text: &Lines,
     line: usize,
+    differs: bool,
     block: &Block,
     output: &Lines,
 ) -> Result<Option<Diagnostic>, AllocError>
+    requires { differs ≡ not (same_lines block.now.expected output.now) }
     ensures { IfOk result (λ found. found ≡ finding text.now line block.now output.now) }
 {
-    if !is_same(block.expected(), output) {
+    if differs {
         return Ok(Some(mismatch(alloc, table, line, block.expected(), output)?));
     }
     if is_unexpected(text, line, output) {

@@ -1,8 +1,8 @@
 //! What is to be said of a script that ran, and of what is none.
 
-ghost use Rattle.std.specs.Prelude.{◌≡◌, ◌++◌, [], ◌∷◌, IfOk, OnOk, length};
+ghost use Rattle.std.specs.Prelude.{◌≡◌, ◌+◌, ◌<◌, ◌≤◌, ◌^◌, ◌++◌, [], ◌∷◌, if◌then◌else◌, IfOk, OnOk, length, drop};
 ghost use Rattle.rb_replay.specs.Run.{outputs};
-ghost use Rattle.rb_diagnostics.specs.Findings.{before, findings, or_first, refused};
+ghost use Rattle.rb_diagnostics.specs.Findings.{before, findings, or_first, refused, stands_first};
 
 use crate::diagnostic::{Diagnostic, Kind};
 use crate::finding::finding;
@@ -24,7 +24,27 @@ fn keep(list: &mut Vec<Diagnostic>, found: Option<Diagnostic>) -> Result<(), All
     }
 }
 
-// What is to be said of each directive of a script that ran, whose lines these are, with its heads on those.
+// Whether the place is the next of some.
+fn is_next(places: &[usize], next: usize, place: usize) -> bool
+    ensures { result ≡ stands_first place (drop next places.now) }
+{
+    match places.get(next) {
+        Some(first) => *first == place,
+        None => false,
+    }
+}
+
+// The index of the next, where that one may be taken.
+fn behind(next: usize, is_taken: bool) -> usize
+    requires { next < 2 ^ 63 }
+    ensures value { result ≡ (if is_taken then next + 1 else next) }
+    ensures most { result ≤ next + 1 }
+{
+    if is_taken { next + 1 } else { next }
+}
+
+// What is to be said of each directive of a script that ran, whose lines these are, with its heads on those. The session knows which of its
+// outputs are not the expected ones.
 fn each_finding<M: Machine>(
     alloc: Global,
     table: &mut Table,
@@ -35,13 +55,17 @@ fn each_finding<M: Machine>(
     requires { length heads.now ≡ length session.now.script.blocks }
     ensures { IfOk result (λ list. list.items ≡ findings text.now heads.now session.now.script.blocks (outputs session.now.script)) }
 {
+    let mismatches = session.mismatches();
     let mut list = Vec::new(alloc);
+    let mut next = 0;
     for i in 0..session.len() {
         let line = number_at(heads, i);
         let block = block_at(session, i);
         let output = output_at(session, i);
-        let found = finding(alloc, table, text, line, block, output)?;
+        let differs = is_next(mismatches, next, i + 1);
+        let found = finding(alloc, table, text, line, differs, block, output)?;
         keep(&mut list, found)?;
+        next = behind(next, differs);
     }
     Ok(list)
 }

@@ -1,15 +1,30 @@
 use Rattle.std.proofs.Common.{arith}
 use Rattle.rb_replay.specs.Run.{outputs}
 use Rattle.rb_diagnostics.proofs.FindingLaws.{said_last, said_more}
+use Rattle.rb_diagnostics.proofs.MismatchLaws.{differs_there, left_behind}
 use Rattle.rb_diagnostics.proofs.running.each_finding.Goals as goal
+
+pub finding-requires : goal.finding-requires
+finding-requires g c =
+    let s = c.args.session.now.script in
+    differs_there c.mismatches-mismatches.result.now c.loop-i.next c.loop-i.i s.blocks (outputs s) c.block_at-block.result.now c.output_at-output.result.now c.block_at-block.ensures c.output_at-output.ensures c.loop-i.invariant.left
+    c.is_next-differs.result c.is_next-differs.ensures
 
 pub loop-i-preserved : goal.loop-i-preserved
 loop-i-preserved g c =
-    said_more c.args.text.now c.args.heads.now c.args.session.now.script.blocks (outputs c.args.session.now.script) c.loop-i.i c.number_at-line.result c.block_at-block.result.now
-    c.output_at-output.result.now c.loop-i.list.items c.keep.new.list.items c.in_ok-found.found _ c.number_at-line.ensures c.block_at-block.ensures c.output_at-output.ensures
-    c.in_ok-keep.ensures c.in_ok-found.ensures c.loop-i.invariant
+    let s = c.args.session.now.script in
+    let differs = differs_there c.mismatches-mismatches.result.now c.loop-i.next c.loop-i.i s.blocks (outputs s) c.block_at-block.result.now c.output_at-output.result.now c.block_at-block.ensures c.output_at-output.ensures c.loop-i.invariant.left
+    c.is_next-differs.result c.is_next-differs.ensures in
+    record {
+      said = said_more c.args.text.now c.args.heads.now s.blocks (outputs s) c.loop-i.i c.number_at-line.result c.block_at-block.result.now
+          c.output_at-output.result.now c.loop-i.list.items c.keep.new.list.items c.in_ok-found.found _ c.number_at-line.ensures c.block_at-block.ensures c.output_at-output.ensures
+          c.in_ok-keep.ensures c.in_ok-found.ensures c.loop-i.invariant.said;
+      left = left_behind c.mismatches-mismatches.result.now c.loop-i.next c.loop-i.i s.blocks (outputs s) c.block_at-block.result.now c.output_at-output.result.now c.block_at-block.ensures c.output_at-output.ensures c.loop-i.invariant.left
+          c.is_next-differs.result c.behind-next.result differs c.behind-next.ensures.value;
+      few = omega (arith, c.loop-i.invariant.few, c.behind-next.ensures.most);
+    }
 
 pub returns : goal.returns
 returns g c =
     said_last c.args.text.now c.args.heads.now c.args.session.now.script.blocks (outputs c.args.session.now.script) c.loop-i.i c.loop-i.list.items _
-    (omega (arith, c.loop-i-test.false, c.len-i-end.ensures.len, c.requires)) c.loop-i.invariant
+    (omega (arith, c.loop-i-test.false, c.len-i-end.ensures.len, c.requires)) c.loop-i.invariant.said
