@@ -11,7 +11,7 @@ use Rattle.rb_server.specs.declared.phase.Phase.{Phase}
 use Rattle.rb_server.specs.declared.phase.Phase.TheVariants.{Fresh, Running, Stopped}
 use Rattle.rb_server.specs.declared.method.Method.{Method}
 use Rattle.rb_server.specs.declared.method.Method.TheVariants.{Initialize, Shutdown, Exit, DidOpen, DidChange, DidClose, Asks, Unknown}
-use Rattle.rb_server.specs.Beginnings.{capabilities, chosen_encoding, initialized, synchronizes}
+use Rattle.rb_server.specs.Beginnings.{capabilities, chosen_encoding, completes, initialized, synchronizes}
 use Rattle.rb_server.specs.Replies.{answer_to, initialize_answer}
 
 id_is_plain : (d : Data) → is_id d ≡ true → has_float d ≡ false
@@ -55,7 +55,7 @@ said_is_plain : (d : Data) → IsPlain (said d)
 said_is_plain d = versioned (has_version d) (with_method d (text_at (codes "method") d)) (with_method_is_plain d (text_at (codes "method") d))
 
 initialized_is_plain : (encoding : Encoding) → has_float (initialized encoding) ≡ false
-unfolding initialized capabilities synchronizes
+unfolding initialized capabilities completes synchronizes
 initialized_is_plain Utf8 = refl
 initialized_is_plain Utf16 = refl
 
