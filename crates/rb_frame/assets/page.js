@@ -13,6 +13,18 @@ const KEYS = {
   M: (page) => page.lastMismatch(),
 };
 
+// Writes where in the page one is. A frame that was given its document as a text has no address, and some browsers refuse a page that writes one at each
+// key that is held down: the page goes on without.
+function writeAddress(place) {
+  try {
+    history.replaceState(null, "", place);
+  } catch (error) {
+    if (!(error instanceof DOMException)) {
+      throw error;
+    }
+  }
+}
+
 class Page {
   constructor(model) {
     this.model = model;
@@ -32,7 +44,7 @@ class Page {
     this.parts.forEach((part) => part.choose(chosen));
     const step = this.model.steps[chosen - 1];
     document.getElementById("where").textContent = `step ${chosen} of ${this.model.steps.length}, line ${step.line}`;
-    history.replaceState(null, "", `#${chosen}`);
+    writeAddress(`#${chosen}`);
   }
 
   chooseByAddress() {

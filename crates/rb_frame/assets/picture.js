@@ -233,7 +233,8 @@ class Picture {
       lines.add(look, `M${n(from)} ${n(message.start)}L${n(to)} ${n(end)}`);
       lines.add(`tip ${kind}`, tipAt(to, end, to - from, end - message.start));
     } else if (message.fate === "dropped") {
-      const short = to - side * 18;
+      // Where nobody has the id that it was sent to, it ends on its way.
+      const short = message.to > this.model.nodes.length ? from + side * 0.3 * this.layout.gap : to - side * 18;
       lines.add(look, `M${n(from)} ${n(message.start)}L${n(short)} ${n(end)}`);
       lines.add("cross", crossAt(short, end));
     } else {

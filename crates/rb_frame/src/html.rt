@@ -7,7 +7,7 @@ pub(crate) const HEAD: &[u8] = b"\
 <html lang=\"en\">\n\
 <head>\n\
 <meta charset=\"utf-8\">\n\
-<meta http-equiv=\"Content-Security-Policy\" content=\"default-src 'none'; style-src 'sha256-fUOlV7kZusDDFWHzAaJUq1bNN/YdFdSzVNQpM5QsBzE='; script-src 'sha256-+hGhxTuq8gjLA8XCd6CRGWEzoxrEoSySN91KGIe7eS8='; base-uri 'none'; form-action 'none'\">\n\
+<meta http-equiv=\"Content-Security-Policy\" content=\"default-src 'none'; style-src 'sha256-dRJO1kCLkJFUR/HZ0kP+cxhvEWdataFS5HEtsy/wG+o='; script-src 'sha256-EcBY5bMvYRx+kkoYHNgv/29EhTDoTDTunoopNI9kMJw='; base-uri 'none'; form-action 'none'\">\n\
 <meta name=\"viewport\" content=\"width=device-width, initial-scale=1\">\n\
 <meta name=\"referrer\" content=\"no-referrer\">\n\
 <title>raftbench</title>\n\

@@ -19,6 +19,18 @@ const KEYS = {\n\
 \x20 M: (page) => page.lastMismatch(),\n\
 };\n\
 \n\
+// Writes where in the page one is. A frame that was given its document as a text has no address, and some browsers refuse a page that writes one at each\n\
+// key that is held down: the page goes on without.\n\
+function writeAddress(place) {\n\
+\x20 try {\n\
+\x20   history.replaceState(null, \"\", place);\n\
+\x20 } catch (error) {\n\
+\x20   if (!(error instanceof DOMException)) {\n\
+\x20     throw error;\n\
+\x20   }\n\
+\x20 }\n\
+}\n\
+\n\
 class Page {\n\
 \x20 constructor(model) {\n\
 \x20   this.model = model;\n\
@@ -38,7 +50,7 @@ class Page {\n\
 \x20   this.parts.forEach((part) => part.choose(chosen));\n\
 \x20   const step = this.model.steps[chosen - 1];\n\
 \x20   document.getElementById(\"where\").textContent = `step ${chosen} of ${this.model.steps.length}, line ${step.line}`;\n\
-\x20   history.replaceState(null, \"\", `#${chosen}`);\n\
+\x20   writeAddress(`#${chosen}`);\n\
 \x20 }\n\
 \n\
 \x20 chooseByAddress() {\n\

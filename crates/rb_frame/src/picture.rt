@@ -239,7 +239,8 @@ class Picture {\n\
 \x20     lines.add(look, `M${n(from)} ${n(message.start)}L${n(to)} ${n(end)}`);\n\
 \x20     lines.add(`tip ${kind}`, tipAt(to, end, to - from, end - message.start));\n\
 \x20   } else if (message.fate === \"dropped\") {\n\
-\x20     const short = to - side * 18;\n\
+\x20     // Where nobody has the id that it was sent to, it ends on its way.\n\
+\x20     const short = message.to > this.model.nodes.length ? from + side * 0.3 * this.layout.gap : to - side * 18;\n\
 \x20     lines.add(look, `M${n(from)} ${n(message.start)}L${n(short)} ${n(end)}`);\n\
 \x20     lines.add(\"cross\", crossAt(short, end));\n\
 \x20   } else {\n\

@@ -21,6 +21,8 @@ pub(crate) const STYLE: &[u8] = b"\
 \x20 --candidate: #d08a12;\n\
 \x20 --precandidate: #b39a2e;\n\
 \x20 --follower: #a3abb6;\n\
+\x20 --on-follower: #14171c;\n\
+\x20 --on-candidate: #14171c;\n\
 \x20 --vote: #a85a06;\n\
 \x20 --append: #2461d8;\n\
 \x20 --heartbeat: #69727e;\n\
@@ -47,6 +49,7 @@ pub(crate) const STYLE: &[u8] = b"\
 \x20   --candidate: #d99a2b;\n\
 \x20   --precandidate: #b8a244;\n\
 \x20   --follower: #656e7a;\n\
+\x20   --on-follower: #ffffff;\n\
 \x20   --vote: #e0a050;\n\
 \x20   --append: #7ba7ff;\n\
 \x20   --heartbeat: #98a2af;\n\
@@ -250,10 +253,11 @@ section:focus-visible,\n\
 #heads .column {\n\
 \x20 position: absolute;\n\
 \x20 top: 4px;\n\
-\x20 width: 96px;\n\
-\x20 margin-left: -48px;\n\
+\x20 width: 112px;\n\
+\x20 margin-left: -56px;\n\
 \x20 text-align: center;\n\
 \x20 line-height: 17px;\n\
+\x20 white-space: nowrap;\n\
 }\n\
 \n\
 #heads .column b {\n\
@@ -501,7 +505,7 @@ svg .tip {\n\
 \x20 padding: 0 7px;\n\
 \x20 border-radius: 9px;\n\
 \x20 background: var(--follower);\n\
-\x20 color: var(--background);\n\
+\x20 color: var(--on-follower);\n\
 \x20 font-size: 11px;\n\
 \x20 font-weight: 600;\n\
 \x20 line-height: 17px;\n\
@@ -509,14 +513,17 @@ svg .tip {\n\
 \n\
 .node.leader .role {\n\
 \x20 background: var(--leader);\n\
+\x20 color: var(--background);\n\
 }\n\
 \n\
 .node.candidate .role {\n\
 \x20 background: var(--candidate);\n\
+\x20 color: var(--on-candidate);\n\
 }\n\
 \n\
 .node.precandidate .role {\n\
 \x20 background: var(--precandidate);\n\
+\x20 color: var(--on-candidate);\n\
 }\n\
 \n\
 .node .changed {\n\
