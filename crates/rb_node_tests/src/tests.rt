@@ -2,3 +2,22 @@ mod counting;
 mod logs;
 mod nodes;
 mod trackers;
+
+ghost use Rattle.std.specs.Prelude.{IsTrue};
+
+use std::process::Abort;
+
+// Two things make a test dear to prove. One is an assertion, so nothing but what stands here asserts. The other is a value that goes at
+// the end of a function, on each way out: so who owns one gives it to `drop`, which is one call.
+
+/// Ends the test where something isn't so.
+fn is(rt: &impl Abort, so: bool, what: &str)
+    ensures { IsTrue so }
+{
+    assert!(rt; so, "{what}");
+}
+
+/// The same of a row of a table.
+fn is_in_row(rt: &impl Abort, so: bool, what: &str, row: usize) {
+    assert!(rt; so, "{what}, row {row}");
+}

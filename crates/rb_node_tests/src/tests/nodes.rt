@@ -3,6 +3,7 @@
 //! A test is a row of numbers: where a node starts, what it is made to do, and what shows afterwards. So what a row says can be read
 //! beside the rules, and few functions make messages and nodes.
 
+mod before;
 mod calls;
 mod held;
 mod leading;

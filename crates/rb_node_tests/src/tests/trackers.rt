@@ -40,13 +40,9 @@ fn are(list: &[u64], digits: &str) -> bool {
 /// A configuration of these voters, and of nobody else.
 fn voting(rt: &impl Abort, alloc: Global, incoming: &str, outgoing: &str) -> Config {
     let mut config = Config::new(alloc);
-    put_voters(rt, &mut config, incoming, outgoing);
-    config
-}
-
-fn put_voters(rt: &impl Abort, config: &mut Config, incoming: &str, outgoing: &str) {
     put(rt, &mut config.incoming, incoming);
-    put(rt, &mut config.outgoing, outgoing)
+    put(rt, &mut config.outgoing, outgoing);
+    config
 }
 
 /// Puts in a view of an id that holds the log up to an index.
@@ -83,15 +79,9 @@ fn tracking(
     outgoing: &str,
     digits: &str,
 ) -> Tracker {
-    let mut tracker = unheard(rt, alloc, incoming, outgoing);
+    let mut tracker = Tracker::new(alloc, voting(rt, alloc, incoming, outgoing));
     hold_all(rt, alloc, &mut tracker, digits);
     tracker
-}
-
-/// A tracker of these voters, without views.
-fn unheard(rt: &impl Abort, alloc: Global, incoming: &str, outgoing: &str) -> Tracker {
-    let config = voting(rt, alloc, incoming, outgoing);
-    Tracker::new(alloc, config)
 }
 
 /// What the ids 1, 2 and so on answered: `y` granted, `n` refused, and `_` nothing yet.

@@ -1,21 +1,17 @@
 //! Examples, in both logs.
 
-use super::making::{change, filled, filled_at_once, payload, push, save, take_items};
+use super::making::{change, filled, filled_at_once, payload, push, take_items};
 use super::tested::{Item, Numbers, Tested};
+use crate::tests::{is, is_in_row};
 use rb_raftlog::{Appended, Entries, LogFault, PlainLog, SplitLog};
 use std::alloc::Global;
 use std::process::Abort;
-
-/// Ends the test where something isn't so. What looks at logs says what is so by this alone: an assertion is dear to prove.
-fn is(rt: &impl Abort, so: bool, what: &str) {
-    assert!(rt; so, "{what}");
-}
 
 /// A hundred entries, of which those past 49 give way to another.
 fn of_two_terms<T: Tested>(rt: &impl Abort, alloc: Global) -> T {
     let mut log: T = filled_at_once(rt, alloc, 0, 49);
     push(rt, alloc, &mut log, (2, 7));
-    save(rt, &mut log);
+    log.save(rt);
     log
 }
 
@@ -54,20 +50,19 @@ fn differs_from_its_copy<T: Tested>(rt: &impl Abort, alloc: Global, log: &T, cop
         "counts",
     );
     is(rt, !copy.is_same(log), "they differ");
-    save(rt, copy);
-}
-
-/// A log is the same as another.
-fn is_like<T: Tested>(rt: &impl Abort, log: &T, other: &T, what: &str) {
-    is(rt, log.is_same(other), what);
+    copy.save(rt);
 }
 
 fn copies_share<T: Tested>(rt: &impl Abort, alloc: Global) {
     let log: T = filled(rt, alloc, 0, 100);
-    let mut copy = log.copied().expect(rt, "memory");
+    let mut copy = log.copied(rt);
     differs_from_its_copy(rt, alloc, &log, &mut copy);
-    let other = of_two_terms(rt, alloc);
-    is_like(rt, &copy, &other, "the same, page by page or not");
+    let other: T = of_two_terms(rt, alloc);
+    let so = copy.is_same(&other);
+    is(rt, so, "the same, page by page or not");
+    drop(other);
+    drop(copy);
+    drop(log);
 }
 
 /// What is sent to a log that goes from 11 to 15 in term 1, where 14 is committed: after which index and term, which entries, and
@@ -81,9 +76,9 @@ static SENT: [(u64, u64, &'static [Item], Appended); 4] = [
 
 /// What a follower answers.
 fn answers<T: Tested>(rt: &impl Abort, alloc: Global, log: &mut T) {
-    for (prev, term, items, wanted) in SENT {
-        let told = take_items(rt, alloc, log, (prev, term), items, 14);
-        is(rt, told == Some(wanted), "the answer");
+    for (k, (prev, term, items, wanted)) in SENT.iter().enumerate() {
+        let told = take_items(rt, alloc, log, (*prev, *term), items, 14);
+        is_in_row(rt, told == Some(*wanted), "an answer", k);
     }
 }
 
@@ -147,8 +142,9 @@ fn follows<T: Tested>(rt: &impl Abort, alloc: Global) {
     answers(rt, alloc, &mut log);
     compares(rt, &log);
     has_ends(rt, &log);
-    log.put(change(rt, alloc, 3, 4)).expect(rt, "memory");
+    log.put(rt, change(rt, alloc, 3, 4));
     has_change(rt, &log);
+    drop(log);
 }
 
 /// What is at the greatest index that there is, in a log that goes up to it; then the log is compacted to it.
@@ -177,6 +173,7 @@ fn ends_at_the_limit<T: Tested>(rt: &impl Abort, alloc: Global) {
     );
     push(rt, alloc, &mut log, (1, 3));
     ends_there(rt, &mut log);
+    drop(log);
 }
 
 fn all<T: Tested>(rt: &impl Abort, alloc: Global) {
@@ -195,11 +192,6 @@ fn split_logs(rt: HostRuntime) {
     all::<SplitLog>(&rt, rt.alloc())
 }
 
-/// What a log sends after an index.
-fn sent_after<T: Tested>(rt: &impl Abort, log: &T, index: u64) -> Entries {
-    log.sent_after(index).expect(rt, "memory")
-}
-
 /// What two logs of the entries 11 to 140 send after 60 is the same.
 fn are_alike(rt: &impl Abort, sent: &Entries, shared: &Entries) {
     is(
@@ -215,14 +207,19 @@ fn are_alike(rt: &impl Abort, sent: &Entries, shared: &Entries) {
 }
 
 fn send_alike<P: Tested, S: Tested>(rt: &impl Abort, plain: &P, split: &S) -> Entries {
-    let shared = sent_after(rt, split, 60);
-    are_alike(rt, &sent_after(rt, plain, 60), &shared);
+    let shared = split.sent_after(rt, 60);
+    let sent = plain.sent_after(rt, 60);
+    are_alike(rt, &sent, &shared);
+    drop(sent);
     shared
 }
 
 /// Whether the log sends these entries after an index.
 fn sends<T: Tested>(rt: &impl Abort, log: &T, index: u64, entries: &Entries) -> bool {
-    entries.same(&sent_after(rt, log, index))
+    let sent = log.sent_after(rt, index);
+    let so = entries.same(&sent);
+    drop(sent);
+    so
 }
 
 fn one_entry(rt: &impl Abort, alloc: Global) -> Entries {
@@ -236,12 +233,15 @@ fn first_piece(entries: &Entries) -> usize {
 
 /// What a log from 11 to 141 sends, whose last entry is of term 2.
 fn sends_its_end<S: Tested>(rt: &impl Abort, alloc: Global, split: &S) {
-    let none = sends(rt, split, 141, &Entries::empty());
-    is(rt, none, "nothing after its end");
-    let last = sends(rt, split, 140, &one_entry(rt, alloc));
-    is(rt, last, "its last entry");
-    let count = first_piece(&sent_after(rt, split, 140));
-    is(rt, count == 1, "in one piece");
+    let none = Entries::empty();
+    is(rt, sends(rt, split, 141, &none), "nothing after its end");
+    drop(none);
+    let one = one_entry(rt, alloc);
+    is(rt, sends(rt, split, 140, &one), "its last entry");
+    drop(one);
+    let last = split.sent_after(rt, 140);
+    is(rt, first_piece(&last) == 1, "in one piece");
+    drop(last);
 }
 
 fn stays<P: Tested, S: Tested>(rt: &impl Abort, plain: &P, split: &S, sent: &Entries) {
@@ -253,6 +253,7 @@ fn share_between<P: Tested, S: Tested>(rt: &impl Abort, alloc: Global, plain: &P
     let sent = send_alike(rt, plain, split);
     push(rt, alloc, split, (2, 3));
     stays(rt, plain, split, &sent);
+    drop(sent);
 }
 
 /// What a message holds of a log is the same whatever log it is of, and stays when the log goes on.
@@ -261,10 +262,18 @@ fn share<P: Tested, S: Tested>(rt: &impl Abort, alloc: Global) {
     let mut split: S = filled(rt, alloc, 10, 130);
     share_between(rt, alloc, &plain, &mut split);
     sends_its_end(rt, alloc, &split);
+    drop(split);
+    drop(plain);
 }
 
 #[test]
 fn messages_share(rt: HostRuntime) {
-    assert!(rt; Entries::empty().is_empty() && Entries::empty().last_term().is_none());
+    let none = Entries::empty();
+    is(
+        &rt,
+        none.is_empty() && none.last_term().is_none(),
+        "no entries",
+    );
+    drop(none);
     share::<PlainLog, SplitLog>(&rt, rt.alloc());
 }

@@ -48,18 +48,14 @@ pub fn take_items<T: Tested>(
     commit: u64,
 ) -> Option<Appended> {
     let entries = entries_of(rt, alloc, items);
-    log.take(after, entries.as_slice(), commit)
-        .expect(rt, "memory")
+    let told = log.take(rt, after, entries.as_slice(), commit);
+    drop(entries);
+    told
 }
 
 /// Appends a payload of one byte.
 pub fn push<T: Tested>(rt: &impl Abort, alloc: Global, log: &mut T, item: Item) {
-    log.put(payload(rt, alloc, item.0, item.1))
-        .expect(rt, "memory");
-}
-
-pub fn save<T: Tested>(rt: &impl Abort, log: &mut T) {
-    log.save().expect(rt, "memory");
+    log.put(rt, payload(rt, alloc, item.0, item.1));
 }
 
 /// The payload of a filled log at a place.
@@ -67,26 +63,22 @@ fn kth(k: u64) -> Item {
     (1, (k % 251) as u8)
 }
 
-pub fn begin<T: Tested>(rt: &impl Abort, alloc: Global, base: u64, term: u64) -> T {
-    T::begin(alloc, base, term).expect(rt, "memory")
-}
-
 /// A log of a base of term 1, with as many entries of term 1, each made durable by itself.
 pub fn filled<T: Tested>(rt: &impl Abort, alloc: Global, base: u64, count: u64) -> T {
-    let mut log: T = begin(rt, alloc, base, 1);
+    let mut log = T::begin(rt, alloc, base, 1);
     for k in 0..count {
         push(rt, alloc, &mut log, kth(k));
-        save(rt, &mut log);
+        log.save(rt);
     }
     log
 }
 
 /// The same, made durable all at once.
 pub fn filled_at_once<T: Tested>(rt: &impl Abort, alloc: Global, base: u64, count: u64) -> T {
-    let mut log: T = begin(rt, alloc, base, 1);
+    let mut log = T::begin(rt, alloc, base, 1);
     for k in 0..count {
         push(rt, alloc, &mut log, kth(k));
     }
-    save(rt, &mut log);
+    log.save(rt);
     log
 }

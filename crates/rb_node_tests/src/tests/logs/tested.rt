@@ -7,7 +7,8 @@ ghost use Rattle.std.specs.Prelude.{◌≤◌};
 
 use crate::tests::counting::entries_in;
 use rb_raftlog::{Appended, Body, CompactFault, Entries, Entry, LogFault, MAX_INDEX, RaftLog};
-use std::alloc::{AllocError, Global};
+use std::alloc::Global;
+use std::process::Abort;
 
 /// A term, and the byte of a payload.
 pub type Item = (u64, u8);
@@ -17,28 +18,29 @@ pub type Numbers = (u64, u64, u64, u64, u64);
 
 pub trait Tested: Drop {
     /// A log of a base that is within the limits.
-    fn begin(alloc: Global, base: u64, term: u64) -> Result<Self, AllocError>;
+    fn begin(rt: &impl Abort, alloc: Global, base: u64, term: u64) -> Self;
 
-    fn copied(&self) -> Result<Self, AllocError>;
+    fn copied(&self, rt: &impl Abort) -> Self;
 
     fn is_same(&self, other: &Self) -> bool;
 
     fn numbers(&self) -> Numbers;
 
     /// Appends an entry, where there is room.
-    fn put(&mut self, entry: Entry) -> Result<(), AllocError>;
+    fn put(&mut self, rt: &impl Abort, entry: Entry);
 
-    fn save(&mut self) -> Result<(), AllocError>;
+    fn save(&mut self, rt: &impl Abort);
 
     /// Takes entries of a leader after an index and its term, where there is room.
     fn take(
         &mut self,
+        rt: &impl Abort,
         after: (u64, u64),
         entries: &[Entry],
         commit: u64,
-    ) -> Result<Option<Appended>, AllocError>;
+    ) -> Option<Appended>;
 
-    fn sent_after(&self, index: u64) -> Result<Entries, AllocError>;
+    fn sent_after(&self, rt: &impl Abort, index: u64) -> Entries;
 
     /// Moves the base to an index up to another, or to the last that is durable.
     fn cut(&mut self, index: u64, upto: u64) -> Result<(), CompactFault>;
@@ -81,12 +83,12 @@ fn count<L: RaftLog>(log: &L, from: u64) -> usize {
 }
 
 impl<L: RaftLog> Tested for L {
-    fn begin(alloc: Global, base: u64, term: u64) -> Result<L, AllocError> {
-        L::fresh(alloc, base.min(MAX_INDEX), term)
+    fn begin(rt: &impl Abort, alloc: Global, base: u64, term: u64) -> L {
+        L::fresh(alloc, base.min(MAX_INDEX), term).expect(rt, "memory")
     }
 
-    fn copied(&self) -> Result<L, AllocError> {
-        self.try_copy()
+    fn copied(&self, rt: &impl Abort) -> L {
+        self.try_copy().expect(rt, "memory")
     }
 
     fn is_same(&self, other: &L) -> bool {
@@ -103,31 +105,34 @@ impl<L: RaftLog> Tested for L {
         )
     }
 
-    fn put(&mut self, entry: Entry) -> Result<(), AllocError> {
+    fn put(&mut self, rt: &impl Abort, entry: Entry) {
         if self.last_index() < MAX_INDEX {
-            self.push_own(entry)?;
+            self.push_own(entry).expect(rt, "memory");
+        } else {
+            drop(entry);
         }
-        Ok(())
     }
 
-    fn save(&mut self) -> Result<(), AllocError> {
-        self.mark_durable()
+    fn save(&mut self, rt: &impl Abort) {
+        self.mark_durable().expect(rt, "memory")
     }
 
     fn take(
         &mut self,
+        rt: &impl Abort,
         after: (u64, u64),
         entries: &[Entry],
         commit: u64,
-    ) -> Result<Option<Appended>, AllocError> {
+    ) -> Option<Appended> {
         if after.0 > 1_000_000 || entries.len() > 1_000 {
-            return Ok(None);
+            return None;
         }
-        Ok(Some(self.append_after(after.0, after.1, entries, commit)?))
+        let told = self.append_after(after.0, after.1, entries, commit);
+        Some(told.expect(rt, "memory"))
     }
 
-    fn sent_after(&self, index: u64) -> Result<Entries, AllocError> {
-        self.entries_after(index)
+    fn sent_after(&self, rt: &impl Abort, index: u64) -> Entries {
+        self.entries_after(index).expect(rt, "memory")
     }
 
     fn cut(&mut self, index: u64, upto: u64) -> Result<(), CompactFault> {

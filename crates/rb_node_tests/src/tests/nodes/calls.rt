@@ -2,11 +2,10 @@
 
 use super::making::{Player, played};
 use super::moves::{ALONE, FOLLOWS, LEADS, Move, START, Says};
-use super::seen::{Said, kind_said};
-use crate::tests::counting::entries_in;
-use rb_message::{HardState, Message};
-use rb_node::{HEARTBEAT_TICKS, MAX_TICKS, Node, ReadyView, limits_are};
-use rb_raftlog::{CompactFault, Entry, RaftLog};
+use super::seen::Said;
+use crate::tests::{is, is_in_row};
+use rb_node::{HEARTBEAT_TICKS, MAX_TICKS, limits_are};
+use rb_raftlog::CompactFault;
 use rb_step::ELECTION_TICKS;
 use std::alloc::Global;
 use std::process::Abort;
@@ -21,22 +20,6 @@ pub type Ready = (
     usize,
     usize,
 );
-
-fn numbers(hard: HardState) -> (u64, u64, u64) {
-    (hard.term, hard.vote, hard.commit)
-}
-
-pub fn ready_of<L: RaftLog>(node: &Node<L>) -> Ready {
-    let ready = node.ready();
-    (
-        ready.hard().map(numbers),
-        ready.snapshot(),
-        entries_in(ready.save()),
-        ready.apply_len(),
-        ready.sent().len(),
-        ready.waiting().len(),
-    )
-}
 
 const NOTHING: Ready = (None, None, 0, 0, 0, 0);
 
@@ -63,50 +46,28 @@ static READY: [(&[Move], Ready); 8] = [
     ),
 ];
 
-/// What is ready once a node did all this, and whether something is.
-fn ready_after<P: Player>(rt: &impl Abort, alloc: Global, moves: &[Move]) -> (Ready, bool) {
+/// Whether this is ready once a node did all this, and whether something is.
+fn is_ready_after<P: Player>(
+    rt: &impl Abort,
+    alloc: Global,
+    moves: &[Move],
+    wanted: Ready,
+) -> bool {
     let player: P = played(rt, alloc, &START, moves);
-    (player.ready(), player.has_ready())
+    let came = (player.ready(), player.has_ready());
+    drop(player);
+    came == (wanted, wanted != NOTHING)
 }
 
 fn readies<P: Player>(rt: &impl Abort, alloc: Global, rows: &[(&[Move], Ready)]) {
-    for (moves, wanted) in rows {
-        let came = ready_after::<P>(rt, alloc, moves);
-        assert_eq!(rt; came, (*wanted, *wanted != NOTHING));
-    }
-}
-
-/// Whether two entries are to be applied, and this is the second.
-fn applies_second<L: RaftLog>(ready: &ReadyView<'_, L>, entry: &Entry) -> bool {
-    ready.apply_len() == 2 && ready.apply(1).same(entry)
-}
-
-/// Whether the second entry that is to be applied is the second that is to be saved.
-pub fn applies_what_it_saves<L: RaftLog>(node: &Node<L>) -> bool {
-    let ready = node.ready();
-    match ready.save().next() {
-        Some([_, entry, ..]) => applies_second(&ready, entry),
-        _ => false,
+    for (k, (moves, wanted)) in rows.iter().enumerate() {
+        let so = is_ready_after::<P>(rt, alloc, moves, *wanted);
+        is_in_row(rt, so, "what is ready", k);
     }
 }
 
 /// What goes out first, how many messages go out, how many events there are, and whether anything is ready then.
 pub type Gone = (Said, usize, usize, bool);
-
-fn said_first(messages: &[Message]) -> Said {
-    match messages.first() {
-        Some(message) => kind_said(&message.kind).0,
-        None => Said::Nothing,
-    }
-}
-
-pub fn gone_out<L: RaftLog>(rt: &impl Abort, alloc: Global, node: &mut Node<L>) -> Gone {
-    let mut sent = Vec::new(alloc);
-    let mut events = Vec::new(alloc);
-    node.advance(&mut sent, &mut events).expect(rt, "memory");
-    let said = said_first(sent.as_slice());
-    (said, sent.len(), events.len(), node.has_ready())
-}
 
 static TAKES_ENTRIES: &[Move] = &[
     Move::Get(2, 2, Says::Append(1, 10, 12, 3)),
@@ -116,23 +77,18 @@ static TAKES_ENTRIES: &[Move] = &[
 /// What a follower is to apply, and what goes out: the sent messages, then the answers to others.
 fn hands_over<P: Player>(rt: &impl Abort, alloc: Global) {
     let mut player: P = played(rt, alloc, &START, TAKES_ENTRIES);
-    let second = player.applies_what_it_saves();
+    is(
+        rt,
+        player.applies_what_it_saves(),
+        "what is saved and applied",
+    );
     let gone = player.gone_out(rt, alloc);
-    assert!(rt; second && gone == (Said::HeartbeatAnswer, 2, 0, false));
-}
-
-/// The index and the term of a node's snapshot, and whether this is its content.
-pub fn snapshot_seen<L: RaftLog>(
-    rt: &impl Abort,
-    node: &Node<L>,
-    content: &[u8],
-) -> (u64, u64, bool) {
-    let snapshot = node.snapshot().expect(rt, "memory");
-    (
-        snapshot.index,
-        snapshot.term,
-        snapshot.content.end() == content,
-    )
+    is(
+        rt,
+        gone == (Said::HeartbeatAnswer, 2, 0, false),
+        "what goes out",
+    );
+    drop(player);
 }
 
 /// Whether a log of 11 to 13, all of it applied, can begin at 13, and then at no index up to there.
@@ -157,7 +113,9 @@ static LIVES: &[Move] = &[
 fn life<P: Player>(rt: &impl Abort, alloc: Global) {
     let mut player: P = played(rt, alloc, &ALONE, LIVES);
     let seen = player.snapshot_seen(rt, b"abcd");
-    assert!(rt; seen == (13, 1, true) && compacts(&mut player));
+    is(rt, seen == (13, 1, true), "the snapshot");
+    is(rt, compacts(&mut player), "compacted");
+    drop(player);
 }
 
 pub fn all<P: Player>(rt: &impl Abort, alloc: Global) {
@@ -169,5 +127,6 @@ pub fn all<P: Player>(rt: &impl Abort, alloc: Global) {
 #[test]
 fn limits(rt: HostRuntime) {
     limits_are();
-    assert!(rt; ELECTION_TICKS == 3 && HEARTBEAT_TICKS == 1 && MAX_TICKS == 1_000);
+    let ticks = (ELECTION_TICKS, HEARTBEAT_TICKS, MAX_TICKS);
+    is(&rt, ticks == (3, 1, 1_000), "ticks");
 }

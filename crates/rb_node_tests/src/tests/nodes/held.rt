@@ -2,27 +2,13 @@
 
 use super::making::{Player, played};
 use super::moves::{ALONE, FOLLOWS, Move, START, Says, Start};
+use crate::tests::is_in_row;
 use rb_change::{Transition, WordKind};
-use rb_node::Node;
-use rb_raftlog::RaftLog;
 use std::alloc::Global;
 use std::process::Abort;
 
 /// The base, the last index and its term, the last that is durable, commit and applied.
 pub type Held = (u64, u64, u64, u64, u64, u64);
-
-pub fn held_of<L: RaftLog>(node: &Node<L>) -> Held {
-    let state = node.status();
-    let log = &state.log;
-    (
-        log.first_index().saturating_sub(1),
-        log.last_index(),
-        log.last_term(),
-        log.durable(),
-        state.commit,
-        state.applied,
-    )
-}
 
 /// Node 2 leads term 2, with three entries that are durable.
 const HOLDS_THREE: Move = Move::Get(2, 2, Says::Append(1, 10, 10, 3));
@@ -171,13 +157,15 @@ static SHARED: [(&[Move], Held); 1] = [(
 
 fn held<P: Player>(rt: &impl Abort, alloc: Global, start: &Start, moves: &[Move]) -> Held {
     let player: P = played(rt, alloc, start, moves);
-    player.held()
+    let held = player.held();
+    drop(player);
+    held
 }
 
 fn hold<P: Player>(rt: &impl Abort, alloc: Global, start: &Start, rows: &[(&[Move], Held)]) {
-    for (moves, wanted) in rows {
-        let came = held::<P>(rt, alloc, start, moves);
-        assert_eq!(rt; came, *wanted);
+    for (k, (moves, wanted)) in rows.iter().enumerate() {
+        let so = held::<P>(rt, alloc, start, moves) == *wanted;
+        is_in_row(rt, so, "what is held", k);
     }
 }
 

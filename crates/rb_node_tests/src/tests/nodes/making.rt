@@ -1,11 +1,13 @@
 //! Nodes and messages to test with.
 
-use super::calls::{Gone, Ready, applies_what_it_saves, gone_out, ready_of, snapshot_seen};
-use super::held::{Held, held_of};
-use super::moves::{Move, Says, Start};
-use super::seen::{Seen, seen_of};
+use super::calls::{Gone, Ready};
+use super::held::Held;
+use super::moves::{Members, Move, Says, Start};
+use super::seen::{Seen, said_first, seen_of};
+use crate::tests::counting::entries_in;
+use crate::tests::is;
 use rb_change::{ConfState, Shared, Transition, Word, WordKind};
-use rb_message::{Append, Event, Install, Message, MessageKind};
+use rb_message::{Append, Event, HardState, Install, Message, MessageKind};
 use rb_node::Node;
 use rb_raftlog::{Body, CompactFault, Content, Entries, Entry, MAX_INDEX, RaftLog, Snapshot};
 use std::alloc::{AllocError, Global};
@@ -22,36 +24,43 @@ fn ids(rt: &impl Abort, alloc: Global, ids: &[u64]) -> Shared<u64> {
     Shared::new(list).expect(rt, "memory")
 }
 
-fn config_of(rt: &impl Abort, alloc: Global, start: &Start) -> ConfState {
+/// The voters, those of the other half, and the learners.
+fn sets_of(members: Members) -> (&'static [u64], &'static [u64], &'static [u64]) {
+    match members {
+        Members::Three => (&[1, 2, 3], &[], &[]),
+        Members::One => (&[1], &[], &[]),
+        Members::Two => (&[1, 2], &[], &[]),
+        Members::Others => (&[2, 3], &[], &[]),
+        Members::Learner => (&[1, 2, 3], &[], &[4]),
+        Members::Joint => (&[1, 2, 3], &[1, 2, 3], &[]),
+    }
+}
+
+fn config_of(rt: &impl Abort, alloc: Global, members: Members) -> ConfState {
+    let (incoming, outgoing, learners) = sets_of(members);
     ConfState {
-        incoming: ids(rt, alloc, start.incoming),
-        outgoing: ids(rt, alloc, start.outgoing),
-        learners: ids(rt, alloc, start.learners),
-        next: ids(rt, alloc, start.next),
-        auto: start.auto,
+        incoming: ids(rt, alloc, incoming),
+        outgoing: ids(rt, alloc, outgoing),
+        learners: ids(rt, alloc, learners),
+        next: ids(rt, alloc, &[]),
+        auto: false,
     }
 }
 
-/// The snapshot that a node starts at.
-fn snapshot_of(rt: &impl Abort, alloc: Global, start: &Start) -> Snapshot {
-    Snapshot {
-        index: start.index,
-        term: start.term,
-        content: Content::from_slice(alloc, start.content).expect(rt, "memory"),
-        config: config_of(rt, alloc, start),
-    }
-}
-
-/// A node that has just started.
-fn node_of<L: RaftLog>(
+/// A snapshot of an index and a term, with this content.
+fn snapshot_of(
     rt: &impl Abort,
     alloc: Global,
-    start: &Start,
-    events: &mut Vec<Event>,
-) -> Result<Node<L>, AllocError> {
-    let snapshot = snapshot_of(rt, alloc, start);
-    assert!(rt; snapshot.index <= MAX_INDEX);
-    Node::new(alloc, start.id, &snapshot, start.options, events)
+    at: (u64, u64),
+    content: &[u8],
+    members: Members,
+) -> Snapshot {
+    Snapshot {
+        index: at.0,
+        term: at.1,
+        content: Content::from_slice(alloc, content).expect(rt, "memory"),
+        config: config_of(rt, alloc, members),
+    }
 }
 
 /// One more entry of a term, a payload of one byte.
@@ -66,7 +75,7 @@ fn entries_of(rt: &impl Abort, alloc: Global, term: u64, count: u64) -> Entries 
     for _ in 0..count {
         add_entry(rt, alloc, term, &mut entries);
     }
-    assert!(rt; entries.len() <= 1_000);
+    is(rt, entries.len() <= 1_000, "few entries");
     Entries::from_vec(entries).expect(rt, "memory")
 }
 
@@ -79,20 +88,15 @@ fn append_of(
     count: u64,
 ) -> MessageKind {
     let entries = entries_of(rt, alloc, term, count);
-    assert!(rt; entries.len() <= 1_000 && prev.1 <= 1_000);
+    is(rt, entries.len() <= 1_000, "few entries");
+    is(rt, prev.1 <= 1_000, "after one of the first");
     MessageKind::Append(Append::new(prev.0, prev.1, commit, entries))
 }
 
 /// A snapshot of voters 1 to 3 without content.
 fn install_of(rt: &impl Abort, alloc: Global, term: u64, index: u64) -> MessageKind {
-    let start = Start {
-        term,
-        index,
-        content: b"",
-        ..super::moves::START
-    };
-    let snapshot = snapshot_of(rt, alloc, &start);
-    assert!(rt; snapshot.index <= MAX_INDEX);
+    let snapshot = snapshot_of(rt, alloc, (index, term), b"", Members::Three);
+    is(rt, snapshot.index <= MAX_INDEX, "an index that there is");
     MessageKind::Snapshot(Install::new(snapshot))
 }
 
@@ -149,7 +153,9 @@ fn advance<L: RaftLog>(
     events: &mut Vec<Event>,
 ) -> Result<(), AllocError> {
     let mut sent = Vec::new(alloc);
-    node.advance(&mut sent, events)
+    let outcome = node.advance(&mut sent, events);
+    drop(sent);
+    outcome
 }
 
 /// Lets a node do what nothing comes of but what it notes.
@@ -192,7 +198,10 @@ fn act<L: RaftLog>(
 ) -> Result<(), AllocError> {
     match what {
         Move::Get(from, term, says) => {
-            node.step(&message_of(rt, alloc, from, term, says), events)
+            let message = message_of(rt, alloc, from, term, says);
+            let outcome = node.step(&message, events);
+            drop(message);
+            outcome
         }
         Move::Propose(byte) => node.propose(payload(rt, alloc, byte), events),
         Move::Change(transition, kind, id) => {
@@ -204,15 +213,17 @@ fn act<L: RaftLog>(
     }
 }
 
+fn numbers(hard: HardState) -> (u64, u64, u64) {
+    (hard.term, hard.vote, hard.commit)
+}
+
 /// What starts somewhere, does things and is looked at. A row of a table needs no more of a node; so what goes over rows is proved
 /// without knowing what a node is.
 pub trait Player: Drop {
     fn start(rt: &impl Abort, alloc: Global, start: &Start) -> Self;
 
-    fn act(&mut self, rt: &impl Abort, alloc: Global, what: Move);
-
-    /// Does one thing more, and tells what shows then.
-    fn show(&mut self, rt: &impl Abort, alloc: Global, what: Move) -> Seen;
+    /// Does one thing, and tells what shows then.
+    fn act(&mut self, rt: &impl Abort, alloc: Global, what: Move) -> Seen;
 
     fn held(&self) -> Held;
 
@@ -220,10 +231,12 @@ pub trait Player: Drop {
 
     fn has_ready(&self) -> bool;
 
+    /// Whether two entries are to be applied, of which the second is the second that is to be saved.
     fn applies_what_it_saves(&self) -> bool;
 
     fn gone_out(&mut self, rt: &impl Abort, alloc: Global) -> Gone;
 
+    /// The index and the term of its snapshot, and whether this is the content.
     fn snapshot_seen(&self, rt: &impl Abort, content: &[u8]) -> (u64, u64, bool);
 
     fn compact(&mut self, index: u64) -> Result<(), CompactFault>;
@@ -231,25 +244,46 @@ pub trait Player: Drop {
 
 impl<L: RaftLog> Player for Node<L> {
     fn start(rt: &impl Abort, alloc: Global, start: &Start) -> Node<L> {
-        node_of(rt, alloc, start, &mut Vec::new(alloc)).expect(rt, "memory")
+        let snapshot = snapshot_of(rt, alloc, (start.index, 1), b"ab", start.members);
+        is(rt, snapshot.index <= MAX_INDEX, "an index that there is");
+        let mut events = Vec::new(alloc);
+        let node = Node::new(alloc, 1, &snapshot, start.options, &mut events);
+        drop(events);
+        drop(snapshot);
+        node.expect(rt, "memory")
     }
 
-    fn act(&mut self, rt: &impl Abort, alloc: Global, what: Move) {
-        act(rt, alloc, self, what, &mut Vec::new(alloc)).expect(rt, "memory")
-    }
-
-    fn show(&mut self, rt: &impl Abort, alloc: Global, what: Move) -> Seen {
+    fn act(&mut self, rt: &impl Abort, alloc: Global, what: Move) -> Seen {
         let mut events = Vec::new(alloc);
         act(rt, alloc, self, what, &mut events).expect(rt, "memory");
-        seen_of(self, events.as_slice())
+        let seen = seen_of(self, events.as_slice());
+        drop(events);
+        seen
     }
 
     fn held(&self) -> Held {
-        held_of(self)
+        let state = self.status();
+        let log = &state.log;
+        (
+            log.first_index().saturating_sub(1),
+            log.last_index(),
+            log.last_term(),
+            log.durable(),
+            state.commit,
+            state.applied,
+        )
     }
 
     fn ready(&self) -> Ready {
-        ready_of(self)
+        let ready = self.ready();
+        (
+            ready.hard().map(numbers),
+            ready.snapshot(),
+            entries_in(ready.save()),
+            ready.apply_len(),
+            ready.sent().len(),
+            ready.waiting().len(),
+        )
     }
 
     fn has_ready(&self) -> bool {
@@ -257,15 +291,30 @@ impl<L: RaftLog> Player for Node<L> {
     }
 
     fn applies_what_it_saves(&self) -> bool {
-        applies_what_it_saves(self)
+        let ready = self.ready();
+        match ready.save().next() {
+            Some([_, entry, ..]) => ready.apply_len() == 2 && ready.apply(1).same(entry),
+            _ => false,
+        }
     }
 
     fn gone_out(&mut self, rt: &impl Abort, alloc: Global) -> Gone {
-        gone_out(rt, alloc, self)
+        let mut sent = Vec::new(alloc);
+        let mut events = Vec::new(alloc);
+        self.advance(&mut sent, &mut events).expect(rt, "memory");
+        let said = said_first(sent.as_slice());
+        let gone = (said, sent.len(), events.len(), self.has_ready());
+        drop(events);
+        drop(sent);
+        gone
     }
 
     fn snapshot_seen(&self, rt: &impl Abort, content: &[u8]) -> (u64, u64, bool) {
-        snapshot_seen(rt, self, content)
+        let snapshot = self.snapshot().expect(rt, "memory");
+        let is_so = snapshot.content.end() == content;
+        let seen = (snapshot.index, snapshot.term, is_so);
+        drop(snapshot);
+        seen
     }
 
     fn compact(&mut self, index: u64) -> Result<(), CompactFault> {
@@ -273,9 +322,9 @@ impl<L: RaftLog> Player for Node<L> {
     }
 }
 
-fn act_all<P: Player>(rt: &impl Abort, alloc: Global, player: &mut P, moves: &[Move]) {
+pub fn act_all<P: Player>(rt: &impl Abort, alloc: Global, player: &mut P, moves: &[Move]) {
     for what in moves {
-        player.act(rt, alloc, *what);
+        let _seen = player.act(rt, alloc, *what);
     }
 }
 
@@ -283,18 +332,5 @@ fn act_all<P: Player>(rt: &impl Abort, alloc: Global, player: &mut P, moves: &[M
 pub fn played<P: Player>(rt: &impl Abort, alloc: Global, start: &Start, moves: &[Move]) -> P {
     let mut player = P::start(rt, alloc, start);
     act_all(rt, alloc, &mut player, moves);
-    player
-}
-
-/// The same, and then some more.
-pub fn played_on<P: Player>(
-    rt: &impl Abort,
-    alloc: Global,
-    start: &Start,
-    moves: &[Move],
-    more: &[Move],
-) -> P {
-    let mut player = played(rt, alloc, start, moves);
-    act_all(rt, alloc, &mut player, more);
     player
 }

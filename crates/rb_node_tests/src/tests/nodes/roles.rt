@@ -3,10 +3,12 @@
 //! The node is that of `moves`: it follows node 2 in term 2, asks for term 3 or stands for it, or leads it. What is expected is written
 //! down from the rules in docs/NODE.md.
 
-use super::moves::{FOLLOWS, LEADS, SOUNDS_OUT, STANDS, START, Says};
-use super::seen::{CANDIDATE, FOLLOWER, LEADER, PRECANDIDATE, Said, Seen, Table, Told, rows};
+use super::before::Before;
+use super::moves::{Move, SOUNDS_OUT, START, Says};
+use super::seen::{CANDIDATE, Case, FOLLOWER, LEADER, PRECANDIDATE, Said, Seen, Told, answers};
 
-const AT_FOLLOWERS: [(Says, Seen); 13] = rows! {
+pub const AT_FOLLOWERS: [Case; 13] = answers! {
+    START, Follows, 2 2:
     // it knows of a leader
     Says::Vote(1, 10, false) => FOLLOWER 2, Nothing 0, VoteRefused 2 0, 0 1;
     Says::PreVote(1, 10) => FOLLOWER 2, Nothing 0, PreVoteRefused 2 0, 0 1;
@@ -25,7 +27,8 @@ const AT_FOLLOWERS: [(Says, Seen); 13] = rows! {
     Says::TimeoutNow => CANDIDATE 3, Became 1, VoteGranted 3 0, 2 1;
 };
 
-const AT_PRECANDIDATES: [(Says, Seen); 13] = rows! {
+pub const AT_PRECANDIDATES: [Case; 13] = answers! {
+    SOUNDS_OUT, Stands, 2 2:
     // it has given no vote, and follows nobody
     Says::Vote(1, 10, false) => PRECANDIDATE 2, Nothing 0, VoteGranted 2 0, 0 1;
     Says::PreVote(1, 10) => PRECANDIDATE 2, Nothing 0, PreVoteGranted 2 0, 0 1;
@@ -43,7 +46,8 @@ const AT_PRECANDIDATES: [(Says, Seen); 13] = rows! {
     Says::TimeoutNow => PRECANDIDATE 2, Ignored 1, Nothing 0 0, 0 0;
 };
 
-const AT_CANDIDATES: [(Says, Seen); 13] = rows! {
+pub const AT_CANDIDATES: [Case; 13] = answers! {
+    START, Stands, 2 3:
     // it voted for itself
     Says::Vote(1, 10, false) => CANDIDATE 3, Nothing 0, VoteRefused 3 0, 0 1;
     Says::PreVote(1, 10) => CANDIDATE 3, Nothing 0, PreVoteRefused 3 0, 0 1;
@@ -61,7 +65,8 @@ const AT_CANDIDATES: [(Says, Seen); 13] = rows! {
     Says::TimeoutNow => CANDIDATE 3, Ignored 1, Nothing 0 0, 0 0;
 };
 
-const AT_LEADERS: [(Says, Seen); 13] = rows! {
+pub const AT_LEADERS: [Case; 13] = answers! {
+    START, Leads, 2 3:
     Says::Vote(1, 10, false) => LEADER 3, Nothing 0, VoteRefused 3 0, 0 1;
     Says::PreVote(1, 10) => LEADER 3, Nothing 0, PreVoteRefused 3 0, 0 1;
     Says::VoteAnswer(true) => LEADER 3, Ignored 1, Nothing 0 0, 0 0;
@@ -80,34 +85,3 @@ const AT_LEADERS: [(Says, Seen); 13] = rows! {
     Says::TransferTo(3) => LEADER 3, TransferStarts 1, Nothing 0 0, 0 0;
     Says::TimeoutNow => LEADER 3, Ignored 1, Nothing 0 0, 0 0;
 };
-
-pub static TABLES: [Table; 4] = [
-    Table {
-        start: START,
-        moves: FOLLOWS,
-        from: 2,
-        term: 2,
-        rows: &AT_FOLLOWERS,
-    },
-    Table {
-        start: SOUNDS_OUT,
-        moves: STANDS,
-        from: 2,
-        term: 2,
-        rows: &AT_PRECANDIDATES,
-    },
-    Table {
-        start: START,
-        moves: STANDS,
-        from: 2,
-        term: 3,
-        rows: &AT_CANDIDATES,
-    },
-    Table {
-        start: START,
-        moves: LEADS,
-        from: 2,
-        term: 3,
-        rows: &AT_LEADERS,
-    },
-];

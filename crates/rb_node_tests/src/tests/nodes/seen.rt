@@ -1,7 +1,9 @@
 //! What shows of a node once it did something, as plain values.
 
-use super::making::{Player, played_on};
-use super::moves::{Move, Says, Start};
+use super::before::{Before, moves_of};
+use super::making::{Player, act_all, played};
+use super::moves::{Move, Start};
+use crate::tests::is_in_row;
 use rb_message::{Event, Mail, Message, MessageKind, Role, WhyNoCampaign, WhyReplaced};
 use rb_node::Node;
 use rb_raftlog::RaftLog;
@@ -18,7 +20,7 @@ pub const CANDIDATE: Role = Role::Candidate;
 pub const LEADER: Role = Role::Leader;
 
 /// The first thing that it told.
-#[derive(Clone, Copy, PartialEq, Eq, Debug)]
+#[derive(Clone, Copy, PartialEq)]
 pub enum Told {
     Nothing,
     Started,
@@ -47,7 +49,7 @@ pub enum Told {
 }
 
 /// What its first answer says that waits or, where none does, its first message that was sent.
-#[derive(Clone, Copy, PartialEq, Eq, Debug)]
+#[derive(Clone, Copy, PartialEq)]
 pub enum Said {
     Nothing,
     Vote,
@@ -72,7 +74,7 @@ pub enum Said {
 /// Its role and its term; what it told first, and how many events there are; what it said first, in which term, and of which index
 /// (that before the entries of an append, that which is held or hinted at, a commit, a snapshot's, a target; else 0); how many
 /// messages were sent, and how many answers wait.
-#[derive(Clone, Copy, PartialEq, Eq, Debug)]
+#[derive(Clone, Copy, PartialEq)]
 pub struct Seen(
     pub Role,
     pub u64,
@@ -85,32 +87,38 @@ pub struct Seen(
     pub usize,
 );
 
-/// Rows of what shows. Each is written as message => role term, first event and how many, first message with its term and its index,
-/// sent and waiting ones.
-macro_rules! rows {
-    ($($says:expr => $role:ident $term:literal, $told:ident $events:literal, $said:ident $of:literal $index:literal, $sent:literal $waiting:literal;)*) => {
-        [$((
-            $says,
-            Seen($role, $term, Told::$told, $events, Said::$said, $of, $index, $sent, $waiting),
-        ),)*]
-    };
-}
+/// Where a node starts, what it does before and then, what it does at last, and what shows then.
+pub type Case = (Start, Before, Before, Move, Seen);
 
-/// The same, with start, moves before, moves then and last move in place of the message.
-macro_rules! case_rows {
-    ($($start:expr, $moves:expr, $more:expr, $last:expr => $role:ident $term:literal, $told:ident $events:literal, $said:ident $of:literal $index:literal, $sent:literal $waiting:literal;)*) => {
+/// Cases. Each is written as start, what it does before and then, last move => role term, first event and how many, first message with
+/// its term and its index, sent and waiting ones.
+macro_rules! cases {
+    ($($start:expr, $before:ident, $then:ident, $last:expr => $role:ident $term:literal, $told:ident $events:literal, $said:ident $of:literal $index:literal, $sent:literal $waiting:literal;)*) => {
         [$((
             $start,
-            $moves,
-            $more,
+            Before::$before,
+            Before::$then,
             $last,
             Seen($role, $term, Told::$told, $events, Said::$said, $of, $index, $sent, $waiting),
         ),)*]
     };
 }
 
-pub(crate) use case_rows;
-pub(crate) use rows;
+/// The same of one start and what a node does before, where it gets a message of one node, of one term: each begins with what this says.
+macro_rules! answers {
+    ($start:expr, $before:ident, $from:literal $sent_in:literal: $($says:expr => $role:ident $term:literal, $told:ident $events:literal, $said:ident $of:literal $index:literal, $sent:literal $waiting:literal;)*) => {
+        [$((
+            $start,
+            Before::$before,
+            Before::Nothing,
+            Move::Get($from, $sent_in, $says),
+            Seen($role, $term, Told::$told, $events, Said::$said, $of, $index, $sent, $waiting),
+        ),)*]
+    };
+}
+
+pub(crate) use answers;
+pub(crate) use cases;
 
 fn reason(why: WhyNoCampaign) -> Told {
     match why {
@@ -166,7 +174,7 @@ fn answered(granted: bool, yes: Said, no: Said) -> (Said, u64) {
 }
 
 /// What a message says, and of which index.
-pub fn kind_said(kind: &MessageKind) -> (Said, u64) {
+fn kind_said(kind: &MessageKind) -> (Said, u64) {
     match kind {
         MessageKind::Vote { transfer, .. } => answered(*transfer, Said::VoteByTransfer, Said::Vote),
         MessageKind::PreVote { .. } => (Said::PreVote, 0),
@@ -198,6 +206,13 @@ fn first_of<'a>(waiting: &'a Mail, sent: &'a Mail) -> Option<&'a Message> {
     None
 }
 
+pub fn said_first(messages: &[Message]) -> Said {
+    match messages.first() {
+        Some(message) => kind_said(&message.kind).0,
+        None => Said::Nothing,
+    }
+}
+
 /// What shows of a node that has told this.
 pub fn seen_of<L: RaftLog>(node: &Node<L>, events: &[Event]) -> Seen {
     let state = node.status();
@@ -221,63 +236,27 @@ pub fn seen_of<L: RaftLog>(node: &Node<L>, events: &[Event]) -> Seen {
     )
 }
 
-/// Rows of one node: where it starts, what it does before, who sends it a message and of which term, and what shows after each.
-pub struct Table {
-    pub start: Start,
-    pub moves: &'static [Move],
-    pub from: u64,
-    pub term: u64,
-    pub rows: &'static [(Says, Seen)],
-}
-
-/// This shows.
-fn is_seen(rt: &impl Abort, came: Seen, wanted: Seen) {
-    assert_eq!(rt; came, wanted);
-}
-
 /// What shows once a node that did all this does one thing more.
 fn seen_after<P: Player>(
     rt: &impl Abort,
     alloc: Global,
     start: &Start,
-    moves: &[Move],
-    more: &[Move],
+    before: &[Move],
+    then: &[Move],
     last: Move,
 ) -> Seen {
-    let mut player: P = played_on(rt, alloc, start, moves, more);
-    player.show(rt, alloc, last)
+    let mut player: P = played(rt, alloc, start, before);
+    act_all(rt, alloc, &mut player, then);
+    let seen = player.act(rt, alloc, last);
+    drop(player);
+    seen
 }
 
-/// Whether the node of a table shows what each row says, once it gets the row's message.
-fn answers_of<P: Player>(rt: &impl Abort, alloc: Global, table: &Table) {
-    for (says, wanted) in table.rows {
-        let last = Move::Get(table.from, table.term, *says);
-        let came = seen_after::<P>(rt, alloc, &table.start, table.moves, &[], last);
-        is_seen(rt, came, *wanted);
-    }
-}
-
-/// The same of each table.
-pub fn answers<P: Player>(rt: &impl Abort, alloc: Global, tables: &[Table]) {
-    for table in tables {
-        answers_of::<P>(rt, alloc, table);
-    }
-}
-
-/// Where a node starts, what it does before and then, what it does at last, and what shows then.
-pub type Case = (Start, &'static [Move], &'static [Move], Move, Seen);
-
-/// Whether each case of a table shows what it says.
-fn cases_of<P: Player>(rt: &impl Abort, alloc: Global, rows: &[Case]) {
-    for (start, moves, more, last, wanted) in rows {
-        let came = seen_after::<P>(rt, alloc, start, moves, more, *last);
-        is_seen(rt, came, *wanted);
-    }
-}
-
-/// The same of each table.
-pub fn cases<P: Player>(rt: &impl Abort, alloc: Global, tables: &[&[Case]]) {
-    for rows in tables {
-        cases_of::<P>(rt, alloc, rows);
+/// Each case of a table shows what it says.
+pub fn shows<P: Player>(rt: &impl Abort, alloc: Global, name: &str, rows: &[Case]) {
+    for (k, (start, before, then, last, wanted)) in rows.iter().enumerate() {
+        let (before, then) = (moves_of(*before), moves_of(*then));
+        let came = seen_after::<P>(rt, alloc, start, before, then, *last);
+        is_in_row(rt, came == *wanted, name, k);
     }
 }

@@ -2,11 +2,13 @@
 //!
 //! Node 1 follows node 2 in term 2, or leads term 3; the messages are from node 3.
 
-use super::moves::{CHECKS, FOLLOWS, LEADS, SOUNDS_OUT, START, Says};
-use super::seen::{CANDIDATE, FOLLOWER, LEADER, Said, Seen, Table, Told, rows};
+use super::before::Before;
+use super::moves::{CHECKS, Move, SOUNDS_OUT, START, Says};
+use super::seen::{CANDIDATE, Case, FOLLOWER, LEADER, Said, Seen, Told, answers};
 
 /// Of term 1. What is of no term is taken as ever.
-const EARLIER: [(Says, Seen); 13] = rows! {
+pub const EARLIER: [Case; 13] = answers! {
+    START, Follows, 3 1:
     Says::Vote(1, 10, false) => FOLLOWER 2, Ignored 1, Nothing 0 0, 0 0;
     Says::PreVote(1, 10) => FOLLOWER 2, Nothing 0, PreVoteRefused 2 0, 0 1;
     Says::VoteAnswer(true) => FOLLOWER 2, Ignored 1, Nothing 0 0, 0 0;
@@ -22,8 +24,20 @@ const EARLIER: [(Says, Seen); 13] = rows! {
     Says::TimeoutNow => FOLLOWER 2, Ignored 1, Nothing 0 0, 0 0;
 };
 
-/// Of term 1, where the node asks before it stands, or checks its quorum: a leader's entries and heartbeats are shown the term.
-const ANSWERED: [(Says, Seen); 6] = rows! {
+/// Of term 1, where the node asks before it stands: a leader's entries and heartbeats are shown the term.
+pub const ANSWERED_WHERE_IT_ASKS: [Case; 6] = answers! {
+    SOUNDS_OUT, Follows, 3 1:
+    Says::Vote(1, 10, false) => FOLLOWER 2, Ignored 1, Nothing 0 0, 0 0;
+    Says::PreVote(1, 10) => FOLLOWER 2, Nothing 0, PreVoteRefused 2 0, 0 1;
+    Says::Append(1, 10, 10, 1) => FOLLOWER 2, Nothing 0, Accepted 2 0, 0 1;
+    Says::Heartbeat(10) => FOLLOWER 2, Nothing 0, Accepted 2 0, 0 1;
+    Says::Snapshot(2, 20) => FOLLOWER 2, Ignored 1, Nothing 0 0, 0 0;
+    Says::TimeoutNow => FOLLOWER 2, Ignored 1, Nothing 0 0, 0 0;
+};
+
+/// The same, where it checks its quorum.
+pub const ANSWERED_WHERE_IT_CHECKS: [Case; 6] = answers! {
+    CHECKS, Follows, 3 1:
     Says::Vote(1, 10, false) => FOLLOWER 2, Ignored 1, Nothing 0 0, 0 0;
     Says::PreVote(1, 10) => FOLLOWER 2, Nothing 0, PreVoteRefused 2 0, 0 1;
     Says::Append(1, 10, 10, 1) => FOLLOWER 2, Nothing 0, Accepted 2 0, 0 1;
@@ -33,7 +47,8 @@ const ANSWERED: [(Says, Seen); 6] = rows! {
 };
 
 /// Of term 3. A question, and a yes to one, change no term.
-const LATER: [(Says, Seen); 14] = rows! {
+pub const LATER: [Case; 14] = answers! {
+    START, Follows, 3 3:
     Says::Vote(1, 10, false) => FOLLOWER 3, Became 1, VoteGranted 3 0, 0 1;
     Says::PreVote(1, 10) => FOLLOWER 2, Nothing 0, PreVoteGranted 3 0, 0 1;
     Says::VoteAnswer(true) => FOLLOWER 3, Became 2, Nothing 0 0, 0 0;
@@ -51,7 +66,8 @@ const LATER: [(Says, Seen); 14] = rows! {
 };
 
 /// Of term 4, at the leader of term 3, whose log ends with 3/11.
-const LATER_AT_LEADERS: [(Says, Seen); 5] = rows! {
+pub const LATER_AT_LEADERS: [Case; 5] = answers! {
+    START, Leads, 3 4:
     Says::Vote(3, 11, false) => FOLLOWER 4, Became 1, VoteGranted 4 0, 0 1;
     Says::Vote(1, 10, false) => FOLLOWER 4, Became 1, VoteRefused 4 0, 0 1;
     Says::PreVote(3, 11) => LEADER 3, Nothing 0, PreVoteGranted 4 0, 0 1;
@@ -60,54 +76,10 @@ const LATER_AT_LEADERS: [(Says, Seen); 5] = rows! {
 };
 
 /// Of term 3, where the node checks its quorum and has just heard of its leader.
-const UNDISTURBED: [(Says, Seen); 4] = rows! {
+pub const UNDISTURBED: [Case; 4] = answers! {
+    CHECKS, Follows, 3 3:
     Says::Vote(1, 10, false) => FOLLOWER 2, Ignored 1, Nothing 0 0, 0 0;
     Says::Vote(1, 10, true) => FOLLOWER 3, Became 1, VoteGranted 3 0, 0 1;
     Says::PreVote(1, 10) => FOLLOWER 2, Ignored 1, Nothing 0 0, 0 0;
     Says::Heartbeat(10) => FOLLOWER 3, Became 1, HeartbeatAnswer 3 0, 1 0;
 };
-
-pub static TABLES: [Table; 6] = [
-    Table {
-        start: START,
-        moves: FOLLOWS,
-        from: 3,
-        term: 1,
-        rows: &EARLIER,
-    },
-    Table {
-        start: SOUNDS_OUT,
-        moves: FOLLOWS,
-        from: 3,
-        term: 1,
-        rows: &ANSWERED,
-    },
-    Table {
-        start: CHECKS,
-        moves: FOLLOWS,
-        from: 3,
-        term: 1,
-        rows: &ANSWERED,
-    },
-    Table {
-        start: START,
-        moves: FOLLOWS,
-        from: 3,
-        term: 3,
-        rows: &LATER,
-    },
-    Table {
-        start: START,
-        moves: LEADS,
-        from: 3,
-        term: 4,
-        rows: &LATER_AT_LEADERS,
-    },
-    Table {
-        start: CHECKS,
-        moves: FOLLOWS,
-        from: 3,
-        term: 3,
-        rows: &UNDISTURBED,
-    },
-];

@@ -1,6 +1,7 @@
 //! Changes of a configuration, worked out by hand: what each word does, each fault, and which of several faults is told.
 
 use super::{are, number, put, voting};
+use crate::tests::{is, is_in_row};
 use Ask::{Enter, Entry, Leave, Simple};
 use rb_change::Transition::{Auto, Explicit, Implicit};
 use rb_change::{ConfState, Shared, Transition, Word, WordKind};
@@ -126,20 +127,16 @@ fn words(rt: &impl Abort, alloc: Global, text: &str) -> Vec<Word> {
     words
 }
 
-fn put_others(rt: &impl Abort, config: &mut Config, sets: Sets) {
-    config.auto = sets.4;
-    put(rt, &mut config.learners, sets.2);
-    put(rt, &mut config.next, sets.3)
-}
-
 fn config(rt: &impl Abort, alloc: Global, sets: Sets) -> Config {
     let mut config = voting(rt, alloc, sets.0, sets.1);
-    put_others(rt, &mut config, sets);
+    put(rt, &mut config.learners, sets.2);
+    put(rt, &mut config.next, sets.3);
+    config.auto = sets.4;
     config
 }
 
 /// Whether a configuration has these sets and this flag.
-fn is(config: &Config, sets: Sets) -> bool {
+fn has_sets(config: &Config, sets: Sets) -> bool {
     are(config.incoming.as_slice(), sets.0)
         && are(config.outgoing.as_slice(), sets.1)
         && are(config.learners.as_slice(), sets.2)
@@ -158,44 +155,28 @@ fn changed(config: &Config, ask: Ask, words: &[Word]) -> Result<Config, ChangeFa
 
 fn is_wanted(changed: &Result<Config, ChangeFault>, want: Result<Sets, ChangeFault>) -> bool {
     match (changed, want) {
-        (Ok(config), Ok(sets)) => is(config, sets),
+        (Ok(config), Ok(sets)) => has_sets(config, sets),
         (Err(fault), Err(wanted)) => *fault == wanted,
         _ => false,
     }
 }
 
 /// Whether a change comes to what the row wants, and leaves the configuration that it is a change of.
-fn comes_to(old: &Config, words: &[Word], row: &Row) -> bool {
-    let new = changed(old, row.1, words);
-    is_wanted(&new, row.3) && is(old, row.0)
-}
-
-fn holds_of(rt: &impl Abort, alloc: Global, old: &Config, row: &Row) -> bool {
-    let words = words(rt, alloc, row.2);
-    comes_to(old, &words, row)
-}
-
 fn holds(rt: &impl Abort, alloc: Global, row: &Row) -> bool {
     let old = config(rt, alloc, row.0);
-    holds_of(rt, alloc, &old, row)
-}
-
-/// The place of the first row that doesn't hold.
-fn first_wrong(rt: &impl Abort, alloc: Global, rows: &[Row]) -> Option<usize> {
-    for (k, row) in rows.iter().enumerate() {
-        if !holds(rt, alloc, row) {
-            return Some(k);
-        }
-    }
-    None
-}
-
-fn none_is_wrong(rt: &impl Abort, wrong: Option<usize>, name: &str) {
-    assert!(rt; wrong.is_none(), "{name}: {wrong:?}");
+    let words = words(rt, alloc, row.2);
+    let new = changed(&old, row.1, &words);
+    let so = is_wanted(&new, row.3) && has_sets(&old, row.0);
+    drop(new);
+    drop(words);
+    drop(old);
+    so
 }
 
 fn all_hold(rt: &impl Abort, alloc: Global, rows: &[Row], name: &str) {
-    none_is_wrong(rt, first_wrong(rt, alloc, rows), name);
+    for (k, row) in rows.iter().enumerate() {
+        is_in_row(rt, holds(rt, alloc, row), name, k);
+    }
 }
 
 #[test]
@@ -222,17 +203,12 @@ fn has_members(config: &Config) -> bool {
 
 /// Whether the lists of voters and of members are these.
 fn lists_are(rt: &impl Abort, config: &Config, voters: &str, members: &str) -> bool {
-    voters_are(rt, config, voters) && members_are(rt, config, members)
-}
-
-fn voters_are(rt: &impl Abort, config: &Config, ids: &str) -> bool {
-    let voters = config.voters().expect(rt, "memory");
-    are(voters.as_slice(), ids)
-}
-
-fn members_are(rt: &impl Abort, config: &Config, ids: &str) -> bool {
-    let members = config.members().expect(rt, "memory");
-    are(members.as_slice(), ids)
+    let voting = config.voters().expect(rt, "memory");
+    let all = config.members().expect(rt, "memory");
+    let so = are(voting.as_slice(), voters) && are(all.as_slice(), members);
+    drop(all);
+    drop(voting);
+    so
 }
 
 fn is_joint_of_six(rt: &impl Abort, config: &Config) -> bool {
@@ -242,43 +218,35 @@ fn is_joint_of_six(rt: &impl Abort, config: &Config) -> bool {
 #[test]
 fn members_of_a_joint_configuration(rt: HostRuntime) {
     let joint = config(&rt, rt.alloc(), JOINT);
-    assert!(rt; is_joint_of_six(&rt, &joint));
+    is(&rt, is_joint_of_six(&rt, &joint), "joint, of six");
+    drop(joint);
 }
 
 fn shared(rt: &impl Abort, alloc: Global, ids: &[u64]) -> Shared<u64> {
     Shared::new(Vec::from_slice(alloc, ids).expect(rt, "memory")).expect(rt, "memory")
 }
 
-fn put_halves(rt: &impl Abort, alloc: Global, state: &mut ConfState) {
-    state.incoming = shared(rt, alloc, &[4, 2, 4]);
-    state.outgoing = shared(rt, alloc, &[3, 2, 1]);
-}
-
-fn put_learners(rt: &impl Abort, alloc: Global, state: &mut ConfState) {
-    state.learners = shared(rt, alloc, &[6, 5]);
-    state.next = shared(rt, alloc, &[3]);
-}
-
 fn any_order(rt: &impl Abort, alloc: Global) -> ConfState {
-    let mut state = Config::new(alloc).to_state().expect(rt, "memory");
-    put_halves(rt, alloc, &mut state);
-    put_learners(rt, alloc, &mut state);
-    state.auto = true;
-    state
-}
-
-fn reads(rt: &impl Abort, alloc: Global, state: &ConfState, sets: Sets) -> bool {
-    let read = Config::of_state(alloc, state).expect(rt, "memory");
-    is(&read, sets)
+    ConfState {
+        incoming: shared(rt, alloc, &[4, 2, 4]),
+        outgoing: shared(rt, alloc, &[3, 2, 1]),
+        learners: shared(rt, alloc, &[6, 5]),
+        next: shared(rt, alloc, &[3]),
+        auto: true,
+    }
 }
 
 /// Whatever order a snapshot's lists have, and however often they name an id, the sets are ascending.
 fn reads_any_order(rt: &impl Abort, alloc: Global) -> bool {
     let state = any_order(rt, alloc);
-    reads(rt, alloc, &state, JOINT)
+    let read = Config::of_state(alloc, &state).expect(rt, "memory");
+    let so = has_sets(&read, JOINT);
+    drop(read);
+    drop(state);
+    so
 }
 
 #[test]
 fn snapshots_carry_configurations(rt: HostRuntime) {
-    assert!(rt; reads_any_order(&rt, rt.alloc()));
+    is(&rt, reads_any_order(&rt, rt.alloc()), "the sets of a state");
 }

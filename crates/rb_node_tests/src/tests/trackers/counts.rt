@@ -1,13 +1,20 @@
 //! A slow plain count beside what the crate answers, over all pairs of sets of four ids and all that each of the four may hold, answer
 //! or be marked: it goes over every set of the four and asks which of them is a quorum. A set is a number with a bit for each id.
 
-use super::{hold, mark};
-use rb_tracker::{Config, IdSet, Tracker, VoteResult, Votes};
+use super::{hold, mark, voting};
+use crate::tests::is_in_row;
+use rb_tracker::{Config, Tracker, VoteResult, Votes};
 use std::alloc::Global;
 use std::process::Abort;
 
 /// How many sets of four ids there are.
 const SETS: u32 = 16;
+
+/// Each of them, a digit for an id.
+static DIGITS: [&str; 16] = [
+    "", "1", "2", "12", "3", "13", "23", "123", "4", "14", "24", "124", "34", "134", "234", "1234",
+];
+
 /// How many ways there are for each of the four to do one of three things.
 const WAYS: u32 = 81;
 
@@ -57,10 +64,9 @@ fn has_quorum(incoming: u32, outgoing: u32, set: u32) -> bool {
     false
 }
 
-fn slow_committed(incoming: u32, outgoing: u32, ways: u32) -> u64 {
-    if incoming == 0 && outgoing == 0 {
-        0
-    } else if has_quorum(incoming, outgoing, doing(ways, 2)) {
+/// The most that each of a quorum does.
+fn most_done(incoming: u32, outgoing: u32, ways: u32) -> u32 {
+    if has_quorum(incoming, outgoing, doing(ways, 2)) {
         2
     } else if has_quorum(incoming, outgoing, doing(ways, 1)) {
         1
@@ -69,34 +75,22 @@ fn slow_committed(incoming: u32, outgoing: u32, ways: u32) -> u64 {
     }
 }
 
-/// Who does 0 refused, who does 1 hasn't answered, and who does 2 granted.
-fn slow_result(incoming: u32, outgoing: u32, ways: u32) -> VoteResult {
-    if has_quorum(incoming, outgoing, doing(ways, 2)) {
-        VoteResult::Won
-    } else if has_quorum(incoming, outgoing, doing(ways, 1)) {
-        VoteResult::Pending
+/// What that many hold: of nobody, nothing.
+fn slow_committed(incoming: u32, outgoing: u32, most: u32) -> u64 {
+    if incoming | outgoing == 0 {
+        0
     } else {
-        VoteResult::Lost
+        u64::from(most)
     }
 }
 
-fn put(rt: &impl Abort, ids: &mut IdSet, set: u32) {
-    for id in 1..5 {
-        if set & bit(id) != 0 {
-            ids.insert(u64::from(id)).expect(rt, "memory");
-        }
+/// Who does 0 refused, who does 1 hasn't answered, and who does 2 granted.
+fn slow_result(most: u32) -> VoteResult {
+    match most {
+        2 => VoteResult::Won,
+        1 => VoteResult::Pending,
+        _ => VoteResult::Lost,
     }
-}
-
-fn put_voters(rt: &impl Abort, config: &mut Config, incoming: u32, outgoing: u32) {
-    put(rt, &mut config.incoming, incoming);
-    put(rt, &mut config.outgoing, outgoing)
-}
-
-fn voting(rt: &impl Abort, alloc: Global, incoming: u32, outgoing: u32) -> Config {
-    let mut config = Config::new(alloc);
-    put_voters(rt, &mut config, incoming, outgoing);
-    config
 }
 
 /// Each of the four holds as much as it does, and is marked where it does 2.
@@ -127,10 +121,10 @@ fn agrees(
     ways: u32,
 ) -> bool {
     let committed = tracker.committed().expect(rt, "memory");
-    let heard = has_quorum(incoming, outgoing, doing(ways, 2));
-    committed == slow_committed(incoming, outgoing, ways)
-        && tracker.vote_result(votes) == slow_result(incoming, outgoing, ways)
-        && tracker.quorum_active() == heard
+    let most = most_done(incoming, outgoing, ways);
+    committed == slow_committed(incoming, outgoing, most)
+        && tracker.vote_result(votes) == slow_result(most)
+        && tracker.quorum_active() == (most == 2)
 }
 
 /// A pair of sets of voters is put into the tracker, which is then asked.
@@ -143,8 +137,14 @@ fn agrees_at(
     ways: u32,
 ) -> bool {
     let incoming = pair % SETS;
-    let outgoing = pair / SETS;
-    tracker.set_config(voting(rt, alloc, incoming, outgoing));
+    let outgoing = pair / SETS % SETS;
+    let config = voting(
+        rt,
+        alloc,
+        DIGITS[incoming as usize],
+        DIGITS[outgoing as usize],
+    );
+    tracker.set_config(config);
     agrees(rt, tracker, votes, incoming, outgoing, ways)
 }
 
@@ -165,25 +165,21 @@ fn count_agreeing(
     count
 }
 
-fn agreeing_with(rt: &impl Abort, alloc: Global, tracker: &mut Tracker, ways: u32) -> u32 {
-    let mut votes = Votes::new(alloc);
-    answer_all(rt, &mut votes, ways);
-    count_agreeing(rt, alloc, tracker, &votes, ways)
-}
-
 fn agreeing(rt: &impl Abort, alloc: Global, ways: u32) -> u32 {
     let mut tracker = Tracker::new(alloc, Config::new(alloc));
     hold_all(rt, alloc, &mut tracker, ways);
-    agreeing_with(rt, alloc, &mut tracker, ways)
+    let mut votes = Votes::new(alloc);
+    answer_all(rt, &mut votes, ways);
+    let count = count_agreeing(rt, alloc, &mut tracker, &votes, ways);
+    drop(votes);
+    drop(tracker);
+    count
 }
 
 #[test]
 fn quorums_are_as_a_slow_count_finds_them(rt: HostRuntime) {
     for ways in 0..WAYS {
-        assert_eq!(rt;
-            agreeing(&rt, rt.alloc(), ways),
-            256,
-            "where they do {ways}"
-        );
+        let so = agreeing(&rt, rt.alloc(), ways) == SETS * SETS;
+        is_in_row(&rt, so, "a way to do three things", ways as usize);
     }
 }

@@ -2,6 +2,7 @@
 //! section 3.5; etcd raft documentation, "Progress").
 
 use super::number;
+use crate::tests::is_in_row;
 use rb_tracker::ProgressState::{Probe, Replicate, Snapshot};
 use rb_tracker::{Progress, ProgressState};
 use std::alloc::Global;
@@ -177,10 +178,8 @@ fn are_in_flight(view: &Progress, digits: &str) -> bool {
 fn follow(rt: &impl Abort, view: &mut Progress, steps: &[Step]) {
     for (k, step) in steps.iter().enumerate() {
         make(view, step.0);
-        assert!(rt;
-            look(view) == step.1 && are_in_flight(view, step.2),
-            "after step {k}"
-        );
+        let so = look(view) == step.1 && are_in_flight(view, step.2);
+        is_in_row(rt, so, "after the step", k);
     }
 }
 
@@ -193,16 +192,21 @@ fn own(rt: &impl Abort, alloc: Global) -> Progress {
 fn a_probe_finds_the_place(rt: HostRuntime) {
     let mut view = Progress::new(rt.alloc(), 2, 7, true).expect(&rt, "memory");
     follow(&rt, &mut view, &PROBING);
+    drop(view);
 }
 
 #[test]
 fn appends_are_in_flight(rt: HostRuntime) {
-    follow(&rt, &mut own(&rt, rt.alloc()), &REPLICATING);
+    let mut view = own(&rt, rt.alloc());
+    follow(&rt, &mut view, &REPLICATING);
+    drop(view);
 }
 
 #[test]
 fn snapshots_arrive(rt: HostRuntime) {
-    follow(&rt, &mut own(&rt, rt.alloc()), &SNAPSHOTS);
+    let mut view = own(&rt, rt.alloc());
+    follow(&rt, &mut view, &SNAPSHOTS);
+    drop(view);
 }
 
 /// The view after calls.
@@ -231,12 +235,14 @@ static ANSWERS: [(&[Call], u64, bool, bool); 10] = [
 /// Whether the answers that a row tells of are told as it wants.
 fn is_answer(rt: &impl Abort, alloc: Global, row: &(&[Call], u64, bool, bool)) -> bool {
     let view = after(rt, alloc, row.0);
-    view.is_news(row.1) == row.2 && view.believes(row.1) == row.3
+    let told = (view.is_news(row.1), view.believes(row.1));
+    drop(view);
+    told == (row.2, row.3)
 }
 
 #[test]
 fn answers_that_tell_something(rt: HostRuntime) {
     for (k, row) in ANSWERS.iter().enumerate() {
-        assert!(rt; is_answer(&rt, rt.alloc(), row), "in row {k}");
+        is_in_row(&rt, is_answer(&rt, rt.alloc(), row), "an answer", k);
     }
 }

@@ -3,6 +3,7 @@
 //! sets of voters, both have to agree.
 
 use super::{answered, mark, tracking};
+use crate::tests::{is, is_in_row};
 use rb_tracker::VoteResult::{Lost, Pending, Won};
 use rb_tracker::{Tracker, VoteResult, Votes};
 use std::alloc::Global;
@@ -146,33 +147,34 @@ static HEARD: [(&str, &str, &str, bool); 23] = [
 ];
 
 fn held(rt: &impl Abort, alloc: Global, row: &(&str, &str, &str, u64)) -> u64 {
-    tracking(rt, alloc, row.0, row.1, row.2)
-        .committed()
-        .expect(rt, "memory")
+    let tracker = tracking(rt, alloc, row.0, row.1, row.2);
+    let held = tracker.committed().expect(rt, "memory");
+    drop(tracker);
+    held
 }
 
 #[test]
 fn what_a_quorum_holds(rt: HostRuntime) {
     for (k, row) in HELD.iter().enumerate() {
-        assert_eq!(rt; held(&rt, rt.alloc(), row), row.3, "in row {k}");
+        let so = held(&rt, rt.alloc(), row) == row.3;
+        is_in_row(&rt, so, "what a quorum holds", k);
     }
 }
 
 fn decided(rt: &impl Abort, alloc: Global, row: &(&str, &str, &str, VoteResult)) -> VoteResult {
     let tracker = tracking(rt, alloc, row.0, row.1, "");
-    come_to(rt, alloc, &tracker, row.2)
-}
-
-/// What votes come to among the voters of a tracker.
-fn come_to(rt: &impl Abort, alloc: Global, tracker: &Tracker, answers: &str) -> VoteResult {
-    let votes = answered(rt, alloc, answers);
-    tracker.vote_result(&votes)
+    let votes = answered(rt, alloc, row.2);
+    let outcome = tracker.vote_result(&votes);
+    drop(votes);
+    drop(tracker);
+    outcome
 }
 
 #[test]
 fn what_votes_come_to(rt: HostRuntime) {
     for (k, row) in DECIDED.iter().enumerate() {
-        assert!(rt; decided(&rt, rt.alloc(), row) == row.3, "in row {k}");
+        let so = decided(&rt, rt.alloc(), row) == row.3;
+        is_in_row(&rt, so, "what votes come to", k);
     }
 }
 
@@ -192,29 +194,43 @@ fn mark_all(tracker: &mut Tracker, marks: &str) -> bool {
 fn is_heard_so(rt: &impl Abort, alloc: Global, row: &(&str, &str, &str, bool)) -> bool {
     let mut tracker = tracking(rt, alloc, row.0, row.1, row.2);
     let are_set = mark_all(&mut tracker, row.2);
-    are_set && tracker.quorum_active() == row.3
+    let is_heard = tracker.quorum_active();
+    drop(tracker);
+    are_set && is_heard == row.3
 }
 
 #[test]
 fn who_hears_a_quorum(rt: HostRuntime) {
     for (k, row) in HEARD.iter().enumerate() {
-        assert!(rt; is_heard_so(&rt, rt.alloc(), row), "in row {k}");
+        is_in_row(
+            &rt,
+            is_heard_so(&rt, rt.alloc(), row),
+            "who hears a quorum",
+            k,
+        );
     }
 }
 
-/// Two answered once and then the other way: their first answers stay.
-fn keeps_first_answers(rt: &impl Abort, votes: &mut Votes, before: &Votes) -> bool {
+/// Two answered once and then the other way: their first answers stay. Then the fourth refuses, which is seen.
+fn counts_first_answers(rt: &impl Abort, votes: &mut Votes) {
+    let before = votes.try_copy().expect(rt, "memory");
     votes.answer(2, true).expect(rt, "memory");
     votes.answer(1, false).expect(rt, "memory");
-    votes.same(before)
-}
-
-/// The fourth refuses, which is seen.
-fn counts_another(rt: &impl Abort, votes: &mut Votes, before: &Votes) -> bool {
+    is(rt, votes.same(&before), "first answers stay");
     votes.answer(4, false).expect(rt, "memory");
-    let told = votes.has_answered(2) && votes.has_answered(4) && !votes.has_answered(5);
-    let counted = votes.granted.len() == 2 && votes.refused.len() == 2;
-    told && counted && !votes.same(before)
+    is(
+        rt,
+        votes.has_answered(2) && votes.has_answered(4),
+        "they answered",
+    );
+    is(rt, !votes.has_answered(5), "the fifth didn't");
+    is(
+        rt,
+        votes.granted.len() == 2 && votes.refused.len() == 2,
+        "two and two",
+    );
+    is(rt, !votes.same(&before), "one more");
+    drop(before);
 }
 
 fn forgets(votes: &mut Votes) -> bool {
@@ -222,13 +238,10 @@ fn forgets(votes: &mut Votes) -> bool {
     votes.granted.is_empty() && votes.refused.is_empty()
 }
 
-fn counts_first_answers(rt: &impl Abort, votes: &mut Votes) -> bool {
-    let before = votes.try_copy().expect(rt, "memory");
-    keeps_first_answers(rt, votes, &before) && counts_another(rt, votes, &before) && forgets(votes)
-}
-
 #[test]
 fn the_first_answer_counts(rt: HostRuntime) {
     let mut votes = answered(&rt, rt.alloc(), "yny");
-    assert!(rt; counts_first_answers(&rt, &mut votes));
+    counts_first_answers(&rt, &mut votes);
+    is(&rt, forgets(&mut votes), "nobody answered");
+    drop(votes);
 }

@@ -1,6 +1,7 @@
 //! Trackers: views by id, and marks.
 
 use super::{are, hold, number, tracking};
+use crate::tests::is;
 use rb_tracker::Tracker;
 use std::alloc::Global;
 use std::process::Abort;
@@ -47,7 +48,10 @@ fn is_absent(tracker: &Tracker, id: u64) -> bool {
 }
 
 fn lists_ids(rt: &impl Abort, tracker: &Tracker, digits: &str) -> bool {
-    are(tracker.ids().expect(rt, "memory").as_slice(), digits)
+    let ids = tracker.ids().expect(rt, "memory");
+    let so = are(ids.as_slice(), digits);
+    drop(ids);
+    so
 }
 
 /// Whether views go where they are removed, and the configuration stays.
@@ -60,22 +64,13 @@ fn views_go(tracker: &mut Tracker) -> bool {
     removed && cleared && are(tracker.config().incoming.as_slice(), "12")
 }
 
-fn views_are_found(rt: &impl Abort, tracker: &Tracker) -> bool {
-    has_views(tracker, "1237") && lists_ids(rt, tracker, "1237")
-}
-
-fn are_found_and_go(rt: &impl Abort, tracker: &mut Tracker) -> bool {
-    views_are_found(rt, tracker) && views_go(tracker)
-}
-
-fn views_come_and_go(rt: &impl Abort, alloc: Global) -> bool {
-    let mut tracker = unordered(rt, alloc);
-    are_found_and_go(rt, &mut tracker)
-}
-
 #[test]
 fn views_stand_by_id(rt: HostRuntime) {
-    assert!(rt; views_come_and_go(&rt, rt.alloc()));
+    let mut tracker = unordered(&rt, rt.alloc());
+    is(&rt, has_views(&tracker, "1237"), "views");
+    is(&rt, lists_ids(&rt, &tracker, "1237"), "ids");
+    is(&rt, views_go(&mut tracker), "they go");
+    drop(tracker);
 }
 
 /// Whether the marks of the views of 1, 2, 3 and 7 are these.
@@ -99,5 +94,6 @@ fn marks_go(tracker: &mut Tracker) -> bool {
 #[test]
 fn marks_go_off_but_ones_own(rt: HostRuntime) {
     let mut tracker = unordered(&rt, rt.alloc());
-    assert!(rt; marks_go(&mut tracker));
+    is(&rt, marks_go(&mut tracker), "marks go");
+    drop(tracker);
 }

@@ -1,5 +1,6 @@
 //! Windows that go round their ring, at the least room that there may be, at two, and at the most that a node asks for.
 
+use crate::tests::is;
 use rb_tracker::Progress;
 use std::process::Abort;
 
@@ -31,15 +32,26 @@ fn turn(rt: &impl Abort, view: &mut Progress, after: u32, capacity: u32, part: u
     let last = after.saturating_add(capacity);
     let freed = after.saturating_add(part);
     view.free_through(u64::from(freed));
-    assert!(rt; has_run(view, freed, capacity.saturating_sub(part)));
-    assert!(rt; send(view, last, part) && has_run(view, freed, capacity));
+    is(
+        rt,
+        has_run(view, freed, capacity.saturating_sub(part)),
+        "freed",
+    );
+    is(rt, send(view, last, part), "room again");
+    is(rt, has_run(view, freed, capacity), "full again");
     // A full window takes no more, and forgets nothing.
-    assert!(rt; !send(view, last.saturating_add(part), 1) && has_run(view, freed, capacity));
+    is(rt, !send(view, last.saturating_add(part), 1), "no room");
+    is(rt, has_run(view, freed, capacity), "still full");
 }
 
 /// A window is filled, and goes round by one, by its half, by all but one, and by all.
 fn goes_round(rt: &impl Abort, view: &mut Progress, capacity: u32) {
-    assert!(rt; view.window().is_empty() && send(view, 0, capacity) && has_run(view, 0, capacity));
+    is(rt, view.window().is_empty(), "empty at first");
+    is(
+        rt,
+        send(view, 0, capacity) && has_run(view, 0, capacity),
+        "filled",
+    );
     let mut after: u32 = 0;
     for part in [
         0,
@@ -54,15 +66,20 @@ fn goes_round(rt: &impl Abort, view: &mut Progress, capacity: u32) {
         after = after.saturating_add(part);
     }
     view.acked(u64::from(after.saturating_add(capacity)));
-    assert!(rt; view.window().is_empty() && !view.is_full());
+    is(
+        rt,
+        view.window().is_empty() && !view.is_full(),
+        "empty at last",
+    );
 }
 
 #[test]
 fn windows_go_round(rt: HostRuntime) {
     for (room, capacity) in [(1, 1), (2, 2), (256, 256)] {
         let mut view = Progress::own(rt.alloc(), room, 0, 1).expect(&rt, "memory");
-        assert_eq!(rt; view.window().capacity(), room);
+        is(&rt, view.window().capacity() == room, "room");
         goes_round(&rt, &mut view, capacity);
+        drop(view);
     }
 }
 
@@ -70,5 +87,11 @@ fn windows_go_round(rt: HostRuntime) {
 #[test]
 fn a_window_without_room(rt: HostRuntime) {
     let mut view = Progress::own(rt.alloc(), 0, 0, 1).expect(&rt, "memory");
-    assert!(rt; view.paused() && !send(&mut view, 0, 1) && has_run(&view, 0, 0));
+    is(&rt, view.paused(), "sent nothing");
+    is(
+        &rt,
+        !send(&mut view, 0, 1) && has_run(&view, 0, 0),
+        "no room",
+    );
+    drop(view);
 }
