@@ -1,5 +1,6 @@
 //! Outside examples of definitions that no script, command or line of input reaches.
 
+use super::{is, is_text};
 use rb_command::{Command, command_of};
 use rb_message::{Event, WhyNoCampaign};
 use rb_number::put_number;
@@ -11,27 +12,29 @@ use std::process::Abort;
 #[test]
 fn words_that_are_no_levels(rt: HostRuntime) {
     for word in [b"".as_slice(), b" info"] {
-        assert_eq!(rt; level_of(word), None);
+        is(&rt, level_of(word).is_none(), "no level");
     }
 }
 
 #[test]
 fn a_carriage_return_is_of_its_word(rt: HostRuntime) {
-    assert_eq!(rt; command_of(b"accept\r"), Command::Bad);
+    is(&rt, command_of(b"accept\r") == Command::Bad, "no command");
 }
 
 #[test]
 fn the_greatest_number(rt: HostRuntime) {
     let mut out = Through(Vec::new(rt.alloc()));
     put_number(&mut out, u64::MAX).expect(&rt, "memory");
-    assert_eq!(rt; out.0.as_slice(), b"18446744073709551615".as_slice());
+    is_text(&rt, out.0.as_slice(), b"18446744073709551615");
+    drop(out);
 }
 
 /// The item is shown so at the level.
 fn is_shown(rt: &impl Abort, alloc: Global, level: Level, item: &Item<'_>, want: &[u8]) {
     let mut lines = Lines::new(alloc);
     put(&mut lines, level, item).expect(rt, "memory");
-    assert_eq!(rt; lines.text(), want);
+    is_text(rt, lines.text(), want);
+    drop(lines);
 }
 
 /// Words of errors: an empty one, one with a blank, and some with line feeds, which count among the 64 bytes that are shown.
@@ -65,19 +68,15 @@ fn is_warning(rt: &impl Abort, alloc: Global, event: &Event, want: &[u8]) {
 
 #[test]
 fn events_past_the_limits_of_scripts(rt: HostRuntime) {
-    is_warning(
-        &rt,
-        rt.alloc(),
-        &Event::AppendsNothing { id: 1 },
-        b"WARN 1 appends nothing: index limit\n",
-    );
-    is_warning(
-        &rt,
-        rt.alloc(),
-        &Event::CannotCampaign {
-            id: 1,
-            why: WhyNoCampaign::TermLimit,
-        },
-        b"WARN 1 can't campaign: term limit\n",
-    );
+    let nothing = Event::AppendsNothing { id: 1 };
+    let want = b"WARN 1 appends nothing: index limit\n";
+    is_warning(&rt, rt.alloc(), &nothing, want);
+    drop(nothing);
+    let last = Event::CannotCampaign {
+        id: 1,
+        why: WhyNoCampaign::TermLimit,
+    };
+    let want = b"WARN 1 can't campaign: term limit\n";
+    is_warning(&rt, rt.alloc(), &last, want);
+    drop(last);
 }

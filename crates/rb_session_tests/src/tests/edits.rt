@@ -1,5 +1,6 @@
 //! Edits that no command asks for: what directives print, and what a line of input is, no session can be given otherwise.
 
+use super::{is, is_text};
 use rb_script::{Edit, EditFault, Lines, Script, Through};
 use std::alloc::Global;
 use std::process::Abort;
@@ -29,10 +30,11 @@ fn script_of(rt: &impl Abort, alloc: Global) -> Script {
 }
 
 /// The script has this canonical text.
-fn is_text(rt: &impl Abort, alloc: Global, script: &Script, want: &[u8]) {
+fn is_written(rt: &impl Abort, alloc: Global, script: &Script, want: &[u8]) {
     let mut text = Through(Vec::new(alloc));
     script.write_to(&mut text).expect(rt, "memory");
-    assert_eq!(rt; text.0.as_slice(), want);
+    is_text(rt, text.0.as_slice(), want);
+    drop(text);
 }
 
 /// What the edit makes of a script with these outputs, or its fault.
@@ -42,7 +44,7 @@ fn edited(
     edit: &Edit,
     outputs: &[Lines],
 ) -> Result<Script, EditFault> {
-    assert_eq!(rt; outputs.len(), script.len());
+    is(rt, outputs.len() == script.len(), "an output for each");
     script.edited(edit, outputs)
 }
 
@@ -54,22 +56,29 @@ fn made(
     outputs: &[&[&[u8]]],
 ) -> Result<Script, EditFault> {
     let outputs = outputs_of(rt, alloc, outputs);
-    edited(rt, &script_of(rt, alloc), edit, outputs.as_slice())
+    let script = script_of(rt, alloc);
+    let made = edited(rt, &script, edit, outputs.as_slice());
+    drop(script);
+    drop(outputs);
+    made
 }
 
 // What directives print has no empty line in it, but what is accepted may.
 #[test]
 fn any_outputs_are_accepted(rt: HostRuntime) {
     let outputs: &[&[&[u8]]] = &[&[b"x"], &[b"y", b""], &[]];
-    let script = made(&rt, rt.alloc(), &Edit::Accept, outputs).expect(&rt, "an edit");
+    let edit = Edit::Accept;
+    let script = made(&rt, rt.alloc(), &edit, outputs).expect(&rt, "an edit");
+    drop(edit);
     let want = b"a\n----\nx\n\nb\n----\n----\ny\n\n----\n----\n\nc\n----\n\n# tail\n";
-    is_text(&rt, rt.alloc(), &script, want);
+    is_written(&rt, rt.alloc(), &script, want);
+    drop(script);
 }
 
 /// The edit of a script with these outputs is refused, since that can't be expected.
 fn is_refused(rt: &impl Abort, alloc: Global, edit: &Edit, outputs: &[&[&[u8]]]) {
     let fault = made(rt, alloc, edit, outputs).err();
-    assert_eq!(rt; fault, Some(EditFault::BadExpectation));
+    is(rt, fault == Some(EditFault::BadExpectation), "refused");
 }
 
 // A line that comes in has no LF, and no CR at its end.
@@ -78,6 +87,7 @@ fn lines_that_cannot_be_expected(rt: HostRuntime) {
     for line in [b"a\r".as_slice(), b"a\nb"] {
         let edit = Edit::Expect(1, lines_of(&rt, rt.alloc(), &[line]));
         is_refused(&rt, rt.alloc(), &edit, &[&[], &[], &[]]);
+        drop(edit);
     }
 }
 
@@ -85,7 +95,9 @@ fn lines_that_cannot_be_expected(rt: HostRuntime) {
 #[test]
 fn outputs_that_cannot_be_expected(rt: HostRuntime) {
     let outputs: &[&[&[u8]]] = &[&[b"x"], &[b"y", b"----"], &[]];
-    is_refused(&rt, rt.alloc(), &Edit::Accept, outputs);
+    let edit = Edit::Accept;
+    is_refused(&rt, rt.alloc(), &edit, outputs);
+    drop(edit);
 }
 
 /// The script with these outputs for its expectations has this text.
@@ -96,10 +108,11 @@ fn is_written_with(
     outputs: &[Lines],
     want: &[u8],
 ) {
-    assert_eq!(rt; outputs.len(), script.len());
+    is(rt, outputs.len() == script.len(), "an output for each");
     let mut text = Through(Vec::new(alloc));
     script.write_with(outputs, &mut text).expect(rt, "memory");
-    assert_eq!(rt; text.0.as_slice(), want);
+    is_text(rt, text.0.as_slice(), want);
+    drop(text);
 }
 
 // A line that looks like the end of a head goes into the double form.
@@ -107,11 +120,8 @@ fn is_written_with(
 fn outputs_in_place_of_expectations(rt: HostRuntime) {
     let outputs = outputs_of(&rt, rt.alloc(), &[&[b"x"], &[b"----", b"y"], &[]]);
     let want = b"a\n----\nx\n\nb\n----\n----\n----\ny\n----\n----\n\nc\n----\n\n# tail\n";
-    is_written_with(
-        &rt,
-        rt.alloc(),
-        &script_of(&rt, rt.alloc()),
-        outputs.as_slice(),
-        want,
-    );
+    let script = script_of(&rt, rt.alloc());
+    is_written_with(&rt, rt.alloc(), &script, outputs.as_slice(), want);
+    drop(script);
+    drop(outputs);
 }

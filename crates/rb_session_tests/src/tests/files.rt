@@ -5,10 +5,11 @@ mod checks;
 
 ghost use Rattle.std.specs.Prelude.{◌≡◌, Some, option_map, unwrap_or};
 
+use super::{is, is_in_row, is_text};
 use rb_check::Failure;
 use rb_files::{Place, Trouble, replace};
 use std::alloc::Global;
-use std::test::Fail;
+use std::process::Abort;
 
 #[derive(Drop)]
 struct Page {
@@ -119,45 +120,57 @@ impl Place for Shelf {
     }
 }
 
-fn shelf_that_fails(alloc: Global, fails: [bool; 5]) -> Result<Shelf, Fail> {
-    Ok(Shelf {
+fn shelf_that_fails(rt: &impl Abort, alloc: Global, fails: [bool; 5]) -> Shelf {
+    Shelf {
         alloc,
         file: Page {
-            text: Vec::from_slice(alloc, b"old")?,
+            text: Vec::from_slice(alloc, b"old").expect(rt, "memory"),
             is_settled: true,
         },
         new: None,
         told: None,
         is_stuck: false,
         fails,
-    })
+    }
+}
+
+/// The file has this text.
+fn has_text(rt: &impl Abort, shelf: &Shelf, want: &[u8]) {
+    is_text(rt, shelf.file.text.as_slice(), want);
 }
 
 #[test]
-fn replaces_a_text(rt: HostRuntime) -> Result<(), Fail> {
-    let mut shelf = shelf_that_fails(rt.alloc(), [false; 5])?;
-    assert!(rt; replace(&mut shelf, b"new").is_ok());
-    assert_eq!(rt; shelf.file.text.as_slice(), b"new".as_slice());
-    assert!(rt; shelf.file.is_settled && shelf.new.is_none());
-    Ok(())
+fn replaces_a_text(rt: HostRuntime) {
+    let mut shelf = shelf_that_fails(&rt, rt.alloc(), [false; 5]);
+    is(&rt, replace(&mut shelf, b"new").is_ok(), "replaced");
+    has_text(&rt, &shelf, b"new");
+    is(&rt, shelf.file.is_settled && shelf.new.is_none(), "settled");
+    drop(shelf);
+}
+
+/// Whether the new file was removed, where the text wasn't replaced.
+fn removed(shelf: &mut Shelf) -> Option<bool> {
+    match replace(shelf, b"new") {
+        Ok(()) => None,
+        Err(why) => Some(why.is_removed),
+    }
+}
+
+/// A shelf that fails has its old text, and the new file where that can't be removed.
+fn keeps_the_old_text(rt: &impl Abort, shelf: &mut Shelf, is_left: bool, call: usize) {
+    is_in_row(rt, removed(shelf) == Some(!is_left), "a failure", call);
+    is_in_row(rt, shelf.new.is_some() == is_left, "a file left", call);
+    has_text(rt, shelf, b"old");
 }
 
 #[test]
-fn keeps_the_old_text_where_a_call_fails(rt: HostRuntime) -> Result<(), Fail> {
-    for call in 0..4 {
+fn keeps_the_old_text_where_a_call_fails(rt: HostRuntime) {
+    for call in 0..4usize {
         for is_stuck in [false, true] {
-            let mut fails = [false; 5];
-            fails[call] = true;
-            fails[4] = is_stuck;
-            let mut shelf = shelf_that_fails(rt.alloc(), fails)?;
-            let is_left = is_stuck && call != 0;
-            match replace(&mut shelf, b"new") {
-                Ok(()) => assert!(rt; false, "{call}"),
-                Err(why) => assert_eq!(rt; why.is_removed, !is_left, "{call}"),
-            }
-            assert_eq!(rt; shelf.file.text.as_slice(), b"old".as_slice(), "{call}");
-            assert_eq!(rt; shelf.new.is_some(), is_left, "{call}");
+            let fails = [call == 0, call == 1, call == 2, call == 3, is_stuck];
+            let mut shelf = shelf_that_fails(&rt, rt.alloc(), fails);
+            keeps_the_old_text(&rt, &mut shelf, is_stuck && call != 0, call);
+            drop(shelf);
         }
     }
-    Ok(())
 }

@@ -1,5 +1,6 @@
 //! Outside examples of how heads and inputs are read: of most of what stands here a directive says no more than that it is wrong.
 
+use super::{is, is_text};
 use rb_script::{Block, DirectiveRef, Lines};
 use std::alloc::Global;
 use std::process::Abort;
@@ -10,7 +11,7 @@ fn add(rt: &impl Abort, text: &mut Vec<u8>, bytes: &[u8]) {
 
 /// Adds argument `i`: its key, an `=` where it has one, and each value in brackets.
 fn describe(rt: &impl Abort, text: &mut Vec<u8>, d: &DirectiveRef<'_>, i: usize) {
-    assert!(rt; i < d.args());
+    is(rt, i < d.args(), "an argument");
     add(rt, text, b" ");
     add(rt, text, d.key(i));
     if d.has_equals(i) {
@@ -39,7 +40,8 @@ fn block_of(rt: &impl Abort, alloc: Global, text: &[u8]) -> Block {
 fn is_described(rt: &impl Abort, alloc: Global, block: &Block, want: &[u8]) {
     let mut text = Vec::new(alloc);
     describe_all(rt, &mut text, &block.directive());
-    assert_eq!(rt; text.as_slice(), want);
+    is_text(rt, text.as_slice(), want);
+    drop(text);
 }
 
 static HEADS: [(&[u8], &[u8]); 5] = [
@@ -60,18 +62,19 @@ fn directives(rt: HostRuntime) {
     for (text, want) in &HEADS {
         let block = block_of(&rt, rt.alloc(), text);
         is_described(&rt, rt.alloc(), &block, want);
+        drop(block);
     }
 }
 
 /// Line `i` of the input is this.
 fn is_input(rt: &impl Abort, d: &DirectiveRef<'_>, i: usize, want: &[u8]) {
-    assert!(rt; i < d.inputs());
-    assert_eq!(rt; d.input(i), want);
+    is(rt, i < d.inputs(), "a line");
+    is_text(rt, d.input(i), want);
 }
 
 /// The input lines are these.
 fn has_inputs(rt: &impl Abort, d: &DirectiveRef<'_>, want: &[&[u8]]) {
-    assert_eq!(rt; d.inputs(), want.len());
+    is(rt, d.inputs() == want.len(), "how many lines");
     for (i, line) in want.iter().enumerate() {
         is_input(rt, d, i, line);
     }
@@ -81,6 +84,7 @@ fn has_inputs(rt: &impl Abort, d: &DirectiveRef<'_>, want: &[&[u8]]) {
 fn input_lines(rt: HostRuntime) {
     let block = block_of(&rt, rt.alloc(), b"a\nin 1\n\n in 2 \n----\n");
     has_inputs(&rt, &block.directive(), &[b"in 1", b"", b" in 2 "]);
+    drop(block);
 }
 
 // Lines have no LF where they come from a script.
@@ -90,6 +94,8 @@ fn lines_in_one_buffer(rt: HostRuntime) {
     for line in [b"a\nb".as_slice(), b"", b"c"] {
         lines.push(line).expect(&rt, "memory");
     }
-    assert_eq!(rt; (lines.len(), lines.text()), (3, b"a\nb\n\nc\n".as_slice()));
-    assert_eq!(rt; lines.line(0), b"a\nb".as_slice());
+    is(&rt, lines.len() == 3, "three lines");
+    is_text(&rt, lines.text(), b"a\nb\n\nc\n");
+    is_text(&rt, lines.line(0), b"a\nb");
+    drop(lines);
 }

@@ -5,6 +5,7 @@
 ghost use Rattle.std.specs.Prelude.{◌≡◌, ◌≢◌, ◌+◌, ◌<◌, ◌≤◌, length, Some, None, Err, OnOk};
 ghost use Rattle.rb_bench.specs.declared.limits.TheConstants.{MAX_READS};
 
+use crate::tests::{is, is_text};
 use rb_bench::{BenchFault, MAX_READS, Mode, Outlet, Status, run_over, serve};
 use rb_line::{InputFault, Source};
 use rb_script::{Sink, WriteFault};
@@ -157,31 +158,36 @@ ok
 
 const REPORT: &[u8] = b"2 directives, 0 mismatches\n";
 
-fn is<R: Abort>(
+fn came_so<R: Abort>(
     rt: &R,
     came: &Came,
     answer: Result<Status, BenchFault>,
     text: &[u8],
     counts: (u64, u64),
 ) {
-    assert!(rt; came.answer == answer && came.text.as_slice() == text);
-    assert!(rt; (came.made, came.failed) == counts);
+    is(rt, came.answer == answer, "the answer");
+    is_text(rt, came.text.as_slice(), text);
+    is(rt, (came.made, came.failed) == counts, "the calls");
 }
 
 // One call gives all, and one finds the end. The second is the one that fails.
 #[test]
 fn runs_over_known_sources(rt: HostRuntime) {
     let whole = ran(&rt, rt.alloc(), SCRIPT, None);
-    is(&rt, &whole, Ok(Status::Done), REPORT, (2, 0));
+    came_so(&rt, &whole, Ok(Status::Done), REPORT, (2, 0));
     let broken = ran(&rt, rt.alloc(), SCRIPT, Some(2));
-    is(&rt, &broken, Err(BenchFault::Io), b"", (2, 1));
+    came_so(&rt, &broken, Err(BenchFault::Io), b"", (2, 1));
+    drop(broken);
+    drop(whole);
 }
 
 #[test]
 fn talks_over_known_sources(rt: HostRuntime) {
     let whole = talked(&rt, rt.alloc(), SCRIPT, b"report", None);
-    is(&rt, &whole, Ok(Status::Done), REPORT, (2, 0));
+    came_so(&rt, &whole, Ok(Status::Done), REPORT, (2, 0));
     // The answers to the commands that came whole, and nothing of the one that was begun.
     let broken = talked(&rt, rt.alloc(), SCRIPT, b"report\nreport", Some(2));
-    is(&rt, &broken, Err(BenchFault::Io), REPORT, (2, 1));
+    came_so(&rt, &broken, Err(BenchFault::Io), REPORT, (2, 1));
+    drop(broken);
+    drop(whole);
 }

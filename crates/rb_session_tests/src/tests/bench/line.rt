@@ -1,16 +1,12 @@
 //! What no clause of rb_line says: that each error of a reader is answered, and how many calls are made.
 
 use super::fakes::{FailingReader, repeated};
+use crate::tests::is;
 use rb_line::{Fed, InputFault, LineBuffer, LineReader, Next, Source};
 use rb_script::{Lines, MAX_LINE};
 use std::alloc::Global;
 use std::process::Abort;
 use std::test::Fail;
-
-/// Ends the test where something isn't so. An assertion is dear to prove.
-fn is(rt: &impl Abort, so: bool, what: &str) {
-    assert!(rt; so, "{what}");
-}
 
 fn line_reader(rt: &impl Abort, alloc: Global, calls: u64) -> LineReader {
     LineReader::new(alloc, calls).expect(rt, "memory")
@@ -43,6 +39,7 @@ fn lines_of<R: Source>(
     let mut input = line_reader(rt, alloc, calls);
     let mut lines = Lines::new(alloc);
     let stop = keep_lines(rt, &mut input, reader, &mut lines);
+    drop(input);
     (lines, stop)
 }
 
@@ -58,6 +55,7 @@ fn has_lines<R: Source>(
     let (lines, came) = lines_of(rt, alloc, reader, calls);
     is(rt, lines.text() == want, "the lines");
     is(rt, came == stop, "what comes then");
+    drop(lines);
 }
 
 static ENDS: [(&[u8], &[u8]); 8] = [
@@ -90,7 +88,9 @@ fn first_of(rt: &impl Abort, alloc: Global, bytes: &[u8]) -> (usize, Result<Next
     let mut reader = bytes;
     let mut input = line_reader(rt, alloc, 1000);
     let next = input.next(&mut reader);
-    (input.line().len(), next)
+    let len = input.line().len();
+    drop(input);
+    (len, next)
 }
 
 /// What a line of `MAX_LINE` bytes and then these is.
@@ -101,7 +101,9 @@ fn after_the_longest(
 ) -> (usize, Result<Next, InputFault>) {
     let mut bytes = repeated(rt, alloc, b"x", MAX_LINE);
     bytes.extend_from_slice(rest).expect(rt, "memory");
-    first_of(rt, alloc, bytes.as_slice())
+    let first = first_of(rt, alloc, bytes.as_slice());
+    drop(bytes);
+    first
 }
 
 static ENDED: [&[u8]; 5] = [b"", b"\n", b"\r\n", b"\r\r\r", b"\r\r\nx"];
@@ -127,6 +129,7 @@ fn takes_the_longest_line_and_no_longer(rt: HostRuntime) {
     let many = many_returns(&rt, rt.alloc());
     let got = after_the_longest(&rt, rt.alloc(), many.as_slice());
     is(&rt, got == (65_536, Ok(Next::Line)), "many returns");
+    drop(many);
 }
 
 // The byte that makes the line too long is the last that is asked for.
@@ -143,6 +146,7 @@ fn tells_a_long_line_at_once(rt: HostRuntime) {
         Ok(Next::TooLong),
     );
     is(&rt, reader.0.calls == 65_537, "calls");
+    drop(bytes);
 }
 
 // Each call in turn is interrupted, the one that would find the end too.
@@ -158,12 +162,13 @@ fn fails_where_a_call_fails(rt: HostRuntime) {
 /// So many calls are made of a reader of two lines, and then comes this.
 fn makes_calls(rt: &impl Abort, alloc: Global, calls: u64, stop: Result<Next, InputFault>) {
     let mut reader = FailingReader::new(b"a\nbc", 1, usize::MAX);
-    let (_lines, came) = lines_of(rt, alloc, &mut reader, calls);
+    let (lines, came) = lines_of(rt, alloc, &mut reader, calls);
     is(
         rt,
         came == stop && reader.0.calls as u64 == calls,
         "what comes of so many calls",
     );
+    drop(lines);
 }
 
 #[test]
@@ -184,6 +189,7 @@ fn asks_no_more_after_the_end(rt: HostRuntime) {
     is(&rt, input.next(&mut reader) == Ok(Next::End), "the end");
     is(&rt, input.next(&mut reader) == Ok(Next::End), "once more");
     is(&rt, reader.0.calls == 2, "calls");
+    drop(input);
 }
 
 fn feeds(rt: &impl Abort, line: &mut LineBuffer) {
@@ -201,6 +207,7 @@ fn feeds(rt: &impl Abort, line: &mut LineBuffer) {
 fn feeds_a_line(rt: HostRuntime) {
     let mut line = LineBuffer::new(rt.alloc()).expect(&rt, "memory");
     feeds(&rt, &mut line);
+    drop(line);
 }
 
 fn reads_two_lines(rt: &impl Abort, input: &mut LineReader) {
@@ -220,5 +227,6 @@ fn reads_lines_under_refusals(rt: HostRuntime) -> Result<(), Fail> {
         return Ok(());
     };
     reads_two_lines(&rt, &mut input);
+    drop(input);
     Ok(())
 }

@@ -1,5 +1,6 @@
 //! What a check shows, and no script leads to: lines of outputs that are empty or end in blanks, and a time that is known.
 
+use crate::tests::is_text;
 use rb_check::{
     Colors, Failure, Outcome, Place, Table, Totals, put_directive, put_mismatch, put_totals,
 };
@@ -24,52 +25,73 @@ fn block(rt: &impl Abort, alloc: Global, text: &[u8]) -> Block {
     Block::read(alloc, text).expect(rt, "a block")
 }
 
-// What is shown of a mismatch.
-fn mismatch(
+// Shows the mismatch of a directive.
+fn put_differing(
     rt: &impl Abort,
     alloc: Global,
-    expected: &[&[u8]],
-    output: &[&[u8]],
+    out: &mut Through<Vec<u8>>,
+    expected: &Lines,
+    output: &Lines,
     colors: Colors,
-) -> Vec<u8> {
-    let expected = lines(rt, alloc, expected);
-    let output = lines(rt, alloc, output);
+) {
     let block = block(rt, alloc, b"campaign \\\n 1\n----\n");
-    let mut out = Through(Vec::new(alloc));
     let mut table = Table::new(alloc).expect(rt, "memory");
     put_mismatch(
-        &mut out,
+        out,
         PLACE,
         &block.directive(),
-        &expected,
-        &output,
+        expected,
+        output,
         b"",
         colors,
         &mut table,
     )
     .expect(rt, "memory");
-    out.0
+    drop(table);
+    drop(block);
+}
+
+// This is shown of a mismatch of these lines.
+fn is_shown(
+    rt: &impl Abort,
+    alloc: Global,
+    expected: &[&[u8]],
+    output: &[&[u8]],
+    colors: Colors,
+    want: &[u8],
+) {
+    let expected = lines(rt, alloc, expected);
+    let output = lines(rt, alloc, output);
+    let mut out = Through(Vec::new(alloc));
+    put_differing(rt, alloc, &mut out, &expected, &output, colors);
+    is_text(rt, out.0.as_slice(), want);
+    drop(out);
+    drop(output);
+    drop(expected);
 }
 
 #[test]
 fn shows_what_differs_between_what_is_the_same(rt: HostRuntime) {
-    let shown = mismatch(
+    is_shown(
         &rt,
         rt.alloc(),
         &[b"one", b"two", b"two", b"", b"six"],
         &[b"one", b"two", b"three \t", b"four$", b"", b"six"],
         Colors::Off,
+        b"a/b.txt:12: campaign 1\n  one\n  two\n- two\n+ three \t$\n+ four$$\n  $\n  six\n\n",
     );
-    let want =
-        b"a/b.txt:12: campaign 1\n  one\n  two\n- two\n+ three \t$\n+ four$$\n  $\n  six\n\n";
-    assert_eq!(rt; shown.as_slice(), want.as_slice());
 }
 
 #[test]
 fn shows_colors(rt: HostRuntime) {
-    let shown = mismatch(&rt, rt.alloc(), &[b"a", b"ok"], &[b"b ", b"ok"], Colors::On);
-    let want = b"a/b.txt:12: campaign 1\n\x1b[31m- a\x1b[0m\n\x1b[32m+ b $\x1b[0m\n  ok\n\n";
-    assert_eq!(rt; shown.as_slice(), want.as_slice());
+    is_shown(
+        &rt,
+        rt.alloc(),
+        &[b"a", b"ok"],
+        &[b"b ", b"ok"],
+        Colors::On,
+        b"a/b.txt:12: campaign 1\n\x1b[31m- a\x1b[0m\n\x1b[32m+ b $\x1b[0m\n  ok\n\n",
+    );
 }
 
 #[test]
@@ -78,10 +100,14 @@ fn shows_a_directive(rt: HostRuntime) {
     let block = block(&rt, rt.alloc(), b"log-level info\n----\n");
     let mut out = Through(Vec::new(rt.alloc()));
     put_directive(&mut out, PLACE, &block.directive(), &output, b"").expect(&rt, "memory");
-    assert_eq!(rt;
+    is_text(
+        &rt,
         out.0.as_slice(),
-        b"a/b.txt:12: log-level info\n  ok\n  $\n".as_slice()
+        b"a/b.txt:12: log-level info\n  ok\n  $\n",
     );
+    drop(out);
+    drop(block);
+    drop(output);
 }
 
 fn totals(outcomes: &[Outcome]) -> Totals {
@@ -115,5 +141,6 @@ fn counts_what_came_of_paths(rt: HostRuntime) {
     put_totals(&mut out, &Totals::new(), 7).expect(&rt, "memory");
     let want =
         b"3 scripts, 19 directives, 1 mismatch, 1 refused, 3 errors, 2 accepted, 1 failed, 61.045 s\n0 scripts, 0 directives, 0 mismatches, 0 refused, 0.007 s\n";
-    assert_eq!(rt; out.0.as_slice(), want.as_slice());
+    is_text(&rt, out.0.as_slice(), want);
+    drop(out);
 }
