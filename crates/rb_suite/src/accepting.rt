@@ -2,11 +2,11 @@
 
 ghost use Rattle.rb_script.specs.Reads.{Reads};
 
-use crate::checking::Text;
 use crate::report::{Ran, Report};
+use crate::system::{System, Text};
 use rb_check::Failure;
 use rb_checked::{AcceptFault, Accepted, ShowFault, Wanted, accept as accepted, put_left_errors};
-use rb_files::{Beside, Trouble, replace};
+use rb_files::Trouble;
 use rb_machine::Machine;
 use rb_replay::Session;
 use rb_script::WriteFault;
@@ -14,11 +14,10 @@ use std::alloc::Global;
 use std::fs::Metadata;
 use std::io;
 use std::io::Write;
-use std::rt::Files;
 
 /// Writes the outputs into the script's file: those that are accepted. The others are told.
-pub(crate) fn accept<M: Machine, R: Files + AllocGlobal, W: Write + Drop, E: Write + Drop>(
-    rt: &R,
+pub(crate) fn accept<M: Machine, S: System, W: Write + Drop, E: Write + Drop>(
+    system: &S,
     wanted: Wanted<'_>,
     ran: Ran<'_>,
     session: &Session<M>,
@@ -27,14 +26,14 @@ pub(crate) fn accept<M: Machine, R: Files + AllocGlobal, W: Write + Drop, E: Wri
 )
     requires { Reads text.now.bytes.items session.now.script }
 {
-    let alloc = rt.alloc();
+    let alloc = system.alloc();
     match accepted(alloc, session, &text.bytes, wanted) {
         Ok(made) => {
             if !made.left.is_empty() {
                 report.leave(ran.path, wanted.picked, &made.left);
                 tell_left(alloc, session, &text.bytes, ran.path, wanted, report);
             }
-            keep(rt, ran, &made, &text.seen, report);
+            keep(system, ran, &made, &text.seen, report);
         }
         Err(fault) => fail(alloc, ran, fault, report),
     }
@@ -67,49 +66,21 @@ fn tell_left<M: Machine, W: Write + Drop, E: Write + Drop>(
 }
 
 // Puts the new text in the file's place, unless nothing is accepted.
-fn keep<R: Files + AllocGlobal, W: Write + Drop, E: Write + Drop>(
-    rt: &R,
+fn keep<S: System, W: Write + Drop, E: Write + Drop>(
+    system: &S,
     ran: Ran<'_>,
     made: &Accepted,
     seen: &Metadata,
     report: &mut Report<W, E>,
 ) {
     if made.left.len() >= ran.mismatches {
-        return report.ran(rt.alloc(), ran);
+        return report.ran(system.alloc(), ran);
     }
-    match write(rt, ran.path, &made.text, seen, report) {
-        Ok(()) => report.accepted(rt.alloc(), ran, &made.left),
+    match system.write(ran.path, &made.text, seen, report) {
+        Ok(()) => report.accepted(system.alloc(), ran, &made.left),
         Err(trouble) => {
-            report.ran(rt.alloc(), ran);
+            report.ran(system.alloc(), ran);
             report.fail(ran.path.as_bytes(), trouble);
-        }
-    }
-}
-
-fn write<R: Files + AllocGlobal, W: Write + Drop, E: Write + Drop>(
-    rt: &R,
-    path: &str,
-    text: &[u8],
-    seen: &Metadata,
-    report: &mut Report<W, E>,
-) -> Result<(), Trouble> {
-    let mut place = Beside::new(rt, path, seen.clone()?)?;
-    put(&mut place, text, report)
-}
-
-// A new file that could be neither used nor removed is told.
-fn put<R: Files + AllocGlobal, W: Write + Drop, E: Write + Drop>(
-    place: &mut Beside<'_, R>,
-    text: &[u8],
-    report: &mut Report<W, E>,
-) -> Result<(), Trouble> {
-    match replace(place, text) {
-        Ok(()) => Ok(()),
-        Err(why) => {
-            if let Some(left) = place.left() {
-                report.tell_left(left);
-            }
-            Err(why.trouble)
         }
     }
 }

@@ -19,8 +19,8 @@ pub(crate) enum Ending {
 }
 
 /// What is done with the outputs of a script, of which so many differ.
-pub(crate) fn ending_of(asked: Asked<'_>, has_warnings: bool, mismatches: usize) -> Ending
-    ensures { result ≡ ending_of asked.entry has_warnings mismatches }
+pub(crate) fn ending_of(asked: &Asked<'_>, has_warnings: bool, mismatches: usize) -> Ending
+    ensures { result ≡ ending_of asked.now has_warnings mismatches }
 {
     if !asked.accepts || mismatches == 0 {
         Ending::Kept

@@ -16,6 +16,8 @@ mod reasons;
 mod report;
 mod review;
 mod runner;
+mod subject;
+mod system;
 mod target;
 
 pub use asked::Asked;

@@ -9,6 +9,7 @@ use crate::progress::Progress;
 use crate::report::Report;
 use crate::review::Review;
 use crate::runner::Runner;
+use crate::system::{Given, System};
 use rb_check::{Failure, Status};
 use rb_checked::Shown;
 use rb_files::{Found, Trouble, find};
@@ -40,7 +41,7 @@ pub fn check<T: Runner, R: Files + Input + Print + Clock + AllocGlobal, E: Write
         asked.is_quiet,
         asked.format,
     )?;
-    check_found(rt, runner, asked, &mut progress, &mut report);
+    check_found(rt, runner, &asked, &mut progress, &mut report);
     Ok(report.status())
 }
 
@@ -48,14 +49,14 @@ pub fn check<T: Runner, R: Files + Input + Print + Clock + AllocGlobal, E: Write
 fn check_found<T: Runner, R: Files + Input + Clock + AllocGlobal, W: Write + Drop, E: Write + Drop>(
     rt: &R,
     runner: &mut T,
-    asked: Asked<'_>,
+    asked: &Asked<'_>,
     progress: &mut Progress,
     report: &mut Report<W, E>,
 ) {
     let found = find(rt, asked.targets, asked.filters);
     tell_lost(&found, report);
     let scripts = found.scripts.as_slice();
-    check_each(rt, runner, asked, scripts, progress, report);
+    check_each(&Given(rt), runner, asked, scripts, progress, report);
     end(
         asked.shown,
         scripts.len(),
@@ -80,20 +81,20 @@ fn end<W: Write + Drop, E: Write + Drop>(
 }
 
 // Checks one script after another, until a review is over.
-fn check_each<T: Runner, R: Files + Input + Clock + AllocGlobal, W: Write + Drop, E: Write + Drop>(
-    rt: &R,
+fn check_each<T: Runner, S: System, W: Write + Drop, E: Write + Drop>(
+    system: &S,
     runner: &mut T,
-    asked: Asked<'_>,
+    asked: &Asked<'_>,
     scripts: &[String],
     progress: &mut Progress,
     report: &mut Report<W, E>,
 ) {
     let mut review = Review::Each;
     for (done, path) in scripts.iter().enumerate() {
-        if progress.is_due(rt) {
+        if system.is_due(progress) {
             report.show_progress(done, scripts.len());
         }
-        check_script(rt, runner, asked, path.as_str(), &mut review, report);
+        check_script(system, runner, asked, path.as_str(), &mut review, report);
         if review == Review::Over {
             break;
         }

@@ -5,12 +5,12 @@ ghost use Rattle.rb_script.specs.Reads.{Reads};
 use crate::asked::Asked;
 use crate::place::place_at;
 use crate::report::Report;
+use crate::subject::Subject;
 use crate::target::Target;
 use rb_check::Failure;
 use rb_checked::Picked;
 use rb_files::Trouble;
 use rb_machine::Machine;
-use rb_replay::Session;
 use rb_script::ScriptWithLines;
 use std::alloc::{AllocError, Global};
 use std::io;
@@ -20,16 +20,14 @@ use std::io::Write;
 /// or nothing is accepted. A directive whose output is the expected one already is told.
 pub(crate) fn named_heads<M: Machine, W: Write + Drop, E: Write + Drop>(
     alloc: Global,
-    asked: Asked<'_>,
-    session: &Session<M>,
-    bytes: &[u8],
-    path: &str,
+    asked: &Asked<'_>,
+    subject: &Subject<'_, M>,
     report: &mut Report<W, E>,
 ) -> Result<Option<Vec<usize>>, Trouble>
-    requires { Reads bytes.now session.now.script }
+    requires { Reads subject.now.text.now.bytes.items subject.now.session.now.script }
 {
     if asked.accepts {
-        picked_heads(alloc, asked.targets, session, bytes, path, report)
+        picked_heads(alloc, asked.targets, subject, report)
     } else {
         Ok(None)
     }
@@ -46,31 +44,27 @@ pub(crate) fn picked_of(heads: &Option<Vec<usize>>) -> Picked<'_> {
 fn picked_heads<M: Machine, W: Write + Drop, E: Write + Drop>(
     alloc: Global,
     targets: &[Target],
-    session: &Session<M>,
-    bytes: &[u8],
-    path: &str,
+    subject: &Subject<'_, M>,
     report: &mut Report<W, E>,
 ) -> Result<Option<Vec<usize>>, Trouble>
-    requires { Reads bytes.now session.now.script }
+    requires { Reads subject.now.text.now.bytes.items subject.now.session.now.script }
 {
-    let lines = match named_lines(alloc, targets, path)? {
+    let lines = match named_lines(alloc, targets, subject.path)? {
         Some(lines) => lines,
         None => return Ok(None),
     };
-    Ok(Some(heads_of(alloc, &lines, session, bytes, path, report)?))
+    Ok(Some(heads_of(alloc, &lines, subject, report)?))
 }
 
 // The heads that the lines name.
 fn heads_of<M: Machine, W: Write + Drop, E: Write + Drop>(
     alloc: Global,
     lines: &[usize],
-    session: &Session<M>,
-    bytes: &[u8],
-    path: &str,
+    subject: &Subject<'_, M>,
     report: &mut Report<W, E>,
 ) -> Result<Vec<usize>, Trouble> {
-    match ScriptWithLines::read(alloc, bytes) {
-        Ok(read) => heads_at(alloc, lines, &read.heads, session, path, report),
+    match ScriptWithLines::read(alloc, &subject.text.bytes) {
+        Ok(read) => heads_at(alloc, lines, &read.heads, subject, report),
         Err(_) => Err(Trouble::alone(Failure::OutOfMemory)),
     }
 }
@@ -125,8 +119,7 @@ fn heads_at<M: Machine, W: Write + Drop, E: Write + Drop>(
     alloc: Global,
     lines: &[usize],
     heads: &[usize],
-    session: &Session<M>,
-    path: &str,
+    subject: &Subject<'_, M>,
     report: &mut Report<W, E>,
 ) -> Result<Vec<usize>, Trouble> {
     let mut picked = Vec::new(alloc);
@@ -134,8 +127,8 @@ fn heads_at<M: Machine, W: Write + Drop, E: Write + Drop>(
         let Some((place, head)) = place_at(heads, *line) else {
             return Err(no_directive());
         };
-        if !session.mismatches().contains(&place) {
-            report.tell_expected(path, head);
+        if !subject.session.mismatches().contains(&place) {
+            report.tell_expected(subject.path, head);
         }
         push(&mut picked, head)?;
     }

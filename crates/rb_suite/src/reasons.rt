@@ -16,10 +16,10 @@ use std::alloc::{AllocError, Global};
 pub(crate) fn asked_reasons<T: Runner>(
     alloc: Global,
     runner: &mut T,
-    asked: Asked<'_>,
+    asked: &Asked<'_>,
     session: &Session<T::Machine>,
 ) -> Result<Vec<Lines>, AllocError>
-    ensures { IfOk result (λ whys. whys.items ≡ asked_reasons asked.entry.explains asked.entry.shown asked.entry.reviews session.now.script) }
+    ensures { IfOk result (λ whys. whys.items ≡ asked_reasons asked.now.explains asked.now.shown asked.now.reviews session.now.script) }
 {
     if asked.explains && shows_outputs(asked.shown, asked.reviews, session) {
         script_reasons(alloc, runner, session)

@@ -5,6 +5,8 @@ ghost use Rattle.rb_script.specs.Reads.{Reads};
 
 use crate::asked::Asked;
 use crate::report::Report;
+use crate::subject::Subject;
+use crate::system::System;
 use rb_check::Failure;
 use rb_checked::{
     Layout, Picked, ShowFault, Shown, View, is_picked, is_unexpected, layout_of, put_one_mismatch,
@@ -12,7 +14,7 @@ use rb_checked::{
 use rb_files::Trouble;
 use rb_machine::Machine;
 use rb_replay::Session;
-use rb_script::{Lines, WriteFault};
+use rb_script::WriteFault;
 use std::alloc::{AllocError, Global};
 use std::io::Write;
 
@@ -32,18 +34,18 @@ pub(crate) enum Review {
     Over,
 }
 
-// What was answered.
+/// What was answered.
 #[derive(Clone, Copy)]
-enum Answer {
+pub(crate) enum Answer {
     Yes,
     No,
     All,
     Quit,
 }
 
-// What came from the terminal.
+/// What came from the terminal.
 #[derive(Clone, Copy)]
-enum Heard {
+pub(crate) enum Heard {
     Answer(Answer),
     /// Something else.
     Else,
@@ -51,7 +53,8 @@ enum Heard {
     End,
 }
 
-fn answer_of(line: &str) -> Option<Answer> {
+/// What is answered by the line.
+pub(crate) fn answer_of(line: &str) -> Option<Answer> {
     match line.trim() {
         word if word == "y" => Some(Answer::Yes),
         word if word == "n" => Some(Answer::No),
@@ -62,74 +65,63 @@ fn answer_of(line: &str) -> Option<Answer> {
 }
 
 /// The lines of the heads of the directives whose outputs are to be accepted, by what is answered.
-pub(crate) fn reviewed<M: Machine, R: Input + AllocGlobal, W: Write + Drop, E: Write + Drop>(
-    rt: &R,
-    asked: Asked<'_>,
-    session: &Session<M>,
-    bytes: &[u8],
-    whys: &[Lines],
-    path: &str,
+pub(crate) fn reviewed<M: Machine, S: System, W: Write + Drop, E: Write + Drop>(
+    system: &S,
+    asked: &Asked<'_>,
+    subject: &Subject<'_, M>,
     picked: Picked<'_>,
     review: &mut Review,
     report: &mut Report<W, E>,
 ) -> Result<Vec<usize>, Trouble>
-    requires { Reads bytes.now session.now.script }
+    requires { Reads subject.now.text.now.bytes.items subject.now.session.now.script }
 {
-    let layout = layout_of(rt.alloc(), bytes)?;
-    let said = said_of(
-        rt, asked, session, bytes, whys, path, &layout, picked, review, report,
-    );
+    let layout = layout_of(system.alloc(), &subject.text.bytes)?;
+    let said = said_of(system, asked, subject, &layout, picked, review, report);
     if *review == Review::Rest {
         *review = Review::Each;
     }
     said
 }
 
-fn said_of<M: Machine, R: Input + AllocGlobal, W: Write + Drop, E: Write + Drop>(
-    rt: &R,
-    asked: Asked<'_>,
-    session: &Session<M>,
-    bytes: &[u8],
-    whys: &[Lines],
-    path: &str,
+fn said_of<M: Machine, S: System, W: Write + Drop, E: Write + Drop>(
+    system: &S,
+    asked: &Asked<'_>,
+    subject: &Subject<'_, M>,
     layout: &Layout,
     picked: Picked<'_>,
     review: &mut Review,
     report: &mut Report<W, E>,
 ) -> Result<Vec<usize>, Trouble>
-    requires { Reads bytes.now session.now.script }
+    requires { Reads subject.now.text.now.bytes.items subject.now.session.now.script }
 {
-    let mut said = Vec::new(rt.alloc());
+    let mut said = Vec::new(system.alloc());
     go_over(
-        rt, asked, session, bytes, whys, path, layout, picked, &mut said, review, report,
+        system, asked, subject, layout, picked, &mut said, review, report,
     )?;
     Ok(said)
 }
 
 // Asks about each directive whose output differs and that is picked, as far as it is still to be asked.
-fn go_over<M: Machine, R: Input + AllocGlobal, W: Write + Drop, E: Write + Drop>(
-    rt: &R,
-    asked: Asked<'_>,
-    session: &Session<M>,
-    bytes: &[u8],
-    whys: &[Lines],
-    path: &str,
+fn go_over<M: Machine, S: System, W: Write + Drop, E: Write + Drop>(
+    system: &S,
+    asked: &Asked<'_>,
+    subject: &Subject<'_, M>,
     layout: &Layout,
     picked: Picked<'_>,
     said: &mut Vec<usize>,
     review: &mut Review,
     report: &mut Report<W, E>,
 ) -> Result<(), Trouble>
-    requires { Reads bytes.now session.now.script }
+    requires { Reads subject.now.text.now.bytes.items subject.now.session.now.script }
 {
-    for index in 0..session.len() {
-        let Some(head) = differing_head(session, layout, picked, index) else {
+    for index in 0..subject.session.len() {
+        let Some(head) = differing_head(subject.session, layout, picked, index) else {
             continue;
         };
         if *review == Review::Each {
-            show(rt.alloc(), asked, session, bytes, whys, path, index, report)?;
-            *review = answered(rt, said, head, report)?;
-        } else if *review == Review::Rest && takes(asked, session, layout, index, head) {
+            show(system.alloc(), asked, subject, index, report)?;
+            *review = answered(system, said, head, report)?;
+        } else if *review == Review::Rest && takes(asked, subject.session, layout, index, head) {
             push(said, head)?;
         }
     }
@@ -154,7 +146,7 @@ fn differing_head<M: Machine>(
 
 // Whether an output is accepted that isn't shown.
 fn takes<M: Machine>(
-    asked: Asked<'_>,
+    asked: &Asked<'_>,
     session: &Session<M>,
     layout: &Layout,
     index: usize,
@@ -176,26 +168,31 @@ fn push(said: &mut Vec<usize>, head: usize) -> Result<(), AllocError> {
 
 fn show<M: Machine, W: Write + Drop, E: Write + Drop>(
     alloc: Global,
-    asked: Asked<'_>,
-    session: &Session<M>,
-    bytes: &[u8],
-    whys: &[Lines],
-    path: &str,
+    asked: &Asked<'_>,
+    subject: &Subject<'_, M>,
     index: usize,
     report: &mut Report<W, E>,
 ) -> Result<(), Trouble>
-    requires reads { Reads bytes.now session.now.script }
-    requires within { index < length session.now.script.blocks }
+    requires reads { Reads subject.now.text.now.bytes.items subject.now.session.now.script }
+    requires within { index < length subject.now.session.now.script.blocks }
 {
     let view = View {
-        path: path.as_bytes(),
+        path: subject.path.as_bytes(),
         colors: asked.colors,
         shown: Shown::Differing,
     };
     let Some(sink) = report.sink() else {
         return Ok(());
     };
-    match put_one_mismatch(alloc, sink, session, bytes, view, whys, index) {
+    match put_one_mismatch(
+        alloc,
+        sink,
+        subject.session,
+        &subject.text.bytes,
+        view,
+        subject.whys,
+        index,
+    ) {
         Ok(()) => report.wrote(Ok(())),
         Err(ShowFault::Writing) => report.wrote(Err(WriteFault)),
         Err(ShowFault::OutOfMemory) => return Err(Trouble::alone(Failure::OutOfMemory)),
@@ -204,13 +201,13 @@ fn show<M: Machine, W: Write + Drop, E: Write + Drop>(
 }
 
 // Asks about what was shown, and keeps the line of its head where it is accepted. What is still to be asked follows.
-fn answered<R: Input + AllocGlobal, W: Write + Drop, E: Write + Drop>(
-    rt: &R,
+fn answered<S: System, W: Write + Drop, E: Write + Drop>(
+    system: &S,
     said: &mut Vec<usize>,
     head: usize,
     report: &mut Report<W, E>,
 ) -> Result<Review, AllocError> {
-    match ask(rt, report) {
+    match ask(system, report) {
         Answer::Yes => {
             push(said, head)?;
             Ok(Review::Each)
@@ -225,15 +222,15 @@ fn answered<R: Input + AllocGlobal, W: Write + Drop, E: Write + Drop>(
 }
 
 // Asks until one of the answers comes. The end of the input, and a terminal that takes nothing more, end the review.
-fn ask<R: Input + AllocGlobal, W: Write + Drop, E: Write + Drop>(
-    rt: &R,
+fn ask<S: System, W: Write + Drop, E: Write + Drop>(
+    system: &S,
     report: &mut Report<W, E>,
 ) -> Answer {
     for _ in 0..u64::MAX {
         if !report.say(QUESTION) {
             break;
         }
-        match hear(rt) {
+        match system.hear() {
             Heard::Answer(answer) => return answer,
             Heard::Else => {
                 report.say(HELP);
@@ -242,15 +239,4 @@ fn ask<R: Input + AllocGlobal, W: Write + Drop, E: Write + Drop>(
         }
     }
     Answer::Quit
-}
-
-fn hear<R: Input + AllocGlobal>(rt: &R) -> Heard {
-    let mut line = String::new(rt.alloc());
-    match rt.read_line(&mut line) {
-        Ok(count) if count > 0 => match answer_of(line.as_str()) {
-            Some(answer) => Heard::Answer(answer),
-            None => Heard::Else,
-        },
-        _ => Heard::End,
-    }
 }

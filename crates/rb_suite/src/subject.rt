@@ -1,0 +1,15 @@
+//! What a check looks at.
+
+use crate::system::Text;
+use rb_machine::Machine;
+use rb_replay::Session;
+use rb_script::Lines;
+
+/// A script that ran, with the reasons of its outputs, as far as they are told.
+#[derive(Drop)]
+pub(crate) struct Subject<'a, M: Machine> {
+    pub(crate) path: &'a str,
+    pub(crate) text: &'a Text,
+    pub(crate) session: &'a Session<M>,
+    pub(crate) whys: &'a [Lines],
+}

@@ -1,0 +1,108 @@
+//! What a check reaches of the system.
+
+use crate::progress::Progress;
+use crate::report::Report;
+use crate::review::{Heard, answer_of};
+use rb_check::Failure;
+use rb_files::{Beside, Trouble, opened, replace};
+use rb_line::{Incoming, ReadFault, read_up_to};
+use rb_script::MAX_SCRIPT;
+use std::alloc::Global;
+use std::fs::Metadata;
+use std::io::Write;
+use std::rt::Files;
+use std::time::Clock;
+
+/// The first bytes of a file, and what the system said of it when it was opened.
+#[derive(Drop)]
+pub(crate) struct Text {
+    pub(crate) bytes: Vec<u8>,
+    pub(crate) seen: Metadata,
+}
+
+/// What the check of a script reaches of the system, beside the streams of the report. What is written over it is proved of this alone, and not
+/// of each trait of a runtime.
+pub(crate) trait System {
+    /// Memory.
+    fn alloc(&self) -> Global;
+
+    /// Whether it is time to show how far the work is.
+    fn is_due(&self, progress: &mut Progress) -> bool;
+
+    /// The first bytes of a script's file, which is closed again.
+    fn read(&self, path: &str) -> Result<Text, Trouble>;
+
+    /// Puts the text in the place of the file, of which this was seen.
+    fn write<W: Write + Drop, E: Write + Drop>(
+        &self,
+        path: &str,
+        text: &[u8],
+        seen: &Metadata,
+        report: &mut Report<W, E>,
+    ) -> Result<(), Trouble>;
+
+    /// What comes from the terminal.
+    fn hear(&self) -> Heard;
+}
+
+/// What a runtime gives of it.
+#[derive(Drop)]
+pub(crate) struct Given<'a, R>(pub(crate) &'a R);
+
+impl<'a, R: Files + Input + Clock + AllocGlobal> System for Given<'a, R> {
+    fn alloc(&self) -> Global {
+        self.0.alloc()
+    }
+
+    fn is_due(&self, progress: &mut Progress) -> bool {
+        progress.is_due(self.0)
+    }
+
+    fn read(&self, path: &str) -> Result<Text, Trouble> {
+        let (file, seen) = opened(self.0, path)?;
+        match read_up_to(self.0.alloc(), &mut Incoming(file), MAX_SCRIPT + 1) {
+            Ok(bytes) => Ok(Text { bytes, seen }),
+            Err(ReadFault::Io) => Err(Trouble::alone(Failure::NotRead)),
+            Err(ReadFault::OutOfMemory) => Err(Trouble::alone(Failure::OutOfMemory)),
+        }
+    }
+
+    fn write<W: Write + Drop, E: Write + Drop>(
+        &self,
+        path: &str,
+        text: &[u8],
+        seen: &Metadata,
+        report: &mut Report<W, E>,
+    ) -> Result<(), Trouble> {
+        let mut place = Beside::new(self.0, path, seen.clone()?)?;
+        put(&mut place, text, report)
+    }
+
+    fn hear(&self) -> Heard {
+        let mut line = String::new(self.0.alloc());
+        match self.0.read_line(&mut line) {
+            Ok(count) if count > 0 => match answer_of(line.as_str()) {
+                Some(answer) => Heard::Answer(answer),
+                None => Heard::Else,
+            },
+            _ => Heard::End,
+        }
+    }
+}
+
+// A new file that could be neither used nor removed is told.
+fn put<R: Files + AllocGlobal, W: Write + Drop, E: Write + Drop>(
+    place: &mut Beside<'_, R>,
+    text: &[u8],
+    report: &mut Report<W, E>,
+) -> Result<(), Trouble> {
+    match replace(place, text) {
+        Ok(()) => Ok(()),
+        Err(why) => {
+            if let Some(left) = place.left() {
+                report.tell_left(left);
+            }
+            Err(why.trouble)
+        }
+    }
+}
