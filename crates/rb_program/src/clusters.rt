@@ -7,7 +7,8 @@ use rb_script::{DirectiveRef, Lines};
 use rb_suite::Runner;
 use std::alloc::{AllocError, Global};
 
-/// Clusters of nodes with split logs. No directive runs again, so as few are kept as there may be.
+/// Clusters of nodes with split logs. No edit runs a directive again, so as few are kept as there may be: with `--why` each runs once more, but
+/// in a cluster of its own, from an empty one on.
 #[derive(Clone, Copy)]
 pub(crate) struct Clusters;
 
