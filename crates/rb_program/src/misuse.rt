@@ -5,7 +5,6 @@ use std::alloc::Global;
 use std::str;
 
 /// What is wrong with the words.
-#[derive(Drop)]
 pub enum Misuse {
     /// A word is no text.
     NoText,
@@ -33,6 +32,27 @@ pub enum Misuse {
     Place(String),
     /// No directive has the name; and the one that is near it.
     Directive(String, Option<&'static [u8]>),
+}
+
+// Written out, so that giving one back is a call wherever it is owned, and is proved here alone.
+impl Drop for Misuse {
+    fn drop(self) {
+        match self {
+            Misuse::NoText
+            | Misuse::NoCommand
+            | Misuse::NoFile
+            | Misuse::Input
+            | Misuse::Spacing
+            | Misuse::NoTerminal
+            | Misuse::Unseen => {}
+            Misuse::Every(_)
+            | Misuse::Color(_)
+            | Misuse::Format(_)
+            | Misuse::Until(_)
+            | Misuse::Place(_)
+            | Misuse::Directive(_, _) => {}
+        }
+    }
 }
 
 impl Misuse {

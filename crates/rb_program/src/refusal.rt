@@ -11,7 +11,6 @@ use std::alloc::AllocError;
 use std::io;
 
 /// Why the program ends early.
-#[derive(Drop)]
 pub enum Refusal {
     /// Help, or words that are not taken; the text is clap's.
     Clap(clap::Error),
@@ -23,6 +22,21 @@ pub enum Refusal {
     Unopened(String, io::Error),
     Io,
     OutOfMemory,
+}
+
+// Written out, as that of a misuse.
+impl Drop for Refusal {
+    fn drop(self) {
+        match self {
+            Refusal::Clap(_)
+            | Refusal::Usage(_)
+            | Refusal::OwnUsage(_)
+            | Refusal::Unopened(_, _)
+            | Refusal::Script(_)
+            | Refusal::Io
+            | Refusal::OutOfMemory => {}
+        }
+    }
 }
 
 impl Refusal {

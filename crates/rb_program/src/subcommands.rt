@@ -71,9 +71,17 @@ fn with_file<R: Files + Input + Print + AllocGlobal>(
 
 // With the text of `--every`, where it is that.
 fn named(refusal: Refusal, alloc: Global, every: Option<&str>) -> Refusal {
+    if is_of_spacing(&refusal) {
+        Refusal::Usage(misuse_of_every(alloc, every))
+    } else {
+        refusal
+    }
+}
+
+fn is_of_spacing(refusal: &Refusal) -> bool {
     match refusal {
-        Refusal::Usage(Misuse::Spacing) => Refusal::Usage(misuse_of_every(alloc, every)),
-        other => other,
+        Refusal::Usage(Misuse::Spacing) => true,
+        _ => false,
     }
 }
 
