@@ -1,17 +1,14 @@
 //! `raftbench chart FILE [--until LINE]`: the picture of a script.
 
+use crate::job::{Job, run_job};
 use crate::misuse::{Misuse, misused};
 use crate::page::name_of;
 use crate::refusal::Refusal;
-use crate::running::{ended, opened};
-use rb_bench::Status;
-use rb_line::{Incoming, Source};
+use rb_bench::{BenchFault, Outlet, Status};
+use rb_line::Source;
 use rb_number::number_of;
 use rb_pages::chart_over;
-use rb_script::Through;
 use std::alloc::Global;
-use std::io;
-use std::io::BufWriter;
 use std::rt::Files;
 
 /// Writes the picture of the script in the file, or on standard input, or of its directives up to a line.
@@ -20,24 +17,29 @@ pub(crate) fn chart<R: Files + Input + Print + AllocGlobal>(
     file: &str,
     until: Option<&str>,
 ) -> Result<Status, Refusal> {
-    let last = last_line(rt.alloc(), until)?;
-    let name = name_of(file).as_bytes();
-    if file == "-" {
-        chart_from(rt, &mut Incoming(rt.reader()), name, last)
-    } else {
-        chart_from(rt, &mut Incoming(opened(rt, file)?), name, last)
-    }
+    let charting = Charting {
+        name: name_of(file).as_bytes(),
+        last: last_line(rt.alloc(), until)?,
+    };
+    run_job(rt, file, &charting)
 }
 
-fn chart_from<R: Print + AllocGlobal, S: Source>(
-    rt: &R,
-    source: &mut S,
-    name: &[u8],
+// The picture of a script, under this name.
+#[derive(Drop)]
+struct Charting<'a> {
+    name: &'a [u8],
     last: Option<u64>,
-) -> Result<Status, Refusal> {
-    let alloc = rt.alloc();
-    let mut writer = Through(BufWriter::new(alloc, io::writer(rt))?);
-    ended(chart_over(alloc, source, &mut writer, name, last))
+}
+
+impl<'a> Job for Charting<'a> {
+    fn run<S: Source, W: Outlet>(
+        &self,
+        alloc: Global,
+        source: &mut S,
+        writer: &mut W,
+    ) -> Result<Status, BenchFault> {
+        chart_over(alloc, source, writer, self.name, self.last)
+    }
 }
 
 // The line behind `--until`, where it is given.

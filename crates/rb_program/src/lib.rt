@@ -9,6 +9,7 @@ mod clusters;
 mod colors;
 mod directives;
 mod ended;
+mod job;
 mod look;
 mod misuse;
 mod page;

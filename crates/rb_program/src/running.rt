@@ -1,37 +1,30 @@
 //! `raftbench run|rewrite|session FILE`: the report of a script, its text with its outputs, and a session on it.
 
+use crate::job::{Job, run_from};
 use crate::refusal::Refusal;
-use rb_bench::{BenchFault, Mode, Status, run_over, serve};
+use rb_bench::{BenchFault, Mode, Outlet, Status, run_over, serve};
 use rb_line::{Incoming, Source, read_up_to};
-use rb_script::{MAX_SCRIPT, Through};
+use rb_script::MAX_SCRIPT;
+use std::alloc::Global;
 use std::fs::File;
-use std::io;
-use std::io::BufWriter;
 use std::rt::Files;
 
-/// Runs the script in the file, or on standard input.
-pub(crate) fn run<R: Files + Input + Print + AllocGlobal>(
-    rt: &R,
-    file: &str,
-    mode: Mode,
-    every: u64,
-) -> Result<Status, Refusal> {
-    if file == "-" {
-        run_from(rt, &mut Incoming(rt.reader()), mode, every)
-    } else {
-        run_from(rt, &mut Incoming(opened(rt, file)?), mode, every)
-    }
+/// The report of a script, or its text with its outputs.
+#[derive(Drop)]
+pub(crate) struct Running {
+    pub(crate) mode: Mode,
+    pub(crate) every: u64,
 }
 
-fn run_from<R: Print + AllocGlobal, S: Source>(
-    rt: &R,
-    source: &mut S,
-    mode: Mode,
-    every: u64,
-) -> Result<Status, Refusal> {
-    let alloc = rt.alloc();
-    let mut writer = Through(BufWriter::new(alloc, io::writer(rt))?);
-    ended(run_over(alloc, source, &mut writer, mode, every))
+impl Job for Running {
+    fn run<S: Source, W: Outlet>(
+        &self,
+        alloc: Global,
+        source: &mut S,
+        writer: &mut W,
+    ) -> Result<Status, BenchFault> {
+        run_over(alloc, source, writer, self.mode, self.every)
+    }
 }
 
 /// What it came to, or why it came to nothing. It stands by itself so that what was opened is closed on one way out.
@@ -46,18 +39,29 @@ pub(crate) fn session<R: Files + Input + Print + AllocGlobal>(
     every: u64,
 ) -> Result<Status, Refusal> {
     let script = script(rt, file)?;
-    session_on(rt, &script, every)
+    let serving = Serving {
+        script: &script,
+        every,
+    };
+    run_from(rt, &mut Incoming(rt.reader()), &serving)
 }
 
-fn session_on<R: Input + Print + AllocGlobal>(
-    rt: &R,
-    script: &[u8],
+// A session on the script of these bytes.
+#[derive(Drop)]
+struct Serving<'a> {
+    script: &'a [u8],
     every: u64,
-) -> Result<Status, Refusal> {
-    let alloc = rt.alloc();
-    let mut writer = Through(BufWriter::new(alloc, io::writer(rt))?);
-    let mut source = Incoming(rt.reader());
-    ended(serve(alloc, script, every, &mut source, &mut writer))
+}
+
+impl<'a> Job for Serving<'a> {
+    fn run<S: Source, W: Outlet>(
+        &self,
+        alloc: Global,
+        source: &mut S,
+        writer: &mut W,
+    ) -> Result<Status, BenchFault> {
+        serve(alloc, self.script, self.every, source, writer)
+    }
 }
 
 /// The first bytes of the file, which is closed again. Where standard input was closed, the file took its place: what is

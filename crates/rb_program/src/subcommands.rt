@@ -7,11 +7,12 @@ use crate::chart::chart;
 use crate::checking::check_all;
 use crate::directives::directives;
 use crate::ended::Ended;
+use crate::job::run_job;
 use crate::look::look_at;
 use crate::misuse::{Misuse, misuse_of_every};
-use crate::page::page;
+use crate::page::{Paging, name_of};
 use crate::refusal::Refusal;
-use crate::running::{run, session};
+use crate::running::{Running, session};
 use crate::spacing::spacing;
 use rb_args::{Choice, Subcommand};
 use rb_bench::{Mode, Status};
@@ -100,11 +101,32 @@ fn done_with_file<R: Files + Input + Print + AllocGlobal>(
         return Err(Refusal::Usage(Misuse::Spacing));
     };
     match subcommand {
-        Subcommand::Run => run(rt, file.as_str(), Mode::Run, every),
-        Subcommand::Rewrite => run(rt, file.as_str(), Mode::Rewrite, every),
+        Subcommand::Run => run_job(
+            rt,
+            file.as_str(),
+            &Running {
+                mode: Mode::Run,
+                every,
+            },
+        ),
+        Subcommand::Rewrite => run_job(
+            rt,
+            file.as_str(),
+            &Running {
+                mode: Mode::Rewrite,
+                every,
+            },
+        ),
         Subcommand::Session => session(rt, file.as_str(), every),
         Subcommand::Look => look_at(rt, file.as_str()),
-        Subcommand::Page => page(rt, file.as_str(), every),
+        Subcommand::Page => run_job(
+            rt,
+            file.as_str(),
+            &Paging {
+                name: name_of(file.as_str()).as_bytes(),
+                every,
+            },
+        ),
         Subcommand::Chart => chart(rt, file.as_str(), choice.until.as_deref()),
         Subcommand::Check | Subcommand::Directives | Subcommand::Lsp => {
             Err(Refusal::Usage(Misuse::NoCommand))

@@ -1,0 +1,46 @@
+//! What is done with one script, from where it is read to where what comes of it is written.
+
+use crate::refusal::Refusal;
+use crate::running::{ended, opened};
+use rb_bench::{BenchFault, Outlet, Status};
+use rb_line::{Incoming, Source};
+use rb_script::Through;
+use std::alloc::Global;
+use std::io;
+use std::io::BufWriter;
+use std::rt::Files;
+
+/// What is done with a script of which nothing else is to be known.
+pub(crate) trait Job {
+    /// Reads the script from the source, and writes what comes of it.
+    fn run<S: Source, W: Outlet>(
+        &self,
+        alloc: Global,
+        source: &mut S,
+        writer: &mut W,
+    ) -> Result<Status, BenchFault>;
+}
+
+/// Does it with the script in the file, or on standard input.
+pub(crate) fn run_job<R: Files + Input + Print + AllocGlobal, J: Job>(
+    rt: &R,
+    file: &str,
+    job: &J,
+) -> Result<Status, Refusal> {
+    if file == "-" {
+        run_from(rt, &mut Incoming(rt.reader()), job)
+    } else {
+        run_from(rt, &mut Incoming(opened(rt, file)?), job)
+    }
+}
+
+/// Does it with the script from the source.
+pub(crate) fn run_from<R: Print + AllocGlobal, S: Source, J: Job>(
+    rt: &R,
+    source: &mut S,
+    job: &J,
+) -> Result<Status, Refusal> {
+    let alloc = rt.alloc();
+    let mut writer = Through(BufWriter::new(alloc, io::writer(rt))?);
+    ended(job.run(alloc, source, &mut writer))
+}
