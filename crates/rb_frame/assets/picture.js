@@ -178,7 +178,7 @@ class Picture {
     this.columns.forEach(({ column, role }, at) => {
       const numbers = this.model.nodes[at].numbers.at(this.chosen);
       column.style.left = `${this.layout.x(at + 1) - left}px`;
-      column.hidden = this.layout.x(at + 1) - left < GUTTER;
+      column.hidden = left > 0 && this.layout.x(at + 1) - left < LEAST_LEFT;
       role.textContent = numbers ? `${numbers.role} t${numbers.term}` : "";
     });
   }
@@ -208,9 +208,9 @@ class Picture {
     const lines = new Paths();
     const labels = [];
     for (const message of messages) {
-      const end = message.end ?? message.start + SLOT;
+      const end = message.end ?? message.start;
       if (end >= this.top - SLOT && message.start <= this.top + this.viewHeight + SLOT) {
-        this.drawArrow(lines, message, end);
+        this.drawArrow(lines, message);
         labels.push(message);
       }
     }
@@ -218,94 +218,56 @@ class Picture {
     labels.forEach((message) => this.drawLabel(all, message));
   }
 
-  drawArrow(lines, message, end) {
+  drawArrow(lines, message) {
     const kind = KINDS[message.type];
+    const { points } = this.layout.drawnOf(message);
     const isHere = message.sent.place === this.chosen || (message.met && message.met.place === this.chosen);
     const look = `arrow ${kind}${message.fate === "waiting" ? " waiting" : ""}${isHere ? " here" : ""}`;
-    const side = message.to < message.from ? -1 : 1;
-    const from = this.layout.x(message.from) + side * HALF_BAND;
-    if (message.to === message.from) {
-      this.drawLoop(lines, look, message, end);
-      return;
-    }
-    const to = this.layout.x(message.to) - side * (HALF_BAND + 1);
+    lines.add(look, `M${points.map(([x, y]) => `${n(x)} ${n(y)}`).join("L")}`);
+    const [[fromX, fromY], [x, y]] = points.slice(-2);
     if (message.fate === "delivered") {
-      lines.add(look, `M${n(from)} ${n(message.start)}L${n(to)} ${n(end)}`);
-      lines.add(`tip ${kind}`, tipAt(to, end, to - from, end - message.start));
-    } else if (message.fate === "dropped") {
-      // Where nobody has the id that it was sent to, it ends on its way.
-      const short = message.to > this.model.nodes.length ? from + side * 0.3 * this.layout.gap : to - side * 18;
-      lines.add(look, `M${n(from)} ${n(message.start)}L${n(short)} ${n(end)}`);
-      lines.add("cross", crossAt(short, end));
-    } else {
-      const reach = from + side * (message.fate === "waiting" ? 0.55 : 0.3) * this.layout.gap;
-      lines.add(look, `M${n(from)} ${n(message.start)}L${n(reach)} ${n(message.start + SLOT * 0.45)}`);
-      if (message.fate === "given up") {
-        lines.add("cross", crossAt(reach, message.start + SLOT * 0.45));
-      }
-    }
-  }
-
-  drawLoop(lines, look, message, end) {
-    const x = this.layout.x(message.from) + HALF_BAND;
-    const reach = x + 34;
-    lines.add(look, `M${n(x)} ${n(message.start)}C${n(reach)} ${n(message.start)} ${n(reach)} ${n(end)} ${n(x)} ${n(end)}`);
-    if (message.fate === "delivered") {
-      lines.add(`tip ${KINDS[message.type]}`, tipAt(x + 1, end, -1, 0));
+      lines.add(`tip ${kind}`, tipAt(x, y, x - fromX, y - fromY));
     } else if (message.fate !== "waiting") {
-      lines.add("cross", crossAt(x + 12, end));
+      lines.add("cross", crossAt(x, y));
     }
   }
 
   drawLabel(all, message) {
     const isLeft = message.to < message.from;
-    const x = this.layout.x(message.from) + (isLeft ? -HALF_BAND - 5 : HALF_BAND + 5);
-    const room = isLeft && message.from === 1 ? LEFT - 10 : this.layout.gap - 22;
+    const x = this.layout.x(message.from) + (isLeft ? -BESIDE : BESIDE);
+    const { label } = this.layout.drawnOf(message);
     const isChosen = message.sent.place === this.chosen;
-    const drawn = this.words(all, `label ${KINDS[message.type]}`, x, message.start - 4, isLeft, this.labelOf(message, room), isChosen);
-    svg(drawn, "title", {}, `${messageText(message)}, ${fateText(message)}`);
+    this.words(all, `label ${KINDS[message.type]}`, x, message.start - 5, isLeft, [label], isChosen, `${messageText(message)}, ${fateText(message)}`);
   }
 
-  labelOf(message, room) {
-    const label = messageLabel(message);
-    return widthOf(label) <= room ? label : fitted(shortLabel(message), room);
-  }
-
-  // Text on a ground of its own, through which lines that cross it show faintly, so that they can be followed and don't strike it out.
-  words(all, look, x, y, isLeft, text, isChosen) {
-    const width = widthOf(text) + 4;
-    const ground = { class: isChosen ? "ground chosen" : "ground", x: n(isLeft ? x - width + 2 : x - 2), y: n(y - 11), width: n(width), height: 14 };
-    svg(all, "rect", ground);
-    return svg(all, "text", { class: look, x: n(x), y: n(y), "text-anchor": isLeft ? "end" : "start" }, text);
+  // Lines of text with a rim of the ground's colour, so that a line that crosses them doesn't strike them out; and their whole text.
+  words(all, look, x, y, isLeft, lines, isChosen, whole) {
+    const place = { class: isChosen ? `${look} chosen` : look, x: n(x), y: n(y), "text-anchor": isLeft ? "end" : "start" };
+    const drawn = svg(all, "text", place, lines[0]);
+    lines.slice(1).forEach((line) => svg(drawn, "tspan", { x: n(x), dy: LINE_STEP }, line));
+    svg(drawn, "title", {}, whole);
   }
 
   drawMarks(all, row) {
-    for (const mark of row.marks) {
-      const isLeft = mark.side === "left";
-      const x = this.layout.x(mark.node) + (isLeft ? -HALF_BAND - 5 : HALF_BAND + 5);
-      const room = isLeft && mark.node === 1 ? LEFT - 10 : this.layout.gap - 18;
-      const isChosen = row.step.place === this.chosen;
-      const drawn = this.words(all, `mark ${mark.look}`, x, mark.y, isLeft, fitted(mark.text, room), isChosen);
-      svg(drawn, "title", {}, mark.text);
+    const isChosen = row.step.place === this.chosen;
+    for (const { node, y, side, look, lines, text } of row.marks) {
+      const isLeft = side === "left";
+      this.words(all, `mark ${look}`, this.layout.x(node) + (isLeft ? -BESIDE : BESIDE), y, isLeft, lines, isChosen, text);
     }
   }
 
   drawHead(gutter, row) {
+    const isChosen = row.step.place === this.chosen;
     const isWrong = row.step.expected !== null;
-    svg(gutter, "text", { class: "place", x: 42, y: row.top + 17, "text-anchor": "end" }, String(row.step.line));
+    svg(gutter, "text", { class: `place${isChosen ? " chosen" : ""}`, x: HEAD_LEFT - 8, y: row.top + 17, "text-anchor": "end" }, String(row.step.line));
     const head = row.step.head.join(" ");
-    const drawn = svg(gutter, "text", { class: `head${isWrong ? " bad" : ""}`, x: 50, y: row.top + 17 }, this.headText(head, isWrong));
-    svg(drawn, "title", {}, head);
-    row.notes.forEach((note, at) => {
-      const isChosen = row.step.place === this.chosen;
-      const said = this.words(gutter, note.look, 50, row.top + ROW_TOP + SLOT * at + 9, false, fitted(note.text, GUTTER + 40), isChosen);
-      svg(said, "title", {}, note.text);
-    });
+    this.words(gutter, `head${isWrong ? " bad" : ""}`, HEAD_LEFT, row.top + 17, false, [this.headText(head, isWrong)], isChosen, head);
+    row.notes.forEach(({ look, y, lines, text }) => this.words(gutter, look, HEAD_LEFT, y, false, lines, isChosen, text));
   }
 
-  // The head in letters of one width, cut where the first column's labels begin.
+  // The head in letters of one width, cut before the first column.
   headText(head, isWrong) {
-    const most = isWrong ? 22 : 24;
+    const most = Math.floor((this.layout.left - HEAD_LEFT - BEHIND) / 6.7) - (isWrong ? 2 : 0);
     return (isWrong ? "✗ " : "") + (head.length > most ? beginning(head, most - 1) + "…" : head);
   }
 }

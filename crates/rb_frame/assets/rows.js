@@ -212,6 +212,7 @@ class Reader {
     this.tail = [];
     this.isWhole = false;
     this.mail = new Mail();
+    this.terms = []; // by id, each node's term so far
     this.step = null;
     this.readyNode = 0;
     this.logNode = null;
@@ -226,6 +227,9 @@ class Reader {
       read.call(this, cells, name);
     } else {
       this.step.events.push({ name, id: cells[0], cells });
+    }
+    if (name === "became") {
+      this.terms[cells[0]] = cells[2];
     }
   }
 
@@ -245,7 +249,7 @@ class Reader {
 
   sends(name, cells) {
     const [from, to, type, term, ...said] = cells;
-    const message = { number: this.messages.length, from, to, type, term, said, sent: this.step, met: null, fate: "waiting" };
+    const message = { number: this.messages.length, from, to, type, term, said, sent: this.step, met: null, fate: "waiting", metTerm: this.terms[to] };
     this.messages.push(message);
     this.step.events.push({ name, id: from, message });
     return message;
@@ -254,6 +258,7 @@ class Reader {
   meets(name, cells) {
     const message = this.mail.take({ to: cells[1], type: cells[2] });
     message.met = this.step;
+    message.metTerm = this.terms[message.to];
     message.fate = name === "deliver" ? "delivered" : "dropped";
     this.step.events.push({ name, id: message.to, message });
   }
@@ -331,6 +336,7 @@ const ROWS = {
   },
   node([id, ...numbers]) {
     const [role, term, vote, lead, commit, applied, durable, length, end] = numbers;
+    this.terms[id] = term;
     this.node(id).numbers.set(this.step.place, { role, term, vote, lead, commit, applied, durable, length, end });
   },
   config([id, text]) {

@@ -20,37 +20,45 @@ const SAID = {
   MsgPreVote: ([term, index]) => `last ${term}/${index}`,
   MsgVoteResp: ([granted]) => (granted ? "granted" : "refused"),
   MsgPreVoteResp: ([granted]) => (granted ? "granted" : "refused"),
-  MsgApp: ([term, index, commit, count]) => (count ? `+${count} after ${term}/${index}` : `commit ${commit}`),
+  MsgApp: ([term, index, commit, count]) => `after ${term}/${index}, commit ${commit}, ${counted(count, "entry", "entries")}`,
   MsgAppResp: ([refused, index, hint]) => (refused ? `refused ${index}, hint ${hint}` : `match ${index}`),
   MsgHeartbeat: ([commit]) => `commit ${commit}`,
   MsgHeartbeatResp: () => "",
   MsgSnap: ([term, index]) => `${term}/${index}`,
-  MsgProp: ([body]) => body,
+  MsgProp: ([body]) => shown(body),
   MsgTransferLeader: ([target]) => `to ${target}`,
   MsgTimeoutNow: () => "",
 };
 
-// To whom a message is, where no arrow leads there.
-function aim(message) {
-  return message.fate === "waiting" || message.fate === "given up" ? `→${message.to} ` : "";
-}
+// What matters of a message where there is less and less room than for all that is said of it. A commit is ✓, as it is at marks and entries.
+const IN_FEWER = {
+  MsgVote: ([term, index, transfer]) => (transfer ? [`${term}/${index} transfer`, "transfer"] : [`${term}/${index}`]),
+  MsgPreVote: ([term, index]) => [`${term}/${index}`],
+  MsgVoteResp: ([granted]) => [granted ? "yes" : "no"],
+  MsgPreVoteResp: ([granted]) => [granted ? "yes" : "no"],
+  MsgApp: ([term, index, commit, count]) => (count ? [`+${count} after ${term}/${index}`, `${term}/${index} +${count}`] : [`commit ${commit}`, `✓${commit}`]),
+  MsgAppResp: ([refused, index, hint]) => (refused ? [`✗${index} hint ${hint}`, `✗${index}`] : [`${index}`]),
+  MsgHeartbeat: ([commit]) => [`✓${commit}`],
+};
 
-// Of a message, what matters: its type without Msg, and what it says.
-function messageLabel(message) {
-  return `${aim(message)}${message.type.slice(3)} ${SAID[message.type](message.said)}`.trim();
-}
-
-// The same where there is less room.
-function shortLabel(message) {
-  return aim(message) + (SAID[message.type](message.said) || message.type.slice(3).replace("Heartbeat", "Beat"));
+// The labels that a message can have, from the one that says the most. First comes to whom it is, where no arrow leads there; then its type,
+// without Msg; and its term, where its receiver is of another.
+function labelsOf(message) {
+  const { type, term, metTerm } = message;
+  const aim = message.fate === "waiting" || message.fate === "given up" ? `→${message.to} ` : "";
+  const start = aim + type.slice(3);
+  const isOther = term && metTerm !== undefined && metTerm !== term;
+  const startWithTerm = isOther ? `${start} t${term}` : start;
+  const said = [SAID[type](message.said), ...(IN_FEWER[type]?.(message.said) ?? [])];
+  const labels = said.map((text) => `${startWithTerm} ${text}`.trim());
+  // The answer to a question before the vote has the question's term. A heartbeat of another term says little by its commit.
+  const least = { MsgPreVoteResp: `${start} ${said[1]}`, MsgHeartbeat: startWithTerm };
+  return isOther && least[type] ? [...labels, least[type]] : labels;
 }
 
 function messageText(message) {
   const term = message.term ? ` term ${message.term}` : "";
-  const [prevTerm, prev, commit, count] = message.said;
-  const entries = count === 1 ? "1 entry" : `${count} entries`;
-  const more = message.type === "MsgApp" ? ` after ${prevTerm}/${prev}, commit ${commit}, ${entries}` : "";
-  return `${message.from}→${message.to} ${message.type}${term} ${more || SAID[message.type](message.said)}`.trim();
+  return `${message.from}→${message.to} ${message.type}${term} ${SAID[message.type](message.said)}`.trim();
 }
 
 const LOST = { dropped: "dropped", "given up": "given up: no room", waiting: "on its way" };

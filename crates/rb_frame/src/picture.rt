@@ -184,7 +184,7 @@ class Picture {\n\
 \x20   this.columns.forEach(({ column, role }, at) => {\n\
 \x20     const numbers = this.model.nodes[at].numbers.at(this.chosen);\n\
 \x20     column.style.left = `${this.layout.x(at + 1) - left}px`;\n\
-\x20     column.hidden = this.layout.x(at + 1) - left < GUTTER;\n\
+\x20     column.hidden = left > 0 && this.layout.x(at + 1) - left < LEAST_LEFT;\n\
 \x20     role.textContent = numbers ? `${numbers.role} t${numbers.term}` : \"\";\n\
 \x20   });\n\
 \x20 }\n\
@@ -214,9 +214,9 @@ class Picture {\n\
 \x20   const lines = new Paths();\n\
 \x20   const labels = [];\n\
 \x20   for (const message of messages) {\n\
-\x20     const end = message.end ?? message.start + SLOT;\n\
+\x20     const end = message.end ?? message.start;\n\
 \x20     if (end >= this.top - SLOT && message.start <= this.top + this.viewHeight + SLOT) {\n\
-\x20       this.drawArrow(lines, message, end);\n\
+\x20       this.drawArrow(lines, message);\n\
 \x20       labels.push(message);\n\
 \x20     }\n\
 \x20   }\n\
@@ -224,94 +224,56 @@ class Picture {\n\
 \x20   labels.forEach((message) => this.drawLabel(all, message));\n\
 \x20 }\n\
 \n\
-\x20 drawArrow(lines, message, end) {\n\
+\x20 drawArrow(lines, message) {\n\
 \x20   const kind = KINDS[message.type];\n\
+\x20   const { points } = this.layout.drawnOf(message);\n\
 \x20   const isHere = message.sent.place === this.chosen || (message.met && message.met.place === this.chosen);\n\
 \x20   const look = `arrow ${kind}${message.fate === \"waiting\" ? \" waiting\" : \"\"}${isHere ? \" here\" : \"\"}`;\n\
-\x20   const side = message.to < message.from ? -1 : 1;\n\
-\x20   const from = this.layout.x(message.from) + side * HALF_BAND;\n\
-\x20   if (message.to === message.from) {\n\
-\x20     this.drawLoop(lines, look, message, end);\n\
-\x20     return;\n\
-\x20   }\n\
-\x20   const to = this.layout.x(message.to) - side * (HALF_BAND + 1);\n\
+\x20   lines.add(look, `M${points.map(([x, y]) => `${n(x)} ${n(y)}`).join(\"L\")}`);\n\
+\x20   const [[fromX, fromY], [x, y]] = points.slice(-2);\n\
 \x20   if (message.fate === \"delivered\") {\n\
-\x20     lines.add(look, `M${n(from)} ${n(message.start)}L${n(to)} ${n(end)}`);\n\
-\x20     lines.add(`tip ${kind}`, tipAt(to, end, to - from, end - message.start));\n\
-\x20   } else if (message.fate === \"dropped\") {\n\
-\x20     // Where nobody has the id that it was sent to, it ends on its way.\n\
-\x20     const short = message.to > this.model.nodes.length ? from + side * 0.3 * this.layout.gap : to - side * 18;\n\
-\x20     lines.add(look, `M${n(from)} ${n(message.start)}L${n(short)} ${n(end)}`);\n\
-\x20     lines.add(\"cross\", crossAt(short, end));\n\
-\x20   } else {\n\
-\x20     const reach = from + side * (message.fate === \"waiting\" ? 0.55 : 0.3) * this.layout.gap;\n\
-\x20     lines.add(look, `M${n(from)} ${n(message.start)}L${n(reach)} ${n(message.start + SLOT * 0.45)}`);\n\
-\x20     if (message.fate === \"given up\") {\n\
-\x20       lines.add(\"cross\", crossAt(reach, message.start + SLOT * 0.45));\n\
-\x20     }\n\
-\x20   }\n\
-\x20 }\n\
-\n\
-\x20 drawLoop(lines, look, message, end) {\n\
-\x20   const x = this.layout.x(message.from) + HALF_BAND;\n\
-\x20   const reach = x + 34;\n\
-\x20   lines.add(look, `M${n(x)} ${n(message.start)}C${n(reach)} ${n(message.start)} ${n(reach)} ${n(end)} ${n(x)} ${n(end)}`);\n\
-\x20   if (message.fate === \"delivered\") {\n\
-\x20     lines.add(`tip ${KINDS[message.type]}`, tipAt(x + 1, end, -1, 0));\n\
+\x20     lines.add(`tip ${kind}`, tipAt(x, y, x - fromX, y - fromY));\n\
 \x20   } else if (message.fate !== \"waiting\") {\n\
-\x20     lines.add(\"cross\", crossAt(x + 12, end));\n\
+\x20     lines.add(\"cross\", crossAt(x, y));\n\
 \x20   }\n\
 \x20 }\n\
 \n\
 \x20 drawLabel(all, message) {\n\
 \x20   const isLeft = message.to < message.from;\n\
-\x20   const x = this.layout.x(message.from) + (isLeft ? -HALF_BAND - 5 : HALF_BAND + 5);\n\
-\x20   const room = isLeft && message.from === 1 ? LEFT - 10 : this.layout.gap - 22;\n\
+\x20   const x = this.layout.x(message.from) + (isLeft ? -BESIDE : BESIDE);\n\
+\x20   const { label } = this.layout.drawnOf(message);\n\
 \x20   const isChosen = message.sent.place === this.chosen;\n\
-\x20   const drawn = this.words(all, `label ${KINDS[message.type]}`, x, message.start - 4, isLeft, this.labelOf(message, room), isChosen);\n\
-\x20   svg(drawn, \"title\", {}, `${messageText(message)}, ${fateText(message)}`);\n\
+\x20   this.words(all, `label ${KINDS[message.type]}`, x, message.start - 5, isLeft, [label], isChosen, `${messageText(message)}, ${fateText(message)}`);\n\
 \x20 }\n\
 \n\
-\x20 labelOf(message, room) {\n\
-\x20   const label = messageLabel(message);\n\
-\x20   return widthOf(label) <= room ? label : fitted(shortLabel(message), room);\n\
-\x20 }\n\
-\n\
-\x20 // Text on a ground of its own, through which lines that cross it show faintly, so that they can be followed and don't strike it out.\n\
-\x20 words(all, look, x, y, isLeft, text, isChosen) {\n\
-\x20   const width = widthOf(text) + 4;\n\
-\x20   const ground = { class: isChosen ? \"ground chosen\" : \"ground\", x: n(isLeft ? x - width + 2 : x - 2), y: n(y - 11), width: n(width), height: 14 };\n\
-\x20   svg(all, \"rect\", ground);\n\
-\x20   return svg(all, \"text\", { class: look, x: n(x), y: n(y), \"text-anchor\": isLeft ? \"end\" : \"start\" }, text);\n\
+\x20 // Lines of text with a rim of the ground's colour, so that a line that crosses them doesn't strike them out; and their whole text.\n\
+\x20 words(all, look, x, y, isLeft, lines, isChosen, whole) {\n\
+\x20   const place = { class: isChosen ? `${look} chosen` : look, x: n(x), y: n(y), \"text-anchor\": isLeft ? \"end\" : \"start\" };\n\
+\x20   const drawn = svg(all, \"text\", place, lines[0]);\n\
+\x20   lines.slice(1).forEach((line) => svg(drawn, \"tspan\", { x: n(x), dy: LINE_STEP }, line));\n\
+\x20   svg(drawn, \"title\", {}, whole);\n\
 \x20 }\n\
 \n\
 \x20 drawMarks(all, row) {\n\
-\x20   for (const mark of row.marks) {\n\
-\x20     const isLeft = mark.side === \"left\";\n\
-\x20     const x = this.layout.x(mark.node) + (isLeft ? -HALF_BAND - 5 : HALF_BAND + 5);\n\
-\x20     const room = isLeft && mark.node === 1 ? LEFT - 10 : this.layout.gap - 18;\n\
-\x20     const isChosen = row.step.place === this.chosen;\n\
-\x20     const drawn = this.words(all, `mark ${mark.look}`, x, mark.y, isLeft, fitted(mark.text, room), isChosen);\n\
-\x20     svg(drawn, \"title\", {}, mark.text);\n\
+\x20   const isChosen = row.step.place === this.chosen;\n\
+\x20   for (const { node, y, side, look, lines, text } of row.marks) {\n\
+\x20     const isLeft = side === \"left\";\n\
+\x20     this.words(all, `mark ${look}`, this.layout.x(node) + (isLeft ? -BESIDE : BESIDE), y, isLeft, lines, isChosen, text);\n\
 \x20   }\n\
 \x20 }\n\
 \n\
 \x20 drawHead(gutter, row) {\n\
+\x20   const isChosen = row.step.place === this.chosen;\n\
 \x20   const isWrong = row.step.expected !== null;\n\
-\x20   svg(gutter, \"text\", { class: \"place\", x: 42, y: row.top + 17, \"text-anchor\": \"end\" }, String(row.step.line));\n\
+\x20   svg(gutter, \"text\", { class: `place${isChosen ? \" chosen\" : \"\"}`, x: HEAD_LEFT - 8, y: row.top + 17, \"text-anchor\": \"end\" }, String(row.step.line));\n\
 \x20   const head = row.step.head.join(\" \");\n\
-\x20   const drawn = svg(gutter, \"text\", { class: `head${isWrong ? \" bad\" : \"\"}`, x: 50, y: row.top + 17 }, this.headText(head, isWrong));\n\
-\x20   svg(drawn, \"title\", {}, head);\n\
-\x20   row.notes.forEach((note, at) => {\n\
-\x20     const isChosen = row.step.place === this.chosen;\n\
-\x20     const said = this.words(gutter, note.look, 50, row.top + ROW_TOP + SLOT * at + 9, false, fitted(note.text, GUTTER + 40), isChosen);\n\
-\x20     svg(said, \"title\", {}, note.text);\n\
-\x20   });\n\
+\x20   this.words(gutter, `head${isWrong ? \" bad\" : \"\"}`, HEAD_LEFT, row.top + 17, false, [this.headText(head, isWrong)], isChosen, head);\n\
+\x20   row.notes.forEach(({ look, y, lines, text }) => this.words(gutter, look, HEAD_LEFT, y, false, lines, isChosen, text));\n\
 \x20 }\n\
 \n\
-\x20 // The head in letters of one width, cut where the first column's labels begin.\n\
+\x20 // The head in letters of one width, cut before the first column.\n\
 \x20 headText(head, isWrong) {\n\
-\x20   const most = isWrong ? 22 : 24;\n\
+\x20   const most = Math.floor((this.layout.left - HEAD_LEFT - BEHIND) / 6.7) - (isWrong ? 2 : 0);\n\
 \x20   return (isWrong ? \"\xe2\x9c\x97 \" : \"\") + (head.length > most ? beginning(head, most - 1) + \"\xe2\x80\xa6\" : head);\n\
 \x20 }\n\
 }\n\

@@ -218,6 +218,7 @@ class Reader {\n\
 \x20   this.tail = [];\n\
 \x20   this.isWhole = false;\n\
 \x20   this.mail = new Mail();\n\
+\x20   this.terms = []; // by id, each node's term so far\n\
 \x20   this.step = null;\n\
 \x20   this.readyNode = 0;\n\
 \x20   this.logNode = null;\n\
@@ -232,6 +233,9 @@ class Reader {\n\
 \x20     read.call(this, cells, name);\n\
 \x20   } else {\n\
 \x20     this.step.events.push({ name, id: cells[0], cells });\n\
+\x20   }\n\
+\x20   if (name === \"became\") {\n\
+\x20     this.terms[cells[0]] = cells[2];\n\
 \x20   }\n\
 \x20 }\n\
 \n\
@@ -251,7 +255,7 @@ class Reader {\n\
 \n\
 \x20 sends(name, cells) {\n\
 \x20   const [from, to, type, term, ...said] = cells;\n\
-\x20   const message = { number: this.messages.length, from, to, type, term, said, sent: this.step, met: null, fate: \"waiting\" };\n\
+\x20   const message = { number: this.messages.length, from, to, type, term, said, sent: this.step, met: null, fate: \"waiting\", metTerm: this.terms[to] };\n\
 \x20   this.messages.push(message);\n\
 \x20   this.step.events.push({ name, id: from, message });\n\
 \x20   return message;\n\
@@ -260,6 +264,7 @@ class Reader {\n\
 \x20 meets(name, cells) {\n\
 \x20   const message = this.mail.take({ to: cells[1], type: cells[2] });\n\
 \x20   message.met = this.step;\n\
+\x20   message.metTerm = this.terms[message.to];\n\
 \x20   message.fate = name === \"deliver\" ? \"delivered\" : \"dropped\";\n\
 \x20   this.step.events.push({ name, id: message.to, message });\n\
 \x20 }\n\
@@ -337,6 +342,7 @@ const ROWS = {\n\
 \x20 },\n\
 \x20 node([id, ...numbers]) {\n\
 \x20   const [role, term, vote, lead, commit, applied, durable, length, end] = numbers;\n\
+\x20   this.terms[id] = term;\n\
 \x20   this.node(id).numbers.set(this.step.place, { role, term, vote, lead, commit, applied, durable, length, end });\n\
 \x20 },\n\
 \x20 config([id, text]) {\n\

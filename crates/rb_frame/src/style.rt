@@ -134,7 +134,7 @@ kbd {\n\
 #panes {\n\
 \x20 display: grid;\n\
 \x20 flex: 1;\n\
-\x20 grid-template-columns: minmax(250px, 24%) minmax(0, 1fr) minmax(270px, 22%);\n\
+\x20 grid-template-columns: minmax(250px, 23%) minmax(0, 1fr) minmax(270px, 20%);\n\
 \x20 min-height: 0;\n\
 }\n\
 \n\
@@ -274,7 +274,7 @@ section:focus-visible,\n\
 #scroll {\n\
 \x20 position: relative;\n\
 \x20 flex: 1;\n\
-\x20 overflow: auto;\n\
+\x20 overflow: auto scroll;\n\
 }\n\
 \n\
 #drawing {\n\
@@ -310,10 +310,17 @@ section:focus-visible,\n\
 \x20 margin-right: 5px;\n\
 }\n\
 \n\
-#drawing text,\n\
-#legend text {\n\
+#drawing text {\n\
 \x20 font: 11px var(--sans);\n\
 \x20 fill: var(--ink);\n\
+\x20 stroke: var(--background);\n\
+\x20 stroke-width: 3px;\n\
+\x20 stroke-linejoin: round;\n\
+\x20 paint-order: stroke;\n\
+}\n\
+\n\
+#drawing text.chosen {\n\
+\x20 stroke: var(--chosen);\n\
 }\n\
 \n\
 #drawing .row.chosen {\n\
@@ -341,14 +348,6 @@ section:focus-visible,\n\
 \x20 fill: var(--bad);\n\
 }\n\
 \n\
-#drawing .ground {\n\
-\x20 fill: var(--background);\n\
-\x20 fill-opacity: 0.78;\n\
-}\n\
-\n\
-#drawing .ground.chosen {\n\
-\x20 fill: var(--chosen);\n\
-}\n\
 \n\
 #drawing .mark.quiet {\n\
 \x20 fill: var(--faint);\n\
@@ -402,6 +401,7 @@ svg .band.follower {\n\
 svg .arrow {\n\
 \x20 fill: none;\n\
 \x20 stroke-width: 1.5;\n\
+\x20 stroke-linejoin: round;\n\
 }\n\
 \n\
 svg .arrow.waiting {\n\

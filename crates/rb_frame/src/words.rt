@@ -26,37 +26,45 @@ const SAID = {\n\
 \x20 MsgPreVote: ([term, index]) => `last ${term}/${index}`,\n\
 \x20 MsgVoteResp: ([granted]) => (granted ? \"granted\" : \"refused\"),\n\
 \x20 MsgPreVoteResp: ([granted]) => (granted ? \"granted\" : \"refused\"),\n\
-\x20 MsgApp: ([term, index, commit, count]) => (count ? `+${count} after ${term}/${index}` : `commit ${commit}`),\n\
+\x20 MsgApp: ([term, index, commit, count]) => `after ${term}/${index}, commit ${commit}, ${counted(count, \"entry\", \"entries\")}`,\n\
 \x20 MsgAppResp: ([refused, index, hint]) => (refused ? `refused ${index}, hint ${hint}` : `match ${index}`),\n\
 \x20 MsgHeartbeat: ([commit]) => `commit ${commit}`,\n\
 \x20 MsgHeartbeatResp: () => \"\",\n\
 \x20 MsgSnap: ([term, index]) => `${term}/${index}`,\n\
-\x20 MsgProp: ([body]) => body,\n\
+\x20 MsgProp: ([body]) => shown(body),\n\
 \x20 MsgTransferLeader: ([target]) => `to ${target}`,\n\
 \x20 MsgTimeoutNow: () => \"\",\n\
 };\n\
 \n\
-// To whom a message is, where no arrow leads there.\n\
-function aim(message) {\n\
-\x20 return message.fate === \"waiting\" || message.fate === \"given up\" ? `\xe2\x86\x92${message.to} ` : \"\";\n\
-}\n\
+// What matters of a message where there is less and less room than for all that is said of it. A commit is \xe2\x9c\x93, as it is at marks and entries.\n\
+const IN_FEWER = {\n\
+\x20 MsgVote: ([term, index, transfer]) => (transfer ? [`${term}/${index} transfer`, \"transfer\"] : [`${term}/${index}`]),\n\
+\x20 MsgPreVote: ([term, index]) => [`${term}/${index}`],\n\
+\x20 MsgVoteResp: ([granted]) => [granted ? \"yes\" : \"no\"],\n\
+\x20 MsgPreVoteResp: ([granted]) => [granted ? \"yes\" : \"no\"],\n\
+\x20 MsgApp: ([term, index, commit, count]) => (count ? [`+${count} after ${term}/${index}`, `${term}/${index} +${count}`] : [`commit ${commit}`, `\xe2\x9c\x93${commit}`]),\n\
+\x20 MsgAppResp: ([refused, index, hint]) => (refused ? [`\xe2\x9c\x97${index} hint ${hint}`, `\xe2\x9c\x97${index}`] : [`${index}`]),\n\
+\x20 MsgHeartbeat: ([commit]) => [`\xe2\x9c\x93${commit}`],\n\
+};\n\
 \n\
-// Of a message, what matters: its type without Msg, and what it says.\n\
-function messageLabel(message) {\n\
-\x20 return `${aim(message)}${message.type.slice(3)} ${SAID[message.type](message.said)}`.trim();\n\
-}\n\
-\n\
-// The same where there is less room.\n\
-function shortLabel(message) {\n\
-\x20 return aim(message) + (SAID[message.type](message.said) || message.type.slice(3).replace(\"Heartbeat\", \"Beat\"));\n\
+// The labels that a message can have, from the one that says the most. First comes to whom it is, where no arrow leads there; then its type,\n\
+// without Msg; and its term, where its receiver is of another.\n\
+function labelsOf(message) {\n\
+\x20 const { type, term, metTerm } = message;\n\
+\x20 const aim = message.fate === \"waiting\" || message.fate === \"given up\" ? `\xe2\x86\x92${message.to} ` : \"\";\n\
+\x20 const start = aim + type.slice(3);\n\
+\x20 const isOther = term && metTerm !== undefined && metTerm !== term;\n\
+\x20 const startWithTerm = isOther ? `${start} t${term}` : start;\n\
+\x20 const said = [SAID[type](message.said), ...(IN_FEWER[type]?.(message.said) ?? [])];\n\
+\x20 const labels = said.map((text) => `${startWithTerm} ${text}`.trim());\n\
+\x20 // The answer to a question before the vote has the question's term. A heartbeat of another term says little by its commit.\n\
+\x20 const least = { MsgPreVoteResp: `${start} ${said[1]}`, MsgHeartbeat: startWithTerm };\n\
+\x20 return isOther && least[type] ? [...labels, least[type]] : labels;\n\
 }\n\
 \n\
 function messageText(message) {\n\
 \x20 const term = message.term ? ` term ${message.term}` : \"\";\n\
-\x20 const [prevTerm, prev, commit, count] = message.said;\n\
-\x20 const entries = count === 1 ? \"1 entry\" : `${count} entries`;\n\
-\x20 const more = message.type === \"MsgApp\" ? ` after ${prevTerm}/${prev}, commit ${commit}, ${entries}` : \"\";\n\
-\x20 return `${message.from}\xe2\x86\x92${message.to} ${message.type}${term} ${more || SAID[message.type](message.said)}`.trim();\n\
+\x20 return `${message.from}\xe2\x86\x92${message.to} ${message.type}${term} ${SAID[message.type](message.said)}`.trim();\n\
 }\n\
 \n\
 const LOST = { dropped: \"dropped\", \"given up\": \"given up: no room\", waiting: \"on its way\" };\n\
