@@ -323,8 +323,10 @@ class Layout {
   }
 }
 
-// How many rows a line looks at for texts that it would strike, and how many places it tries for a bend.
+// How many rows a line looks at for texts that it would strike, how many texts it takes of them, spread evenly, and how many places it tries
+// for a bend.
 const MOST_ROWS = 200;
+const MOST_TEXTS = 200;
 const MOST_BENDS = 24;
 
 // The line of a message: level along its own label, then straight to its end; where this would strike other texts, it bends at other places,
@@ -377,7 +379,9 @@ class Route {
       const isInside = message.to === message.from ? node === message.from && !isLeft : (stands - message.from) * (stands - message.to) < 0;
       return isInside && bottom > this.top && top < this.bottom;
     };
-    return texts.filter(isOnTheWay).map((text) => {
+    const found = texts.filter(isOnTheWay);
+    const every = Math.ceil(found.length / MOST_TEXTS);
+    return found.filter((_, at) => at % every === 0).map((text) => {
       const band = (text.node - message.from) * side * layout.gap;
       const isFarther = text.isLeft === side < 0;
       const near = isFarther ? band + BESIDE - 2 : band - BESIDE - text.width - 2;

@@ -1,7 +1,8 @@
-// What stands after the chosen directive.
+// What stands after the chosen directive. What is long is made as it is wanted: a list when its end comes into view, a log's earlier entries by a click.
 
-const MOST_ENTRIES = 24;
-const MOST_LISTED = 200;
+const FIRST_ENTRIES = 24;
+const MORE_ENTRIES = 200;
+const MORE_LISTED = 200;
 
 function element(name, look, ...children) {
   const made = document.createElement(name);
@@ -15,25 +16,30 @@ class State {
     this.model = model;
     this.pane = document.getElementById("state");
     this.isOpen = false;
+    this.growing = new Map(); // by the last item of a list that isn't whole, what makes more of it
+    this.watch = new IntersectionObserver((seen) => this.came(seen), { root: this.pane, rootMargin: "600px 0px" });
   }
 
   choose(place) {
+    this.watch.disconnect();
+    this.growing.clear();
     const step = this.model.steps[place - 1];
     const nodes = this.model.nodes.filter((node) => node.since <= place);
     const pending = this.model.spans.pendingAfter(place);
     this.pane.replaceChildren(
       this.happened(step),
       element("h2", "", `After line ${step.line}`),
+      this.signs(),
       ...nodes.map((node) => this.node(node, step)),
       element("h2", "", pending.length === 1 ? "1 message on its way" : `${pending.length || "No"} messages on their way`),
-      this.list(pending.map(messageText)),
+      this.list(pending, messageText),
     );
     this.pane.scrollTop = 0;
   }
 
   happened(step) {
-    const texts = step.events.filter((event) => event.name !== "ready").map(eventText);
-    const found = element("details", "", element("summary", "", `What happened (${texts.length})`), this.list(texts));
+    const events = step.events.filter((event) => event.name !== "ready");
+    const found = element("details", "", element("summary", "", `What happened (${events.length})`), this.list(events, eventText));
     found.open = this.isOpen;
     found.addEventListener("toggle", () => {
       this.isOpen = found.open;
@@ -41,12 +47,42 @@ class State {
     return found;
   }
 
-  list(texts) {
-    const items = texts.slice(0, MOST_LISTED).map((text) => element("li", "", text));
-    if (texts.length > MOST_LISTED) {
-      items.push(element("li", "quiet", `and ${texts.length - MOST_LISTED} more`));
+  // A list of what some things are as texts.
+  list(things, textOf) {
+    const list = element("ol", "list");
+    this.addItems(list, things, textOf, 0);
+    return list;
+  }
+
+  addItems(list, things, textOf, from) {
+    const items = things.slice(from, from + MORE_LISTED).map((thing) => element("li", "", textOf(thing)));
+    const rest = things.length - from - items.length;
+    list.append(...items);
+    if (rest > 0) {
+      const last = element("li", "quiet", `and ${rest} more`);
+      list.append(last);
+      this.growing.set(last, () => this.addItems(list, things, textOf, from + items.length));
+      this.watch.observe(last);
     }
-    return element("ol", "list", ...items);
+  }
+
+  // Lists whose ends came into view, or near to it, grow.
+  came(seen) {
+    for (const { isIntersecting, target } of seen) {
+      const grow = isIntersecting && this.growing.get(target);
+      if (grow) {
+        this.watch.unobserve(target);
+        this.growing.delete(target);
+        target.remove();
+        grow();
+      }
+    }
+  }
+
+  // How the boxes of entries look.
+  signs() {
+    const looks = [["base", "base"], ["unsaved", "unsaved"], ["", "durable"], ["committed", "committed ✓"], ["committed applied", "applied ✓"]];
+    return element("div", "log", ...looks.map(([look, text]) => element("span", look, text)));
   }
 
   node(node, step) {
@@ -69,30 +105,44 @@ class State {
 
   log(node, numbers, place) {
     const { baseTerm, base, last } = node.log.at(place);
-    const first = Math.max(base + 1, last - MOST_ENTRIES + 1);
-    const boxes = [this.box("base", `${baseTerm}/${base}`, "base of the log")];
-    if (first > base + 1) {
-      boxes.push(this.box("more", `… ${first - base - 1} entries …`, ""));
-    }
-    for (let index = first; index <= last; index += 1) {
-      boxes.push(this.entry(index, node.entryAt(index, place), numbers));
-    }
-    return element("div", "log", ...boxes);
+    const log = element("div", "log", this.box("base", `${baseTerm}/${base}`, `${baseTerm}/${base}, the base of the log`));
+    const boxes = (from, to) => {
+      const indices = Array.from({ length: to - from + 1 }, (_, at) => from + at);
+      return indices.map((index) => this.entry(index, node.entryAt(index, place), numbers));
+    };
+    const first = Math.max(base + 1, last - FIRST_ENTRIES + 1);
+    log.append(...boxes(first, last));
+    this.addEarlier(log, base + 1, first - 1, boxes);
+    return log;
   }
 
-  // An entry's box, whose signs are words too: committed is *, unsaved is ?.
+  // A button for the entries up to one that aren't shown, behind the base.
+  addEarlier(log, from, to, boxes) {
+    if (from > to) {
+      return;
+    }
+    const more = element("button", "", `… ${counted(to - from + 1, "entry", "entries")} …`);
+    more.addEventListener("click", () => {
+      const first = Math.max(from, to - MORE_ENTRIES + 1);
+      more.replaceWith(...boxes(first, to));
+      this.addEarlier(log, from, first - 1, boxes);
+    });
+    log.firstChild.after(more);
+  }
+
+  // An entry's box: its signs are words and forms too.
   entry(index, { term, body }, { commit, applied, durable }) {
-    const signs = [index <= commit ? "committed" : "", index <= applied ? "applied" : "", index > durable ? "unsaved" : ""].filter(Boolean);
+    const looks = [index <= commit ? "committed" : "", index <= applied ? "applied" : "", index > durable ? "unsaved" : ""].filter(Boolean);
     const text = shown(body);
     const short = text.length > 18 ? beginning(text, 17) + "…" : text;
     const sign = index > durable ? " unsaved" : index <= commit ? " ✓" : "";
-    return this.box(signs.join(" "), `${term}/${index} ${short}${sign}`, `${term}/${index} ${text}${signs.length ? ", " + signs.join(", ") : ""}`);
+    const said = [...(index > durable ? [] : ["durable"]), ...looks].join(", ");
+    return this.box(looks.join(" "), `${term}/${index} ${short}${sign}`, `${term}/${index} ${text}: ${said}`);
   }
 
-  box(look, text, title) {
-    const box = element("span", look, text);
-    box.title = title;
-    return box;
+  // A box whose whole text stands below it while it is pointed at.
+  box(look, text, whole) {
+    return element("span", look, text, element("span", "whole", whole));
   }
 
   views(node, place) {

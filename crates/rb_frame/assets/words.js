@@ -111,7 +111,7 @@ function eventText(event) {
   if (NOTES[event.name]) {
     return NOTES[event.name](event.cells)[0];
   }
-  const cells = event.name === "save" || event.name === "apply" ? `${event.cells[1]}/${event.cells[0]} ${event.cells[2]}` : "";
+  const cells = event.name === "save" || event.name === "apply" ? `${event.cells[1]}/${event.cells[0]} ${shown(event.cells[2])}` : "";
   const hard = event.name === "hard" ? `term ${event.cells[0]}, vote ${event.cells[1]}, commit ${event.cells[2]}` : "";
   return `${event.id} ${event.name} ${cells}${hard}`.trim();
 }

@@ -329,8 +329,10 @@ class Layout {\n\
 \x20 }\n\
 }\n\
 \n\
-// How many rows a line looks at for texts that it would strike, and how many places it tries for a bend.\n\
+// How many rows a line looks at for texts that it would strike, how many texts it takes of them, spread evenly, and how many places it tries\n\
+// for a bend.\n\
 const MOST_ROWS = 200;\n\
+const MOST_TEXTS = 200;\n\
 const MOST_BENDS = 24;\n\
 \n\
 // The line of a message: level along its own label, then straight to its end; where this would strike other texts, it bends at other places,\n\
@@ -383,7 +385,9 @@ class Route {\n\
 \x20     const isInside = message.to === message.from ? node === message.from && !isLeft : (stands - message.from) * (stands - message.to) < 0;\n\
 \x20     return isInside && bottom > this.top && top < this.bottom;\n\
 \x20   };\n\
-\x20   return texts.filter(isOnTheWay).map((text) => {\n\
+\x20   const found = texts.filter(isOnTheWay);\n\
+\x20   const every = Math.ceil(found.length / MOST_TEXTS);\n\
+\x20   return found.filter((_, at) => at % every === 0).map((text) => {\n\
 \x20     const band = (text.node - message.from) * side * layout.gap;\n\
 \x20     const isFarther = text.isLeft === side < 0;\n\
 \x20     const near = isFarther ? band + BESIDE - 2 : band - BESIDE - text.width - 2;\n\

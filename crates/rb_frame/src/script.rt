@@ -5,7 +5,7 @@
 pub(crate) const SCRIPT: &[u8] = b"\
 \n\
 // The script: comments, directives, and below the chosen one its output. Lines are wrapped here, at a number of letters, so that it is\n\
-// known how high each block is before it is drawn, and only those in view are.\n\
+// known how high each block is before it is drawn, and only the rows in view are.\n\
 \n\
 const LINE = 18;\n\
 const BLOCK_EDGE = 6;\n\
@@ -133,12 +133,12 @@ class Script {\n\
 \x20   this.fit();\n\
 \x20 }\n\
 \n\
-\x20 // What the chosen directive is higher than it would be if it weren't.\n\
+\x20 // The rows of the chosen directive, with its output, and what it is higher than it would be if it weren't chosen.\n\
 \x20 fit() {\n\
 \x20   const at = 2 * this.chosen - 1;\n\
 \x20   const step = this.model.steps[this.chosen - 1];\n\
-\x20   const whole = step ? this.rowsOf(step).length * LINE + BLOCK_EDGE : 0;\n\
-\x20   this.more = step ? whole - (this.tops[at + 1] - this.tops[at]) : 0;\n\
+\x20   this.chosenRows = step ? this.rowsOf(step) : [];\n\
+\x20   this.more = step ? this.chosenRows.length * LINE + BLOCK_EDGE - (this.tops[at + 1] - this.tops[at]) : 0;\n\
 \x20   this.extent.style.height = `${this.tops[this.tops.length - 1] + this.more + 40}px`;\n\
 \x20 }\n\
 \n\
@@ -177,23 +177,39 @@ class Script {\n\
 \x20   let at = Math.max(0, firstAbove(this.tops, top - Math.max(0, this.more)) - 1);\n\
 \x20   for (; at < this.tops.length - 1 && this.topOf(at) <= bottom; at += 1) {\n\
 \x20     if (this.topOf(at + 1) >= top && this.topOf(at + 1) > this.topOf(at)) {\n\
-\x20       drawn.push(this.block(at));\n\
+\x20       drawn.push(this.block(at, top, bottom));\n\
 \x20     }\n\
 \x20   }\n\
 \x20   this.pane.replaceChildren(this.extent, ...drawn);\n\
 \x20 }\n\
 \n\
-\x20 block(at) {\n\
+\x20 rowsAt(at) {\n\
+\x20   const step = this.model.steps[at >> 1];\n\
+\x20   if (at % 2 === 1) {\n\
+\x20     return step.place === this.chosen ? this.chosenRows : this.rowsOf(step);\n\
+\x20   }\n\
+\x20   return this.rowsOfComment(step ? step.lead : this.model.tail);\n\
+\x20 }\n\
+\n\
+\x20 // A block with those of its rows that stand between two heights.\n\
+\x20 block(at, top, bottom) {\n\
 \x20   const step = this.model.steps[at >> 1];\n\
 \x20   const isDirective = at % 2 === 1;\n\
-\x20   const rows = isDirective ? this.rowsOf(step) : this.rowsOfComment(step ? step.lead : this.model.tail);\n\
+\x20   const rows = this.rowsAt(at);\n\
+\x20   const first = Math.max(0, Math.floor((top - this.topOf(at)) / LINE) - 1);\n\
+\x20   const last = Math.ceil((bottom - this.topOf(at)) / LINE);\n\
 \x20   const block = document.createElement(\"div\");\n\
 \x20   block.className = isDirective && step.place === this.chosen ? \"block chosen\" : \"block\";\n\
 \x20   block.style.top = `${this.topOf(at)}px`;\n\
+\x20   block.style.height = `${rows.length * LINE + BLOCK_EDGE}px`;\n\
 \x20   if (step) {\n\
 \x20     block.dataset.place = step.place;\n\
 \x20   }\n\
-\x20   rows.forEach(([look, text], row) => block.append(this.row(look, text, isDirective && row === 0 ? String(step.line) : \"\")));\n\
+\x20   const drawn = rows.slice(first, last + 1).map(([look, text], row) => this.row(look, text, isDirective && first + row === 0 ? String(step.line) : \"\"));\n\
+\x20   if (drawn.length > 0) {\n\
+\x20     drawn[0].style.marginTop = `${first * LINE}px`;\n\
+\x20   }\n\
+\x20   block.append(...drawn);\n\
 \x20   return block;\n\
 \x20 }\n\
 \n\

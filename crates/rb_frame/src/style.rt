@@ -15,17 +15,17 @@ pub(crate) const STYLE: &[u8] = b"\
 \x20 --accent: #2461d8;\n\
 \x20 --bad: #c0261c;\n\
 \x20 --bad-background: #fdeeec;\n\
-\x20 --good: #1a7f43;\n\
+\x20 --good: #177340;\n\
 \x20 --good-background: #e8f6ed;\n\
-\x20 --leader: #218a4b;\n\
-\x20 --candidate: #d08a12;\n\
-\x20 --precandidate: #b39a2e;\n\
-\x20 --follower: #a3abb6;\n\
+\x20 --leader: #17763d;\n\
+\x20 --candidate: #b8710a;\n\
+\x20 --precandidate: #938321;\n\
+\x20 --follower: #7d8693;\n\
 \x20 --on-follower: #14171c;\n\
 \x20 --on-candidate: #14171c;\n\
-\x20 --vote: #a85a06;\n\
+\x20 --vote: #9b5205;\n\
 \x20 --append: #2461d8;\n\
-\x20 --heartbeat: #69727e;\n\
+\x20 --heartbeat: #5d6672;\n\
 \x20 --snapshot: #8237bd;\n\
 \x20 --proposal: #0a7a75;\n\
 \x20 --mono: ui-monospace, \"SF Mono\", \"Cascadia Mono\", \"Segoe UI Mono\", \"DejaVu Sans Mono\", Menlo, Consolas, monospace;\n\
@@ -48,8 +48,7 @@ pub(crate) const STYLE: &[u8] = b"\
 \x20   --leader: #3fae6b;\n\
 \x20   --candidate: #d99a2b;\n\
 \x20   --precandidate: #b8a244;\n\
-\x20   --follower: #656e7a;\n\
-\x20   --on-follower: #ffffff;\n\
+\x20   --follower: #7c8693;\n\
 \x20   --vote: #e0a050;\n\
 \x20   --append: #7ba7ff;\n\
 \x20   --heartbeat: #98a2af;\n\
@@ -542,11 +541,12 @@ svg .tip {\n\
 \x20 display: flex;\n\
 \x20 flex-wrap: wrap;\n\
 \x20 gap: 3px;\n\
+\x20 position: relative;\n\
 \x20 margin: 5px 0;\n\
 \x20 font: 11px/16px var(--mono);\n\
 }\n\
 \n\
-.log span {\n\
+.log > span {\n\
 \x20 max-width: 100%;\n\
 \x20 padding: 0 5px;\n\
 \x20 border: 1px solid var(--faint);\n\
@@ -556,29 +556,54 @@ svg .tip {\n\
 \x20 white-space: pre;\n\
 }\n\
 \n\
-.log .base {\n\
+.log > .base {\n\
 \x20 border-style: double;\n\
 \x20 border-width: 3px;\n\
 \x20 padding: 0 3px;\n\
 \x20 line-height: 12px;\n\
 }\n\
 \n\
-.log .committed {\n\
+.log > .committed {\n\
 \x20 border-color: var(--good);\n\
 \x20 background: var(--good-background);\n\
 }\n\
 \n\
-.log .applied {\n\
+.log > .applied {\n\
 \x20 border-width: 1px 1px 1px 4px;\n\
 }\n\
 \n\
-.log .unsaved {\n\
+.log > .unsaved {\n\
 \x20 border-style: dashed;\n\
 }\n\
 \n\
-.log .more {\n\
-\x20 border-color: transparent;\n\
-\x20 color: var(--faint);\n\
+.log > button {\n\
+\x20 padding: 0 5px;\n\
+\x20 border: none;\n\
+\x20 background: none;\n\
+\x20 color: var(--accent);\n\
+\x20 font: inherit;\n\
+\x20 text-decoration: underline;\n\
+\x20 cursor: pointer;\n\
+}\n\
+\n\
+.log .whole {\n\
+\x20 display: none;\n\
+\x20 position: absolute;\n\
+\x20 left: 0;\n\
+\x20 right: 0;\n\
+\x20 z-index: 1;\n\
+\x20 margin-top: 3px;\n\
+\x20 padding: 2px 6px;\n\
+\x20 border: 1px solid var(--faint);\n\
+\x20 border-radius: 3px;\n\
+\x20 background: var(--panel);\n\
+\x20 overflow-wrap: anywhere;\n\
+\x20 white-space: pre-wrap;\n\
+\x20 pointer-events: none;\n\
+}\n\
+\n\
+.log > span:hover > .whole {\n\
+\x20 display: block;\n\
 }\n\
 \n\
 .views {\n\

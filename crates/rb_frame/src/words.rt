@@ -117,7 +117,7 @@ function eventText(event) {\n\
 \x20 if (NOTES[event.name]) {\n\
 \x20   return NOTES[event.name](event.cells)[0];\n\
 \x20 }\n\
-\x20 const cells = event.name === \"save\" || event.name === \"apply\" ? `${event.cells[1]}/${event.cells[0]} ${event.cells[2]}` : \"\";\n\
+\x20 const cells = event.name === \"save\" || event.name === \"apply\" ? `${event.cells[1]}/${event.cells[0]} ${shown(event.cells[2])}` : \"\";\n\
 \x20 const hard = event.name === \"hard\" ? `term ${event.cells[0]}, vote ${event.cells[1]}, commit ${event.cells[2]}` : \"\";\n\
 \x20 return `${event.id} ${event.name} ${cells}${hard}`.trim();\n\
 }\n\
