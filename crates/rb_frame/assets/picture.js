@@ -54,12 +54,14 @@ class Picture {
     this.model = model;
     this.chosen = 1;
     this.top = 0;
+    this.messages = new Map();
     this.scroll = document.getElementById("scroll");
     this.drawing = document.getElementById("drawing");
     this.heads = document.getElementById("heads");
     this.scroll.addEventListener("scroll", () => this.scrolled());
     this.scroll.addEventListener("wheel", (event) => this.wheeled(event), { passive: false });
     this.drawing.addEventListener("click", (event) => choose(this.layout.rowAt(this.top + event.offsetY) + 1));
+    this.drawing.addEventListener("pointerover", (event) => this.trace(event.target.closest("text")));
     new ResizeObserver(() => this.resized()).observe(this.scroll);
     this.makeHeads();
     this.resized();
@@ -135,7 +137,8 @@ class Picture {
   // Brings a row into view, and one that is far away together with what stands around it.
   show(row) {
     const bottom = row.top + row.height;
-    const lowest = Math.min(bottom + 40 - this.viewHeight, row.top - 40);
+    const spare = Math.max(0, this.viewHeight - row.height);
+    const lowest = Math.min(bottom + 40 - this.viewHeight, row.top - Math.min(40, spare));
     if (bottom < this.top || row.top > this.top + this.viewHeight) {
       this.scrollTo(Math.max(lowest, row.top - this.viewHeight / 3));
     } else if (row.top < this.top) {
@@ -157,7 +160,20 @@ class Picture {
     }
   }
 
+  // Draws the line of a label that is pointed at once more, so that it can be followed.
+  trace(label) {
+    this.traced?.remove();
+    const message = this.messages.get(label);
+    if (message) {
+      const lines = new Paths();
+      this.traced = svg(this.arrows, "g", { class: "traced" });
+      this.drawArrow(lines, message);
+      lines.draw(this.traced);
+    }
+  }
+
   draw() {
+    this.messages = new Map(); // by their labels
     const left = this.scroll.scrollLeft;
     const first = this.layout.rowAt(this.top);
     const last = this.layout.rowAt(this.top + this.viewHeight);
@@ -214,7 +230,8 @@ class Picture {
         labels.push(message);
       }
     }
-    lines.draw(all);
+    this.arrows = svg(all, "g", {});
+    lines.draw(this.arrows);
     labels.forEach((message) => this.drawLabel(all, message));
   }
 
@@ -237,15 +254,17 @@ class Picture {
     const x = this.layout.x(message.from) + (isLeft ? -BESIDE : BESIDE);
     const { label } = this.layout.drawnOf(message);
     const isChosen = message.sent.place === this.chosen;
-    this.words(all, `label ${KINDS[message.type]}`, x, message.start - 5, isLeft, [label], isChosen, `${messageText(message)}, ${fateText(message)}`);
+    const whole = `${messageText(message)}, ${fateText(message)}`;
+    this.messages.set(this.words(all, `label ${KINDS[message.type]}`, x, message.start - 5, isLeft, [label], isChosen, whole), message);
   }
 
-  // Lines of text with a rim of the ground's colour, so that a line that crosses them doesn't strike them out; and their whole text.
+  // Lines of text with a rim of the ground's colour, so that an arrow that crosses them doesn't strike them out; and their whole text.
   words(all, look, x, y, isLeft, lines, isChosen, whole) {
     const place = { class: isChosen ? `${look} chosen` : look, x: n(x), y: n(y), "text-anchor": isLeft ? "end" : "start" };
     const drawn = svg(all, "text", place, lines[0]);
     lines.slice(1).forEach((line) => svg(drawn, "tspan", { x: n(x), dy: LINE_STEP }, line));
     svg(drawn, "title", {}, whole);
+    return drawn;
   }
 
   drawMarks(all, row) {

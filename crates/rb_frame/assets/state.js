@@ -150,7 +150,7 @@ class State {
     if (found.length === 0) {
       return [];
     }
-    const head = element("tr", "", ...["member", "", "match", "next", "window"].map((text) => element("th", "", text)));
+    const head = element("tr", "", ...["node", "", "match", "next", "window"].map((text) => element("th", "", text)));
     const rows = found.sort((a, b) => a[0] - b[0]).map(([member, view]) => this.view(member, view));
     return [element("table", "views", head, ...rows)];
   }

@@ -45,7 +45,8 @@ const IN_FEWER = {
 // without Msg; and its term, where its receiver is of another.
 function labelsOf(message) {
   const { type, term, metTerm } = message;
-  const aim = message.fate === "waiting" || message.fate === "given up" ? `→${message.to} ` : "";
+  const isAimless = message.fate === "waiting" || message.fate === "given up" || metTerm === undefined;
+  const aim = isAimless ? `→${message.to} ` : "";
   const start = aim + type.slice(3);
   const isOther = term && metTerm !== undefined && metTerm !== term;
   const startWithTerm = isOther ? `${start} t${term}` : start;

@@ -7,7 +7,7 @@ pub(crate) const HEAD: &[u8] = b"\
 <html lang=\"en\">\n\
 <head>\n\
 <meta charset=\"utf-8\">\n\
-<meta http-equiv=\"Content-Security-Policy\" content=\"default-src 'none'; style-src 'sha256-Tvb9DuLqb161z1RLicKVf/lsVUm+Ddu7lbw7WSzqmqY='; script-src 'sha256-YKxhU0oIU/Jta1sY5Sn8Tr+uQUAj+gXxRT4bNyJSx6I='; base-uri 'none'; form-action 'none'\">\n\
+<meta http-equiv=\"Content-Security-Policy\" content=\"default-src 'none'; style-src 'sha256-xqIZ09LBJL1Y+zIvxtaovVA59yKGmYspb5pdepD8IAg='; script-src 'sha256-xYeIvObTkkF6QFxCkW8v7jXabdXWdOmUgo2rEz/5rxE='; base-uri 'none'; form-action 'none'\">\n\
 <meta name=\"viewport\" content=\"width=device-width, initial-scale=1\">\n\
 <meta name=\"referrer\" content=\"no-referrer\">\n\
 <title>raftbench</title>\n\

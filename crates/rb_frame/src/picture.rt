@@ -60,12 +60,14 @@ class Picture {\n\
 \x20   this.model = model;\n\
 \x20   this.chosen = 1;\n\
 \x20   this.top = 0;\n\
+\x20   this.messages = new Map();\n\
 \x20   this.scroll = document.getElementById(\"scroll\");\n\
 \x20   this.drawing = document.getElementById(\"drawing\");\n\
 \x20   this.heads = document.getElementById(\"heads\");\n\
 \x20   this.scroll.addEventListener(\"scroll\", () => this.scrolled());\n\
 \x20   this.scroll.addEventListener(\"wheel\", (event) => this.wheeled(event), { passive: false });\n\
 \x20   this.drawing.addEventListener(\"click\", (event) => choose(this.layout.rowAt(this.top + event.offsetY) + 1));\n\
+\x20   this.drawing.addEventListener(\"pointerover\", (event) => this.trace(event.target.closest(\"text\")));\n\
 \x20   new ResizeObserver(() => this.resized()).observe(this.scroll);\n\
 \x20   this.makeHeads();\n\
 \x20   this.resized();\n\
@@ -141,7 +143,8 @@ class Picture {\n\
 \x20 // Brings a row into view, and one that is far away together with what stands around it.\n\
 \x20 show(row) {\n\
 \x20   const bottom = row.top + row.height;\n\
-\x20   const lowest = Math.min(bottom + 40 - this.viewHeight, row.top - 40);\n\
+\x20   const spare = Math.max(0, this.viewHeight - row.height);\n\
+\x20   const lowest = Math.min(bottom + 40 - this.viewHeight, row.top - Math.min(40, spare));\n\
 \x20   if (bottom < this.top || row.top > this.top + this.viewHeight) {\n\
 \x20     this.scrollTo(Math.max(lowest, row.top - this.viewHeight / 3));\n\
 \x20   } else if (row.top < this.top) {\n\
@@ -163,7 +166,20 @@ class Picture {\n\
 \x20   }\n\
 \x20 }\n\
 \n\
+\x20 // Draws the line of a label that is pointed at once more, so that it can be followed.\n\
+\x20 trace(label) {\n\
+\x20   this.traced?.remove();\n\
+\x20   const message = this.messages.get(label);\n\
+\x20   if (message) {\n\
+\x20     const lines = new Paths();\n\
+\x20     this.traced = svg(this.arrows, \"g\", { class: \"traced\" });\n\
+\x20     this.drawArrow(lines, message);\n\
+\x20     lines.draw(this.traced);\n\
+\x20   }\n\
+\x20 }\n\
+\n\
 \x20 draw() {\n\
+\x20   this.messages = new Map(); // by their labels\n\
 \x20   const left = this.scroll.scrollLeft;\n\
 \x20   const first = this.layout.rowAt(this.top);\n\
 \x20   const last = this.layout.rowAt(this.top + this.viewHeight);\n\
@@ -220,7 +236,8 @@ class Picture {\n\
 \x20       labels.push(message);\n\
 \x20     }\n\
 \x20   }\n\
-\x20   lines.draw(all);\n\
+\x20   this.arrows = svg(all, \"g\", {});\n\
+\x20   lines.draw(this.arrows);\n\
 \x20   labels.forEach((message) => this.drawLabel(all, message));\n\
 \x20 }\n\
 \n\
@@ -243,15 +260,17 @@ class Picture {\n\
 \x20   const x = this.layout.x(message.from) + (isLeft ? -BESIDE : BESIDE);\n\
 \x20   const { label } = this.layout.drawnOf(message);\n\
 \x20   const isChosen = message.sent.place === this.chosen;\n\
-\x20   this.words(all, `label ${KINDS[message.type]}`, x, message.start - 5, isLeft, [label], isChosen, `${messageText(message)}, ${fateText(message)}`);\n\
+\x20   const whole = `${messageText(message)}, ${fateText(message)}`;\n\
+\x20   this.messages.set(this.words(all, `label ${KINDS[message.type]}`, x, message.start - 5, isLeft, [label], isChosen, whole), message);\n\
 \x20 }\n\
 \n\
-\x20 // Lines of text with a rim of the ground's colour, so that a line that crosses them doesn't strike them out; and their whole text.\n\
+\x20 // Lines of text with a rim of the ground's colour, so that an arrow that crosses them doesn't strike them out; and their whole text.\n\
 \x20 words(all, look, x, y, isLeft, lines, isChosen, whole) {\n\
 \x20   const place = { class: isChosen ? `${look} chosen` : look, x: n(x), y: n(y), \"text-anchor\": isLeft ? \"end\" : \"start\" };\n\
 \x20   const drawn = svg(all, \"text\", place, lines[0]);\n\
 \x20   lines.slice(1).forEach((line) => svg(drawn, \"tspan\", { x: n(x), dy: LINE_STEP }, line));\n\
 \x20   svg(drawn, \"title\", {}, whole);\n\
+\x20   return drawn;\n\
 \x20 }\n\
 \n\
 \x20 drawMarks(all, row) {\n\

@@ -160,7 +160,8 @@ class Script {\n\
 \x20   const below = this.topOf(2 * this.chosen);\n\
 \x20   const top = this.pane.scrollTop;\n\
 \x20   const height = this.pane.clientHeight;\n\
-\x20   const lowest = Math.min(below - height + 60, own - 20);\n\
+\x20   const spare = Math.max(0, height - (below - own));\n\
+\x20   const lowest = Math.min(below - height + 60, own - Math.min(20, spare));\n\
 \x20   if (below < top || above > top + height) {\n\
 \x20     this.pane.scrollTop = Math.max(lowest, above - height / 3);\n\
 \x20   } else if (above < top) {\n\

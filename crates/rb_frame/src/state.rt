@@ -156,7 +156,7 @@ class State {\n\
 \x20   if (found.length === 0) {\n\
 \x20     return [];\n\
 \x20   }\n\
-\x20   const head = element(\"tr\", \"\", ...[\"member\", \"\", \"match\", \"next\", \"window\"].map((text) => element(\"th\", \"\", text)));\n\
+\x20   const head = element(\"tr\", \"\", ...[\"node\", \"\", \"match\", \"next\", \"window\"].map((text) => element(\"th\", \"\", text)));\n\
 \x20   const rows = found.sort((a, b) => a[0] - b[0]).map(([member, view]) => this.view(member, view));\n\
 \x20   return [element(\"table\", \"views\", head, ...rows)];\n\
 \x20 }\n\

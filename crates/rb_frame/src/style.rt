@@ -411,6 +411,10 @@ svg .arrow.here {\n\
 \x20 stroke-width: 2.25;\n\
 }\n\
 \n\
+svg .traced .arrow {\n\
+\x20 stroke-width: 4;\n\
+}\n\
+\n\
 svg .vote {\n\
 \x20 --kind: var(--vote);\n\
 }\n\
@@ -621,7 +625,7 @@ svg .tip {\n\
 \n\
 .views th,\n\
 .views td {\n\
-\x20 padding: 0 8px 0 0;\n\
+\x20 padding: 0 6px 0 0;\n\
 \x20 text-align: left;\n\
 }\n\
 \n\

@@ -51,7 +51,8 @@ const IN_FEWER = {\n\
 // without Msg; and its term, where its receiver is of another.\n\
 function labelsOf(message) {\n\
 \x20 const { type, term, metTerm } = message;\n\
-\x20 const aim = message.fate === \"waiting\" || message.fate === \"given up\" ? `\xe2\x86\x92${message.to} ` : \"\";\n\
+\x20 const isAimless = message.fate === \"waiting\" || message.fate === \"given up\" || metTerm === undefined;\n\
+\x20 const aim = isAimless ? `\xe2\x86\x92${message.to} ` : \"\";\n\
 \x20 const start = aim + type.slice(3);\n\
 \x20 const isOther = term && metTerm !== undefined && metTerm !== term;\n\
 \x20 const startWithTerm = isOther ? `${start} t${term}` : start;\n\
