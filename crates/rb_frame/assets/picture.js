@@ -146,6 +146,16 @@ class Picture {
     } else if (bottom > this.top + this.viewHeight) {
       this.scrollTo(lowest);
     }
+    this.showNodes(row.step);
+  }
+
+  // Where none of the nodes that did something is in view, the first of them comes there.
+  showNodes(step) {
+    const ids = step.events.filter((event) => event.message || MARKS[event.name]).map((event) => event.id);
+    const places = ids.map((id) => this.layout.x(id) - this.scroll.scrollLeft);
+    if (ids.length > 0 && !places.some((place) => place > HEAD_LEFT && place < this.viewWidth - 2 * BEHIND)) {
+      this.scroll.scrollLeft += places[0] - LEAST_LEFT;
+    }
   }
 
   // ---- drawing

@@ -34,7 +34,9 @@ class State {
       element("h2", "", pending.length === 1 ? "1 message on its way" : `${pending.length || "No"} messages on their way`),
       this.list(pending, messageText),
     );
-    this.pane.scrollTop = 0;
+    if (this.isOpen) {
+      this.pane.scrollTop = 0;
+    }
   }
 
   happened(step) {

@@ -152,6 +152,16 @@ class Picture {\n\
 \x20   } else if (bottom > this.top + this.viewHeight) {\n\
 \x20     this.scrollTo(lowest);\n\
 \x20   }\n\
+\x20   this.showNodes(row.step);\n\
+\x20 }\n\
+\n\
+\x20 // Where none of the nodes that did something is in view, the first of them comes there.\n\
+\x20 showNodes(step) {\n\
+\x20   const ids = step.events.filter((event) => event.message || MARKS[event.name]).map((event) => event.id);\n\
+\x20   const places = ids.map((id) => this.layout.x(id) - this.scroll.scrollLeft);\n\
+\x20   if (ids.length > 0 && !places.some((place) => place > HEAD_LEFT && place < this.viewWidth - 2 * BEHIND)) {\n\
+\x20     this.scroll.scrollLeft += places[0] - LEAST_LEFT;\n\
+\x20   }\n\
 \x20 }\n\
 \n\
 \x20 // ---- drawing\n\

@@ -40,7 +40,9 @@ class State {\n\
 \x20     element(\"h2\", \"\", pending.length === 1 ? \"1 message on its way\" : `${pending.length || \"No\"} messages on their way`),\n\
 \x20     this.list(pending, messageText),\n\
 \x20   );\n\
-\x20   this.pane.scrollTop = 0;\n\
+\x20   if (this.isOpen) {\n\
+\x20     this.pane.scrollTop = 0;\n\
+\x20   }\n\
 \x20 }\n\
 \n\
 \x20 happened(step) {\n\
