@@ -136,7 +136,8 @@ class State {
   entry(index, { term, body }, { commit, applied, durable }) {
     const looks = [index <= commit ? "committed" : "", index <= applied ? "applied" : "", index > durable ? "unsaved" : ""].filter(Boolean);
     const text = shown(body);
-    const short = text.length > 18 ? beginning(text, 17) + "…" : text;
+    const most = index > durable ? 12 : 18;
+    const short = text.length > most ? beginning(text, most - 1) + "…" : text;
     const sign = index > durable ? " unsaved" : index <= commit ? " ✓" : "";
     const said = [...(index > durable ? [] : ["durable"]), ...looks].join(", ");
     return this.box(looks.join(" "), `${term}/${index} ${short}${sign}`, `${term}/${index} ${text}: ${said}`);

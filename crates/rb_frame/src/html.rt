@@ -7,7 +7,7 @@ pub(crate) const HEAD: &[u8] = b"\
 <html lang=\"en\">\n\
 <head>\n\
 <meta charset=\"utf-8\">\n\
-<meta http-equiv=\"Content-Security-Policy\" content=\"default-src 'none'; style-src 'sha256-xqIZ09LBJL1Y+zIvxtaovVA59yKGmYspb5pdepD8IAg='; script-src 'sha256-PoeypENjdbohQI1h0l6xhheozRY8RjT5+d9f5UGe12U='; base-uri 'none'; form-action 'none'\">\n\
+<meta http-equiv=\"Content-Security-Policy\" content=\"default-src 'none'; style-src 'sha256-xqIZ09LBJL1Y+zIvxtaovVA59yKGmYspb5pdepD8IAg='; script-src 'sha256-rS/9L+WL6Arht71R5IT8A8vxXc4DwVDy3bOPzOY3yJk='; base-uri 'none'; form-action 'none'\">\n\
 <meta name=\"viewport\" content=\"width=device-width, initial-scale=1\">\n\
 <meta name=\"referrer\" content=\"no-referrer\">\n\
 <title>raftbench</title>\n\

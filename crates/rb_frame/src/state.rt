@@ -142,7 +142,8 @@ class State {\n\
 \x20 entry(index, { term, body }, { commit, applied, durable }) {\n\
 \x20   const looks = [index <= commit ? \"committed\" : \"\", index <= applied ? \"applied\" : \"\", index > durable ? \"unsaved\" : \"\"].filter(Boolean);\n\
 \x20   const text = shown(body);\n\
-\x20   const short = text.length > 18 ? beginning(text, 17) + \"\xe2\x80\xa6\" : text;\n\
+\x20   const most = index > durable ? 12 : 18;\n\
+\x20   const short = text.length > most ? beginning(text, most - 1) + \"\xe2\x80\xa6\" : text;\n\
 \x20   const sign = index > durable ? \" unsaved\" : index <= commit ? \" \xe2\x9c\x93\" : \"\";\n\
 \x20   const said = [...(index > durable ? [] : [\"durable\"]), ...looks].join(\", \");\n\
 \x20   return this.box(looks.join(\" \"), `${term}/${index} ${short}${sign}`, `${term}/${index} ${text}: ${said}`);\n\
