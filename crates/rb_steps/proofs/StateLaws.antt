@@ -1,5 +1,5 @@
 -- Nodes that are compared one by one.
-use Rattle.std.proofs.Common.{◌≡◌, ◌∙◌, ℕ, suc, ◌+◌, ◌≤◌, Bool, true, false, List, [], ◌∷◌, ◌++◌, length, drop, Option, Some, None, Result, Ok, Err, refl, ap, sym, arith, length-append}
+use Rattle.std.proofs.Common.{◌≡◌, ◌∙◌, ℕ, suc, ◌+◌, ◌≤◌, Bool, true, false, List, [], ◌∷◌, ◌++◌, length, drop, Option, Some, None, Result, Ok, Err, refl, ap, sym, arith, append-nil, length-append}
 use Rattle.std.specs.Prelude.{◌||◌, OnOk, cond, if◌then◌else◌, is_some, nat_eq, slice_get}
 use Rattle.std.specs.List.{flat_map}
 use Rattle.std.specs.Str.{bytes_eq}
@@ -109,6 +109,11 @@ still n =
     let vs = n.tracker.views in
     both (λ (a b : List Row). a ++ b) (none_new (standing n) (texts_of (standing n)) (are_own (standing n)))
     (both (λ (a b : List Row). a ++ b) (none_gone n.id vs vs (own_viewed vs)) (log_still n.id n.log))
+
+-- so nothing is added of one
+pub none_kept_of_same : (old new : PlainNode) (texts : List Line) → new ≡ old → texts ≡ texts ++ texts_of (changed_rows old new)
+none_kept_of_same old new texts e =
+    sym (ap (λ (rs : List Row). texts ++ texts_of rs) (ap (λ (n : PlainNode). changed_rows old n) e ∙ still old) ∙ append-nil texts)
 
 -- nodes that stand as they stood have no rows
 pub all_still : (ns : List PlainNode) → state_rows ns ns ≡ []

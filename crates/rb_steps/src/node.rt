@@ -181,6 +181,22 @@ fn keep_changed<L: RaftLog>(
     keep_log(texts, new.id, &old.log, &new.log, old.commit)
 }
 
+// Adds what of a node is not as it was. Usually it is, and then its rows aren't put together to be compared.
+fn keep_if_changed<L: RaftLog>(
+    alloc: Global,
+    texts: &mut Lines,
+    old: &Node<L>,
+    new: &Node<L>,
+) -> Result<(), AllocError>
+    requires { IsKept old.now.log new.now.log old.now.commit }
+    ensures { OnOk result (texts.new ≡ texts.old ++ texts_of (changed_rows old.now new.now)) }
+{
+    if new.same(old) {
+        return Ok(());
+    }
+    keep_changed(alloc, texts, old.status(), new.status())
+}
+
 // The node at an index, where there is one.
 fn old_at<L: RaftLog>(olds: &[SharedNode<L>], index: usize) -> Option<&Node<L>>
     ensures { MatchOption result (slice_get olds.now index ≡ None) (λ node. slice_get olds.now index ≡ Some node.now) }
@@ -211,7 +227,7 @@ fn keep_either<L: RaftLog>(
     ensures { OnOk result (texts.new ≡ texts.old ++ texts_of (node_rows (slice_get olds.now index) new.now)) }
 {
     match old_at(olds, index) {
-        Some(old) => keep_changed(alloc, texts, old.status(), new.status()),
+        Some(old) => keep_if_changed(alloc, texts, old, new),
         None => keep_added(texts, new.status()),
     }
 }
