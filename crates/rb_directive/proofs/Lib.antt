@@ -7,3 +7,4 @@ pub mod KeepLaws
 pub mod BuildLaws
 pub mod BoundLaws
 pub mod ApartLaws
+pub mod AloneLaws

@@ -9,3 +9,4 @@ pub mod Reading
 pub mod Changes
 pub mod Requests
 pub mod Whole
+pub mod Alone

@@ -7,6 +7,7 @@ ghost use Rattle.std.specs.Option.{unwrap_or};
 ghost use Rattle.rb_script.specs.Tokens.{plain};
 ghost use Rattle.rb_directive.specs.Requests.{wanted, add_nodes, propose, propose_conf_change, process_ready, deliver_msgs, stabilize, set_timeout, transfer_leadership, report_unreachable, send_snapshot, compact, built, asked_of, request, IsWithin};
 
+use crate::alone::asked_alone;
 use crate::asking::{AddNodes, DeliverMsgs, ProposeConfChange, Request};
 use crate::change::{Inputs, change_fault};
 use crate::given::Given;
@@ -193,6 +194,10 @@ fn built<'d>(
 fn asked_of<'d>(row: &Row, directive: &'d DirectiveRef<'d>) -> Result<Asked<'d>, DirectiveError<'d>>
     ensures { result ≡ asked_of row.now (plain directive.now) }
 {
+    if let Some(request) = asked_alone(row, directive) {
+        let log_level = None;
+        return Ok(Asked { request, log_level });
+    }
     let given = read(row, directive)?;
     let log_level = given.log_level;
     let request = built(row.name, given, Inputs::of(directive))?;

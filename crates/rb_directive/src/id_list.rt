@@ -36,6 +36,15 @@ impl IdList {
         }
     }
 
+    /// This id.
+    pub(crate) fn one(id: u8) -> IdList
+        ensures { result ≡ id ∷ [] }
+    {
+        let mut ids = IdList::new();
+        ids.push(id);
+        ids
+    }
+
     /// The ids.
     pub fn as_slice(&self) -> &[u8]
         ensures { result.now ≡ self.now }

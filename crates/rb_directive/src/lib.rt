@@ -5,6 +5,7 @@
 //! as numbers, lists of ids and borrowed words, or the first thing that is wrong. It takes no memory.
 #![tactic(auto)]
 
+mod alone;
 mod argument;
 mod asking;
 mod build;
