@@ -267,7 +267,7 @@ stays_own v =
     let none : v.base - v.base ≡ 0 = omega arith in
     stays_from v v (omega arith) ∙ ap (λ (k : ℕ). v.base + common (drop k v.entries) (drop k v.entries)) none ∙ ap (λ (n : ℕ). v.base + n) (common_own v.entries)
 
-own_same : (v : LogValue) → is_same_log v v ≡ true
+pub own_same : (v : LogValue) → is_same_log v v ≡ true
 own_same v =
     let base : (v.base == v.base) ≡ true = (Decides-eqb v.base v.base).1 refl in
     let term : (v.base_term == v.base_term) ≡ true = (Decides-eqb v.base_term v.base_term).1 refl in
@@ -278,7 +278,7 @@ own_same v =
 pub log_still : (id : ℕ) (v : LogValue) → log_changes id v v ≡ []
 log_still id v = ap (λ (t : Bool). if t then [] else log_from id v (stays v v)) (own_same v)
 
-entries_count : (index : ℕ) (es : List Entry) → length (entry_rows index es) ≡ length es
+pub entries_count : (index : ℕ) (es : List Entry) → length (entry_rows index es) ≡ length es
 entries_count index [] = refl
 entries_count index (e ∷ es) = ap (λ (k : ℕ). suc k) (entries_count (index + 1) es)
 

@@ -50,14 +50,14 @@ none_kept (Err e) o new b t0 t1 is now h = h
 -- ---- what is as it was
 
 -- a text that is one of some is one of more
-there : (olds : List Line) (other text : Line) → has_text olds text ≡ true → has_text (other ∷ olds) text ≡ true
+pub there : (olds : List Line) (other text : Line) → has_text olds text ≡ true → has_text (other ∷ olds) text ≡ true
 there olds other text h = either (bytes_eq text other) (has_text olds text) h
   where
     either : (s t : Bool) → t ≡ true → (s || t) ≡ true
     either true t e = refl
     either false t e = e
 
-here : (olds : List Line) (text : Line) → has_text (text ∷ olds) text ≡ true
+pub here : (olds : List Line) (text : Line) → has_text (text ∷ olds) text ≡ true
 here olds text = ap (λ (t : Bool). t || has_text olds text) ((bytes_eq-Decides text text).1 refl)
 
 -- each of these rows is one of those
@@ -88,7 +88,7 @@ has_by true p o h = refl
 has_by false p o h = h
 
 -- each of these members has a view there
-abbrev AreViewed : List (ℕ × PlainProgress) → List (ℕ × PlainProgress) → Type 0
+abbrev pub AreViewed : List (ℕ × PlainProgress) → List (ℕ × PlainProgress) → Type 0
 AreViewed [] news = Unit {0}
 AreViewed (v ∷ vs) news = (has_view news v.0 ≡ true) × AreViewed vs news
 
@@ -96,7 +96,7 @@ are_viewed : (vs news : List (ℕ × PlainProgress)) (w : ℕ × PlainProgress) 
 are_viewed [] news w are = tt
 are_viewed (v ∷ vs) news w are = (has_by (nat_eq v.0 w.0) w.1 (lookup (nat_eq v.0) news) are.0, are_viewed vs news w are.1)
 
-own_viewed : (vs : List (ℕ × PlainProgress)) → AreViewed vs vs
+pub own_viewed : (vs : List (ℕ × PlainProgress)) → AreViewed vs vs
 own_viewed [] = tt
 own_viewed (v ∷ vs) = (has_first vs v, are_viewed vs vs v (own_viewed vs))
 
@@ -134,7 +134,7 @@ few_gone : (id : ℕ) (vs news : List (ℕ × PlainProgress)) → length (gone_r
 few_gone id [] news = omega arith
 few_gone id (v ∷ vs) news = omega (arith, new_by (has_view news v.0) (no_view_row id v.0) (gone_rows id vs news) (length vs) (few_gone id vs news))
 
-views_count : (id : ℕ) (vs : List (ℕ × PlainProgress)) → length (view_rows id vs) ≡ length vs
+pub views_count : (id : ℕ) (vs : List (ℕ × PlainProgress)) → length (view_rows id vs) ≡ length vs
 views_count id [] = refl
 views_count id (v ∷ vs) = ap (λ (k : ℕ). suc k) (views_count id vs)
 

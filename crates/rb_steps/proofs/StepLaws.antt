@@ -50,7 +50,7 @@ pub record AreOfRows (texts : List Line) : Type 0 where
   pub rows : List Row
   pub is : joined texts ≡ flat_map next_text rows
 
-rows_joined : (rs : List Row) → joined (texts_of rs) ≡ flat_map next_text rs
+pub rows_joined : (rs : List Row) → joined (texts_of rs) ≡ flat_map next_text rs
 rows_joined [] = refl
 rows_joined (r ∷ rs) = ap (λ (l : List ℕ). next_text r ++ l) (rows_joined rs)
 
@@ -66,13 +66,13 @@ of_two a b p q = record {
   is = flat_map-append (λ (t : Line). t) a b ∙ both (λ (x y : List ℕ). x ++ y) p.is q.is ∙ sym (flat_map-append next_text p.rows q.rows);
 }
 
-items_joined : (items : List PlainItem) → joined (flat_map (lines_of ways.Rows) items) ≡ flat_map next_text (flat_map item_rows items)
+pub items_joined : (items : List PlainItem) → joined (flat_map (lines_of ways.Rows) items) ≡ flat_map next_text (flat_map item_rows items)
 unfolding item_text
 items_joined [] = refl
 items_joined (item ∷ items) =
     ap (λ (l : List ℕ). flat_map next_text (item_rows item) ++ l) (items_joined items) ∙ sym (flat_map-append next_text (item_rows item) (flat_map item_rows items))
 
-or_ok_joined : (ls : List Line) → joined (or_ok ways.Rows ls) ≡ joined ls
+pub or_ok_joined : (ls : List Line) → joined (or_ok ways.Rows ls) ≡ joined ls
 unfolding item_text item_rows
 or_ok_joined [] = refl
 or_ok_joined (l ∷ ls) = refl

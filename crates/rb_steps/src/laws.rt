@@ -1,19 +1,27 @@
 //! Laws of steps.
 
-ghost use Rattle.std.specs.Prelude.{◌≡◌, ◌≤◌, ◌+◌, [], ℕ, List, length, true};
-ghost use Rattle.std.specs.List.{list_all};
+ghost use Rattle.std.specs.Prelude.{◌≡◌, ◌≤◌, ◌+◌, [], ◌∷◌, ℕ, Contains, List, length, true};
+ghost use Rattle.std.specs.List.{list_all, sum_by};
 ghost use Rattle.rb_script.specs.Directive.{PlainDirective};
+ghost use Rattle.rb_script.specs.Lines.{Line};
 ghost use Rattle.rb_script.specs.Script.{PlainScript};
 ghost use Rattle.rb_raftlog.specs.Log.{entries_after};
+ghost use Rattle.rb_tracker.specs.Progresses.{PlainProgress};
 ghost use Rattle.rb_step.specs.Node.{PlainNode};
+ghost use Rattle.rb_texts.specs.Items.{PlainItem};
 ghost use Rattle.rb_machine.specs.Cluster.{Cluster, empty};
-ghost use Rattle.rb_machine.specs.Outcome.{outcome};
+ghost use Rattle.rb_machine.specs.Outcome.{happened, outcome};
+ghost use Rattle.rb_cluster.specs.Told.{AreOfOne};
 ghost use Rattle.rb_page.specs.Escapes.{is_inert};
 ghost use Rattle.rb_page.specs.Rows.{Row, rows_text};
+ghost use Rattle.rb_page.specs.Sizes.{is_view};
+ghost use Rattle.rb_steps.specs.Changes.{node_change, state_change, views_changed, views_gone};
 ghost use Rattle.rb_steps.specs.Committed.{AreKept, AreSound};
 ghost use Rattle.rb_steps.specs.Pages.{first_row, steps_text};
 ghost use Rattle.rb_steps.specs.Logs.{stays};
+ghost use Rattle.rb_steps.specs.Sizes.{around_size, item_size, step_size};
 ghost use Rattle.rb_steps.specs.States.{changed_rows, state_rows};
+ghost use Rattle.rb_steps.specs.Steps.{steps};
 
 /// The text of a script's steps is a list of rows, the first of which names the script.
 pub fn steps_are_rows()
@@ -42,4 +50,23 @@ pub fn what_stands_still_has_no_row()
 /// one for each entry that its log didn't have.
 pub fn changes_have_few_rows()
     ensures { (old new : PlainNode) → length (changed_rows old new) ≤ 3 + length new.tracker.views + length old.tracker.views + length (entries_after new.log (stays old.log new.log)) }
+{}
+
+/// There are at most as many rows as parts that differ, over all nodes. A node that is as it was adds nothing, wherever it stands, and neither
+/// does a view; one that differs adds at most a row for its numbers, its configuration and its log, one for each view that differs or is gone,
+/// and one for each entry that its log didn't have.
+pub fn changes_grow_with_what_differs()
+    ensures rows { (olds news : List PlainNode) → length (state_rows olds news) ≤ state_change olds news }
+    ensures node { (n : PlainNode) (olds news : List PlainNode) → state_change (n ∷ olds) (n ∷ news) ≡ state_change olds news }
+    ensures nodes { (nodes : List PlainNode) → state_change nodes nodes ≡ 0 }
+    ensures view { (olds : List (ℕ × PlainProgress)) (v : ℕ × PlainProgress) (news : List (ℕ × PlainProgress)) → Contains olds v → views_changed olds (v ∷ news) ≡ views_changed olds news }
+    ensures most { (old new : PlainNode) → old.id ≡ new.id → node_change old new ≤ 3 + views_changed old.tracker.views new.tracker.views + views_gone old.tracker.views new.tracker.views + length (entries_after new.log (stays old.log new.log)) }
+{}
+
+/// The text is at most as long as what each step says, beside the script's name and bytes and two numbers. What a step did is at most as long as
+/// what the items say that it can show, and those that show how a node stands say nothing.
+pub fn pages_grow_with_what_happens()
+    ensures text { (name bytes heads : List ℕ) (s : PlainScript) → length (steps_text name bytes heads s) ≤ around_size name bytes s + sum_by step_size (steps heads s) }
+    ensures happened { (c : Cluster) (d : PlainDirective) → (one : AreOfOne (outcome c d).output (happened c d)) × (sum_by (λ (t : Line). length t) (happened c d) ≤ sum_by item_size one.items) }
+    ensures views { (i : PlainItem) → is_view i ≡ true → item_size i ≡ 0 }
 {}
