@@ -5,3 +5,6 @@ pub mod StateLaws
 pub mod ChangeLaws
 pub mod StepLaws
 pub mod SizeLaws
+pub mod LineByteLaws
+pub mod RowByteLaws
+pub mod ValueLaws

@@ -5,4 +5,5 @@ pub mod States
 pub mod Changes
 pub mod Steps
 pub mod Sizes
+pub mod Values
 pub mod Pages

@@ -4,6 +4,7 @@ ghost use Rattle.std.specs.Prelude.{◌≡◌, ◌≤◌, ◌+◌, [], ◌∷◌
 ghost use Rattle.std.specs.List.{list_all, sum_by};
 ghost use Rattle.rb_script.specs.Directive.{PlainDirective};
 ghost use Rattle.rb_script.specs.Lines.{Line};
+ghost use Rattle.rb_script.specs.Reads.{Reads};
 ghost use Rattle.rb_script.specs.Script.{PlainScript};
 ghost use Rattle.rb_raftlog.specs.Log.{entries_after};
 ghost use Rattle.rb_tracker.specs.Progresses.{PlainProgress};
@@ -13,6 +14,7 @@ ghost use Rattle.rb_machine.specs.Cluster.{Cluster, empty};
 ghost use Rattle.rb_machine.specs.Outcome.{happened, outcome};
 ghost use Rattle.rb_cluster.specs.Told.{AreOfOne};
 ghost use Rattle.rb_page.specs.Escapes.{is_inert};
+ghost use Rattle.rb_page.specs.Json.{AreRows, is_byte};
 ghost use Rattle.rb_page.specs.Rows.{Row, rows_text};
 ghost use Rattle.rb_page.specs.Sizes.{is_view};
 ghost use Rattle.rb_steps.specs.Changes.{node_change, state_change, views_changed, views_gone};
@@ -22,6 +24,7 @@ ghost use Rattle.rb_steps.specs.Logs.{stays};
 ghost use Rattle.rb_steps.specs.Sizes.{around_size, item_size, step_size};
 ghost use Rattle.rb_steps.specs.States.{changed_rows, state_rows};
 ghost use Rattle.rb_steps.specs.Steps.{steps};
+ghost use Rattle.rb_steps.specs.Values.{AllDid, GoOnShowingBytes, all_rows};
 
 /// The text of a script's steps is a list of rows, the first of which names the script.
 pub fn steps_are_rows()
@@ -69,4 +72,10 @@ pub fn pages_grow_with_what_happens()
     ensures text { (name bytes heads : List ℕ) (s : PlainScript) → length (steps_text name bytes heads s) ≤ around_size name bytes s + sum_by step_size (steps heads s) }
     ensures happened { (c : Cluster) (d : PlainDirective) → (one : AreOfOne (outcome c d).output (happened c d)) × (sum_by (λ (t : Line). length t) (happened c d) ≤ sum_by item_size one.items) }
     ensures views { (i : PlainItem) → is_view i ≡ true → item_size i ≡ 0 }
+{}
+
+/// The text is a text of JSON, by its grammar, and its value is the rows: the script's bytes; for each directive where it stands, what it printed,
+/// the rows of the items that it can show, and what changed; the end. The name and the script are bytes, and so is what is shown of contents.
+pub fn steps_are_json()
+    ensures { (name bytes heads : List ℕ) (s : PlainScript) → list_all is_byte name ≡ true → list_all is_byte bytes ≡ true → Reads bytes s → GoOnShowingBytes empty s.blocks → (did : List (List PlainItem)) × AllDid (steps heads s) did × AreRows (first_row name) (all_rows bytes heads s did) (steps_text name bytes heads s) }
 {}

@@ -1,0 +1,306 @@
+-- The rows of steps are of bytes.
+use Rattle.std.proofs.Common.{◌≡◌, ◌∙◌, ℕ, zero, suc, ◌+◌, Bool, true, false, List, [], ◌∷◌, ◌++◌, drop, refl, sym, arith, codes}
+use Rattle.std.specs.Prelude.{◌&&◌, not, nat_le, if◌then◌else◌}
+use Rattle.std.specs.List.{flat_map, list_all}
+use Rattle.std.proofs.lemmas.Bool.{and_from, and_parts, leb-true, lt-ltb}
+use Rattle.std.proofs.lemmas.List.Folds.{list_all-append}
+use Rattle.rb_level.specs.declared.directive_error.DirectiveError.{DirectiveError}
+use Rattle.rb_message.specs.declared.event.Event.{Event}
+use Rattle.rb_message.specs.declared.event.Event.TheVariants as events
+use Rattle.rb_message.specs.declared.event.WhyNoCampaign.{WhyNoCampaign}
+use Rattle.rb_message.specs.declared.event.WhyNoCampaign.TheVariants as no_campaign
+use Rattle.rb_message.specs.declared.event.WhyReplaced.{WhyReplaced}
+use Rattle.rb_message.specs.declared.event.WhyReplaced.TheVariants as replaced
+use Rattle.rb_message.specs.declared.kind.MessageKind.{MessageKind}
+use Rattle.rb_message.specs.declared.kind.MessageKind.TheVariants as kinds
+use Rattle.rb_message.specs.declared.message.Message.{Message}
+use Rattle.rb_message.specs.declared.message_type.MessageType.{MessageType}
+use Rattle.rb_message.specs.declared.message_type.MessageType.TheVariants as types
+use Rattle.rb_message.specs.declared.role.Role.{Role}
+use Rattle.rb_message.specs.declared.role.Role.TheVariants as roles
+use Rattle.rb_message.specs.Messages.{type_of}
+use Rattle.rb_raftlog.specs.declared.entry.Body.{Body}
+use Rattle.rb_raftlog.specs.declared.entry.Entry.{Entry}
+use Rattle.rb_raftlog.specs.Content.{content_end}
+use Rattle.rb_raftlog.specs.Log.{LogValue, entries_after}
+use Rattle.rb_tracker.specs.declared.changes.ChangeFault.{ChangeFault}
+use Rattle.rb_tracker.specs.declared.changes.ChangeFault.TheVariants as faults
+use Rattle.rb_tracker.specs.declared.config.Config.{Config}
+use Rattle.rb_tracker.specs.declared.progress.ProgressState.{ProgressState}
+use Rattle.rb_tracker.specs.declared.progress.ProgressState.TheVariants as states
+use Rattle.rb_tracker.specs.declared.votes.VoteResult.{VoteResult}
+use Rattle.rb_tracker.specs.declared.votes.VoteResult.TheVariants as votes
+use Rattle.rb_tracker.specs.Progresses.{PlainProgress}
+use Rattle.rb_tracker.specs.Trackers.{has_view}
+use Rattle.rb_step.specs.Node.{PlainNode}
+use Rattle.rb_script.specs.Lines.{Line}
+use Rattle.rb_script.specs.Marks.{is_blank, is_rule}
+use Rattle.rb_texts.specs.declared.item.Verb.{Verb}
+use Rattle.rb_texts.specs.declared.item.Verb.TheVariants as verbs
+use Rattle.rb_texts.specs.Configs.{config_text}
+use Rattle.rb_texts.specs.Entries.{place_text, body_text, entry_text}
+use Rattle.rb_texts.specs.Errors.{error_text}
+use Rattle.rb_texts.specs.Events.{fault_text, no_campaign_text, replaced_text, votes_text}
+use Rattle.rb_texts.specs.Items.{PlainItem}
+use Rattle.rb_texts.specs.Items as items
+use Rattle.rb_texts.specs.Messages.{type_text}
+use Rattle.rb_texts.specs.Quoted.{is_printable}
+use Rattle.rb_texts.specs.Shapes.{is_one_line, is_solid}
+use Rattle.rb_texts.specs.States.{role_text, progress_state_text}
+use Rattle.rb_texts.proofs.OneLineLaws.{config_one_line, entry_one_line, error_one_line}
+use Rattle.rb_machine.specs.Outcome.{is_output}
+use Rattle.rb_replay.specs.Report.{same_lines}
+use Rattle.rb_page.specs.EventRows.{event_row}
+use Rattle.rb_page.specs.ItemRows.{entry_row, error_row, item_rows}
+use Rattle.rb_page.specs.Json.{cell_has_bytes, has_bytes, is_byte}
+use Rattle.rb_page.specs.Kept.{line_row, line_rows, texts_of}
+use Rattle.rb_page.specs.MessageRows.{message_row, said, verb_name}
+use Rattle.rb_page.specs.Rows.{Row, row, next_text}
+use Rattle.rb_steps.specs.Logs.{entry_rows, is_same_log, log_changes, log_from, stays}
+use Rattle.rb_steps.specs.Rows.{has_text, new_row, new_rows}
+use Rattle.rb_steps.specs.States.{added_rows, changed_rows, config_row, gone_of, gone_rows, no_view_row, node_row, standing, state_rows, view_row, view_rows}
+use Rattle.rb_steps.specs.Steps.{mismatch_rows, script_rows}
+use Rattle.rb_steps.specs.Values.{ShowBytes}
+use Rattle.rb_steps.proofs.LineByteLaws.{of_bytes}
+
+-- ---- texts
+
+printable_byte : (b : ℕ) → is_printable b ≡ true → is_byte b ≡ true
+printable_byte b h = lt-ltb b 256 (omega (arith, leb-true b 126 (and_parts (nat_le 32 b) (nat_le b 126) h).1))
+
+line_bytes : (line : List ℕ) → is_one_line line ≡ true → of_bytes line ≡ true
+line_bytes [] h = refl
+line_bytes (b ∷ line) h =
+    let p = and_parts (is_printable b) (is_one_line line) h in
+    and_from (is_byte b) (of_bytes line) (printable_byte b p.0) (line_bytes line p.1)
+
+-- the back of a text in one line
+back_bytes : (a b : List ℕ) → is_one_line (a ++ b) ≡ true → of_bytes b ≡ true
+back_bytes a b h = line_bytes b (and_parts (is_one_line a) (is_one_line b) (sym (list_all-append is_printable a b) ∙ h)).1
+
+dropped_bytes : (k : ℕ) (text : List ℕ) → of_bytes text ≡ true → of_bytes (drop k text) ≡ true
+dropped_bytes zero text h = h
+dropped_bytes (suc k) [] h = refl
+dropped_bytes (suc k) (b ∷ text) h = dropped_bytes k text (and_parts (is_byte b) (of_bytes text) h).1
+
+role_bytes : (x : Role) → of_bytes (role_text x) ≡ true
+role_bytes roles.Follower = refl
+role_bytes roles.Precandidate = refl
+role_bytes roles.Candidate = refl
+role_bytes roles.Leader = refl
+
+state_bytes : (x : ProgressState) → of_bytes (progress_state_text x) ≡ true
+state_bytes states.Probe = refl
+state_bytes states.Replicate = refl
+state_bytes states.Snapshot = refl
+
+type_bytes : (x : MessageType) → of_bytes (type_text x) ≡ true
+type_bytes types.Vote = refl
+type_bytes types.PreVote = refl
+type_bytes types.VoteResponse = refl
+type_bytes types.PreVoteResponse = refl
+type_bytes types.Append = refl
+type_bytes types.AppendResponse = refl
+type_bytes types.Heartbeat = refl
+type_bytes types.HeartbeatResponse = refl
+type_bytes types.Snapshot = refl
+type_bytes types.Proposal = refl
+type_bytes types.TransferLeader = refl
+type_bytes types.TimeoutNow = refl
+
+verb_bytes : (x : Verb) → of_bytes (verb_name x) ≡ true
+verb_bytes verbs.Deliver = refl
+verb_bytes verbs.Drop = refl
+verb_bytes verbs.Queue = refl
+verb_bytes verbs.NoRoomFor = refl
+
+no_campaign_bytes : (x : WhyNoCampaign) → of_bytes (no_campaign_text x) ≡ true
+no_campaign_bytes no_campaign.Leader = refl
+no_campaign_bytes no_campaign.NotAVoter = refl
+no_campaign_bytes no_campaign.SnapshotPending = refl
+no_campaign_bytes no_campaign.ChangePending = refl
+no_campaign_bytes no_campaign.TermLimit = refl
+
+replaced_bytes : (x : WhyReplaced) → of_bytes (replaced_text x) ≡ true
+replaced_bytes replaced.Unapplied = refl
+replaced_bytes replaced.Joint = refl
+replaced_bytes replaced.NotJoint = refl
+
+votes_bytes : (x : VoteResult) → of_bytes (votes_text x) ≡ true
+votes_bytes votes.Won = refl
+votes_bytes votes.Lost = refl
+votes_bytes votes.Pending = refl
+
+fault_bytes : (x : ChangeFault) → of_bytes (fault_text x) ≡ true
+fault_bytes faults.AlreadyJoint = refl
+fault_bytes faults.NotJoint = refl
+fault_bytes faults.SimpleWhileJoint = refl
+fault_bytes faults.MoreThanOneVoter = refl
+fault_bytes faults.NoVoters = refl
+fault_bytes faults.OutOfMemory = refl
+
+config_bytes : (c : Config) → of_bytes (config_text c) ≡ true
+config_bytes c = line_bytes (config_text c) (config_one_line c)
+
+body_bytes : (body : Body) → of_bytes (body_text body) ≡ true
+unfolding entry_text
+body_bytes body = back_bytes (place_text 0 0 ++ codes " ") (body_text body) (entry_one_line 0 (record { term = 0; body = body }))
+
+-- one text, where the others are constants
+alone : (t : List ℕ) → of_bytes t ≡ true → (of_bytes t && true) ≡ true
+alone t h = and_from (of_bytes t) true h refl
+
+-- ---- what happened
+
+event_bytes : (e : Event) → has_bytes (event_row e) ≡ true
+unfolding event_row
+event_bytes (events.Started id term index config) = refl
+event_bytes (events.Became id role term) = alone (role_text role) (role_bytes role)
+event_bytes (events.CannotCampaign id why) = alone (no_campaign_text why) (no_campaign_bytes why)
+event_bytes (events.VoteCounted id type granted from result) =
+    and_from (of_bytes (type_text type)) (of_bytes (votes_text result) && true) (type_bytes type) (alone (votes_text result) (votes_bytes result))
+event_bytes (events.Ignored id type from) = alone (type_text type) (type_bytes type)
+event_bytes (events.DroppedProposal id) = refl
+event_bytes (events.Conflict id index commit) = refl
+event_bytes (events.AppendsNothing id) = refl
+event_bytes (events.ReplacedChange id index why) = alone (replaced_text why) (replaced_bytes why)
+event_bytes (events.Switched id config) = alone (config_text config) (config_bytes config)
+event_bytes (events.RefusedChange id index fault) = alone (fault_text fault) (fault_bytes fault)
+event_bytes (events.Restored id term index) = refl
+event_bytes (events.TransferStarts id to) = refl
+event_bytes (events.TransferEnds id to) = refl
+event_bytes (events.LostQuorum id) = refl
+
+said_bytes : (k : MessageKind) → list_all cell_has_bytes (said k) ≡ true
+unfolding said
+said_bytes (kinds.Vote last_term last_index transfer) = refl
+said_bytes (kinds.PreVote last_term last_index) = refl
+said_bytes (kinds.VoteResponse granted) = refl
+said_bytes (kinds.PreVoteResponse granted) = refl
+said_bytes (kinds.Append append) = refl
+said_bytes (kinds.AppendResponse matched) = refl
+said_bytes (kinds.AppendRefusal refused hint) = refl
+said_bytes (kinds.Heartbeat commit) = refl
+said_bytes kinds.HeartbeatResponse = refl
+said_bytes (kinds.Snapshot snapshot) = refl
+said_bytes (kinds.Proposal body) = alone (body_text body) (body_bytes body)
+said_bytes (kinds.TransferLeader target) = refl
+said_bytes kinds.TimeoutNow = refl
+
+message_bytes : (name : List ℕ) (m : Message) → of_bytes name ≡ true → has_bytes (message_row name m) ≡ true
+message_bytes name m h =
+    and_from (of_bytes name) (of_bytes (type_text (type_of m.kind)) && list_all cell_has_bytes (said m.kind)) h
+    (and_from (of_bytes (type_text (type_of m.kind))) (list_all cell_has_bytes (said m.kind)) (type_bytes (type_of m.kind)) (said_bytes m.kind))
+
+error_bytes : (e : DirectiveError) → of_bytes (drop 7 (error_text e)) ≡ true
+error_bytes e = dropped_bytes 7 (error_text e) (line_bytes (error_text e) (error_one_line e))
+
+-- a row alone
+one_row : (r : Row) → has_bytes r ≡ true → list_all has_bytes (r ∷ []) ≡ true
+one_row r h = and_from (has_bytes r) true h refl
+
+item_bytes : (item : PlainItem) → list_all has_bytes (item_rows item) ≡ true
+unfolding item_rows
+item_bytes items.nothing_else = refl
+item_bytes (items.ready id) = refl
+item_bytes (items.hard_state hard) = refl
+item_bytes (items.snapshot term index) = refl
+item_bytes (items.save index e) = one_row (entry_row (codes "save") index e) (alone (body_text e.body) (body_bytes e.body))
+item_bytes (items.apply index e) = one_row (entry_row (codes "apply") index e) (alone (body_text e.body) (body_bytes e.body))
+item_bytes (items.send message) = one_row (message_row (codes "send") message) (message_bytes (codes "send") message refl)
+item_bytes (items.nothing_ready id) = refl
+item_bytes (items.moved verb message) = one_row (message_row (verb_name verb) message) (message_bytes (verb_name verb) message (verb_bytes verb))
+item_bytes items.no_messages = refl
+item_bytes (items.stopped rounds) = refl
+item_bytes (items.raft_state node) = refl
+item_bytes (items.raft_log log) = refl
+item_bytes (items.entry index e unsaved) = refl
+item_bytes (items.config c) = refl
+item_bytes (items.progress id view) = refl
+item_bytes (items.event e) = one_row (event_row e) (event_bytes e)
+item_bytes (items.error e) = one_row (error_row e) (alone (drop 7 (error_text e)) (error_bytes e))
+
+pub all_both : (a b : List Row) → list_all has_bytes a ≡ true → list_all has_bytes b ≡ true → list_all has_bytes (a ++ b) ≡ true
+all_both a b p q = list_all-append has_bytes a b ∙ and_from (list_all has_bytes a) (list_all has_bytes b) p q
+
+pub items_bytes : (is : List PlainItem) → list_all has_bytes (flat_map item_rows is) ≡ true
+items_bytes [] = refl
+items_bytes (i ∷ is) = all_both (item_rows i) (flat_map item_rows is) (item_bytes i) (items_bytes is)
+
+-- ---- where a directive stands, and what it printed
+
+solid_bytes : (ls : List Line) → list_all is_solid ls ≡ true → list_all of_bytes ls ≡ true
+solid_bytes [] h = refl
+solid_bytes (line ∷ ls) h =
+    let p = and_parts (is_solid line) (list_all is_solid ls) h in
+    and_from (of_bytes line) (list_all of_bytes ls) (line_bytes line (and_parts (not (is_blank line) && not (is_rule line)) (is_one_line line) p.0).1) (solid_bytes ls p.1)
+
+output_bytes : (ls : List Line) → is_output ls ≡ true → list_all of_bytes ls ≡ true
+unfolding is_output
+output_bytes [] h = refl
+output_bytes (line ∷ ls) h = solid_bytes (line ∷ ls) h
+
+lines_bytes : (name : List ℕ) (ls : List Line) → of_bytes name ≡ true → list_all of_bytes ls ≡ true → list_all has_bytes (line_rows name ls) ≡ true
+lines_bytes name [] named h = refl
+lines_bytes name (line ∷ ls) named h =
+    let p = and_parts (of_bytes line) (list_all of_bytes ls) h in
+    and_from (has_bytes (line_row name line)) (list_all has_bytes (line_rows name ls)) (and_from (of_bytes name) (of_bytes line && true) named (alone line p.0)) (lines_bytes name ls named p.1)
+
+-- rows that stand only where a test fails
+if_rows : (t : Bool) (rs : List Row) → list_all has_bytes rs ≡ true → list_all has_bytes (if t then [] else rs) ≡ true
+if_rows true rs h = refl
+if_rows false rs h = h
+
+pub script_bytes : (line : ℕ) (expected output : List Line) → list_all of_bytes expected ≡ true → is_output output ≡ true → list_all has_bytes (script_rows line expected output) ≡ true
+script_bytes line expected output h printed =
+    all_both (line_rows (codes "output") output) (mismatch_rows expected output) (lines_bytes (codes "output") output refl (output_bytes output printed))
+    (if_rows (same_lines expected output) (row (codes "mismatch") [] ∷ line_rows (codes "expected") expected) (lines_bytes (codes "expected") expected refl h))
+
+-- ---- what changed
+
+views_bytes : (id : ℕ) (vs : List (ℕ × PlainProgress)) → list_all has_bytes (view_rows id vs) ≡ true
+views_bytes id [] = refl
+views_bytes id (v ∷ vs) =
+    and_from (has_bytes (view_row id v)) (list_all has_bytes (view_rows id vs)) (alone (progress_state_text v.1.state) (state_bytes v.1.state)) (views_bytes id vs)
+
+standing_bytes : (n : PlainNode) → of_bytes (content_end n.content) ≡ true → list_all has_bytes (standing n) ≡ true
+standing_bytes n h =
+    and_from (has_bytes (node_row n)) (list_all has_bytes (config_row n ∷ view_rows n.id n.tracker.views))
+    (and_from (of_bytes (role_text n.role)) (of_bytes (content_end n.content) && true) (role_bytes n.role) (alone (content_end n.content) h))
+    (and_from (has_bytes (config_row n)) (list_all has_bytes (view_rows n.id n.tracker.views)) (alone (config_text n.tracker.config) (config_bytes n.tracker.config)) (views_bytes n.id n.tracker.views))
+
+new_bytes : (olds : List Line) (rs : List Row) → list_all has_bytes rs ≡ true → list_all has_bytes (flat_map (new_row olds) rs) ≡ true
+new_bytes olds [] h = refl
+new_bytes olds (r ∷ rs) h =
+    let p = and_parts (has_bytes r) (list_all has_bytes rs) h in
+    all_both (new_row olds r) (flat_map (new_row olds) rs) (if_rows (has_text olds (next_text r)) (r ∷ []) (one_row r p.0)) (new_bytes olds rs p.1)
+
+gone_bytes : (id : ℕ) (vs news : List (ℕ × PlainProgress)) → list_all has_bytes (gone_rows id vs news) ≡ true
+gone_bytes id [] news = refl
+gone_bytes id (v ∷ vs) news =
+    all_both (gone_of id news v.0) (gone_rows id vs news) (if_rows (has_view news v.0) (no_view_row id v.0 ∷ []) refl) (gone_bytes id vs news)
+
+entries_bytes : (index : ℕ) (es : List Entry) → list_all has_bytes (entry_rows index es) ≡ true
+entries_bytes index [] = refl
+entries_bytes index (e ∷ es) =
+    and_from (has_bytes (entry_row (codes "entry") index e)) (list_all has_bytes (entry_rows (index + 1) es)) (alone (body_text e.body) (body_bytes e.body)) (entries_bytes (index + 1) es)
+
+log_bytes : (id : ℕ) (v : LogValue) (index : ℕ) → list_all has_bytes (log_from id v index) ≡ true
+log_bytes id v index = entries_bytes (index + 1) (entries_after v index)
+
+added_bytes : (n : PlainNode) → of_bytes (content_end n.content) ≡ true → list_all has_bytes (added_rows n) ≡ true
+added_bytes n h = all_both (standing n) (log_from n.id n.log n.log.base) (standing_bytes n h) (log_bytes n.id n.log n.log.base)
+
+changed_bytes : (old new : PlainNode) → of_bytes (content_end new.content) ≡ true → list_all has_bytes (changed_rows old new) ≡ true
+changed_bytes old new h =
+    let gone = gone_rows new.id old.tracker.views new.tracker.views in
+    let log = log_changes new.id old.log new.log in
+    all_both (new_rows (standing old) (standing new)) (gone ++ log) (new_bytes (texts_of (standing old)) (standing new) (standing_bytes new h))
+    (all_both gone log (gone_bytes new.id old.tracker.views new.tracker.views)
+    (if_rows (is_same_log old.log new.log) (log_from new.id new.log (stays old.log new.log)) (log_bytes new.id new.log (stays old.log new.log))))
+
+pub changes_bytes : (olds news : List PlainNode) → ShowBytes news → list_all has_bytes (state_rows olds news) ≡ true
+changes_bytes [] [] h = refl
+changes_bytes (old ∷ olds) [] h = refl
+changes_bytes [] (n ∷ ns) h = all_both (added_rows n) (state_rows [] ns) (added_bytes n h.0) (changes_bytes [] ns h.1)
+changes_bytes (old ∷ olds) (n ∷ ns) h = all_both (changed_rows old n) (state_rows olds ns) (changed_bytes old n h.0) (changes_bytes olds ns h.1)
