@@ -1,8 +1,8 @@
 -- The lines of a script are of its bytes.
-use Rattle.std.proofs.Common.{◌≡◌, ◌∙◌, ℕ, ◌⊎◌, inl, inr, Bool, true, false, List, [], ◌∷◌, ◌++◌, map, refl, ap, sym}
+use Rattle.std.proofs.Common.{◌≡◌, ◌∙◌, ℕ, zero, suc, ◌<◌, ◌⊎◌, inl, inr, Bool, true, false, List, [], ◌∷◌, ◌++◌, get_or, map, refl, ap, sym}
 use Rattle.std.specs.Prelude.{◌==◌, if◌then◌else◌}
 use Rattle.std.specs.List.{list_all}
-use Rattle.std.proofs.lemmas.Bool.{and_from, and_parts}
+use Rattle.std.proofs.lemmas.Bool.{and_from, and_parts, lt-ltb}
 use Rattle.std.proofs.lemmas.List.Folds.{list_all-append}
 use Rattle.rb_page.specs.Json.{is_byte}
 use Rattle.rb_script.specs.Bytes.{line_feed, carriage_return}
@@ -13,6 +13,11 @@ use Rattle.rb_script.specs.Script.{PlainBlock}
 
 abbrev pub of_bytes : Line → Bool
 of_bytes line = list_all is_byte line
+
+-- each of them is below 256
+pub are_bytes : (bytes : List ℕ) → ((k : ℕ) → get_or bytes k 0 < 256) → of_bytes bytes ≡ true
+are_bytes [] below = refl
+are_bytes (b ∷ bytes) below = and_from (is_byte b) (of_bytes bytes) (lt-ltb b 256 (below zero)) (are_bytes bytes (λ k. below (suc k)))
 
 -- ---- lines that bytes are cut into
 

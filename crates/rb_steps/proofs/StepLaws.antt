@@ -1,5 +1,5 @@
 -- The directives of a run, one after another.
-use Rattle.std.proofs.Common.{◌≡◌, ◌∙◌, ℕ, ◌+◌, List, [], ◌∷◌, ◌++◌, drop, Some, refl, ap, sym, append_assoc}
+use Rattle.std.proofs.Common.{◌≡◌, ◌∙◌, ℕ, ◌+◌, List, [], ◌∷◌, ◌++◌, drop, Some, refl, ap, sym, subst, append_assoc}
 use Rattle.std.specs.Prelude.{codes, slice_get}
 use Rattle.std.specs.List.{flat_map}
 use Rattle.std.proofs.lemmas.List.Concat.{flat_map-append}
@@ -20,6 +20,7 @@ use Rattle.rb_cluster.proofs.ToldLaws.{are_of_one}
 use Rattle.rb_steps.specs.Steps.{step, step_texts, steps_from, steps, script_rows, steps_texts, source_row, end_row}
 use Rattle.rb_steps.specs.Pages.{first_row, steps_text}
 use Rattle.rb_steps.specs.States.{state_rows}
+use Rattle.rb_steps.specs.Values.{GoOnShowingBytes, ShowBytes}
 use Rattle.rb_steps.proofs.KeepLaws.{both, three_parts}
 
 -- one directive more
@@ -28,6 +29,12 @@ pub steps_more : (heads : List ℕ) (bs : List PlainBlock) (i line : ℕ) (b : P
 steps_more heads bs i line b c after head block next =
     both (λ (ns : List ℕ) (more : List PlainBlock). flat_map step_texts (steps_from ns c more)) (left_some heads i line head) (left_some bs i b block)
     ∙ ap (λ (d : Cluster). step_texts (step line c b) ++ flat_map step_texts (steps_from (drop (i + 1) heads) d (drop (i + 1) bs))) (sym next)
+
+-- what is shown of contents
+pub goes_on_showing : (bs : List PlainBlock) (i : ℕ) (b : PlainBlock) (c after : Cluster) → slice_get bs i ≡ Some b → after ≡ (outcome c (directive_of b)).cluster → ShowBytes after.nodes → GoOnShowingBytes after (drop (i + 1) bs) → GoOnShowingBytes c (drop i bs)
+goes_on_showing bs i b c after block next shown rest =
+    subst (λ (more : List PlainBlock). GoOnShowingBytes c more) (sym (left_some bs i b block))
+    (subst (λ (d : Cluster). ShowBytes d.nodes × GoOnShowingBytes d (drop (i + 1) bs)) next (shown, rest))
 
 -- there is none any more
 pub steps_end : (heads : List ℕ) (c : Cluster) (bs : List PlainBlock) → bs ≡ [] → steps_from heads c bs ≡ []

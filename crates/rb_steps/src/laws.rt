@@ -75,7 +75,8 @@ pub fn pages_grow_with_what_happens()
 {}
 
 /// The text is a text of JSON, by its grammar, and its value is the rows: the script's bytes; for each directive where it stands, what it printed,
-/// the rows of the items that it can show, and what changed; the end. The name and the script are bytes, and so is what is shown of contents.
+/// the rows of the items that it can show, and what changed; the end. The name and the script are bytes, and so is what is shown of contents:
+/// [`steps_of`](crate::steps_of) ensures that.
 pub fn steps_are_json()
     ensures { (name bytes heads : List ℕ) (s : PlainScript) → list_all is_byte name ≡ true → list_all is_byte bytes ≡ true → Reads bytes s → GoOnShowingBytes empty s.blocks → (did : List (List PlainItem)) × AllDid (steps heads s) did × AreRows (first_row name) (all_rows bytes heads s did) (steps_text name bytes heads s) }
 {}

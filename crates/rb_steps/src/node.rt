@@ -1,12 +1,16 @@
 //! How nodes stand, and what of that is not as it was.
 
-ghost use Rattle.std.specs.Prelude.{◌≡◌, ◌<◌, ◌∷◌, [], ◌++◌, IfOk, OnOk, MatchOption, None, Some, length, slice_get};
+ghost use Rattle.std.specs.Prelude.{◌≡◌, ◌<◌, ◌∷◌, [], ◌++◌, IfOk, OnOk, MatchOption, None, Some, length, slice_get, true};
+ghost use Rattle.std.specs.List.{list_all};
+ghost use Rattle.rb_raftlog.specs.Content.{content_end};
 ghost use Rattle.rb_texts.specs.States.{progress_state_text};
+ghost use Rattle.rb_page.specs.Json.{is_byte};
 ghost use Rattle.rb_page.specs.Kept.{texts_of};
 ghost use Rattle.rb_step.specs.Node.{PlainNode};
 ghost use Rattle.rb_steps.specs.Committed.{AreKept, IsKept};
 ghost use Rattle.rb_steps.specs.Rows.{new_rows, new_texts};
 ghost use Rattle.rb_steps.specs.States.{added_rows, changed_rows, config_row, gone_of, gone_rows, no_view_row, node_row, node_rows, standing, state_rows, view_row, view_rows};
+ghost use Rattle.rb_steps.specs.Values.{ShowBytes};
 
 use crate::fresh::keep_new;
 use crate::log::{keep_log, keep_log_from};
@@ -207,12 +211,23 @@ fn old_at<L: RaftLog>(olds: &[SharedNode<L>], index: usize) -> Option<&Node<L>>
     }
 }
 
-// The node at an index.
+// The same bytes, each of which is one by its type.
+fn as_bytes(bytes: &[u8]) -> &[u8]
+    ensures same { result.now ≡ bytes.now }
+    ensures bytes { list_all is_byte bytes.now ≡ true }
+{
+    bytes
+}
+
+// The node at an index. What is shown of its content is bytes.
 fn node_at<L: RaftLog>(nodes: &[SharedNode<L>], index: usize) -> &Node<L>
     requires { index < length nodes.now }
-    ensures { slice_get nodes.now index ≡ Some result.now }
+    ensures node { slice_get nodes.now index ≡ Some result.now }
+    ensures bytes { list_all is_byte (content_end result.now.content) ≡ true }
 {
-    nodes[index].node()
+    let node = nodes[index].node();
+    let _shown = as_bytes(node.status().content.end());
+    node
 }
 
 // Adds what of the node at an index is not as it was, or all of it where it wasn't there.
@@ -232,7 +247,8 @@ fn keep_either<L: RaftLog>(
     }
 }
 
-/// Adds what of the nodes is not as it was, where these were before, and what each of them knew to be committed is.
+/// Adds what of the nodes is not as it was, where these were before, and what each of them knew to be committed is. What is shown of their
+/// contents is bytes.
 pub(crate) fn keep_states<L: RaftLog>(
     alloc: Global,
     texts: &mut Lines,
@@ -240,7 +256,8 @@ pub(crate) fn keep_states<L: RaftLog>(
     news: &[SharedNode<L>],
 ) -> Result<(), AllocError>
     requires { AreKept olds.now news.now }
-    ensures { OnOk result (texts.new ≡ texts.old ++ texts_of (state_rows olds.now news.now)) }
+    ensures texts { OnOk result (texts.new ≡ texts.old ++ texts_of (state_rows olds.now news.now)) }
+    ensures bytes { OnOk result (ShowBytes news.now) }
 {
     for i in 0..news.len() {
         keep_either(alloc, texts, olds, i, node_at(news, i))?;

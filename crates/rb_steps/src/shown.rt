@@ -6,6 +6,7 @@ ghost use Rattle.rb_page.specs.Kept.{texts_of};
 ghost use Rattle.rb_machine.specs.Outcome.{happened, outcome};
 ghost use Rattle.rb_steps.specs.Committed.{AreKept};
 ghost use Rattle.rb_steps.specs.States.{state_rows};
+ghost use Rattle.rb_steps.specs.Values.{ShowBytes};
 
 use rb_machine::Machine;
 use rb_script::{Block, Lines};
@@ -22,8 +23,9 @@ pub trait Shown: Machine {
     fn keep_happened(&self, texts: &mut Lines, block: &Block) -> Result<(), AllocError>
         ensures { OnOk result (texts.new ≡ texts.old ++ happened (Self.meaning self.now) (directive_of block.now)) };
 
-    /// Adds what stands in the machine after a directive that didn't stand so in this one.
+    /// Adds what stands in the machine after a directive that didn't stand so in this one. What is shown of its contents is bytes.
     fn keep_changes(&self, alloc: Global, texts: &mut Lines, after: &Self) -> Result<(), AllocError>
         requires { AreKept (Self.meaning self.now).nodes (Self.meaning after.now).nodes }
-        ensures { OnOk result (texts.new ≡ texts.old ++ texts_of (state_rows (Self.meaning self.now).nodes (Self.meaning after.now).nodes)) };
+        ensures texts { OnOk result (texts.new ≡ texts.old ++ texts_of (state_rows (Self.meaning self.now).nodes (Self.meaning after.now).nodes)) }
+        ensures bytes { OnOk result (ShowBytes (Self.meaning after.now).nodes) };
 }

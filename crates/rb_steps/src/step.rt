@@ -7,6 +7,7 @@ ghost use Rattle.rb_machine.specs.Outcome.{happened, outcome};
 ghost use Rattle.rb_steps.specs.Committed.{AreKept, AreSound};
 ghost use Rattle.rb_steps.specs.States.{state_rows};
 ghost use Rattle.rb_steps.specs.Steps.{step, step_texts};
+ghost use Rattle.rb_steps.specs.Values.{ShowBytes};
 
 use crate::node::keep_states;
 use crate::script::keep_script;
@@ -57,7 +58,8 @@ fn keep_changes<L: RaftLog>(
     after: &Cluster<L>,
 ) -> Result<(), AllocError>
     requires { AreKept before.now.nodes after.now.nodes }
-    ensures { OnOk result (texts.new ≡ texts.old ++ texts_of (state_rows before.now.nodes after.now.nodes)) }
+    ensures texts { OnOk result (texts.new ≡ texts.old ++ texts_of (state_rows before.now.nodes after.now.nodes)) }
+    ensures bytes { OnOk result (ShowBytes after.now.nodes) }
 {
     keep_states(alloc, texts, before.nodes(), after.nodes())?;
     Ok(())
@@ -95,7 +97,8 @@ fn keep_rows<M: Shown>(
     requires sound { AreSound (M.meaning machine.now).nodes }
     requires after { M.meaning after.now ≡ (outcome (M.meaning machine.now) (directive_of block.now)).cluster }
     requires output { output.now ≡ (outcome (M.meaning machine.now) (directive_of block.now)).output }
-    ensures { OnOk result (texts.new ≡ texts.old ++ step_texts (step line (M.meaning machine.now) block.now)) }
+    ensures texts { OnOk result (texts.new ≡ texts.old ++ step_texts (step line (M.meaning machine.now) block.now)) }
+    ensures bytes { OnOk result (ShowBytes (M.meaning after.now).nodes) }
 {
     keep_script(texts, line, block.expected(), output)?;
     machine.keep_happened(texts, block)?;
@@ -114,6 +117,7 @@ pub(crate) fn keep_step<M: Shown>(
     requires { AreSound (M.meaning machine.now).nodes }
     ensures texts { OnOk result (texts.new ≡ texts.old ++ step_texts (step line (M.meaning machine.now) block.now)) }
     ensures machine { IfOk result (λ after. M.meaning after ≡ (outcome (M.meaning machine.now) (directive_of block.now)).cluster) }
+    ensures bytes { IfOk result (λ after. ShowBytes (M.meaning after).nodes) }
 {
     let (after, output) = machine.after(block)?;
     keep_rows(alloc, texts, machine, block, line, &after, &output)?;

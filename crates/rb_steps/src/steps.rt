@@ -3,8 +3,10 @@
 ghost use Rattle.std.specs.Prelude.{◌≡◌, ◌<◌, ◌≤◌, ◌∷◌, [], ◌++◌, IfOk, OnOk, Some, length, slice_get};
 ghost use Rattle.std.specs.List.{flat_map};
 ghost use Rattle.rb_script.specs.declared.limits.TheConstants.{MAX_DIRECTIVES};
+ghost use Rattle.rb_machine.specs.Cluster.{empty};
 ghost use Rattle.rb_page.specs.Kept.{texts_of};
 ghost use Rattle.rb_steps.specs.Steps.{end_row, source_row, step_texts, steps, steps_texts};
+ghost use Rattle.rb_steps.specs.Values.{GoOnShowingBytes};
 
 use crate::shown::Shown;
 use crate::step::keep_step;
@@ -39,7 +41,8 @@ fn keep_directives<M: Shown>(
     heads: &[usize],
 ) -> Result<(), AllocError>
     requires { length heads.now ≡ length session.now.script.blocks }
-    ensures { OnOk result (texts.new ≡ texts.old ++ flat_map step_texts (steps heads.now session.now.script)) }
+    ensures texts { OnOk result (texts.new ≡ texts.old ++ flat_map step_texts (steps heads.now session.now.script)) }
+    ensures bytes { OnOk result (GoOnShowingBytes empty session.now.script.blocks) }
 {
     let mut machine = M::empty(alloc)?;
     for i in 0..session.len() {
@@ -78,7 +81,8 @@ fn keep_all<M: Shown>(
     heads: &[usize],
 ) -> Result<(), AllocError>
     requires { length heads.now ≡ length session.now.script.blocks }
-    ensures { OnOk result (texts.new ≡ texts.old ++ steps_texts bytes.now heads.now session.now.script) }
+    ensures texts { OnOk result (texts.new ≡ texts.old ++ steps_texts bytes.now heads.now session.now.script) }
+    ensures bytes { OnOk result (GoOnShowingBytes empty session.now.script.blocks) }
 {
     keep_source(texts, bytes)?;
     keep_directives(alloc, texts, session, heads)?;
@@ -86,7 +90,8 @@ fn keep_all<M: Shown>(
     Ok(())
 }
 
-/// The rows of a session's script behind the first, each as a text, where these are its bytes and the lines on which its heads begin.
+/// The rows of a session's script behind the first, each as a text, where these are its bytes and the lines on which its heads begin. After each
+/// directive what is shown of a node's content is bytes.
 pub fn steps_of<M: Shown>(
     alloc: Global,
     session: &Session<M>,
@@ -94,7 +99,8 @@ pub fn steps_of<M: Shown>(
     heads: &[usize],
 ) -> Result<Lines, AllocError>
     requires { length heads.now ≡ length session.now.script.blocks }
-    ensures { IfOk result (λ texts. texts ≡ steps_texts bytes.now heads.now session.now.script) }
+    ensures texts { IfOk result (λ texts. texts ≡ steps_texts bytes.now heads.now session.now.script) }
+    ensures bytes { OnOk result (GoOnShowingBytes empty session.now.script.blocks) }
 {
     let mut texts = Lines::new(alloc);
     keep_all(alloc, &mut texts, session, bytes, heads)?;

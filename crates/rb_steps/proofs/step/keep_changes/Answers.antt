@@ -1,9 +1,13 @@
-use Rattle.std.proofs.Common.{◌∙◌, ◌++◌, List}
+use Rattle.std.proofs.Common.{◌∙◌, ◌++◌, List, subst}
 use Rattle.rb_step.specs.Node.{PlainNode}
 use Rattle.rb_page.specs.Kept.{texts_of}
 use Rattle.rb_steps.specs.States.{state_rows}
+use Rattle.rb_steps.specs.Values.{ShowBytes}
 use Rattle.rb_steps.proofs.KeepLaws.{both}
 use Rattle.rb_steps.proofs.step.keep_changes.Goals as goal
 
-pub returns : goal.returns
-returns g c = c.in_ok-keep_states.ensures ∙ both (λ (olds news : List PlainNode). c.args.texts.now ++ texts_of (state_rows olds news)) c.nodes.ensures c.nodes-2.ensures
+pub returns-clause-bytes : goal.returns-clause-bytes
+returns-clause-bytes g c = subst ShowBytes c.nodes-2.ensures c.in_ok-keep_states.ensures.bytes
+
+pub returns-clause-texts : goal.returns-clause-texts
+returns-clause-texts g c = c.in_ok-keep_states.ensures.texts ∙ both (λ (olds news : List PlainNode). c.args.texts.now ++ texts_of (state_rows olds news)) c.nodes.ensures c.nodes-2.ensures

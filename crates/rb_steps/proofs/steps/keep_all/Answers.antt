@@ -5,11 +5,11 @@ use Rattle.rb_steps.specs.Steps.{end_row, source_row, step_texts, steps}
 use Rattle.rb_steps.proofs.KeepLaws.{three_parts}
 use Rattle.rb_steps.proofs.steps.keep_all.Goals as goal
 
-pub returns : goal.returns
-returns g c =
+pub returns-clause-texts : goal.returns-clause-texts
+returns-clause-texts g c =
     let s = c.args.session.now.script in
     let source = texts_of (source_row c.args.bytes.now ∷ []) in
     let all = flat_map step_texts (steps c.args.heads.now s) in
     let last = texts_of (end_row s ∷ []) in
     three_parts c.args.texts.now c.keep_source.new.texts c.keep_directives.new.texts c.keep_end.new.texts source all last
-    c.in_ok-keep_source.ensures c.in_ok-keep_directives.ensures c.in_ok-keep_end.ensures
+    c.in_ok-keep_source.ensures c.in_ok-keep_directives.ensures.texts c.in_ok-keep_end.ensures

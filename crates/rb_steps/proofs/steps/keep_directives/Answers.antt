@@ -5,15 +5,18 @@ use Rattle.rb_script.specs.Reading.{directive_of}
 use Rattle.rb_machine.specs.Cluster.{Cluster}
 use Rattle.rb_steps.specs.Committed.{AreSound}
 use Rattle.rb_steps.specs.Steps.{Step, step, step_texts, steps_from}
+use Rattle.rb_script.specs.Script.{PlainBlock}
+use Rattle.rb_steps.specs.Values.{GoOnShowingBytes}
 use Rattle.rb_steps.proofs.CommittedLaws.{begin_sound, stay_sound}
 use Rattle.rb_steps.proofs.KeepLaws.{one_part}
-use Rattle.rb_steps.proofs.StepLaws.{steps_more, steps_end}
+use Rattle.rb_steps.proofs.StepLaws.{goes_on_showing, steps_more, steps_end}
 use Rattle.rb_steps.proofs.steps.keep_directives.Goals as goal
 
 pub loop-i-init : goal.loop-i-init
 loop-i-init g c = record {
   rows = ap (λ (d : Cluster). c.args.texts.now ++ flat_map step_texts (steps_from c.args.heads.now d c.args.session.now.script.blocks)) c.in_ok-machine.ensures;
   sound = subst (λ (d : Cluster). AreSound d.nodes) (sym c.in_ok-machine.ensures) begin_sound;
+  bytes = λ rest. subst (λ (d : Cluster). GoOnShowingBytes d c.args.session.now.script.blocks) c.in_ok-machine.ensures rest;
 }
 
 pub loop-i-preserved : goal.loop-i-preserved
@@ -29,13 +32,20 @@ loop-i-preserved g c =
           (steps_more heads bs i line b before (g.M.Machine.meaning c.in_ok-after.after) c.number_at.ensures c.block_at-block.ensures c.in_ok-after.ensures.machine)
           c.in_ok-after.ensures.texts c.loop-i.invariant.rows;
       sound = subst (λ (d : Cluster). AreSound d.nodes) (sym c.in_ok-after.ensures.machine) (stay_sound before (directive_of b) c.loop-i.invariant.sound);
+      bytes = λ rest. c.loop-i.invariant.bytes (goes_on_showing bs i b before (g.M.Machine.meaning c.in_ok-after.after) c.block_at-block.ensures c.in_ok-after.ensures.machine c.in_ok-after.ensures.bytes rest);
     }
 
-pub returns : goal.returns
-returns g c =
+pub returns-clause-texts : goal.returns-clause-texts
+returns-clause-texts g c =
     let i = c.loop-i.i in
     let t = c.loop-i.texts in
     let heads = drop i c.args.heads.now in
     let bs = drop i c.args.session.now.script.blocks in
     let none = drop_all i c.args.session.now.script.blocks (omega (arith, c.loop-i-test.false, c.len-i-end.ensures.len)) in
     sym (append-nil t) ∙ ap (λ (ss : List Step). t ++ flat_map step_texts ss) (sym (steps_end heads (g.M.Machine.meaning c.loop-i.machine) bs none)) ∙ c.loop-i.invariant.rows
+
+pub returns-clause-bytes : goal.returns-clause-bytes
+returns-clause-bytes g c =
+    let i = c.loop-i.i in
+    let none = drop_all i c.args.session.now.script.blocks (omega (arith, c.loop-i-test.false, c.len-i-end.ensures.len)) in
+    c.loop-i.invariant.bytes (subst (λ (bs : List PlainBlock). GoOnShowingBytes (g.M.Machine.meaning c.loop-i.machine) bs) (sym none) tt)

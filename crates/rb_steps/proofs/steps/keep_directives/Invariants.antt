@@ -1,12 +1,15 @@
--- The rows so far, and those of the directives that are left.
+-- The rows so far, and those of the directives that are left; what is shown of contents.
 use Rattle.std.proofs.Common.{◌≡◌, ◌++◌, drop}
 use Rattle.std.specs.List.{flat_map}
+use Rattle.rb_machine.specs.Cluster.{empty}
 use Rattle.rb_steps.specs.Committed.{AreSound}
 use Rattle.rb_steps.specs.Steps.{step_texts, steps, steps_from}
+use Rattle.rb_steps.specs.Values.{GoOnShowingBytes}
 use Rattle.rb_steps.proofs.steps.keep_directives.Given as goal
 
 abbrev pub invariant-loop-i : goal.invariant-loop-i
 invariant-loop-i g l = record {
   rows : l.texts ++ flat_map step_texts (steps_from (drop l.i l.heads) (g.M.Machine.meaning l.machine) (drop l.i l.session.script.blocks)) ≡ l.initial.texts ++ flat_map step_texts (steps l.heads l.session.script);
   sound : AreSound (g.M.Machine.meaning l.machine).nodes;
+  bytes : GoOnShowingBytes (g.M.Machine.meaning l.machine) (drop l.i l.session.script.blocks) → GoOnShowingBytes empty l.session.script.blocks;
 }
