@@ -1,5 +1,6 @@
 pub mod KeepLaws
 pub mod LogLaws
+pub mod ReadBackLaws
 pub mod CommittedLaws
 pub mod StateLaws
 pub mod ChangeLaws

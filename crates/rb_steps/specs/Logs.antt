@@ -1,5 +1,5 @@
 -- What of a node's log is not as it was, as rows. (docs/PAGE.md.)
-use Rattle.std.specs.Prelude.{ℕ, ◌+◌, Bool, true, false, ◌&&◌, ◌==◌, nat_le, if◌then◌else◌, codes, List, [], ◌∷◌}
+use Rattle.std.specs.Prelude.{ℕ, ◌+◌, ◌-◌, Bool, true, false, ◌&&◌, ◌==◌, nat_le, if◌then◌else◌, codes, List, [], ◌∷◌, ◌++◌, take}
 use Rattle.std.specs.Str.{bytes_eq}
 use Rattle.rb_raftlog.specs.declared.entry.Body.{Body}
 use Rattle.rb_raftlog.specs.declared.entry.Body.TheVariants as bodies
@@ -65,3 +65,9 @@ is_same_log old new = old.base == new.base && old.base_term == new.base_term && 
 
 abbrev pub log_changes : ℕ → LogValue → LogValue → List Row
 log_changes id old new = if is_same_log old new then [] else log_from id new (stays old new)
+
+-- ---- as it is read
+
+-- the entries of a log with this base: those of before up to an index, and these behind them
+abbrev pub entries_read : LogValue → ℕ → ℕ → List Entry → List Entry
+entries_read old base index es = take (index - base) (held_after old base) ++ es

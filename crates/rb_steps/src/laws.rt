@@ -6,7 +6,7 @@ ghost use Rattle.rb_script.specs.Directive.{PlainDirective};
 ghost use Rattle.rb_script.specs.Lines.{Line};
 ghost use Rattle.rb_script.specs.Reads.{Reads};
 ghost use Rattle.rb_script.specs.Script.{PlainScript};
-ghost use Rattle.rb_raftlog.specs.Log.{entries_after};
+ghost use Rattle.rb_raftlog.specs.Log.{LogValue, entries_after};
 ghost use Rattle.rb_tracker.specs.Progresses.{PlainProgress};
 ghost use Rattle.rb_step.specs.Node.{PlainNode};
 ghost use Rattle.rb_texts.specs.Items.{PlainItem};
@@ -20,7 +20,7 @@ ghost use Rattle.rb_page.specs.Sizes.{is_view};
 ghost use Rattle.rb_steps.specs.Changes.{node_change, state_change, views_changed, views_gone};
 ghost use Rattle.rb_steps.specs.Committed.{AreKept, AreSound};
 ghost use Rattle.rb_steps.specs.Pages.{first_row, steps_text};
-ghost use Rattle.rb_steps.specs.Logs.{stays};
+ghost use Rattle.rb_steps.specs.Logs.{entries_read, is_same_log, stays};
 ghost use Rattle.rb_steps.specs.Sizes.{around_size, item_size, step_size};
 ghost use Rattle.rb_steps.specs.States.{changed_rows, state_rows};
 ghost use Rattle.rb_steps.specs.Steps.{steps};
@@ -79,4 +79,11 @@ pub fn pages_grow_with_what_happens()
 /// [`steps_of`](crate::steps_of) ensures that.
 pub fn steps_are_json()
     ensures { (name bytes heads : List ℕ) (s : PlainScript) → list_all is_byte name ≡ true → list_all is_byte bytes ≡ true → Reads bytes s → GoOnShowingBytes empty s.blocks → (did : List (List PlainItem)) × AllDid (steps heads s) did × AreRows (first_row name) (all_rows bytes heads s did) (steps_text name bytes heads s) }
+{}
+
+/// A log can be read back: its entries are those of before, up to the index that is written, and behind them the ones that are written. Where nothing
+/// is written of a log, its base and its entries are as they were.
+pub fn logs_read_back()
+    ensures written { (old new : LogValue) → new.entries ≡ entries_read old new.base (stays old new) (entries_after new (stays old new)) }
+    ensures still { (old new : LogValue) → is_same_log old new ≡ true → (new.base ≡ old.base) × (new.base_term ≡ old.base_term) × (new.entries ≡ old.entries) }
 {}
