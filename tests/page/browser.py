@@ -4,6 +4,7 @@ https://chromedevtools.github.io/devtools-protocol/ has its calls. A page's cons
 so that a test sees them.
 """
 import base64
+import contextlib
 import json
 import os
 import pathlib
@@ -136,6 +137,35 @@ class Browser:
         if "exceptionDetails" in done:
             raise RuntimeError(done["exceptionDetails"]["exception"]["description"])
         return done["result"].get("value")
+
+    @contextlib.contextmanager
+    def inside(self):
+        """Asks the frame of the page that has a process of its own, and not the page. What went wrong in it before is told then."""
+        page = self.session
+        frame = next(it["targetId"] for it in self.call("Target.getTargets")["targetInfos"] if it["type"] == "iframe")
+        self.session = self.call("Target.attachToTarget", targetId=frame, flatten=True)["sessionId"]
+        try:
+            for domain in ("Runtime", "Log", "Network"):
+                self.call(f"{domain}.enable")
+            yield
+        finally:
+            self.session = page
+
+    @contextlib.contextmanager
+    def counting(self):
+        """Has the browser count how often each part of a page's code runs; `runs` then tells it. The page is opened within."""
+        self.call("Profiler.enable")
+        self.call("Profiler.startPreciseCoverage", callCount=True, detailed=True)
+        try:
+            yield
+        finally:
+            self.call("Profiler.disable")
+
+    def runs(self):
+        """How often parts of the page's code ran since this was asked last, all together."""
+        scripts = self.call("Profiler.takePreciseCoverage")["result"]
+        functions = [function for script in scripts if script["url"].startswith("file:") for function in script["functions"]]
+        return sum(part["count"] for function in functions for part in function["ranges"])
 
     def press(self, *keys):
         for key in keys:

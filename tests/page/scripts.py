@@ -24,10 +24,37 @@ HOSTILE = b"".join([
 ALL = ",".join(map(str, range(1, 33))).encode()
 MANY = b"add-nodes 32 voters=(" + ALL + b") index=10\n----\n\ncampaign 1\n----\n\nstabilize\n----\n\npropose 1 hello\n----\n\nstabilize\n----\n\n"
 ROUND = b"propose 1 value\n----\nok\n\nstabilize\n----\nok\n\n"
-LONG = b"log-level none\n----\nok\n\nadd-nodes 3 voters=(1,2,3) index=10\n----\nok\n\ncampaign 1\n----\nok\n\nstabilize\n----\nok\n\n" + 9998 * ROUND
+BEFORE = b"log-level none\n----\nok\n\nadd-nodes 3 voters=(1,2,3) index=10\n----\nok\n\ncampaign 1\n----\nok\n\nstabilize\n----\nok\n\n"
+LONG = BEFORE + 9998 * ROUND
+LESS = BEFORE + 998 * ROUND
 LOST = b"".join([
     b"add-nodes 3 voters=(1,2,3) index=10\n----\n\ncampaign 1\n----\n\nprocess-ready 1\n----\n\ndeliver-msgs drop=(2)\n----\n\n",
     b"campaign 1\n----\n\nprocess-ready 1\n----\n\n",
+])
+# A node that sends to itself: its lead is itself, after a snapshot of its own.
+SELF = b"add-nodes 2 voters=(1,2) index=10\n----\n\nsend-snapshot 1 1\n----\n\nsend-snapshot 1 9\n----\n\ndeliver-msgs 1 drop=(9)\n----\n\n" \
+    b"propose 1 x\n----\n\nstabilize rounds=2\n----\n\n"
+# Messages to nodes that aren't there: some are dropped, the others stay on their way.
+NOBODY = b"".join([
+    b"add-nodes 2 voters=(1,2) learners=(3) index=10\n----\n\ncampaign 2\n----\n\nstabilize\n----\n\npropose 2 x\n----\n\nstabilize\n----\n\n",
+    b"send-snapshot 1 9\n----\n\ndeliver-msgs drop=(3)\n----\n\ntick-heartbeat 2\n----\n\nstabilize\n----\n\n",
+    b"add-nodes 1 index=10\n----\n\ndeliver-msgs 3\n----\n\n",
+])
+# What is told seldom: that nothing is ready, and that a change is refused or made empty.
+RARE = b"".join([
+    b"add-nodes 1 voters=(1) index=10\n----\n\nprocess-ready 1\n----\n\ncampaign 1\n----\n\nprocess-ready 1 1 1 1\n----\n\n",
+    b"propose-conf-change 1\n----\n\npropose-conf-change 1 v1=true\nr1\n----\n\nstabilize\n----\n\nraft-log 1\n----\n\n",
+])
+# More messages than may be on their way: of the last ready some find room, and a snapshot finds none; then some make room for others.
+FULL = b"".join([
+    b"log-level none\n----\n\nadd-nodes 32 voters=(" + ALL + b") index=10\n----\n\ncampaign 1\n----\n\nstabilize\n----\n\n",
+    133 * b"tick-heartbeat 1\n----\n\nprocess-ready 1\n----\n\n",
+    b"send-snapshot 1 2\n----\n\ndeliver-msgs 2 drop=(3)\n----\n\nsend-snapshot 1 2\n----\n\nprocess-ready 2\n----\n\n",
+])
+# Its last directive prints 5,001 lines.
+OUTPUT = b"".join([
+    b"add-nodes 1 voters=(1) index=10\n----\n\ncampaign 1\n----\n\nprocess-ready 1\n----\n\n", 4999 * b"propose 1 x\n----\n\n",
+    b"raft-log 1\n----\n\n",
 ])
 
 
