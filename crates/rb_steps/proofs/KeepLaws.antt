@@ -1,6 +1,6 @@
 -- Texts that are added one after another, and texts that are found.
-use Rattle.std.proofs.Common.{◌≡◌, ◌∙◌, ℕ, ◌+◌, Bool, true, false, List, [], ◌∷◌, ◌++◌, drop, Some, Result, Ok, Err, refl, ap, sym, append_assoc}
-use Rattle.std.specs.Prelude.{◌||◌, OnOk, if◌then◌else◌, slice_get}
+use Rattle.std.proofs.Common.{◌≡◌, ◌∙◌, ℕ, ◌+◌, Bool, true, false, List, [], ◌∷◌, ◌++◌, drop, Some, refl, ap, sym, append_assoc}
+use Rattle.std.specs.Prelude.{◌||◌, if◌then◌else◌, slice_get}
 use Rattle.std.specs.List.{flat_map}
 use Rattle.std.specs.Str.{bytes_eq}
 use Rattle.rb_script.specs.Lines.{Line}
