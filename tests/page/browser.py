@@ -33,7 +33,7 @@ class Browser:
     """One browser with one tab; it ends with the block that it is made for."""
 
     def __init__(self, program):
-        self.room = tempfile.TemporaryDirectory()
+        self.room = tempfile.TemporaryDirectory(ignore_cleanup_errors=True)
         down, self.to_browser = os.pipe()
         self.from_browser, up = os.pipe()
         self.process = subprocess.Popen(
@@ -49,10 +49,15 @@ class Browser:
         self.session = self.call("Target.attachToTarget", targetId=target, flatten=True)["sessionId"]
         for domain in ("Page", "Runtime", "Log", "Network"):
             self.call(f"{domain}.enable")
+        self.call("Performance.enable", timeDomain="threadTicks")
         self.size(1500, 900)
         return self
 
     def __exit__(self, *_):
+        # It ends with all that it started, so that nobody writes into its folder any more.
+        self.session = None
+        with contextlib.suppress(RuntimeError, OSError):
+            self.call("Browser.close")
         self.process.terminate()
         self.process.wait()
         os.close(self.to_browser)
@@ -160,6 +165,11 @@ class Browser:
             yield
         finally:
             self.call("Profiler.disable")
+
+    def spent(self):
+        """How many milliseconds of a processor the page's own thread has had since the page was opened."""
+        metrics = self.call("Performance.getMetrics")["metrics"]
+        return 1000 * next(it["value"] for it in metrics if it["name"] == "TaskDuration")
 
     def runs(self):
         """How often parts of the page's code ran since this was asked last, all together."""

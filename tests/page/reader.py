@@ -292,7 +292,7 @@ def frames_step_without_an_address(reader):
             reader.browser.press(*keys)
             with asking():
                 reader.comes_to(place, wanted)
-        reader.keep("framed-" + attributes.partition("=")[0])
+        reader.keep("framed-" + (attributes.partition("=")[0] or "alone"))
 
 
 def twenty_thousand_directives_open(reader):
