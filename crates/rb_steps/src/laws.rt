@@ -1,6 +1,6 @@
 //! Laws of steps.
 
-ghost use Rattle.std.specs.Prelude.{◌≡◌, ◌≤◌, ◌+◌, [], ◌∷◌, ℕ, Contains, List, length, true};
+ghost use Rattle.std.specs.Prelude.{◌≡◌, ◌≤◌, ◌+◌, ◌⊎◌, [], ◌∷◌, ℕ, Contains, List, false, length, true};
 ghost use Rattle.std.specs.List.{list_all, sum_by};
 ghost use Rattle.rb_script.specs.Directive.{PlainDirective};
 ghost use Rattle.rb_script.specs.Lines.{Line};
@@ -8,6 +8,7 @@ ghost use Rattle.rb_script.specs.Reads.{Reads};
 ghost use Rattle.rb_script.specs.Script.{PlainScript};
 ghost use Rattle.rb_raftlog.specs.Log.{LogValue, entries_after};
 ghost use Rattle.rb_tracker.specs.Progresses.{PlainProgress};
+ghost use Rattle.rb_tracker.specs.Trackers.{has_view};
 ghost use Rattle.rb_step.specs.Node.{PlainNode};
 ghost use Rattle.rb_texts.specs.Items.{PlainItem};
 ghost use Rattle.rb_machine.specs.Cluster.{Cluster, empty};
@@ -15,14 +16,16 @@ ghost use Rattle.rb_machine.specs.Outcome.{happened, outcome};
 ghost use Rattle.rb_cluster.specs.Told.{AreOfOne};
 ghost use Rattle.rb_page.specs.Escapes.{is_inert};
 ghost use Rattle.rb_page.specs.Json.{AreRows, is_byte};
-ghost use Rattle.rb_page.specs.Rows.{Row, rows_text};
+ghost use Rattle.rb_page.specs.Kept.{texts_of};
+ghost use Rattle.rb_page.specs.Rows.{Row, next_text, rows_text};
 ghost use Rattle.rb_page.specs.Sizes.{is_view};
 ghost use Rattle.rb_steps.specs.Changes.{node_change, state_change, views_changed, views_gone};
 ghost use Rattle.rb_steps.specs.Committed.{AreKept, AreSound};
 ghost use Rattle.rb_steps.specs.Pages.{first_row, steps_text};
 ghost use Rattle.rb_steps.specs.Logs.{entries_read, is_same_log, stays};
 ghost use Rattle.rb_steps.specs.Sizes.{around_size, item_size, step_size};
-ghost use Rattle.rb_steps.specs.States.{changed_rows, state_rows};
+ghost use Rattle.rb_steps.specs.Rows.{has_text};
+ghost use Rattle.rb_steps.specs.States.{changed_rows, no_view_row, standing, state_rows};
 ghost use Rattle.rb_steps.specs.Steps.{steps};
 ghost use Rattle.rb_steps.specs.Values.{AllDid, GoOnShowingBytes, all_rows};
 
@@ -86,4 +89,11 @@ pub fn steps_are_json()
 pub fn logs_read_back()
     ensures written { (old new : LogValue) → new.entries ≡ entries_read old new.base (stays old new) (entries_after new (stays old new)) }
     ensures still { (old new : LogValue) → is_same_log old new ≡ true → (new.base ≡ old.base) × (new.base_term ≡ old.base_term) × (new.entries ≡ old.entries) }
+{}
+
+/// What is not written stands as it stood: each row of a node's numbers, configuration and views is written, or it is as one of before; and each
+/// view that is gone is written as gone.
+pub fn what_is_not_written_stood()
+    ensures stands { (old new : PlainNode) (r : Row) → Contains (standing new) r → Contains (changed_rows old new) r ⊎ (has_text (texts_of (standing old)) (next_text r) ≡ true) }
+    ensures gone { (old new : PlainNode) (v : ℕ × PlainProgress) → Contains old.tracker.views v → has_view new.tracker.views v.0 ≡ false → Contains (changed_rows old new) (no_view_row new.id v.0) }
 {}

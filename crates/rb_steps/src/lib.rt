@@ -19,7 +19,7 @@ mod steps;
 pub use laws::{
     changes_grow_with_what_differs, changes_have_few_rows, committed_entries_stay, logs_read_back,
     pages_grow_with_what_happens, steps_are_inert, steps_are_json, steps_are_rows,
-    what_stands_still_has_no_row,
+    what_is_not_written_stood, what_stands_still_has_no_row,
 };
 pub use page::{FORMAT, Frame, put_page, put_steps};
 pub use shown::Shown;
