@@ -12,6 +12,8 @@ from scripts import FULL, HOSTILE, LESS, LOST, MANY, OUTPUT, TOUR, Failed, long_
 
 TALL = 12000
 MOST_SECONDS = 20
+# Where the page of the tour's election begins.
+FIRST = "step 1 of 20"
 # How many elements stand at most, or come and go in a step, however long the script is.
 MOST_ELEMENTS = 3000
 # What is on its way, as the right pane tells it: its heading, how many items are listed, and the last of them.
@@ -275,6 +277,18 @@ def framed(page, attributes):
     return f"<!DOCTYPE html><title>outer</title><body><iframe id=frame {attributes} width=1400 height=800 srcdoc='{html.escape(page)}'></iframe>"
 
 
+def click_into(reader, asking, place):
+    """Clicks into a frame until that chooses another directive: before the frame is drawn a click goes past it."""
+    until = time.monotonic() + MOST_SECONDS
+    chosen = FIRST
+    while chosen == FIRST and time.monotonic() < until:
+        reader.browser.click(300, 400)
+        with asking():
+            reader.browser.settle()
+            chosen = reader.browser.value(place)
+    same("whether a click into a frame chooses nothing", chosen == FIRST, False)
+
+
 def frames_step_without_an_address(reader):
     """A frame that was given its document as a text, as a code review may show what is attached; also where scripts alone may run."""
     page = page_of(TOUR[0].read_bytes(), "framed")
@@ -284,11 +298,9 @@ def frames_step_without_an_address(reader):
         reader.open_page(framed(page, attributes), "framed")
         place = f"{document}.getElementById('where').textContent.split(',')[0]"
         with asking():
-            reader.comes_to(place, "step 1 of 20")
-        reader.browser.click(300, 400)
-        with asking():
-            reader.comes_to(f"{place} === 'step 1 of 20'", False)
-        for keys, wanted in ((["Home"], "step 1 of 20"), (["ArrowDown", "j"], "step 3 of 20")):
+            reader.comes_to(place, FIRST)
+        click_into(reader, asking, place)
+        for keys, wanted in ((["Home"], FIRST), (["ArrowDown", "j"], "step 3 of 20")):
             reader.browser.press(*keys)
             with asking():
                 reader.comes_to(place, wanted)
