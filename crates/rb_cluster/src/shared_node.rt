@@ -51,9 +51,19 @@ impl<L: RaftLog> SharedNode<L> {
         ensures { self.new ≡ self.old }
     {
         if Rc::strong_count(&self.pointer) > 1 {
-            let copy = self.pointer.try_copy()?;
-            self.pointer = Rc::new(self.pointer.status().alloc, copy)?;
+            self.take_copy()?;
         }
+        Ok(())
+    }
+
+    // A copy of the node takes its place here. It stands apart, since what a function needs for a copy is cleared as it begins: who
+    // shares nothing clears nothing.
+    #[inline(never)]
+    fn take_copy(&mut self) -> Result<(), AllocError>
+        ensures { self.new ≡ self.old }
+    {
+        let copy = self.pointer.try_copy()?;
+        self.pointer = Rc::new(self.pointer.status().alloc, copy)?;
         Ok(())
     }
 
