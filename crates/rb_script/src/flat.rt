@@ -100,6 +100,14 @@ impl FlatLines {
         append_line(&mut self.text, &mut self.ends, line)
     }
 
+    /// Adds a line that has memory of its own, at the end.
+    pub(crate) fn push_text(&mut self, line: Vec<u8>) -> Result<(), AllocError>
+        ensures ok { OnOk result (self.new ≡ self.old ++ line.items ∷ []) }
+        ensures err { OnErr result (self.new ≡ self.old) }
+    {
+        take_line(&mut self.text, &mut self.ends, line)
+    }
+
     /// How many lines there are.
     pub(crate) fn len(&self) -> usize
         ensures { result ≡ length self.now }
@@ -207,6 +215,26 @@ fn append_line(
     text.extend_from_slice(line)?;
     text.push(b'\n')?;
     ends.push(text.len())?;
+    Ok(())
+}
+
+// Adds a line with its LF, and its end. The memory of the first is the text's from then on: nothing is copied.
+fn take_line(
+    text: &mut Vec<u8>,
+    ends: &mut SmallVec<usize, 4>,
+    line: Vec<u8>,
+) -> Result<(), AllocError>
+    ensures text { OnOk result (text.new.items ≡ text.old.items ++ line_text line.items) }
+    ensures ends { OnOk result (ends.new.items ≡ ends.old.items ++ length text.new.items ∷ []) }
+    ensures err { OnErr result ((text.new.items ≡ text.old.items) × (ends.new.items ≡ ends.old.items)) }
+{
+    if !text.is_empty() {
+        return append_line(text, ends, line.as_slice());
+    }
+    let mut first = line;
+    first.push(b'\n')?;
+    ends.push(first.len())?;
+    *text = first;
     Ok(())
 }
 

@@ -74,6 +74,14 @@ impl Lines {
         self.kept.push(line)
     }
 
+    /// Adds a line that has memory of its own, at the end. Where it is the first, the lines keep that memory.
+    pub fn push_text(&mut self, line: Vec<u8>) -> Result<(), AllocError>
+        ensures ok { OnOk result (self.new ≡ self.old ++ line.items ∷ []) }
+        ensures err { OnErr result (self.new ≡ self.old) }
+    {
+        self.kept.push_text(line)
+    }
+
     /// An empty text, with room for this many bytes, where the lines have their memory: for a line that is put together of many pieces.
     pub fn new_text(&self, room: usize) -> Result<Vec<u8>, AllocError>
         ensures empty { IfOk result (λ text. text.items ≡ []) }
@@ -172,6 +180,17 @@ impl Kept {
                 *self = Kept::Own(own);
                 Ok(())
             }
+        }
+    }
+
+    // Adds a line that has memory of its own, at the end.
+    fn push_text(&mut self, line: Vec<u8>) -> Result<(), AllocError>
+        ensures ok { OnOk result (kept_lines self.new ≡ kept_lines self.old ++ line.items ∷ []) }
+        ensures err { OnErr result (kept_lines self.new ≡ kept_lines self.old) }
+    {
+        match self {
+            Kept::Own(own) => own.push_text(line),
+            Kept::Part(_) => self.push(line.as_slice()),
         }
     }
 }

@@ -20,8 +20,12 @@ use rb_raftlog::Entry;
 use rb_script::Lines;
 use std::alloc::AllocError;
 
-// Most lines are shorter, and a line that is longer takes more room.
-const ROOM: usize = 120;
+// Most lines are shorter, and a line that is longer takes more room. The room of a list's first line is the list's from then on: most lists
+// of two or three lines fit in it.
+const ROOM: usize = 104;
+
+// `ok` stands alone.
+const OK_ROOM: usize = 3;
 
 /// Adds the line of the item, or nothing where the level hides it. Where memory runs out, nothing is known of what
 /// `lines` holds then: it is only good for being dropped.
@@ -31,9 +35,17 @@ pub fn put(lines: &mut Lines, level: Level, item: &Item<'_>) -> Result<(), Alloc
     if !is_shown(level, item) {
         return Ok(());
     }
-    let mut line = lines.new_text(ROOM)?;
+    let mut line = lines.new_text(room_of(item))?;
     add_item(&mut line, item)?;
-    lines.push(line.as_slice())
+    lines.push_text(line)
+}
+
+// How much room the line of an item begins with.
+fn room_of(item: &Item<'_>) -> usize {
+    match item {
+        Item::NothingElse => OK_ROOM,
+        _ => ROOM,
+    }
 }
 
 fn is_shown(level: Level, item: &Item<'_>) -> bool
