@@ -44,18 +44,20 @@ pub fn read_up_to<S: Source>(
     ensures all { S.gives_all source.old → IfErr result (λ fault. fault ≡ ReadFault.OutOfMemory) × S.gives_all source.new }
 {
     let mut bytes = Vec::new(alloc);
+    let mut chunk = [0u8; CHUNK];
     while bytes.len() < most {
-        if read_some(source, &mut bytes, most)? == 0 {
+        if read_some(source, &mut bytes, &mut chunk, most)? == 0 {
             return Ok(bytes);
         }
     }
     Ok(bytes)
 }
 
-// Adds what one call gives, which is asked for no more bytes than are missing.
+// Adds what one call gives, which is asked for no more bytes than are missing. They come over the chunk.
 fn read_some<S: Source>(
     source: &mut S,
     bytes: &mut Vec<u8>,
+    chunk: &mut [u8; CHUNK],
     most: usize,
 ) -> Result<usize, ReadFault>
     requires { vec_len bytes.old < most }
@@ -70,7 +72,6 @@ fn read_some<S: Source>(
     ensures unfailed { OnOk result (Fails (S.asked source.old) (S.asked source.new) 0) }
     ensures all { S.gives_all source.old → IfErr result (λ fault. fault ≡ ReadFault.OutOfMemory) × S.gives_all source.new }
 {
-    let mut chunk = [0u8; CHUNK];
     let room = CHUNK.min(most - bytes.len());
     let Ok(n) = source.get(&mut chunk[..room]) else {
         return Err(ReadFault::Io);

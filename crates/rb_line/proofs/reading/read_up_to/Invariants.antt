@@ -4,8 +4,8 @@ use Rattle.std.specs.Io.KnownBytes.{Consumes}
 use Rattle.rb_line.specs.Asked.{Asks, Fails}
 use Rattle.rb_line.proofs.reading.read_up_to.Given as goal
 
-abbrev pub invariant-loop-source : goal.invariant-loop-source
-invariant-loop-source g l = record {
+abbrev pub invariant-loop-chunk : goal.invariant-loop-chunk
+invariant-loop-chunk g l = record {
   within : vec_len l.bytes ≤ l.most;
   consumed : Consumes (g.S.Source.left l.initial.source) (g.S.Source.left l.source) l.bytes.items;
   calls : ℕ;
@@ -15,5 +15,5 @@ invariant-loop-source g l = record {
   all : g.S.Source.gives_all l.initial.source → g.S.Source.gives_all l.source;
 }
 
-abbrev pub decreases-loop-source : goal.decreases-loop-source
-decreases-loop-source g l = l.most - vec_len l.bytes
+abbrev pub decreases-loop-chunk : goal.decreases-loop-chunk
+decreases-loop-chunk g l = l.most - vec_len l.bytes
