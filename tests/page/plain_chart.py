@@ -1,11 +1,13 @@
 """The picture of a script in the plainest way: SVG that stands without scripts, made of the rows that plain_steps.py gives.
 
 Nodes stand side by side and time goes downwards. A message is an arrow from where it was sent to where it was delivered; a cross ends one
-that was lost, and a dotted one is still on its way. A title, and a sentence for each thing that happened, are there for readers who
-can't see.
+that was lost, and a dotted one is still on its way: to whom these are stands before their labels. For readers who can't see there are a
+title, the script's notes and heads, and a sentence for each thing that happened.
 
     plain_chart.py FILE [LINE]     writes the picture of a script, or of its directives up to the one at a line
 """
+import bisect
+import itertools
 import os
 import pathlib
 import re
@@ -17,19 +19,28 @@ from xml.sax.saxutils import escape
 sys.dont_write_bytecode = True
 sys.path.insert(0, str(pathlib.Path(__file__).resolve().parents[2]))
 
-from plain.script import read_script  # noqa: E402
+from plain.script import lines_of, read_script  # noqa: E402
 from plain_steps import rows_of  # noqa: E402
 
 # Sizes, in pixels. A row is its heading, a slot for each thing that happens in it, and a little room.
 SLOT, ROW_TOP, ROW_BOTTOM, HEADING = 18, 25, 8, 34
-FIRST, GAP, RIGHT, LEAD, OUT = 268, 184, 208, 134, 40
+LINE_X, HEAD_X, FIRST, GAP, LEAD, OUT = 42, 50, 280, 220, 170, 40
+# How far a line goes on behind its level part where it is on its way, and where it is given up.
+WAITING, GIVEN_UP = 26, 14
+# How much room is to the right of the last node, and of what is drawn.
+LEAST, EDGE = 60, 10
 HALF_BAND = 5
 HALVES = {"leader": HALF_BAND, "candidate": 4, "precandidate": 4, "follower": 3}
-MOST_HEAD, MOST_NOTE, MOST_LABEL, MOST_MARK = 32, 36, 27, 29
+MOST_HEAD, MOST_NOTE, MOST_LABEL, MOST_MARK = 32, 36, 30, 29
+# What a character takes at most: those that take less than others, those that take more, as all past ASCII do, and the others.
+NARROW, NARROW_WIDTH = " !'(),./:;I[]fijlrt|", 6
+BROAD, BROAD_WIDTH = "#%&+<=>@ABCDEFGHJKLMNOPQRSTUVWXYZmw~", 12
+WIDTH = 8
+# The types of messages, in the order in which those on their way to a node are told.
 KINDS = {
-    "MsgVote": "vote", "MsgPreVote": "vote", "MsgVoteResp": "vote", "MsgPreVoteResp": "vote", "MsgTimeoutNow": "vote", "MsgApp": "append",
-    "MsgAppResp": "append", "MsgHeartbeat": "heartbeat", "MsgHeartbeatResp": "heartbeat", "MsgSnap": "snapshot", "MsgProp": "proposal",
-    "MsgTransferLeader": "proposal",
+    "MsgVote": "vote", "MsgPreVote": "vote", "MsgVoteResp": "vote", "MsgPreVoteResp": "vote", "MsgApp": "append", "MsgAppResp": "append",
+    "MsgHeartbeat": "heartbeat", "MsgHeartbeatResp": "heartbeat", "MsgSnap": "snapshot", "MsgProp": "proposal",
+    "MsgTransferLeader": "proposal", "MsgTimeoutNow": "vote",
 }
 # How things look, and the tips of arrows, of which there is one a kind.
 STYLE = (pathlib.Path(__file__).resolve().parents[2] / "crates" / "rb_chart" / "assets" / "style.svg").read_text()
@@ -63,6 +74,17 @@ def said(kind, cells):
     if kind == "MsgSnap":
         return f"{cells[0]}/{cells[1]}"
     return {"MsgProp": lambda: cells[0], "MsgTransferLeader": lambda: f"to {cells[0]}"}.get(kind, lambda: "")()
+
+
+def message_words(kind, term, cells):
+    """A message's type, its term where it is of one, and what matters of it."""
+    return " ".join(filter(None, [kind[3:], f"t{term}" if term else "", said(kind, cells)]))
+
+
+def label_of(kind, term, cells):
+    """The same at its line: without the term where there is no room for it."""
+    words = message_words(kind, term, cells)
+    return words if columns_of(words) <= MOST_LABEL else fitted(message_words(kind, 0, cells), MOST_LABEL)
 
 
 def vote_mark(id, kind, granted, sender, result):
@@ -99,9 +121,12 @@ NOTES = {
 
 @dataclass
 class Arrow:
-    """A message on its way: where its line begins, and which of the lines is its own."""
+    """A message on its way: who sent it, where its line begins, which of the lines is its own and which of the texts, and its label."""
+    sender: int
     start: int
     place: int
+    text: int
+    label: str
 
 
 @dataclass
@@ -123,6 +148,10 @@ class Chart:
     told: list = field(default_factory=list)
     width: int = 0
     height: int = HEADING
+
+    def reach(self, x):
+        """Something is drawn as far as this to the right."""
+        self.width = max(self.width, x + EDGE)
 
 
 class Drafter:
@@ -163,18 +192,31 @@ class Drafter:
         self.end_row()
         self.row, self.sent = Row(line, self.chart.height), 0
         self.chart.under.append(f'<rect class="edge" y="{self.row.top}" width="100%" height="1"/>')
-        self.words("line", 30, self.row.top + 17, str(line))
-        self.words("head", 38, self.row.top + 17, fitted(head, MOST_HEAD))
+        self.words("line", LINE_X, self.row.top + 17, str(line))
+        self.words("head", HEAD_X, self.row.top + 17, fitted(head, MOST_HEAD))
+        self.tell(head)
 
     def note(self, text, look):
         self.row.notes += 1
-        self.words(look, 38, self.row.top + ROW_TOP + SLOT * self.row.notes - SLOT // 2, fitted(text, MOST_NOTE))
+        self.tell(text)
+        self.words(look, HEAD_X, self.row.top + ROW_TOP + SLOT * self.row.notes - SLOT // 2, fitted(text, MOST_NOTE))
 
     def words(self, look, x, y, text):
+        if look not in ("line", "name") and not look.endswith(" end"):
+            self.chart.reach(x + width_of(text))
         self.chart.texts.append(f'<text class="{look}" x="{x}" y="{y}">{escape(text)}</text>')
 
     def tell(self, sentence):
         self.chart.told.append(f"Line {self.row.line}: {sentence}.")
+
+    def tell_notes(self, line, lines):
+        """The comments among these lines, the first of which is this one; those that follow one another are one note."""
+        is_in_note = False
+        for number, text in enumerate(lines, line):
+            text = re.sub("^#+ ?", "", shown(text.strip(b" \t")))
+            if text:
+                self.chart.told.append(text if is_in_note else f"Line {number}: note: {text}")
+            is_in_note = bool(text)
 
     # Nodes
 
@@ -233,21 +275,24 @@ class Drafter:
     # Messages
 
     def send(self, sender, to, kind, term, *cells):
-        words = f"{kind[3:]} {said(kind, cells)}".strip()
-        arrow = Arrow(self.slot(), len(self.chart.over))
+        label, is_left = label_of(kind, term, cells), to < sender
+        arrow = Arrow(sender, self.slot(), len(self.chart.over), len(self.chart.texts), label)
         self.chart.over += line(sender, to, kind, arrow.start, "waiting")
-        is_left = to < sender
+        self.chart.reach(x_of(sender) + (HALF_BAND + 1 + OUT if to == sender else 0 if is_left else LEAD + WAITING))
         x = x_of(sender) + (-HALF_BAND - 5 if is_left else HALF_BAND + 5)
-        self.words(KINDS[kind] + " end" * is_left, x, arrow.start - 5, fitted(words, MOST_LABEL))
+        self.words(KINDS[kind] + " end" * is_left, x, arrow.start - 5, aim(to) + label)
         self.mail[to, kind].append(arrow)
         self.sent += 1
-        self.tell(f"{sender} sends {to} {words}")
+        self.tell(f"node {sender} sends {message_words(kind, term, cells)} to node {to}")
 
     def meet(self, fate, sender, to, kind, term, *cells):
         arrow, end = self.mail[to, kind].pop(0), self.slot()
         is_short = fate == "dropped" and to not in self.bands
+        if fate == "delivered":
+            # Its arrow tells to whom it is.
+            self.chart.texts[arrow.text] = self.chart.texts[arrow.text].replace(aim(to), "", 1)
         self.draw_anew(arrow.place, line(sender, to, kind, arrow.start, "given up" if is_short else fate, end))
-        self.tell_end(fate, sender, to, kind, cells)
+        self.tell_end(fate, sender, to, message_words(kind, term, cells))
 
     def read_no_room(self, sender, to, kind, term, *cells):
         if not self.sent:
@@ -255,25 +300,24 @@ class Drafter:
         arrow = self.mail[to, kind].pop()
         self.sent -= 1
         self.draw_anew(arrow.place, line(sender, to, kind, arrow.start, "given up"))
-        self.tell_end("given up", sender, to, kind, cells)
+        self.tell_end("given up", sender, to, message_words(kind, term, cells))
 
     def draw_anew(self, place, drawn):
         self.chart.over[place] = drawn[0]
         self.chart.over += drawn[1:]
 
-    def tell_end(self, fate, sender, to, kind, cells):
-        words = f"{kind[3:]} {said(kind, cells)}".strip()
-        self.tell(f"{words} from {sender} to {to} is {fate}")
+    def tell_end(self, fate, sender, to, words):
+        self.tell(f"{words} from node {sender} to node {to} is {fate}")
 
     # The end
 
-    def read_end(self, *counts):
-        self.end_row()
-
     def done(self):
         self.end_row()
+        for to, kind in sorted(self.mail, key=lambda queue: (queue[0], [*KINDS].index(queue[1]))):
+            for arrow in self.mail[to, kind]:
+                self.tell_end("on its way", arrow.sender, to, arrow.label)
         self.chart.under += [self.end_band(id, self.chart.height) for id in sorted(self.bands)]
-        self.chart.width = x_of(max([*self.bands, 1])) + RIGHT
+        self.chart.reach(x_of(max([*self.bands, 1])) + LEAST)
         return self.chart
 
 
@@ -281,13 +325,19 @@ def chart_of(data, name, until=None):
     """All that a script's picture has; of the directives up to the one at a line where there is one."""
     title = shown(name if isinstance(name, bytes) else os.fsencode(name))
     drafter = Drafter(title if until is None else f"{title}, up to line {until}")
-    heads = (block.head[0] for block in read_script(data).blocks)
+    script = read_script(data)
+    blocks = iter(script.blocks)
     for row in rows_of(data, name):
         if row[0] == "step" and until is not None and row[1] > until:
             break
         if row[0] == "step":
+            block = next(blocks)
             drafter.end_saves()
-            drafter.begin_row(row[1], shown(next(heads)))
+            drafter.tell_notes(row[1] - len(block.lead), block.lead)
+            drafter.begin_row(row[1], shown(block.head[0]))
+        elif row[0] == "end":
+            drafter.end_saves()
+            drafter.tell_notes(1 + len(lines_of(data)) - len(script.tail), script.tail)
         elif row[0] not in ("raftbench", "text", "output", "expected", "mismatch"):
             drafter.read(*row)
     return drafter.done()
@@ -300,8 +350,24 @@ def x_of(id):
     return FIRST + GAP * (id - 1)
 
 
+def width_of(text):
+    return sum(NARROW_WIDTH if c in NARROW else BROAD_WIDTH if c in BROAD or c > "\x7f" else WIDTH for c in text)
+
+
+def aim(to):
+    """To whom a message is, before its label."""
+    return f"→{to} "
+
+
+def columns_of(text):
+    """How many columns it takes: letters of some scripts, and pictures, take two."""
+    return sum(1 + (c >= "\u3000") for c in text)
+
+
 def fitted(text, most):
-    return text if len(text) <= most else text[:most - 1] + "…"
+    """As much of a text as fits into so many columns; where that is not all, an ellipsis behind it."""
+    taken = list(itertools.accumulate(1 + (c >= "\u3000") for c in text))
+    return text if not taken or taken[-1] <= most else text[:bisect.bisect(taken, most - 1)] + "…"
 
 
 def line(sender, to, kind, start, fate, end=0):
@@ -315,7 +381,7 @@ def line(sender, to, kind, start, fate, end=0):
     else:
         to_x = x_of(to) - side * (HALF_BAND + (1 if fate == "delivered" else 19))
         if fate in ("waiting", "given up"):
-            to_x, end = bend + side * (26 if fate == "waiting" else 14), start + 8
+            to_x, end = bend + side * (WAITING if fate == "waiting" else GIVEN_UP), start + 8
         path = f"M{x} {start}H{bend}L{to_x} {end}"
     look = fate if fate in ("delivered", "waiting") else "lost"
     crosses = [f'<path class="cross" d="M{to_x} {end}m-4 -4l8 8m0 -8l-8 8"/>'] if look == "lost" else []
@@ -324,7 +390,7 @@ def line(sender, to, kind, start, fate, end=0):
 
 def svg_lines(chart):
     width, height = chart.width, chart.height
-    yield (f'<svg xmlns="http://www.w3.org/2000/svg" role="img" aria-labelledby="title what" '
+    yield (f'<svg xmlns="http://www.w3.org/2000/svg" role="img" aria-labelledby="title" aria-describedby="what" '
            f'viewBox="0 0 {width} {height}" width="{width}" height="{height}">')
     yield f'<title id="title">{escape(chart.title)}</title>'
     yield f'<desc id="what">{escape("".join(f"{sentence}{chr(10)}" for sentence in chart.told))}</desc>'

@@ -1,5 +1,5 @@
 -- Pictures as documents of SVG. (SVG 2, W3C, sections 5.1 and 5.8; its description is for readers who can't see, WAI-ARIA 1.2,
--- `aria-labelledby`.)
+-- `aria-labelledby` and `aria-describedby`.)
 use Rattle.std.specs.Prelude.{ℕ, codes, decimal, List, ◌++◌}
 use Rattle.std.specs.List.{flat_map}
 use Rattle.rb_chart.specs.declared.shape.Shape.{Shape}
@@ -20,7 +20,7 @@ pub record PlainChart : Type 0 where
 -- what stands before the shapes: the size, the title and what is told as they stand in texts of XML, how all looks, and the background
 abbrev pub front_text : List ℕ → ℕ → ℕ → List ℕ → List ℕ → List ℕ
 front_text style width height title told =
-    codes "<svg xmlns=\"http://www.w3.org/2000/svg\" role=\"img\" aria-labelledby=\"title what\" viewBox=\"0 0 "
+    codes "<svg xmlns=\"http://www.w3.org/2000/svg\" role=\"img\" aria-labelledby=\"title\" aria-describedby=\"what\" viewBox=\"0 0 "
     ++ (decimal width ++ (codes " " ++ (decimal height ++ (codes "\" width=\"" ++ (decimal width ++ (codes "\" height=\"" ++ (decimal height
     ++ (codes "\">\n<title id=\"title\">" ++ (title ++ (codes "</title>\n<desc id=\"what\">" ++ (told
     ++ (codes "</desc>\n" ++ (style ++ codes "<rect class=\"background\" width=\"100%\" height=\"100%\"/>\n")))))))))))))

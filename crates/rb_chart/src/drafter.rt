@@ -7,42 +7,39 @@ use crate::chart::Chart;
 use crate::columns::Columns;
 use crate::event::{Event, Mark, Message, Note};
 use crate::flight::{Ending, cross_of, line_of};
+use crate::labels::Label;
 use crate::look::Look;
-use crate::mail::{Flight, Mail};
+use crate::mail::{Flight, Mail, QUEUES};
 use crate::marks::{mark_look, mark_words, note_look, note_words};
-use crate::messages::message_words;
-use crate::names::kind_of;
+use crate::messages::{aim_words, label_words, message_words};
 use crate::shape::Shape;
 use crate::shown::shown;
-use crate::sizes::{
-    HALF_BAND, MOST_HEAD, MOST_LABEL, MOST_MARK, MOST_NOTE, beside, middle, width_of,
-};
+use crate::sizes::{ASIDE, MOST_HEAD, MOST_MARK, MOST_NOTE, least_right, middle};
 use crate::slots::Slots;
 use crate::source::Source;
+use crate::telling::End;
 use rb_json::{Piece, add_pieces};
 use rb_message::Role;
 use std::alloc::{AllocError, Global};
 
 // Where the gutter has a directive's line, which ends there, and its head.
-const LINE_X: u64 = 30;
+const LINE_X: u64 = 42;
 
-const HEAD_X: u64 = 38;
+const HEAD_X: u64 = 50;
 
 const HEAD_DOWN: u64 = 17;
 // The names of nodes.
 const NAME_Y: u64 = 22;
-// How far words are from the middle of a band, and above the middle of their slot.
-const ASIDE: u64 = HALF_BAND + 5;
-
+// How far the words of a mark are above the middle of their slot.
 const MARK_UP: u64 = 2;
-
-const LABEL_UP: u64 = 5;
 
 /// What is known of a run so far.
 #[derive(Drop)]
 pub(crate) struct Drafter<'a> {
     alloc: Global,
     source: Source<'a>,
+    // whether the line before is one of a note
+    is_in_note: bool,
     mail: Mail,
     columns: Columns,
     slots: Slots,
@@ -60,6 +57,7 @@ impl<'a> Drafter<'a> {
         Ok(Drafter {
             alloc,
             source: Source::new(bytes),
+            is_in_note: false,
             mail,
             columns: Columns::new(alloc),
             slots: Slots::new(0, 0),
@@ -100,6 +98,7 @@ impl<'a> Drafter<'a> {
             Event::Log { id, base } => self.see_base(chart, id, base),
             Event::Told { id, mark } => self.tell(chart, id, mark),
             Event::Noted(note) => self.note(chart, note),
+            Event::End => self.end(chart),
         }
     }
 
@@ -107,7 +106,8 @@ impl<'a> Drafter<'a> {
     pub(crate) fn finish(&mut self, chart: &mut Chart) -> Result<(), AllocError> {
         self.end_saves(chart)?;
         self.end_row(chart);
-        chart.width = width_of(self.columns.len());
+        self.tell_mail(chart)?;
+        chart.reach(least_right(self.columns.len()));
         for at in 0..self.columns.len() {
             if let Some(band) = self.columns.last_band(at, chart.height) {
                 chart.under.push(band)?;
@@ -126,11 +126,11 @@ impl<'a> Drafter<'a> {
 
     fn begin(&mut self, chart: &mut Chart, line: u64) -> Result<(), AllocError> {
         self.end_row(chart);
+        self.read_to(chart, line)?;
         let top = chart.height;
         self.slots = Slots::new(line, top);
         self.has_begun = true;
         self.sent = 0;
-        self.source.go_to(line);
         chart.under.push(Shape::Edge { y: top })?;
         self.head(chart, line, top.saturating_add(HEAD_DOWN))
     }
@@ -139,13 +139,48 @@ impl<'a> Drafter<'a> {
     fn head(&self, chart: &mut Chart, line: u64, y: u64) -> Result<(), AllocError> {
         add_line_number(self.alloc, chart, line, y)?;
         let head = shown(self.alloc, self.source.line())?;
-        chart.add_words(Look::Head, HEAD_X, y, head.as_slice(), MOST_HEAD)
+        chart.add_words(Look::Head, HEAD_X, y, head.as_slice(), MOST_HEAD)?;
+        chart.tell(line, &[Piece::Bytes(head.as_slice())])
+    }
+
+    // Goes on to the head at a line, and tells the notes above it.
+    fn read_to(&mut self, chart: &mut Chart, line: u64) -> Result<(), AllocError> {
+        for _ in self.source.number()..line {
+            self.read_line(chart)?;
+        }
+        self.source.begin_head();
+        Ok(())
+    }
+
+    // Goes on to the line below, and tells what the line says as a comment.
+    fn read_line(&mut self, chart: &mut Chart) -> Result<(), AllocError> {
+        let line = self.source.number();
+        let words = self.source.next_comment();
+        let is_first = !self.is_in_note;
+        self.is_in_note = !words.is_empty();
+        if words.is_empty() {
+            return Ok(());
+        }
+        let text = shown(self.alloc, words)?;
+        chart.tell_note(line, text.as_slice(), is_first)
+    }
+
+    // Tells the notes below the last directive.
+    fn end(&mut self, chart: &mut Chart) -> Result<(), AllocError> {
+        for _ in 0..self.source.len() {
+            if self.source.len() == 0 {
+                break;
+            }
+            self.read_line(chart)?;
+        }
+        Ok(())
     }
 
     fn note(&mut self, chart: &mut Chart, note: Note<'_>) -> Result<(), AllocError> {
         let words = note_words(self.alloc, note)?;
         let y = self.slots.next_note();
-        chart.add_words(note_look(note), HEAD_X, y, words.as_slice(), MOST_NOTE)
+        chart.add_words(note_look(note), HEAD_X, y, words.as_slice(), MOST_NOTE)?;
+        chart.tell(self.slots.line, &[Piece::Bytes(words.as_slice())])
     }
 
     // ---- nodes
@@ -161,14 +196,10 @@ impl<'a> Drafter<'a> {
     fn mark(&mut self, chart: &mut Chart, id: u64, mark: Mark<'_>) -> Result<u64, AllocError> {
         let words = mark_words(self.alloc, id, mark)?;
         let y = self.slots.next();
-        add_mark(
-            chart,
-            self.slots.line,
-            id,
-            mark_look(mark),
-            y,
-            words.as_slice(),
-        )?;
+        let x = middle(id).saturating_add(ASIDE);
+        let up = y.saturating_sub(MARK_UP);
+        chart.add_words(mark_look(mark), x, up, words.as_slice(), MOST_MARK)?;
+        chart.tell_mark(self.slots.line, id, words.as_slice())?;
         Ok(y)
     }
 
@@ -227,15 +258,28 @@ impl<'a> Drafter<'a> {
     fn send(&mut self, chart: &mut Chart, message: &Message<'_>) -> Result<(), AllocError> {
         let y = self.slots.next();
         let place = chart.over.len();
-        chart.over.push(line_of(message, y, Ending::Waiting))?;
-        self.mail.push(message, Flight { y, place })?;
+        let line = line_of(message, y, Ending::Waiting);
+        chart.reach(line.right());
+        chart.over.push(line)?;
+        let label = self.label(chart, message, y)?;
+        let flight = Flight {
+            from: message.from,
+            to: message.to,
+            y,
+            place,
+            label,
+        };
+        self.mail.push(message, flight)?;
         self.sent = self.sent.saturating_add(1);
-        self.label(chart, message, y)
+        Ok(())
     }
 
-    fn label(&self, chart: &mut Chart, message: &Message<'_>, y: u64) -> Result<(), AllocError> {
+    fn label(&self, chart: &mut Chart, message: &Message<'_>, y: u64) -> Result<Label, AllocError> {
         let words = message_words(self.alloc, message)?;
-        add_label(chart, self.slots.line, message, y, words.as_slice())
+        chart.tell_sent(self.slots.line, message.from, message.to, words.as_slice())?;
+        let aim = aim_words(self.alloc, message)?;
+        let label = label_words(self.alloc, message)?;
+        Label::add(chart, message, y, aim.as_slice(), label.as_slice())
     }
 
     fn deliver(&mut self, chart: &mut Chart, message: &Message<'_>) -> Result<(), AllocError> {
@@ -244,7 +288,8 @@ impl<'a> Drafter<'a> {
         };
         let ending = Ending::Delivered(self.slots.next());
         draw_anew(chart, message, flight, ending)?;
-        self.tell_end(chart, message, b" is delivered")
+        flight.label.drop_aim(chart);
+        self.tell_end(chart, message, End::Delivered)
     }
 
     fn lose(&mut self, chart: &mut Chart, message: &Message<'_>) -> Result<(), AllocError> {
@@ -258,7 +303,7 @@ impl<'a> Drafter<'a> {
             Ending::GivenUp
         };
         draw_anew(chart, message, flight, ending)?;
-        self.tell_end(chart, message, b" is dropped")
+        self.tell_end(chart, message, End::Dropped)
     }
 
     fn give_up(&mut self, chart: &mut Chart, message: &Message<'_>) -> Result<(), AllocError> {
@@ -270,17 +315,47 @@ impl<'a> Drafter<'a> {
         };
         self.sent = self.sent.saturating_sub(1);
         draw_anew(chart, message, flight, Ending::GivenUp)?;
-        self.tell_end(chart, message, b" is given up")
+        self.tell_end(chart, message, End::GivenUp)
     }
 
     fn tell_end(
         &self,
         chart: &mut Chart,
         message: &Message<'_>,
-        ends: &[u8],
+        end: End,
     ) -> Result<(), AllocError> {
         let words = message_words(self.alloc, message)?;
-        tell_ended(chart, self.slots.line, message, words.as_slice(), ends)
+        let line = self.slots.line;
+        chart.tell_end(line, message.from, message.to, words.as_slice(), end)
+    }
+
+    // Tells which messages are on their way.
+    fn tell_mail(&mut self, chart: &mut Chart) -> Result<(), AllocError> {
+        for at in 0..QUEUES {
+            self.tell_queue(chart, at)?;
+        }
+        Ok(())
+    }
+
+    fn tell_queue(&mut self, chart: &mut Chart, at: usize) -> Result<(), AllocError> {
+        for _ in 0..self.mail.count(at) {
+            if let Some(flight) = self.mail.pop(at) {
+                self.tell_flight(chart, flight)?;
+            }
+        }
+        Ok(())
+    }
+
+    fn tell_flight(&self, chart: &mut Chart, flight: Flight) -> Result<(), AllocError> {
+        let words = flight.label.words(self.alloc, chart)?;
+        let line = self.slots.line;
+        chart.tell_end(
+            line,
+            flight.from,
+            flight.to,
+            words.as_slice(),
+            End::OnItsWay,
+        )
     }
 }
 
@@ -289,76 +364,6 @@ fn add_line_number(alloc: Global, chart: &mut Chart, line: u64, y: u64) -> Resul
     let mut number = Vec::new(alloc);
     add_pieces(&mut number, &[Piece::Number(line)])?;
     chart.add_words(Look::LineNumber, LINE_X, y, number.as_slice(), MOST_HEAD)
-}
-
-// Adds what a node tells in the directive at a line, in the slot whose middle is `y`.
-fn add_mark<'a>(
-    chart: &mut Chart,
-    line: u64,
-    id: u64,
-    look: Look,
-    y: u64,
-    words: &'a [u8],
-) -> Result<(), AllocError> {
-    let x = middle(id).saturating_add(ASIDE);
-    chart.add_words(look, x, y.saturating_sub(MARK_UP), words, MOST_MARK)?;
-    let sentence = [
-        Piece::Bytes(b"node "),
-        Piece::Number(id),
-        Piece::Bytes(b": "),
-        Piece::Bytes(words),
-    ];
-    chart.tell(line, &sentence)
-}
-
-// Adds the label of a message that is sent in the directive at a line.
-fn add_label<'a>(
-    chart: &mut Chart,
-    line: u64,
-    message: &Message<'_>,
-    y: u64,
-    words: &'a [u8],
-) -> Result<(), AllocError> {
-    let is_left = message.to < message.from;
-    let x = beside(middle(message.from), is_left, ASIDE);
-    let look = label_look(message, is_left);
-    chart.add_words(look, x, y.saturating_sub(LABEL_UP), words, MOST_LABEL)?;
-    let sentence = [
-        Piece::Number(message.from),
-        Piece::Bytes(b" sends "),
-        Piece::Number(message.to),
-        Piece::Bytes(b" "),
-        Piece::Bytes(words),
-    ];
-    chart.tell(line, &sentence)
-}
-
-fn label_look(message: &Message<'_>, is_left: bool) -> Look {
-    let kind = kind_of(message.message_type);
-    if is_left {
-        Look::LeftLabel(kind)
-    } else {
-        Look::Label(kind)
-    }
-}
-
-// Tells how a message ended.
-fn tell_ended<'a>(
-    chart: &mut Chart,
-    line: u64,
-    message: &Message<'_>,
-    words: &'a [u8],
-    ends: &'a [u8],
-) -> Result<(), AllocError> {
-    let sentence = [
-        Piece::Bytes(words),
-        Piece::Bytes(b" from "),
-        Piece::Number(message.from),
-        Piece::Bytes(b" to "),
-        Piece::Number(message.to),
-        Piece::Bytes(ends),
-    ];
-    chart.tell(line, &sentence)
 }
 
 // Draws a message's line as it ends.

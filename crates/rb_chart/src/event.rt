@@ -29,6 +29,8 @@ pub(crate) enum Event<'a> {
     Told { id: u64, mark: Mark<'a> },
     /// What is said of the directive.
     Noted(Note<'a>),
+    /// The script is at its end.
+    End,
 }
 
 /// A message. Names and texts are as rows have them, between quotes.
@@ -38,6 +40,8 @@ pub(crate) struct Message<'a> {
     pub(crate) to: u64,
     pub(crate) message_type: MessageType,
     pub(crate) name: &'a [u8],
+    /// 0 where it is of no term.
+    pub(crate) term: u64,
     /// What it says behind its type and its term, in order.
     pub(crate) said: [u64; 4],
     pub(crate) body: &'a [u8],
@@ -117,6 +121,7 @@ fn message_of<'a>(row: &Row<'a>) -> Option<Message<'a>> {
         to: numbers[1],
         message_type,
         name: row.first,
+        term: numbers[2],
         said: [numbers[3], numbers[4], numbers[5], numbers[6]],
         body: row.second,
     })
@@ -192,6 +197,7 @@ fn named<'a>(name: Name, row: &Row<'a>) -> Option<Event<'a>> {
             id,
             base: row.numbers[2],
         },
+        Name::End => Event::End,
         _ => Event::Told {
             id,
             mark: mark_of(name, row)?,

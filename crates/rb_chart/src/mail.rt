@@ -4,6 +4,7 @@
 //! (docs/PAGE.md, "What a directive did").
 
 use crate::event::Message;
+use crate::labels::Label;
 use rb_message::MessageType;
 use std::alloc::{AllocError, Global};
 use std::collections::VecDeque;
@@ -11,13 +12,17 @@ use std::collections::VecDeque;
 // Ids are at most 32, and there are 12 types of messages.
 const TYPES: usize = 12;
 
-const QUEUES: usize = 33 * TYPES;
+/// How many queues there are.
+pub(crate) const QUEUES: usize = 33 * TYPES;
 
-/// A message on its way: where it is sent, and which shape is its own.
+/// A message on its way: between which nodes, where it is sent, which shape is its own, and its label.
 #[derive(Clone, Copy)]
 pub(crate) struct Flight {
+    pub(crate) from: u64,
+    pub(crate) to: u64,
     pub(crate) y: u64,
     pub(crate) place: usize,
+    pub(crate) label: Label,
 }
 
 /// The messages on their way.
@@ -53,11 +58,7 @@ impl Mail {
 
     /// Takes out the earliest of its kind.
     pub(crate) fn pop_first(&mut self, message: &Message<'_>) -> Option<Flight> {
-        let at = queue_of(message.to, message.message_type);
-        let Some(queue) = self.queues.get_mut(at) else {
-            return None;
-        };
-        queue.pop_front()
+        self.pop(queue_of(message.to, message.message_type))
     }
 
     /// Takes out the last of its kind.
@@ -67,5 +68,21 @@ impl Mail {
             return None;
         };
         queue.pop_back()
+    }
+
+    /// How many are in a queue.
+    pub(crate) fn count(&self, at: usize) -> usize {
+        match self.queues.get(at) {
+            Some(queue) => queue.len(),
+            None => 0,
+        }
+    }
+
+    /// Takes out the earliest of a queue.
+    pub(crate) fn pop(&mut self, at: usize) -> Option<Flight> {
+        let Some(queue) = self.queues.get_mut(at) else {
+            return None;
+        };
+        queue.pop_front()
     }
 }

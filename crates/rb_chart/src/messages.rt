@@ -1,8 +1,11 @@
-//! Messages in few words: the type, and what matters of what it says.
+//! Messages in few words: the type, the term, and what matters of what it says.
 
 use crate::event::Message;
+use crate::measure::cut;
 use crate::names::short_name;
+use crate::painting::fitted;
 use crate::sentence::{sentence, with_one, with_two};
+use crate::sizes::MOST_LABEL;
 use rb_json::Piece;
 use rb_message::MessageType;
 use std::alloc::{AllocError, Global};
@@ -48,9 +51,8 @@ fn append_answer_words(alloc: Global, name: &[u8], said: [u64; 4]) -> Result<Vec
     with_two(alloc, name, b" refused ", said[1], b", hint ", said[2])
 }
 
-/// A message's type, and what matters of what it says.
-pub(crate) fn message_words(alloc: Global, message: &Message<'_>) -> Result<Vec<u8>, AllocError> {
-    let name = short_name(message.name);
+// What matters of what a message says, behind its name.
+fn words_behind(alloc: Global, message: &Message<'_>, name: &[u8]) -> Result<Vec<u8>, AllocError> {
     let said = message.said;
     match message.message_type {
         MessageType::Vote | MessageType::PreVote => vote_words(alloc, name, said),
@@ -71,4 +73,34 @@ pub(crate) fn message_words(alloc: Global, message: &Message<'_>) -> Result<Vec<
             sentence(alloc, &[Piece::Bytes(name)], &[])
         }
     }
+}
+
+/// A message's type, its term where it is of one, and what matters of what it says.
+pub(crate) fn message_words(alloc: Global, message: &Message<'_>) -> Result<Vec<u8>, AllocError> {
+    let name = short_name(message.name);
+    if message.term == 0 {
+        return words_behind(alloc, message, name);
+    }
+    let name = with_one(alloc, name, b" t", message.term)?;
+    words_behind(alloc, message, name.as_slice())
+}
+
+/// What of that stands at its line: where there is no room for the term, the rest.
+pub(crate) fn label_words(alloc: Global, message: &Message<'_>) -> Result<Vec<u8>, AllocError> {
+    let words = message_words(alloc, message)?;
+    if cut(words.as_slice(), MOST_LABEL).is_none() {
+        return Ok(words);
+    }
+    let words = words_behind(alloc, message, short_name(message.name))?;
+    fitted(alloc, words.as_slice(), MOST_LABEL)
+}
+
+/// To whom a message is, as it stands before its label.
+pub(crate) fn aim_words(alloc: Global, message: &Message<'_>) -> Result<Vec<u8>, AllocError> {
+    let pieces = [
+        Piece::Bytes("→".as_bytes()),
+        Piece::Number(message.to),
+        Piece::Bytes(b" "),
+    ];
+    sentence(alloc, &pieces, &[])
 }

@@ -34,10 +34,11 @@ pub(crate) enum Name {
     LostQuorum,
     Node,
     Log,
+    End,
 }
 
 #[rattlefmt::skip]
-static NAMES: [(&[u8], Name); 29] = [
+static NAMES: [(&[u8], Name); 30] = [
     (b"step", Name::Step),
     (b"ready", Name::Ready),
     (b"hard", Name::Hard),
@@ -67,6 +68,7 @@ static NAMES: [(&[u8], Name); 29] = [
     (b"lost-quorum", Name::LostQuorum),
     (b"node", Name::Node),
     (b"log", Name::Log),
+    (b"end", Name::End),
 ];
 
 /// What row it is, by its name.

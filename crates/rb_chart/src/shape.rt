@@ -61,6 +61,17 @@ pub enum Shape {
     },
 }
 
+impl Shape {
+    /// How far to the right the line of a message goes.
+    pub(crate) fn right(self) -> u64 {
+        match self {
+            Shape::Arrow { bend, to_x, .. } => bend.max(to_x),
+            Shape::Loop { out, .. } => out,
+            _ => 0,
+        }
+    }
+}
+
 fn add_band(
     svg: &mut Vec<u8>,
     role: Role,
@@ -190,8 +201,8 @@ fn add_words(svg: &mut Vec<u8>, look: Look, x: u64, y: u64, words: &[u8]) -> Res
     add_shown(svg, look, x, y, shown.as_slice())
 }
 
-// The words from one position up to another; none where these are none.
-fn words_at(words: &[u8], from: usize, to: usize) -> &[u8]
+/// The words from one position up to another; none where these are none.
+pub(crate) fn words_at(words: &[u8], from: usize, to: usize) -> &[u8]
     ensures { result.now ≡ part_of from to words.now }
 {
     if from <= to && to <= words.len() {

@@ -1,4 +1,4 @@
-//! Texts of strangers as people read them, and no longer than there is room.
+//! Texts of strangers as people read them.
 
 ghost use Rattle.std.specs.Prelude.{◌≡◌, IfOk, true};
 ghost use Rattle.std.specs.List.{list_all};
@@ -88,23 +88,4 @@ pub(crate) fn shown(alloc: Global, bytes: &[u8]) -> Result<Vec<u8>, AllocError>
         return Vec::from_slice(alloc, bytes);
     }
     shown_anyhow(alloc, bytes)
-}
-
-/// The beginning of a text of more than `most` characters that leaves room for one; `None` where there aren't more.
-pub(crate) fn cut(text: &[u8], most: usize) -> Option<&[u8]> {
-    let mut characters = 0usize;
-    let mut last = 0;
-    for (i, b) in text.iter().enumerate() {
-        // the first byte of a character
-        if *b < 128 || 191 < *b {
-            if characters == most {
-                return text.get(..last);
-            }
-            characters = characters.saturating_add(1);
-            if characters == most {
-                last = i;
-            }
-        }
-    }
-    None
 }

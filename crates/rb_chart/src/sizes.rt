@@ -8,24 +8,28 @@ pub(crate) const ROW_TOP: u64 = 25;
 pub(crate) const ROW_BOTTOM: u64 = 8;
 /// What the names of nodes take.
 pub(crate) const HEADING: u64 = 34;
-/// Where the first node stands, how far from it the next one, and how much room is behind the last.
-const FIRST: u64 = 268;
+/// Where the first node stands, how far from it the next one, and how much room there is behind the last.
+const FIRST: u64 = 280;
 
-const GAP: u64 = 184;
+const GAP: u64 = 220;
 
-const RIGHT: u64 = 208;
+const LEAST: u64 = 60;
+/// How much room there is to the right of what is drawn.
+pub(crate) const EDGE: u64 = 10;
 /// How far a message goes level, along its label.
-pub(crate) const LEAD: u64 = 134;
+pub(crate) const LEAD: u64 = 170;
 /// How far a message of a node to itself goes.
 pub(crate) const OUT: u64 = 40;
 /// Half of the widest band.
 pub(crate) const HALF_BAND: u64 = 5;
-/// How many characters are shown at most: of a head, of a note, of a message's label, and of a mark.
+/// How far words are from the middle of a band.
+pub(crate) const ASIDE: u64 = HALF_BAND + 5;
+/// How many columns are shown at most: of a head, of a note, of a message's label, and of a mark.
 pub(crate) const MOST_HEAD: usize = 32;
 
 pub(crate) const MOST_NOTE: usize = 36;
 
-pub(crate) const MOST_LABEL: usize = 27;
+pub(crate) const MOST_LABEL: usize = 30;
 
 pub(crate) const MOST_MARK: usize = 29;
 
@@ -34,9 +38,9 @@ pub(crate) fn middle(id: u64) -> u64 {
     FIRST.saturating_add(GAP.saturating_mul(id.saturating_sub(1)))
 }
 
-/// How wide a picture of so many nodes is.
-pub(crate) fn width_of(nodes: usize) -> u64 {
-    middle((nodes as u64).max(1)).saturating_add(RIGHT)
+/// How far to the right a picture of so many nodes goes at least.
+pub(crate) fn least_right(nodes: usize) -> u64 {
+    middle((nodes as u64).max(1)).saturating_add(LEAST)
 }
 
 /// A place so far from another, to the left or to the right.

@@ -28,7 +28,7 @@ fn add_front<'a>(
         svg,
         &[
             Piece::Bytes(
-                b"<svg xmlns=\"http://www.w3.org/2000/svg\" role=\"img\" aria-labelledby=\"title what\" viewBox=\"0 0 ",
+                b"<svg xmlns=\"http://www.w3.org/2000/svg\" role=\"img\" aria-labelledby=\"title\" aria-describedby=\"what\" viewBox=\"0 0 ",
             ),
             Piece::Number(width),
             Piece::Bytes(b" "),

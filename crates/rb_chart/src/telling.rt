@@ -1,0 +1,112 @@
+//! What a picture tells readers who can't see: the notes of the script, its directives, and a sentence for each thing that happens.
+
+use crate::chart::Chart;
+use rb_json::{Piece, add_pieces};
+use std::alloc::AllocError;
+
+/// How a message ended, or that it hasn't.
+#[derive(Clone, Copy)]
+pub(crate) enum End {
+    Delivered,
+    Dropped,
+    GivenUp,
+    OnItsWay,
+}
+
+impl End {
+    fn words(self) -> &'static [u8] {
+        match self {
+            End::Delivered => b" is delivered",
+            End::Dropped => b" is dropped",
+            End::GivenUp => b" is given up",
+            End::OnItsWay => b" is on its way",
+        }
+    }
+}
+
+impl Chart {
+    /// Tells something of the directive at a line.
+    pub(crate) fn tell(&mut self, line: u64, sentence: &[Piece<'_>]) -> Result<(), AllocError> {
+        let begin = [
+            Piece::Bytes(b"Line "),
+            Piece::Number(line),
+            Piece::Bytes(b": "),
+        ];
+        add_pieces(&mut self.told, &begin)?;
+        add_pieces(&mut self.told, sentence)?;
+        add_pieces(&mut self.told, &[Piece::Bytes(b".\n")])
+    }
+
+    /// Tells a line of a note, the first of it with its number.
+    pub(crate) fn tell_note<'a>(
+        &mut self,
+        line: u64,
+        words: &'a [u8],
+        is_first: bool,
+    ) -> Result<(), AllocError> {
+        if is_first {
+            let begin = [
+                Piece::Bytes(b"Line "),
+                Piece::Number(line),
+                Piece::Bytes(b": note: "),
+            ];
+            add_pieces(&mut self.told, &begin)?;
+        }
+        add_pieces(&mut self.told, &[Piece::Bytes(words), Piece::Bytes(b"\n")])
+    }
+
+    /// Tells what a node does, or what is seen of it.
+    pub(crate) fn tell_mark<'a>(
+        &mut self,
+        line: u64,
+        id: u64,
+        words: &'a [u8],
+    ) -> Result<(), AllocError> {
+        let sentence = [
+            Piece::Bytes(b"node "),
+            Piece::Number(id),
+            Piece::Bytes(b": "),
+            Piece::Bytes(words),
+        ];
+        self.tell(line, &sentence)
+    }
+
+    /// Tells that a message is sent.
+    pub(crate) fn tell_sent<'a>(
+        &mut self,
+        line: u64,
+        from: u64,
+        to: u64,
+        words: &'a [u8],
+    ) -> Result<(), AllocError> {
+        let sentence = [
+            Piece::Bytes(b"node "),
+            Piece::Number(from),
+            Piece::Bytes(b" sends "),
+            Piece::Bytes(words),
+            Piece::Bytes(b" to node "),
+            Piece::Number(to),
+        ];
+        self.tell(line, &sentence)
+    }
+
+    /// Tells how a message ended, or that it hasn't.
+    pub(crate) fn tell_end<'a>(
+        &mut self,
+        line: u64,
+        from: u64,
+        to: u64,
+        words: &'a [u8],
+        end: End,
+    ) -> Result<(), AllocError> {
+        let sentence = [
+            Piece::Bytes(words),
+            Piece::Bytes(b" from node "),
+            Piece::Number(from),
+            Piece::Bytes(b" to node "),
+            Piece::Number(to),
+            Piece::Bytes(end.words()),
+        ];
+        self.tell(line, &sentence)
+    }
+}
