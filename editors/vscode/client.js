@@ -76,7 +76,7 @@ class Client {
 
   // What is told of documents before the answer comes waits in the pipe: the server takes messages in order.
   begin() {
-    const answer = this.request("initialize", { processId: process.pid, rootUri: null, capabilities: {} });
+    const answer = this.request("initialize", { processId: process.pid, rootUri: null, capabilities: { textDocument: { publishDiagnostics: { relatedInformation: true } } } });
     this.notify("initialized", {});
     return answer;
   }

@@ -23,11 +23,17 @@ function rangeOf(range) {
   return new vscode.Range(range.start.line, range.start.character, range.end.line, range.end.character);
 }
 
+// What is said of another place.
+function relatedOf({ location, message }) {
+  return new vscode.DiagnosticRelatedInformation(new vscode.Location(vscode.Uri.parse(location.uri), rangeOf(location.range)), message);
+}
+
 // The protocol's severities count from 1, the editor's from 0.
 function diagnosticOf(told) {
   const diagnostic = new vscode.Diagnostic(rangeOf(told.range), told.message, told.severity - 1);
   diagnostic.code = told.code;
   diagnostic.source = told.source;
+  diagnostic.relatedInformation = told.relatedInformation?.map(relatedOf);
   return diagnostic;
 }
 

@@ -60,7 +60,7 @@ def conversation():
     """Two documents that are opened, changed and asked about, one behind the other and between them."""
     place = {"line": 0, "character": 0}
     whole = {"start": place, "end": {"line": 9, "character": 0}}
-    bodies = [request(0, "initialize", capabilities={}), notification("initialized"), opened(DEAR, SMALL), opened(OTHER, SMALL + "\n" + SMALL)]
+    bodies = [request(0, "initialize", capabilities={"textDocument": {"publishDiagnostics": {"relatedInformation": True}}}), notification("initialized"), opened(DEAR, SMALL), opened(OTHER, SMALL + "\n" + SMALL)]
     for version in 2, 3:
         for uri in DEAR, OTHER:
             bodies.append(changed(uri, version, {"range": {"start": place, "end": place}, "text": "# a comment\n"}))

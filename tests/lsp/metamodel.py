@@ -172,6 +172,7 @@ WRONG = [
     ({"jsonrpc": "2.0", "method": "textDocument/publishDiagnostics", "params": {"uri": "file:///a", "diagnostics": []}},),
     (HOVER, {"jsonrpc": "2.0", "method": "textDocument/publishDiagnostics", "params": {"uri": "file:///a", "diagnostics": [{"range": RANGE}]}}),
     (HOVER, {"jsonrpc": "2.0", "method": "textDocument/publishDiagnostics", "params": {"uri": "file:///a", "diagnostics": [{"range": RANGE, "message": "", "severity": 5}]}}),
+    (HOVER, {"jsonrpc": "2.0", "method": "textDocument/publishDiagnostics", "params": {"uri": "file:///a", "diagnostics": [{"range": RANGE, "message": "", "relatedInformation": [{"location": RANGE, "message": ""}]}]}}),
     ({**HOVER, "params": {"textDocument": {"uri": "file:///a"}}},),
     ({**HOVER, "method": "textDocument/hoover"},),
     ({"jsonrpc": "2.0", "id": 1, "method": "shutdown", "params": {}},),

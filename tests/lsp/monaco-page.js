@@ -28,7 +28,8 @@ function preformatted(text) {
 // Shows these diagnostics, and no others.
 function mark(told) {
   const severities = [monaco.MarkerSeverity.Error, monaco.MarkerSeverity.Warning];
-  const marks = told.map((it) => ({ ...it, ...rangeOf(it.range), severity: severities[it.severity] }));
+  const placed = ({ message, range }) => ({ message, resource: shown.getModel().uri, ...rangeOf(range) });
+  const marks = told.map((it) => ({ ...it, ...rangeOf(it.range), severity: severities[it.severity], relatedInformation: it.relatedInformation?.map(placed) }));
   monaco.editor.setModelMarkers(shown.getModel(), "raftbench", marks);
 }
 

@@ -220,12 +220,17 @@ async function look(browser) {
   assert.deepStrictEqual(warnings, []);
 }
 
+// What is said of another place, with the numbers of its range.
+function numbered({ location, message }) {
+  return { message, range: location.range.numbers };
+}
+
 async function main() {
   const room = fs.mkdtempSync(path.join(os.tmpdir(), "monaco-"));
   const browser = new Browser(room, async ({ id, method, values }) => browser.value`answer(${id}, ${(await asked[method](...values)) ?? null})`);
   shown.set = (uri, list) => {
     Map.prototype.set.call(shown, uri, list);
-    browser.value`mark(${list.map((it) => ({ ...it, range: it.range.numbers }))})`;
+    browser.value`mark(${list.map((it) => ({ ...it, range: it.range.numbers, relatedInformation: it.relatedInformation?.map(numbered) }))})`;
   };
   const html = path.join(room, "page.html");
   const scripts = [path.join(monaco, "vs/loader.js"), path.join(__dirname, "monaco-page.js")].map((it) => `<script src="file://${it}"></script>`);

@@ -11,6 +11,8 @@ from plain.script import RULE, Fault, Script, lines_of, read_block, read_script,
 from plain.session import run_quickly
 
 MARK = b"# expects an error"
+# By docs/EDITORS.md: how many lines of an output are told at most.
+MOST_SHOWN = 20
 DROPS_ALL = "deliver-msgs drop=(" + ",".join(str(id) for id in range(1, 33)) + ")"
 
 
@@ -103,6 +105,27 @@ def accepting(text, first=None, last=None):
             block, count = block._replace(expected=output), count + 1
         blocks.append(block)
     return Script(tuple(blocks), script.tail), count
+
+
+def shown(output):
+    """The lines of an output, as far as they are told."""
+    more = len(output) - MOST_SHOWN
+    return "\n".join([line.decode() for line in output[:MOST_SHOWN]] + [f"and {more} more"] * (more > 0))
+
+
+def with_what_came(diagnostics, text, uri, encoding):
+    """Diagnostics of a text, of which each mismatch tells what came, at the lines that expect another output."""
+    if (found := read(text)) is None:
+        return diagnostics
+    script, heads = found
+    places = iter([(expected, behind, shown(output)) for block, output, (_, expected, behind) in zip(script.blocks, run_quickly(script), extents(text, script, heads)) if block.expected != output])
+    told = []
+    for it in diagnostics:
+        if it["code"] == "mismatch":
+            expected, behind, message = next(places)
+            it = it | {"relatedInformation": [{"location": {"uri": uri, "range": range_of(text, expected, behind, encoding)}, "message": message}]}
+        told.append(it)
+    return told
 
 
 def applied(text, edits, encoding):

@@ -40,6 +40,20 @@ class Diagnostic {
   }
 }
 
+class Location {
+  constructor(uri, range) {
+    assert(uri && range instanceof Range);
+    Object.assign(this, { uri, range });
+  }
+}
+
+class DiagnosticRelatedInformation {
+  constructor(location, message) {
+    assert(location instanceof Location && message);
+    Object.assign(this, { location, message });
+  }
+}
+
 class MarkdownString {
   appendCodeblock(text, language) {
     Object.assign(this, { text, language });
@@ -136,7 +150,7 @@ function editor(settings) {
     onDidCloseTextDocument: on("close"),
     onDidSaveTextDocument: on("save"),
   };
-  const types = { CodeAction, CodeActionKind, CompletionItem, Diagnostic, DocumentSymbol, FoldingRange, Hover, MarkdownString, Position, Range, TextEdit, WorkspaceEdit };
+  const types = { CodeAction, CodeActionKind, CompletionItem, Diagnostic, DiagnosticRelatedInformation, DocumentSymbol, FoldingRange, Hover, Location, MarkdownString, Position, Range, TextEdit, WorkspaceEdit };
   return { api: { ...types, Uri: { parse: (text) => text }, languages, window, workspace }, shown, providers, warnings, lines, documents, tell };
 }
 

@@ -15,7 +15,7 @@ use rb_line::Source;
 use rb_offers::{add_completion, add_folds, add_formatting, add_symbols};
 use rb_raftlog::SplitLog;
 use rb_script::Sink;
-use rb_server::{Asked, ServeFault, Service, Status, serve};
+use rb_server::{Asked, Client, ServeFault, Service, Status, serve};
 use std::alloc::{AllocError, Global};
 
 /// Knows what scripts mean.
@@ -48,7 +48,7 @@ impl Service for Bench {
 
     fn add_diagnostics(
         &mut self,
-        encoding: Encoding,
+        client: Client,
         uri: &[u8],
         text: &[u8],
         out: &mut Vec<u8>,
@@ -56,7 +56,15 @@ impl Service for Bench {
         let mut meter = Meter::new();
         let table = &mut self.table;
         let list = of_document(self.alloc, table, &mut self.sessions, &mut meter, uri, text)?;
-        add_list(self.alloc, out, encoding, text, list.as_slice())
+        add_list(
+            self.alloc,
+            out,
+            client.encoding,
+            client.takes_related,
+            uri,
+            text,
+            list.as_slice(),
+        )
     }
 
     fn add_answer(

@@ -112,7 +112,7 @@ impl<M: Machine> Sessions<M> {
 }
 
 // What is to be said of a document of whose text this was read.
-#[tactic(auto, using(rb_diagnostics::proofs::FindingLaws::of_lines))]
+#[tactic(auto, using(rb_diagnostics::proofs::FindingLaws::of_lines, rb_diagnostics::proofs::FindingLaws::heads_stand))]
 fn of_read<M: Machine>(
     alloc: Global,
     table: &mut Table,

@@ -68,6 +68,6 @@ nothing_said ls heads s is =
 pub none_listed : (text : PlainDiagnostic → List ℕ) (ds : List PlainDiagnostic) → (length ds == 0) ≡ true → codes "[]" ≡ list_text text ds
 none_listed text ds none = sym (empty_list text ds (no_length ds none))
 
-pub quiet_text : (encoding : Encoding) (uri text : List ℕ) → IsQuietText text → diagnose encoding uri text ≡ codes "[]"
-quiet_text encoding uri text q =
-    empty_list (diagnostic_text encoding text) (diagnostics_of text) (sym (of_read text q.script q.reads) ∙ quiet (lines text) (heads_of text q.script) q.script.blocks (outputs q.script) 1 q.same q.no_error)
+pub quiet_text : (encoding : Encoding) (takes_related : Bool) (uri text : List ℕ) → IsQuietText text → diagnose encoding takes_related uri text ≡ codes "[]"
+quiet_text encoding takes_related uri text q =
+    empty_list (diagnostic_text encoding takes_related uri text) (diagnostics_of text) (sym (of_read text q.script q.reads) ∙ quiet (lines text) (heads_of text q.script) q.script.blocks (outputs q.script) 1 q.same q.no_error)

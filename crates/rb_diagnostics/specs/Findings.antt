@@ -1,5 +1,5 @@
 -- What is to be said of a text: of each directive of one fresh run, or of what is no script. (This project's.)
-use Rattle.std.specs.Prelude.{ℕ, ◌-◌, ◌==◌, Bool, false, ◌&&◌, not, if◌then◌else◌, List, [], ◌∷◌, length, take, Option, Some, None, Result, Ok, Err}
+use Rattle.std.specs.Prelude.{ℕ, ◌==◌, Bool, false, ◌&&◌, not, if◌then◌else◌, List, [], ◌∷◌, length, Option, Some, None, Result, Ok, Err}
 use Rattle.std.specs.List.{list_any}
 use Rattle.rb_script.specs.declared.fault.ScriptFault.{ScriptFault}
 use Rattle.rb_script.specs.Lines.{Line, lines}
@@ -13,27 +13,27 @@ use Rattle.rb_check.specs.Diffs.{parts}
 use Rattle.rb_check.specs.Folds.{folded_text}
 use Rattle.rb_checked.specs.Errors.{first_line, is_error, is_unexpected}
 use Rattle.rb_diagnostics.specs.declared.diagnostic.Kind.TheVariants.{Mismatch, ErrorOutput, NoScript}
+use Rattle.rb_offers.specs.declared.block_lines.BlockLines.{BlockLines}
+use Rattle.rb_offers.specs.BlockLines.{block_lines}
 use Rattle.rb_offers.specs.Heads.{heads_of}
+use Rattle.rb_diagnostics.specs.Came.{came_of, without_end}
 use Rattle.rb_diagnostics.specs.Diagnostics.{PlainDiagnostic}
-
--- a text without its last byte, which is the end of its last line
-abbrev pub without_end : List ℕ → List ℕ
-without_end text = take (length text - 1) text
 
 -- the diff that `check` shows
 abbrev pub diff_message : List Line → List Line → List ℕ
 diff_message expected output = without_end (folded_text Off (parts expected output))
 
-abbrev pub mismatch : ℕ → List Line → List Line → PlainDiagnostic
-mismatch line expected output = record { line = line; kind = Mismatch; message = diff_message expected output }
+-- of a block that has these lines, its head on this one
+abbrev pub mismatch : BlockLines → ℕ → PlainBlock → List Line → PlainDiagnostic
+mismatch p line b output = record { line = line; kind = Mismatch; message = diff_message b.expected output; came = Some (came_of p output) }
 
 abbrev pub error_output : ℕ → List Line → PlainDiagnostic
-error_output line output = record { line = line; kind = ErrorOutput; message = first_line output }
+error_output line output = record { line = line; kind = ErrorOutput; message = first_line output; came = None }
 
 -- a directive whose head begins on a line, of the lines of a script: a mismatch, or an error that isn't said to be expected
 unfoldable pub finding : List Line → ℕ → PlainBlock → List Line → Option PlainDiagnostic
 finding ls line b output =
-    if same_lines b.expected output then (if is_unexpected ls line output then Some (error_output line output) else None) else Some (mismatch line b.expected output)
+    if same_lines b.expected output then (if is_unexpected ls line output then Some (error_output line output) else None) else Some (mismatch (block_lines ls line b) line b output)
 
 -- one before others, if there is one
 abbrev pub before : Option PlainDiagnostic → List PlainDiagnostic → List PlainDiagnostic
@@ -63,7 +63,7 @@ or_first (Some line) = line
 
 -- why a text is no script, in `check`'s sentence
 abbrev pub refused : ScriptFault → PlainDiagnostic
-refused fault = record { line = or_first (fault_line fault); kind = NoScript; message = sentence fault }
+refused fault = record { line = or_first (fault_line fault); kind = NoScript; message = sentence fault; came = None }
 
 -- of a script, by one run of it from the empty cluster
 abbrev pub of_script : List ℕ → PlainScript → List PlainDiagnostic

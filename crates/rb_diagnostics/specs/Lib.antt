@@ -1,4 +1,5 @@
 pub mod Diagnostics
+pub mod Came
 pub mod Findings
 pub mod Texts
 pub mod Published

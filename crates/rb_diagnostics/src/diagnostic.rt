@@ -1,5 +1,6 @@
 //! What is to be said of a line of a text.
 
+use crate::came::Came;
 use std::marker::Model;
 
 /// Why something is said.
@@ -22,6 +23,8 @@ pub struct Diagnostic {
     pub kind: Kind,
     /// What is said.
     pub message: Vec<u8>,
+    /// What came, where that is another output than the expected one.
+    pub came: Option<Came>,
 }
 
 impl Model for Diagnostic {
@@ -29,5 +32,5 @@ impl Model for Diagnostic {
 
     ghost Value = { PlainDiagnostic };
 
-    ghost view = { λ d. record { line = d.line; kind = d.kind; message = d.message.items } };
+    ghost view = { λ d. record { line = d.line; kind = d.kind; message = d.message.items; came = d.came } };
 }

@@ -2,11 +2,14 @@
 
 ghost use Rattle.std.specs.Prelude.{◌≡◌, not, IfOk};
 ghost use Rattle.rb_replay.specs.Report.{same_lines};
+ghost use Rattle.rb_offers.specs.BlockLines.{StandsIn};
 ghost use Rattle.rb_diagnostics.specs.Findings.{diff_message, error_output, finding, mismatch};
 
+use crate::came::came_of;
 use crate::diagnostic::{Diagnostic, Kind};
 use rb_check::{Colors, Table, put_diff};
 use rb_checked::{first_line, is_unexpected};
+use rb_offers::BlockLines;
 use rb_script::{Block, Lines, Through};
 use std::alloc::{AllocError, Global};
 
@@ -28,19 +31,24 @@ fn diff_message(
     Ok(message)
 }
 
+// Of a block that has these lines.
 fn mismatch(
     alloc: Global,
     table: &mut Table,
+    lines: BlockLines,
     line: usize,
-    expected: &Lines,
+    block: &Block,
     output: &Lines,
 ) -> Result<Diagnostic, AllocError>
-    ensures { IfOk result (λ d. d ≡ mismatch line expected.now output.now) }
+    ensures { IfOk result (λ d. d ≡ mismatch lines line block.now output.now) }
 {
+    let message = diff_message(alloc, table, block.expected(), output)?;
+    let came = came_of(alloc, lines, output)?;
     Ok(Diagnostic {
         line,
         kind: Kind::Mismatch,
-        message: diff_message(alloc, table, expected, output)?,
+        message,
+        came: Some(came),
     })
 }
 
@@ -51,6 +59,7 @@ fn error_output(alloc: Global, line: usize, output: &Lines) -> Result<Diagnostic
         line,
         kind: Kind::ErrorOutput,
         message: Vec::from_slice(alloc, first_line(output))?,
+        came: None,
     })
 }
 
@@ -66,11 +75,13 @@ pub(crate) fn finding(
     block: &Block,
     output: &Lines,
 ) -> Result<Option<Diagnostic>, AllocError>
-    requires { differs ≡ not (same_lines block.now.expected output.now) }
+    requires stands { StandsIn text.now line block.now }
+    requires differs { differs ≡ not (same_lines block.now.expected output.now) }
     ensures { IfOk result (λ found. found ≡ finding text.now line block.now output.now) }
 {
     if differs {
-        return Ok(Some(mismatch(alloc, table, line, block.expected(), output)?));
+        let lines = BlockLines::of_block(text, line, block);
+        return Ok(Some(mismatch(alloc, table, lines, line, block, output)?));
     }
     if is_unexpected(text, line, output) {
         return Ok(Some(error_output(alloc, line, output)?));

@@ -5,6 +5,7 @@
 //! and [`add_list`] puts them into JSON, as an editor is sent them. They are those of one fresh run, and depend on the text alone.
 #![tactic(auto)]
 
+mod came;
 mod diagnostic;
 mod finding;
 mod laws;
@@ -12,6 +13,7 @@ mod quiet;
 mod running;
 mod writing;
 
+pub use came::{Came, MAX_SHOWN};
 pub use diagnostic::{Diagnostic, Kind};
 pub use laws::matching_texts_have_none;
 pub use running::{of_fault, of_session};

@@ -1,6 +1,7 @@
 //! What is to be said of a script that ran, and of what is none.
 
 ghost use Rattle.std.specs.Prelude.{◌≡◌, ◌+◌, ◌<◌, ◌≤◌, ◌^◌, ◌++◌, [], ◌∷◌, if◌then◌else◌, IfOk, OnOk, length, drop};
+ghost use Rattle.rb_script.specs.HeadLines.{AreHeadLines};
 ghost use Rattle.rb_replay.specs.Run.{outputs};
 ghost use Rattle.rb_diagnostics.specs.Findings.{before, findings, or_first, refused, stands_first};
 
@@ -52,7 +53,7 @@ fn each_finding<M: Machine>(
     text: &Lines,
     heads: &[usize],
 ) -> Result<Vec<Diagnostic>, AllocError>
-    requires { length heads.now ≡ length session.now.script.blocks }
+    requires { AreHeadLines 1 text.now session.now.script.blocks heads.now }
     ensures { IfOk result (λ list. list.items ≡ findings text.now heads.now session.now.script.blocks (outputs session.now.script)) }
 {
     let mismatches = session.mismatches();
@@ -83,7 +84,7 @@ pub fn of_session<M: Machine>(
     text: &Lines,
     heads: &[usize],
 ) -> Result<Vec<Diagnostic>, AllocError>
-    requires { length heads.now ≡ length session.now.script.blocks }
+    requires { AreHeadLines 1 text.now session.now.script.blocks heads.now }
     ensures { IfOk result (λ list. list.items ≡ findings text.now heads.now session.now.script.blocks (outputs session.now.script)) }
 {
     if is_quiet(session) {
@@ -100,6 +101,7 @@ fn refused(alloc: Global, fault: ScriptFault) -> Result<Diagnostic, AllocError>
         line: or_first(fault_line(fault)),
         kind: Kind::NoScript,
         message: Vec::from_slice(alloc, sentence(fault))?,
+        came: None,
     })
 }
 

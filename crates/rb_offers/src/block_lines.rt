@@ -4,7 +4,7 @@ ghost use Rattle.std.specs.Prelude.{◌≡◌, ◌≢◌, ◌≤◌, ◌<◌, �
 ghost use Rattle.rb_script.specs.declared.fault.ScriptFault.TheVariants.{OutOfMemory};
 ghost use Rattle.rb_script.specs.HeadLines.{AreHeadLines};
 ghost use Rattle.rb_script.specs.Reads.{Reads, begins_rule};
-ghost use Rattle.rb_offers.specs.BlockLines.{StandsIn, all_lines, behind_head, block_lines, blocks_of, mark_lines, script_of};
+ghost use Rattle.rb_offers.specs.BlockLines.{all_lines, behind_head, blocks_of, mark_lines, script_of};
 
 use rb_script::{Block, Lines, Script, ScriptFault, ScriptWithLines, continues, is_rule};
 use std::alloc::{AllocError, Global};
@@ -59,20 +59,25 @@ fn mark_lines(text: &Lines, below: usize) -> usize
     }
 }
 
-// The lines of a block whose head begins on a line, which counts from 1.
-fn block_lines(text: &Lines, head: usize, block: &Block) -> BlockLines
-    requires { StandsIn text.now head block.now }
-    ensures { result ≡ block_lines text.now head block.now }
-{
-    let from = head - 1;
-    let body = behind_head(text, from);
-    let below = body + block.directive().inputs() + 1;
-    let end = below + block.expected().len() + mark_lines(text, below);
-    BlockLines {
-        from,
-        body,
-        below,
-        end,
+impl BlockLines {
+    ghost use Rattle.std.specs.Prelude.{◌≡◌};
+    ghost use Rattle.rb_offers.specs.BlockLines.{StandsIn, block_lines};
+
+    /// Those of a block that stands in the text, its head from this line on, which counts from 1.
+    pub fn of_block(text: &Lines, head: usize, block: &Block) -> BlockLines
+        requires { StandsIn text.now head block.now }
+        ensures { result ≡ block_lines text.now head block.now }
+    {
+        let from = head - 1;
+        let body = behind_head(text, from);
+        let below = body + block.directive().inputs() + 1;
+        let end = below + block.expected().len() + mark_lines(text, below);
+        BlockLines {
+            from,
+            body,
+            below,
+            end,
+        }
     }
 }
 
@@ -97,7 +102,7 @@ fn all_lines(
     let mut all = Vec::new(alloc);
     for i in 0..heads.len() {
         let block = block_at(script, i + 1);
-        all.push(block_lines(text, heads[i], block))?;
+        all.push(BlockLines::of_block(text, heads[i], block))?;
     }
     Ok(all)
 }

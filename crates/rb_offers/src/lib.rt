@@ -18,6 +18,7 @@ mod symbols;
 mod unfinished;
 mod writing;
 
+pub use block_lines::BlockLines;
 pub use completion::add_completion;
 pub use folds::add_folds;
 pub use formatting::add_formatting;

@@ -2,8 +2,8 @@
 use Rattle.std.proofs.Common.{◌≡◌, ℕ, List, Bool, true, false, Option, Some, None, refl, subst}
 use Rattle.std.specs.Prelude.{codes, if◌then◌else◌}
 use Rattle.serde_json.specs.Data.{Data}
-use Rattle.rb_document.specs.declared.position.Encoding.{Encoding}
 use Rattle.rb_rpc.specs.Params.{text_below}
+use Rattle.rb_server.specs.declared.client.Client.{Client}
 use Rattle.rb_server.specs.declared.method.Method.{Method}
 use Rattle.rb_server.specs.declared.method.Method.TheVariants.{Initialize, Shutdown, Exit, DidOpen, DidChange, DidClose, Asks, Unknown}
 use Rattle.rb_server.specs.declared.phase.Phase.{Phase}
@@ -17,20 +17,20 @@ use Rattle.rb_server.specs.Laws.{IsPublished}
 -- a notice is taken where the server runs
 abbrev IsOf : Phase → Option Notice → Type 0
 IsOf phase None = Unit {0}
-IsOf phase (Some n) = phase ≡ Running n.encoding
+IsOf phase (Some n) = phase ≡ Running n.client
 
-uri_is : (encoding : Encoding) (method : Method) (d : Data) (uri : Option (List ℕ)) → IsOf (Running encoding) (with_uri encoding method d uri)
-uri_is encoding method d None = tt
-uri_is encoding method d (Some uri) = refl
+uri_is : (client : Client) (method : Method) (d : Data) (uri : Option (List ℕ)) → IsOf (Running client) (with_uri client method d uri)
+uri_is client method d None = tt
+uri_is client method d (Some uri) = refl
 
-taken_is : (b : Bool) (encoding : Encoding) (method : Method) (d : Data) (uri : Option (List ℕ)) → IsOf (Running encoding) (if b then with_uri encoding method d uri else None)
-taken_is true encoding method d uri = uri_is encoding method d uri
-taken_is false encoding method d uri = tt
+taken_is : (b : Bool) (client : Client) (method : Method) (d : Data) (uri : Option (List ℕ)) → IsOf (Running client) (if b then with_uri client method d uri else None)
+taken_is true client method d uri = uri_is client method d uri
+taken_is false client method d uri = tt
 
 notice_is : (phase : Phase) (method : Method) (params : Option Data) → IsOf phase (notice_of phase method params)
 notice_is Fresh method params = tt
-notice_is (Running encoding) method None = tt
-notice_is (Running encoding) method (Some d) = taken_is (is_of_documents method) encoding method d (text_below (codes "textDocument") (codes "uri") d)
+notice_is (Running client) method None = tt
+notice_is (Running client) method (Some d) = taken_is (is_of_documents method) client method d (text_below (codes "textDocument") (codes "uri") d)
 notice_is Stopped method params = tt
 
 one_is : (meaning : Meaning) (no_memory : Bool) (next : PlainServer) (notice : Option Notice) → IsOf next.phase notice → IsPublished meaning no_memory next notice (notice_text meaning no_memory notice next.documents)

@@ -7,11 +7,12 @@ use Rattle.serde_json.specs.Find.{get}
 use Rattle.rb_document.specs.declared.position.Encoding.{Encoding}
 use Rattle.rb_document.specs.declared.position.Encoding.TheVariants.{Utf8, Utf16}
 use Rattle.rb_rpc.specs.Said.{Said, request, notification, response, invalid, said, is_id, has_version, is_response, text_at, with_id, with_method}
+use Rattle.rb_server.specs.declared.client.Client.{Client}
 use Rattle.rb_server.specs.declared.phase.Phase.{Phase}
 use Rattle.rb_server.specs.declared.phase.Phase.TheVariants.{Fresh, Running, Stopped}
 use Rattle.rb_server.specs.declared.method.Method.{Method}
 use Rattle.rb_server.specs.declared.method.Method.TheVariants.{Initialize, Shutdown, Exit, DidOpen, DidChange, DidClose, Asks, Unknown}
-use Rattle.rb_server.specs.Beginnings.{capabilities, chosen_encoding, completes, initialized, synchronizes}
+use Rattle.rb_server.specs.Beginnings.{capabilities, client_of, completes, initialized, synchronizes}
 use Rattle.rb_server.specs.Replies.{answer_to, initialize_answer}
 
 id_is_plain : (d : Data) → is_id d ≡ true → has_float d ≡ false
@@ -59,12 +60,12 @@ unfolding initialized capabilities completes synchronizes
 initialized_is_plain Utf8 = refl
 initialized_is_plain Utf16 = refl
 
-beginning_is_plain : (encoding : Option Encoding) (id : Data) → has_float id ≡ false → has_float (initialize_answer encoding id) ≡ false
+beginning_is_plain : (client : Option Client) (id : Data) → has_float id ≡ false → has_float (initialize_answer client id) ≡ false
 beginning_is_plain None id plain = rw plain
-beginning_is_plain (Some encoding) id plain = rw (plain, initialized_is_plain encoding)
+beginning_is_plain (Some client) id plain = rw (plain, initialized_is_plain client.encoding)
 
 pub answer_is_plain : (phase : Phase) (method : Method) (params : Option Data) (id : Data) → has_float id ≡ false → has_float (answer_to phase method params id) ≡ false
-answer_is_plain Fresh Initialize params id plain = beginning_is_plain (chosen_encoding params) id plain
+answer_is_plain Fresh Initialize params id plain = beginning_is_plain (client_of params) id plain
 answer_is_plain Fresh Shutdown params id plain = rw plain
 answer_is_plain Fresh Exit params id plain = rw plain
 answer_is_plain Fresh DidOpen params id plain = rw plain
@@ -72,14 +73,14 @@ answer_is_plain Fresh DidChange params id plain = rw plain
 answer_is_plain Fresh DidClose params id plain = rw plain
 answer_is_plain Fresh (Asks question) params id plain = rw plain
 answer_is_plain Fresh Unknown params id plain = rw plain
-answer_is_plain (Running encoding) Initialize params id plain = rw plain
-answer_is_plain (Running encoding) Shutdown params id plain = rw plain
-answer_is_plain (Running encoding) Exit params id plain = rw plain
-answer_is_plain (Running encoding) DidOpen params id plain = rw plain
-answer_is_plain (Running encoding) DidChange params id plain = rw plain
-answer_is_plain (Running encoding) DidClose params id plain = rw plain
-answer_is_plain (Running encoding) (Asks question) params id plain = rw plain
-answer_is_plain (Running encoding) Unknown params id plain = rw plain
+answer_is_plain (Running client) Initialize params id plain = rw plain
+answer_is_plain (Running client) Shutdown params id plain = rw plain
+answer_is_plain (Running client) Exit params id plain = rw plain
+answer_is_plain (Running client) DidOpen params id plain = rw plain
+answer_is_plain (Running client) DidChange params id plain = rw plain
+answer_is_plain (Running client) DidClose params id plain = rw plain
+answer_is_plain (Running client) (Asks question) params id plain = rw plain
+answer_is_plain (Running client) Unknown params id plain = rw plain
 answer_is_plain Stopped method params id plain = rw plain
 
 -- the id of a request

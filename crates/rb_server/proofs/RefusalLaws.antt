@@ -7,6 +7,7 @@ use Rattle.rb_rpc.specs.Messages.{frame}
 use Rattle.rb_rpc.specs.Params.{number_below}
 use Rattle.rb_rpc.specs.Said.{Said, request, notification, response, invalid}
 use Rattle.rb_server.specs.declared.asked.Asked.{Asked}
+use Rattle.rb_server.specs.declared.client.Client.{Client}
 use Rattle.rb_server.specs.declared.method.Question.{Question}
 use Rattle.rb_server.specs.declared.method.Method.{Method}
 use Rattle.rb_server.specs.declared.method.Method.TheVariants.{Initialize, Shutdown, Exit, DidOpen, DidChange, DidClose, Asks, Unknown}
@@ -22,15 +23,15 @@ use Rattle.rb_server.specs.Laws.{TellsRefusal, of_document, of_request}
 
 -- ---- of a document
 
-text_told : (meaning : Meaning) (method : List ℕ) (params : Option Data) (encoding : Encoding) (uri : List ℕ) (version : Option ℕ) (text : Option (List ℕ))
-    → (frame (publication meaning true encoding uri version text) ≡ frame (publication meaning false encoding uri version text)) ⊎ TellsRefusal (notification method params) (frame (publication meaning true encoding uri version text))
-text_told meaning method params encoding uri version None = inl refl
-text_told meaning method params encoding uri version (Some text) = inr (of_document method params uri version)
+text_told : (meaning : Meaning) (method : List ℕ) (params : Option Data) (client : Client) (uri : List ℕ) (version : Option ℕ) (text : Option (List ℕ))
+    → (frame (publication meaning true client uri version text) ≡ frame (publication meaning false client uri version text)) ⊎ TellsRefusal (notification method params) (frame (publication meaning true client uri version text))
+text_told meaning method params client uri version None = inl refl
+text_told meaning method params client uri version (Some text) = inr (of_document method params uri version)
 
 notice_told : (meaning : Meaning) (method : List ℕ) (params : Option Data) (notice : Option Notice) (ds : List PlainDocument)
     → (notice_text meaning true notice ds ≡ notice_text meaning false notice ds) ⊎ TellsRefusal (notification method params) (notice_text meaning true notice ds)
 notice_told meaning method params None ds = inl refl
-notice_told meaning method params (Some n) ds = text_told meaning method params n.encoding n.uri (number_below (codes "textDocument") (codes "version") n.given) (text_of n.uri ds)
+notice_told meaning method params (Some n) ds = text_told meaning method params n.client n.uri (number_below (codes "textDocument") (codes "version") n.given) (text_of n.uri ds)
 
 notification_told : (meaning : Meaning) (server : PlainServer) (name : List ℕ) (method : Method) (params : Option Data)
     → (published meaning true server method params ≡ published meaning false server method params) ⊎ TellsRefusal (notification name params) (published meaning true server method params)
@@ -67,14 +68,14 @@ question_told meaning id method encoding ds question (Some d) = asked_told meani
 body_told : (meaning : Meaning) (id : Data) (name : List ℕ) (ds : List PlainDocument) (phase : Phase) (method : Method) (params : Option Data)
     → IsTold id name params (body_in meaning true ds phase method params id) (body_in meaning false ds phase method params id)
 body_told meaning id name ds Fresh method params = inl refl
-body_told meaning id name ds (Running encoding) Initialize params = inl refl
-body_told meaning id name ds (Running encoding) Shutdown params = inl refl
-body_told meaning id name ds (Running encoding) Exit params = inl refl
-body_told meaning id name ds (Running encoding) DidOpen params = inl refl
-body_told meaning id name ds (Running encoding) DidChange params = inl refl
-body_told meaning id name ds (Running encoding) DidClose params = inl refl
-body_told meaning id name ds (Running encoding) (Asks question) params = question_told meaning id name encoding ds question params
-body_told meaning id name ds (Running encoding) Unknown params = inl refl
+body_told meaning id name ds (Running client) Initialize params = inl refl
+body_told meaning id name ds (Running client) Shutdown params = inl refl
+body_told meaning id name ds (Running client) Exit params = inl refl
+body_told meaning id name ds (Running client) DidOpen params = inl refl
+body_told meaning id name ds (Running client) DidChange params = inl refl
+body_told meaning id name ds (Running client) DidClose params = inl refl
+body_told meaning id name ds (Running client) (Asks question) params = question_told meaning id name client.encoding ds question params
+body_told meaning id name ds (Running client) Unknown params = inl refl
 body_told meaning id name ds Stopped method params = inl refl
 
 pub refusal_told : (meaning : Meaning) (server : PlainServer) (what : Said) → (told_of meaning true server what ≡ told_of meaning false server what) ⊎ TellsRefusal what (told_of meaning true server what)

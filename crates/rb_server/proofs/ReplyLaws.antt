@@ -6,12 +6,13 @@ use Rattle.rb_document.specs.declared.position.Encoding.{Encoding}
 use Rattle.rb_rpc.specs.Answers.{failure}
 use Rattle.rb_rpc.specs.declared.answer.ErrorCode.TheVariants.{InvalidRequest, MethodNotFound, InvalidParams, InternalError, ServerNotInitialized}
 use Rattle.rb_server.specs.declared.asked.Asked.{Asked}
+use Rattle.rb_server.specs.declared.client.Client.{Client}
 use Rattle.rb_server.specs.declared.phase.Phase.{Phase}
 use Rattle.rb_server.specs.declared.phase.Phase.TheVariants.{Fresh, Running, Stopped}
 use Rattle.rb_server.specs.declared.method.Question.{Question}
 use Rattle.rb_server.specs.declared.method.Method.{Method}
 use Rattle.rb_server.specs.declared.method.Method.TheVariants.{Initialize, Shutdown, Exit, DidOpen, DidChange, DidClose, Asks, Unknown}
-use Rattle.rb_server.specs.Beginnings.{chosen_encoding, initialized}
+use Rattle.rb_server.specs.Beginnings.{client_of, initialized}
 use Rattle.rb_server.specs.Documents.{PlainDocument, text_of}
 use Rattle.rb_server.specs.Meanings.{Meaning}
 use Rattle.rb_server.specs.Questions.{asked_of, body_text, named_text, no_memory_for, not_open, of_text, question_body, unfit, uri_of, with_asked}
@@ -20,9 +21,9 @@ use Rattle.rb_server.specs.Laws.{Answers, done, refused, answered}
 
 -- ---- the id
 
-beginning_answers : (meaning : Meaning) (server : PlainServer) (method : Method) (params : Option Data) (encoding : Option Encoding) (id : Data) → Answers meaning server method params id (body_text (initialize_answer encoding id))
+beginning_answers : (meaning : Meaning) (server : PlainServer) (method : Method) (params : Option Data) (client : Option Client) (id : Data) → Answers meaning server method params id (body_text (initialize_answer client id))
 beginning_answers meaning server method params None id = refused id InvalidParams (codes "params is no object")
-beginning_answers meaning server method params (Some encoding) id = done id (initialized encoding)
+beginning_answers meaning server method params (Some client) id = done id (initialized client.encoding)
 
 unfit_answers : (meaning : Meaning) (server : PlainServer) (method : Method) (params : Option Data) (id : Data) → Answers meaning server method params id (body_text (unfit id))
 unfolding unfit
@@ -32,26 +33,26 @@ no_memory_answers : (meaning : Meaning) (server : PlainServer) (method : Method)
 unfolding no_memory_for
 no_memory_answers meaning server method params id = refused id InternalError (codes "no memory for an answer")
 
-text_answers : (meaning : Meaning) (no_memory : Bool) (server : PlainServer) (encoding : Encoding) (question : Question) (asked : Asked) (given : Data) (uri : List ℕ) (id : Data) (text : Option (List ℕ))
-    → server.phase ≡ Running encoding → uri_of given ≡ Some uri → asked_of question given ≡ Some asked → text_of uri server.documents ≡ text
-    → Answers meaning server (Asks question) (Some given) id (of_text meaning no_memory encoding asked uri id text)
+text_answers : (meaning : Meaning) (no_memory : Bool) (server : PlainServer) (client : Client) (question : Question) (asked : Asked) (given : Data) (uri : List ℕ) (id : Data) (text : Option (List ℕ))
+    → server.phase ≡ Running client → uri_of given ≡ Some uri → asked_of question given ≡ Some asked → text_of uri server.documents ≡ text
+    → Answers meaning server (Asks question) (Some given) id (of_text meaning no_memory client.encoding asked uri id text)
 unfolding not_open
-text_answers meaning no_memory server encoding question asked given uri id None running named asks is = refused id InvalidParams (codes "the document isn't open")
-text_answers meaning true server encoding question asked given uri id (Some text) running named asks is = no_memory_answers meaning server (Asks question) (Some given) id
-text_answers meaning false server encoding question asked given uri id (Some text) running named asks is = answered id given encoding question asked uri text running refl refl named asks is
+text_answers meaning no_memory server client question asked given uri id None running named asks is = refused id InvalidParams (codes "the document isn't open")
+text_answers meaning true server client question asked given uri id (Some text) running named asks is = no_memory_answers meaning server (Asks question) (Some given) id
+text_answers meaning false server client question asked given uri id (Some text) running named asks is = answered id given client question asked uri text running refl refl named asks is
 
-asked_answers : (meaning : Meaning) (no_memory : Bool) (server : PlainServer) (encoding : Encoding) (question : Question) (given : Data) (id : Data) (uri : Option (List ℕ)) (asked : Option Asked)
-    → server.phase ≡ Running encoding → uri_of given ≡ uri → asked_of question given ≡ asked
-    → Answers meaning server (Asks question) (Some given) id (with_asked meaning no_memory encoding server.documents id uri asked)
-asked_answers meaning no_memory server encoding question given id None asked running named asks = unfit_answers meaning server (Asks question) (Some given) id
-asked_answers meaning no_memory server encoding question given id (Some uri) None running named asks = unfit_answers meaning server (Asks question) (Some given) id
-asked_answers meaning no_memory server encoding question given id (Some uri) (Some asked) running named asks =
-    text_answers meaning no_memory server encoding question asked given uri id (text_of uri server.documents) running named asks refl
+asked_answers : (meaning : Meaning) (no_memory : Bool) (server : PlainServer) (client : Client) (question : Question) (given : Data) (id : Data) (uri : Option (List ℕ)) (asked : Option Asked)
+    → server.phase ≡ Running client → uri_of given ≡ uri → asked_of question given ≡ asked
+    → Answers meaning server (Asks question) (Some given) id (with_asked meaning no_memory client.encoding server.documents id uri asked)
+asked_answers meaning no_memory server client question given id None asked running named asks = unfit_answers meaning server (Asks question) (Some given) id
+asked_answers meaning no_memory server client question given id (Some uri) None running named asks = unfit_answers meaning server (Asks question) (Some given) id
+asked_answers meaning no_memory server client question given id (Some uri) (Some asked) running named asks =
+    text_answers meaning no_memory server client question asked given uri id (text_of uri server.documents) running named asks refl
 
-question_answers : (meaning : Meaning) (no_memory : Bool) (server : PlainServer) (encoding : Encoding) (question : Question) (params : Option Data) (id : Data) → server.phase ≡ Running encoding
-    → Answers meaning server (Asks question) params id (question_body meaning no_memory encoding server.documents question params id)
-question_answers meaning no_memory server encoding question None id running = unfit_answers meaning server (Asks question) None id
-question_answers meaning no_memory server encoding question (Some d) id running = asked_answers meaning no_memory server encoding question d id (uri_of d) (asked_of question d) running refl refl
+question_answers : (meaning : Meaning) (no_memory : Bool) (server : PlainServer) (client : Client) (question : Question) (params : Option Data) (id : Data) → server.phase ≡ Running client
+    → Answers meaning server (Asks question) params id (question_body meaning no_memory client.encoding server.documents question params id)
+question_answers meaning no_memory server client question None id running = unfit_answers meaning server (Asks question) None id
+question_answers meaning no_memory server client question (Some d) id running = asked_answers meaning no_memory server client question d id (uri_of d) (asked_of question d) running refl refl
 
 too_early : (meaning : Meaning) (server : PlainServer) (method : Method) (params : Option Data) (id : Data) → Answers meaning server method params id (body_text (failure id ServerNotInitialized (codes "initialize comes first")))
 too_early meaning server method params id = refused id ServerNotInitialized (codes "initialize comes first")
@@ -61,7 +62,7 @@ no_method meaning server method params id = refused id MethodNotFound (codes "th
 
 body_has_id : (meaning : Meaning) (no_memory : Bool) (server : PlainServer) (phase : Phase) (method : Method) (params : Option Data) (id : Data) → server.phase ≡ phase
     → Answers meaning server method params id (body_in meaning no_memory server.documents phase method params id)
-body_has_id meaning no_memory server Fresh Initialize params id is = beginning_answers meaning server Initialize params (chosen_encoding params) id
+body_has_id meaning no_memory server Fresh Initialize params id is = beginning_answers meaning server Initialize params (client_of params) id
 body_has_id meaning no_memory server Fresh Shutdown params id is = too_early meaning server Shutdown params id
 body_has_id meaning no_memory server Fresh Exit params id is = too_early meaning server Exit params id
 body_has_id meaning no_memory server Fresh DidOpen params id is = too_early meaning server DidOpen params id
@@ -69,14 +70,14 @@ body_has_id meaning no_memory server Fresh DidChange params id is = too_early me
 body_has_id meaning no_memory server Fresh DidClose params id is = too_early meaning server DidClose params id
 body_has_id meaning no_memory server Fresh (Asks question) params id is = too_early meaning server (Asks question) params id
 body_has_id meaning no_memory server Fresh Unknown params id is = too_early meaning server Unknown params id
-body_has_id meaning no_memory server (Running encoding) Initialize params id is = refused id InvalidRequest (codes "initialize came before")
-body_has_id meaning no_memory server (Running encoding) Shutdown params id is = done id null
-body_has_id meaning no_memory server (Running encoding) Exit params id is = no_method meaning server Exit params id
-body_has_id meaning no_memory server (Running encoding) DidOpen params id is = no_method meaning server DidOpen params id
-body_has_id meaning no_memory server (Running encoding) DidChange params id is = no_method meaning server DidChange params id
-body_has_id meaning no_memory server (Running encoding) DidClose params id is = no_method meaning server DidClose params id
-body_has_id meaning no_memory server (Running encoding) (Asks question) params id is = question_answers meaning no_memory server encoding question params id is
-body_has_id meaning no_memory server (Running encoding) Unknown params id is = no_method meaning server Unknown params id
+body_has_id meaning no_memory server (Running client) Initialize params id is = refused id InvalidRequest (codes "initialize came before")
+body_has_id meaning no_memory server (Running client) Shutdown params id is = done id null
+body_has_id meaning no_memory server (Running client) Exit params id is = no_method meaning server Exit params id
+body_has_id meaning no_memory server (Running client) DidOpen params id is = no_method meaning server DidOpen params id
+body_has_id meaning no_memory server (Running client) DidChange params id is = no_method meaning server DidChange params id
+body_has_id meaning no_memory server (Running client) DidClose params id is = no_method meaning server DidClose params id
+body_has_id meaning no_memory server (Running client) (Asks question) params id is = question_answers meaning no_memory server client question params id is
+body_has_id meaning no_memory server (Running client) Unknown params id is = no_method meaning server Unknown params id
 body_has_id meaning no_memory server Stopped method params id is = refused id InvalidRequest (codes "shutdown came before")
 
 pub answer_has_id : (meaning : Meaning) (no_memory : Bool) (server : PlainServer) (method : Method) (params : Option Data) (id : Data) → Answers meaning server method params id (answer_body meaning no_memory server method params id)
@@ -98,14 +99,14 @@ same_question meaning no_memory encoding ds es question (Some d) id same = same_
 same_body : (meaning : Meaning) (no_memory : Bool) (ds es : List PlainDocument) (phase : Phase) (method : Method) (params : Option Data) (id : Data)
     → named_text params ds ≡ named_text params es → body_in meaning no_memory ds phase method params id ≡ body_in meaning no_memory es phase method params id
 same_body meaning no_memory ds es Fresh method params id same = refl
-same_body meaning no_memory ds es (Running encoding) Initialize params id same = refl
-same_body meaning no_memory ds es (Running encoding) Shutdown params id same = refl
-same_body meaning no_memory ds es (Running encoding) Exit params id same = refl
-same_body meaning no_memory ds es (Running encoding) DidOpen params id same = refl
-same_body meaning no_memory ds es (Running encoding) DidChange params id same = refl
-same_body meaning no_memory ds es (Running encoding) DidClose params id same = refl
-same_body meaning no_memory ds es (Running encoding) (Asks question) params id same = same_question meaning no_memory encoding ds es question params id same
-same_body meaning no_memory ds es (Running encoding) Unknown params id same = refl
+same_body meaning no_memory ds es (Running client) Initialize params id same = refl
+same_body meaning no_memory ds es (Running client) Shutdown params id same = refl
+same_body meaning no_memory ds es (Running client) Exit params id same = refl
+same_body meaning no_memory ds es (Running client) DidOpen params id same = refl
+same_body meaning no_memory ds es (Running client) DidChange params id same = refl
+same_body meaning no_memory ds es (Running client) DidClose params id same = refl
+same_body meaning no_memory ds es (Running client) (Asks question) params id same = same_question meaning no_memory client.encoding ds es question params id same
+same_body meaning no_memory ds es (Running client) Unknown params id same = refl
 same_body meaning no_memory ds es Stopped method params id same = refl
 
 pub same_answer : (meaning : Meaning) (no_memory : Bool) (server other : PlainServer) (method : Method) (params : Option Data) (id : Data) → server.phase ≡ other.phase

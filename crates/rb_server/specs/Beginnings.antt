@@ -2,9 +2,10 @@
 use Rattle.std.specs.Prelude.{ℕ, Bool, true, false, ◌||◌, List, Option, Some, None, codes, if◌then◌else◌, is_some, option_and_then}
 use Rattle.std.specs.Str.{bytes_eq}
 use Rattle.serde_json.specs.Data.{Data, array, boolean, item, member, no_items, no_members, number, object, string, unsigned}
-use Rattle.serde_json.specs.Find.{get, at, as_str, as_object}
+use Rattle.serde_json.specs.Find.{get, at, as_bool, as_str, as_object}
 use Rattle.rb_document.specs.declared.position.Encoding.{Encoding}
 use Rattle.rb_document.specs.declared.position.Encoding.TheVariants.{Utf8, Utf16}
+use Rattle.rb_server.specs.declared.client.Client.{Client}
 
 -- the encodings that a client offers
 abbrev pub offered : Data → Option Data
@@ -26,10 +27,34 @@ are_bytes_in (Some names) = (names_bytes 0 names || names_bytes 1 names) || name
 abbrev pub offers_bytes : Data → Bool
 offers_bytes d = are_bytes_in (offered d)
 
--- In what columns count: in bytes where the client offers that. There is nothing to choose where what is given is no object.
-abbrev pub chosen_encoding : Option Data → Option Encoding
-chosen_encoding None = None
-chosen_encoding (Some d) = if is_some (as_object d) then (if offers_bytes d then Some Utf8 else Some Utf16) else None
+-- in what columns count: in bytes where the client offers that
+abbrev pub chosen_encoding : Data → Encoding
+chosen_encoding d = if offers_bytes d then Utf8 else Utf16
+
+-- what a client says that it takes of diagnostics ("PublishDiagnosticsClientCapabilities")
+abbrev pub of_diagnostics : Data → Option Data
+of_diagnostics d = option_and_then (get (codes "publishDiagnostics")) (option_and_then (get (codes "textDocument")) (get (codes "capabilities") d))
+
+abbrev pub is_said : Option Bool → Bool
+is_said None = false
+is_said (Some says) = says
+
+-- related information is said to be among that
+abbrev pub says_related : Data → Bool
+says_related d = is_said (option_and_then as_bool (get (codes "relatedInformation") d))
+
+abbrev pub is_related_in : Option Data → Bool
+is_related_in None = false
+is_related_in (Some taken) = says_related taken
+
+-- it takes related information with a diagnostic
+abbrev pub takes_related : Data → Bool
+takes_related d = is_related_in (of_diagnostics d)
+
+-- the client that begins so: none, where what is given is no object
+abbrev pub client_of : Option Data → Option Client
+client_of None = None
+client_of (Some d) = if is_some (as_object d) then Some (record { encoding = chosen_encoding d; takes_related = takes_related d }) else None
 
 abbrev pub encoding_name : Encoding → List ℕ
 encoding_name Utf8 = codes "utf-8"

@@ -2,7 +2,6 @@
 use Rattle.std.specs.Prelude.{◌≡◌, ◌⊎◌, ℕ, Bool, true, false, List, [], Option, Some, None, codes}
 use Rattle.serde_json.specs.Data.{Data}
 use Rattle.serde_json.specs.Written.{compact_text}
-use Rattle.rb_document.specs.declared.position.Encoding.{Encoding}
 use Rattle.rb_rpc.specs.Messages.{frame}
 use Rattle.rb_rpc.specs.Params.{number_below}
 use Rattle.rb_rpc.specs.Said.{Said, request, notification, response}
@@ -15,6 +14,7 @@ use Rattle.rb_server.specs.declared.method.Method.{Method}
 use Rattle.rb_server.specs.declared.method.Method.TheVariants.{Asks}
 use Rattle.rb_server.specs.declared.method.Question.{Question}
 use Rattle.rb_server.specs.declared.asked.Asked.{Asked}
+use Rattle.rb_server.specs.declared.client.Client.{Client}
 use Rattle.rb_server.specs.Documents.{text_of}
 use Rattle.rb_server.specs.Meanings.{Meaning}
 use Rattle.rb_server.specs.Methods.{method_of}
@@ -28,9 +28,9 @@ use Rattle.rb_server.specs.Talk.{Talks}
 pub data Answers (meaning : Meaning) (server : PlainServer) (method : Method) (params : Option Data) : Data → List ℕ → Type 0 where
   done : (id result : Data) → Answers meaning server method params id (body_text (success id result))
   refused : (id : Data) (code : ErrorCode) (message : List ℕ) → Answers meaning server method params id (body_text (failure id code message))
-  answered : (id given : Data) (encoding : Encoding) (question : Question) (asked : Asked) (uri text : List ℕ) → server.phase ≡ Running encoding → method ≡ Asks question → params ≡ Some given
+  answered : (id given : Data) (client : Client) (question : Question) (asked : Asked) (uri text : List ℕ) → server.phase ≡ Running client → method ≡ Asks question → params ≡ Some given
       → uri_of given ≡ Some uri → asked_of question given ≡ Some asked → text_of uri server.documents ≡ Some text
-      → Answers meaning server method params id (answer_text id (meaning.answer encoding asked uri text))
+      → Answers meaning server method params id (answer_text id (meaning.answer client.encoding asked uri text))
 
 -- each request has one answer
 abbrev pub RequestsHaveOneAnswer : Type 0
@@ -56,9 +56,9 @@ ResultsStandInAnswers = (id result : Data) → answer_text id (compact_text resu
 -- The diagnostics of a document's text as it stands go out, or the one that says that memory was refused, where it was, and nothing else: of the
 -- document that the notification names, with its URI, and with the version that the notification says.
 pub record Publishes (meaning : Meaning) (no_memory : Bool) (server : PlainServer) (notice : Notice) (text : List ℕ) : Type 0 where
-  pub running : server.phase ≡ Running notice.encoding
+  pub running : server.phase ≡ Running notice.client
   pub text_is : text
-      ≡ frame (publication meaning no_memory notice.encoding notice.uri (number_below (codes "textDocument") (codes "version") notice.given) (text_of notice.uri server.documents))
+      ≡ frame (publication meaning no_memory notice.client notice.uri (number_below (codes "textDocument") (codes "version") notice.given) (text_of notice.uri server.documents))
 
 -- what goes out where the server stands here after a notification: nothing alone where that tells of no document
 abbrev pub IsPublished : Meaning → Bool → PlainServer → Option Notice → List ℕ → Type 0

@@ -2,10 +2,11 @@
 use Rattle.std.specs.Prelude.{ℕ, List}
 use Rattle.rb_document.specs.declared.position.Encoding.{Encoding}
 use Rattle.rb_server.specs.declared.asked.Asked.{Asked}
+use Rattle.rb_server.specs.declared.client.Client.{Client}
 
--- the diagnostics of a text, as a list in JSON: of the encoding of columns, the URI of the document, and its text
+-- the diagnostics of a text, as a list in JSON: of the client that is told, the URI of the document, and its text
 abbrev pub Diagnose : Type 0
-Diagnose = Encoding → List ℕ → List ℕ → List ℕ
+Diagnose = Client → List ℕ → List ℕ → List ℕ
 
 -- the result of a request, in JSON: of the encoding of columns, what is asked, the URI of the document, and its text
 abbrev pub Answer : Type 0

@@ -3,10 +3,10 @@
 use Rattle.std.specs.Prelude.{ℕ, Bool, if◌then◌else◌, List, [], ◌++◌, Option, Some, None, codes, decimal}
 use Rattle.std.specs.List.{flat_map}
 use Rattle.serde_json.specs.Data.{Data}
-use Rattle.rb_document.specs.declared.position.Encoding.{Encoding}
 use Rattle.rb_json.specs.Escapes.{escaped}
 use Rattle.rb_rpc.specs.Messages.{frame}
 use Rattle.rb_rpc.specs.Params.{number_below, text_below}
+use Rattle.rb_server.specs.declared.client.Client.{Client}
 use Rattle.rb_server.specs.declared.method.Method.{Method}
 use Rattle.rb_server.specs.declared.phase.Phase.{Phase}
 use Rattle.rb_server.specs.declared.phase.Phase.TheVariants.{Running}
@@ -28,9 +28,9 @@ no_memory_list =
     codes "[{\"range\":{\"start\":{\"line\":0,\"character\":0},\"end\":{\"line\":1,\"character\":0}},\"severity\":1,\"code\":\"no-memory\",\"source\":\"raftbench\",\"message\":\"no memory for a run of this script\"}]"
 
 -- Those of the text of a document that is open, or the one that says that memory was refused, where it was; and else none.
-abbrev pub list_text : Meaning → Bool → Encoding → List ℕ → Option (List ℕ) → List ℕ
-list_text meaning no_memory encoding uri None = codes "[]"
-list_text meaning no_memory encoding uri (Some text) = if no_memory then no_memory_list else meaning.diagnose encoding uri text
+abbrev pub list_text : Meaning → Bool → Client → List ℕ → Option (List ℕ) → List ℕ
+list_text meaning no_memory client uri None = codes "[]"
+list_text meaning no_memory client uri (Some text) = if no_memory then no_memory_list else meaning.diagnose client uri text
 
 unfoldable pub head_text : List ℕ → List ℕ
 head_text uri = codes "{\"jsonrpc\":\"2.0\",\"method\":\"textDocument/publishDiagnostics\",\"params\":{\"uri\":\"" ++ (flat_map escaped uri ++ codes "\"")
@@ -39,35 +39,35 @@ head_text uri = codes "{\"jsonrpc\":\"2.0\",\"method\":\"textDocument/publishDia
 unfoldable pub list_publication : List ℕ → Option ℕ → List ℕ → List ℕ
 list_publication uri version list = head_text uri ++ (middle_text version ++ (list ++ codes "}}"))
 
-abbrev pub publication : Meaning → Bool → Encoding → List ℕ → Option ℕ → Option (List ℕ) → List ℕ
-publication meaning no_memory encoding uri version text = list_publication uri version (list_text meaning no_memory encoding uri text)
+abbrev pub publication : Meaning → Bool → Client → List ℕ → Option ℕ → Option (List ℕ) → List ℕ
+publication meaning no_memory client uri version text = list_publication uri version (list_text meaning no_memory client uri text)
 
 -- ---- a notification
 
--- what it says: the document's URI, and what is given to the method
+-- what it says: who tells it, the document's URI, and what is given to the method
 pub record Notice : Type 0 where
-  pub encoding : Encoding
+  pub client : Client
   pub method : Method
   pub uri : List ℕ
   pub given : Data
 
-abbrev pub with_uri : Encoding → Method → Data → Option (List ℕ) → Option Notice
-with_uri encoding method d None = None
-with_uri encoding method d (Some uri) = Some (record { encoding = encoding; method = method; uri = uri; given = d })
+abbrev pub with_uri : Client → Method → Data → Option (List ℕ) → Option Notice
+with_uri client method d None = None
+with_uri client method d (Some uri) = Some (record { client = client; method = method; uri = uri; given = d })
 
 -- it is taken between `initialize` and `shutdown`, where it tells of a document
 abbrev pub notice_of : Phase → Method → Option Data → Option Notice
-notice_of (Running encoding) method (Some d) =
-    if is_of_documents method then with_uri encoding method d (text_below (codes "textDocument") (codes "uri") d) else None
+notice_of (Running client) method (Some d) =
+    if is_of_documents method then with_uri client method d (text_below (codes "textDocument") (codes "uri") d) else None
 notice_of phase method params = None
 
 -- the documents after it
 abbrev pub documents_after : Option Notice → List PlainDocument → List PlainDocument
 documents_after None ds = ds
-documents_after (Some n) ds = kept n.uri (text_after n.encoding n.method n.given (text_of n.uri ds)) (closed n.uri ds)
+documents_after (Some n) ds = kept n.uri (text_after n.client.encoding n.method n.given (text_of n.uri ds)) (closed n.uri ds)
 
 -- what goes out, where these are the documents after it
 abbrev pub notice_text : Meaning → Bool → Option Notice → List PlainDocument → List ℕ
 notice_text meaning no_memory None ds = []
 notice_text meaning no_memory (Some n) ds =
-    frame (publication meaning no_memory n.encoding n.uri (number_below (codes "textDocument") (codes "version") n.given) (text_of n.uri ds))
+    frame (publication meaning no_memory n.client n.uri (number_below (codes "textDocument") (codes "version") n.given) (text_of n.uri ds))

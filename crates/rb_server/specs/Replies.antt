@@ -2,13 +2,13 @@
 -- sentences are this project's.)
 use Rattle.std.specs.Prelude.{ℕ, Bool, List, [], Option, Some, None, codes}
 use Rattle.serde_json.specs.Data.{Data, null}
-use Rattle.rb_document.specs.declared.position.Encoding.{Encoding}
 use Rattle.rb_rpc.specs.Messages.{frame}
 use Rattle.rb_rpc.specs.Said.{Said, request, notification, response, invalid}
 use Rattle.rb_rpc.specs.Answers.{success, failure}
 use Rattle.rb_rpc.specs.declared.answer.ErrorCode.TheVariants.{ParseError, InvalidRequest, MethodNotFound, InvalidParams, ServerNotInitialized}
 use Rattle.rb_server.specs.Methods.{method_of}
-use Rattle.rb_server.specs.Beginnings.{chosen_encoding, initialized}
+use Rattle.rb_server.specs.Beginnings.{client_of, initialized}
+use Rattle.rb_server.specs.declared.client.Client.{Client}
 use Rattle.rb_server.specs.declared.method.Method.{Method}
 use Rattle.rb_server.specs.declared.method.Method.TheVariants.{Initialize, Shutdown, Exit, Asks}
 use Rattle.rb_server.specs.declared.phase.Phase.{Phase}
@@ -27,13 +27,13 @@ pub record PlainServer : Type 0 where
 
 -- ---- the answer to a request of no document
 
-abbrev pub initialize_answer : Option Encoding → Data → Data
-initialize_answer (Some encoding) id = success id (initialized encoding)
+abbrev pub initialize_answer : Option Client → Data → Data
+initialize_answer (Some client) id = success id (initialized client.encoding)
 initialize_answer None id = failure id InvalidParams (codes "params is no object")
 
 -- before `initialize`
 abbrev pub fresh_answer : Method → Option Data → Data → Data
-fresh_answer Initialize params id = initialize_answer (chosen_encoding params) id
+fresh_answer Initialize params id = initialize_answer (client_of params) id
 fresh_answer method params id = failure id ServerNotInitialized (codes "initialize comes first")
 
 -- between `initialize` and `shutdown`
@@ -44,7 +44,7 @@ running_answer method id = failure id MethodNotFound (codes "there is no such me
 
 abbrev pub answer_to : Phase → Method → Option Data → Data → Data
 answer_to Fresh method params id = fresh_answer method params id
-answer_to (Running encoding) method params id = running_answer method id
+answer_to (Running client) method params id = running_answer method id
 answer_to Stopped method params id = failure id InvalidRequest (codes "shutdown came before")
 
 -- ---- the answer to a message
@@ -59,7 +59,7 @@ no_json = failure null ParseError (codes "this is no JSON")
 
 -- to a request: of a document, between `initialize` and `shutdown`, or of none
 abbrev pub body_in : Meaning → Bool → List PlainDocument → Phase → Method → Option Data → Data → List ℕ
-body_in meaning no_memory ds (Running encoding) (Asks question) params id = question_body meaning no_memory encoding ds question params id
+body_in meaning no_memory ds (Running client) (Asks question) params id = question_body meaning no_memory client.encoding ds question params id
 body_in meaning no_memory ds phase method params id = body_text (answer_to phase method params id)
 
 abbrev pub answer_body : Meaning → Bool → PlainServer → Method → Option Data → Data → List ℕ
@@ -80,16 +80,16 @@ sent (Some body) = frame body
 -- ---- where the server stands after a message
 
 -- after `initialize`
-abbrev pub started : Option Encoding → Phase
-started (Some encoding) = Running encoding
+abbrev pub started : Option Client → Phase
+started (Some client) = Running client
 started None = Fresh
 
 -- after a request
 abbrev pub after : Phase → Method → Option Data → Phase
-after Fresh Initialize params = started (chosen_encoding params)
+after Fresh Initialize params = started (client_of params)
 after Fresh method params = Fresh
-after (Running encoding) Shutdown params = Stopped
-after (Running encoding) method params = Running encoding
+after (Running client) Shutdown params = Stopped
+after (Running client) method params = Running client
 after Stopped method params = Stopped
 
 -- how it ends at `exit`

@@ -7,28 +7,24 @@ ghost use Rattle.rb_rpc.specs.Messages.{frame};
 ghost use Rattle.rb_server.specs.Questions.{body_text};
 ghost use Rattle.rb_server.specs.Replies.{after, answer_to, body_in, fresh_answer, initialize_answer, no_json, no_message, running_answer};
 
-use crate::beginning::{chosen_encoding, initialized};
+use crate::beginning::{client_of, initialized};
+use crate::client::Client;
 use crate::documents::Documents;
 use crate::method::Method;
 use crate::phase::Phase;
 use crate::question::question_told;
 use crate::service::Service;
 use crate::told::{Told, framed_answer};
-use rb_document::Encoding;
 use rb_rpc::{ErrorCode, failure, success};
 use serde_json::Value;
 use std::alloc::{AllocError, Global};
 
 // The answer to `initialize`.
-fn initialize_answer(
-    alloc: Global,
-    encoding: Option<Encoding>,
-    id: &Value,
-) -> Result<Value, AllocError>
-    ensures { IfOk result (λ value. view value ≡ initialize_answer encoding (view id.now)) }
+fn initialize_answer(alloc: Global, client: Option<Client>, id: &Value) -> Result<Value, AllocError>
+    ensures { IfOk result (λ value. view value ≡ initialize_answer client (view id.now)) }
 {
-    match encoding {
-        Some(encoding) => success(alloc, id, initialized(alloc, encoding)?),
+    match client {
+        Some(client) => success(alloc, id, initialized(alloc, client.encoding)?),
         None => failure(alloc, id, ErrorCode::InvalidParams, "params is no object"),
     }
 }
@@ -43,7 +39,7 @@ fn fresh_answer(
     ensures { IfOk result (λ value. view value ≡ fresh_answer method (option_map (λ v. view v.now) params.entry) (view id.now)) }
 {
     match method {
-        Method::Initialize => initialize_answer(alloc, chosen_encoding(params), id),
+        Method::Initialize => initialize_answer(alloc, client_of(params), id),
         _ => failure(
             alloc,
             id,
@@ -105,8 +101,14 @@ pub(crate) fn answer_told<V: Service>(
     ensures { IfOk result (λ told. told.out.items ≡ frame (body_in V.meaning told.has_no_memory documents.now phase method (option_map (λ v. view v.now) params.entry) (view id.now))) }
 {
     match (phase, method) {
-        (Phase::Running(encoding), Method::Asks(question)) => question_told(
-            alloc, service, documents, encoding, question, params, id,
+        (Phase::Running(client), Method::Asks(question)) => question_told(
+            alloc,
+            service,
+            documents,
+            client.encoding,
+            question,
+            params,
+            id,
         ),
         _ => Ok(Told::whole(own_answer(alloc, phase, method, params, id)?)),
     }
@@ -132,8 +134,8 @@ pub(crate) fn after(phase: Phase, method: Method, params: Option<&Value>) -> Pha
     ensures { result ≡ after phase method (option_map (λ v. view v.now) params.entry) }
 {
     match (phase, method) {
-        (Phase::Fresh, Method::Initialize) => match chosen_encoding(params) {
-            Some(encoding) => Phase::Running(encoding),
+        (Phase::Fresh, Method::Initialize) => match client_of(params) {
+            Some(client) => Phase::Running(client),
             None => Phase::Fresh,
         },
         (Phase::Running(_), Method::Shutdown) => Phase::Stopped,

@@ -2,25 +2,35 @@
 
 ghost use Rattle.std.specs.Prelude.{◌≡◌, false, IfOk, option_map};
 ghost use Rattle.serde_json.specs.View.{view};
-ghost use Rattle.rb_server.specs.Beginnings.{capabilities, chosen_encoding, completes, encoding_name, initialized, names_bytes, offered, offers_bytes, synchronizes};
+ghost use Rattle.rb_server.specs.Beginnings.{capabilities, chosen_encoding, client_of, completes, encoding_name, initialized, names_bytes, of_diagnostics, offered, offers_bytes, says_related, synchronizes, takes_related};
 
+use crate::client::Client;
 use rb_document::Encoding;
 use serde_json::{Value, json};
 use std::alloc::{AllocError, Global};
 
-/// In what columns will count: in bytes where the client offers that, and else in units of UTF-16, which each client counts in.
-/// None where what is given to `initialize` is no object.
-pub(crate) fn chosen_encoding(params: Option<&Value>) -> Option<Encoding>
-    ensures { result ≡ chosen_encoding (option_map (λ v. view v.now) params.entry) }
+/// The client that begins so. None where what is given to `initialize` is no object.
+pub(crate) fn client_of(params: Option<&Value>) -> Option<Client>
+    ensures { result ≡ client_of (option_map (λ v. view v.now) params.entry) }
 {
     let params = params?;
     if !params.is_object() {
         return None;
     }
+    Some(Client {
+        encoding: chosen_encoding(params),
+        takes_related: takes_related(params),
+    })
+}
+
+// In what columns will count: in bytes where the client offers that, and else in units of UTF-16, which each client counts in.
+fn chosen_encoding(params: &Value) -> Encoding
+    ensures { result ≡ chosen_encoding (view params.now) }
+{
     if offers_bytes(params) {
-        Some(Encoding::Utf8)
+        Encoding::Utf8
     } else {
-        Some(Encoding::Utf16)
+        Encoding::Utf16
     }
 }
 
@@ -41,6 +51,35 @@ fn offered(params: &Value) -> Option<&Value>
     let capabilities = params.get("capabilities")?;
     let general = capabilities.get("general")?;
     general.get("positionEncodings")
+}
+
+// What a client says that it takes of diagnostics.
+fn of_diagnostics(params: &Value) -> Option<&Value>
+    ensures { option_map (λ v. view v.now) result ≡ of_diagnostics (view params.now) }
+{
+    let capabilities = params.get("capabilities")?;
+    let documents = capabilities.get("textDocument")?;
+    documents.get("publishDiagnostics")
+}
+
+// Whether a client says that it takes related information with a diagnostic.
+fn takes_related(params: &Value) -> bool
+    ensures { result ≡ takes_related (view params.now) }
+{
+    match of_diagnostics(params) {
+        Some(taken) => says_related(taken),
+        None => false,
+    }
+}
+
+// Whether that is said to be among what is taken of them.
+fn says_related(taken: &Value) -> bool
+    ensures { result ≡ says_related (view taken.now) }
+{
+    match taken.get("relatedInformation").and_then(Value::as_bool) {
+        Some(says) => says,
+        None => false,
+    }
 }
 
 // Whether the name at a place is that of bytes.

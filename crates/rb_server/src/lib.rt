@@ -15,6 +15,7 @@ mod answers;
 mod asked;
 mod beginning;
 mod changes;
+mod client;
 mod documents;
 mod fault;
 mod laws;
@@ -29,6 +30,7 @@ mod serving;
 mod told;
 
 pub use asked::Asked;
+pub use client::Client;
 pub use fault::ServeFault;
 pub use laws::{
     conversations_are_one, notifications_have_no_answer, refusals_are_told,

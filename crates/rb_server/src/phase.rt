@@ -3,15 +3,15 @@
 ghost use Rattle.std.specs.Prelude.{◌≡◌};
 ghost use Rattle.rb_server.specs.Replies.{status_of};
 
-use rb_document::Encoding;
+use crate::client::Client;
 
 /// Where a server stands.
 #[derive(Clone, Copy, Debug, PartialEq, Eq)]
 pub(crate) enum Phase {
     /// `initialize` is yet to come.
     Fresh,
-    /// Requests are done. Columns count in these units.
-    Running(Encoding),
+    /// Requests of this client are done.
+    Running(Client),
     /// `shutdown` has come, and `exit` is yet to.
     Stopped,
 }

@@ -5,9 +5,9 @@ ghost use Rattle.rb_document.specs.declared.limits.TheConstants.{MAX_TEXT};
 ghost use Rattle.rb_rpc.specs.Messages.{frame};
 ghost use Rattle.rb_server.specs.Notices.{head_text, list_publication, middle_text, no_memory_list, publication};
 
+use crate::client::Client;
 use crate::service::Service;
 use crate::told::{Told, framed};
-use rb_document::Encoding;
 use rb_json::{Piece, add_pieces};
 use std::alloc::{AllocError, Global};
 
@@ -68,18 +68,18 @@ fn with_list(
 fn diagnosed<V: Service>(
     alloc: Global,
     service: &mut V,
-    encoding: Encoding,
+    client: Client,
     uri: &[u8],
     version: Option<u64>,
     text: &[u8],
 ) -> Result<Vec<u8>, AllocError>
     requires { length text.now ≤ MAX_TEXT }
-    ensures { IfOk result (λ out. out.items ≡ frame (list_publication uri.now version ((V.meaning).diagnose encoding uri.now text.now))) }
+    ensures { IfOk result (λ out. out.items ≡ frame (list_publication uri.now version ((V.meaning).diagnose client uri.now text.now))) }
 {
     let mut body = Vec::new(alloc);
     add_head(&mut body, uri)?;
     add_middle(&mut body, version)?;
-    service.add_diagnostics(encoding, uri, text, &mut body)?;
+    service.add_diagnostics(client, uri, text, &mut body)?;
     body.extend_from_slice(b"}}")?;
     framed(alloc, body.as_slice())
 }
@@ -97,19 +97,19 @@ fn no_memory_list() -> &'static [u8]
 pub(crate) fn publication<V: Service>(
     alloc: Global,
     service: &mut V,
-    encoding: Encoding,
+    client: Client,
     uri: &[u8],
     version: Option<u64>,
     text: Option<&[u8]>,
 ) -> Result<Told, AllocError>
     requires { IfSome text (λ text. length text.now ≤ MAX_TEXT) }
-    ensures { IfOk result (λ told. told.out.items ≡ frame (publication V.meaning told.has_no_memory encoding uri.now version (option_map (λ text. text.now) text.entry))) }
+    ensures { IfOk result (λ told. told.out.items ≡ frame (publication V.meaning told.has_no_memory client uri.now version (option_map (λ text. text.now) text.entry))) }
 {
     let Some(text) = text else {
         service.forget(uri);
         return Ok(Told::whole(with_list(alloc, uri, version, b"[]")?));
     };
-    match diagnosed(alloc, service, encoding, uri, version, text) {
+    match diagnosed(alloc, service, client, uri, version, text) {
         Ok(out) => Ok(Told {
             out,
             has_no_memory: false,

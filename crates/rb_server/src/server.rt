@@ -15,13 +15,13 @@ ghost use Rattle.rb_server.specs.Serves.{turned_of};
 
 use crate::answers::{after, answer_told, no_json, no_message};
 use crate::changes::document_after;
+use crate::client::Client;
 use crate::documents::Documents;
 use crate::method::{Method, is_of_documents, method_of};
 use crate::phase::{Phase, Status, status_of};
 use crate::publication::publication;
 use crate::service::Service;
 use crate::told::{Told, framed_answer};
-use rb_document::Encoding;
 use rb_rpc::{Incoming, incoming_of, number_below, text_below};
 use serde_json::Value;
 use std::alloc::{AllocError, Global};
@@ -114,19 +114,19 @@ fn notice<V: Service>(
     alloc: Global,
     service: &mut V,
     documents: &mut Documents,
-    encoding: Encoding,
+    client: Client,
     method: Method,
     params: &Value,
     uri: &[u8],
 ) -> Result<Told, AllocError>
-    ensures documents { OnOk result (documents.new ≡ kept uri.now (text_after encoding method (view params.now) (text_of uri.now documents.old)) (closed uri.now documents.old)) }
-    ensures out { IfOk result (λ told. told.out.items ≡ frame (publication V.meaning told.has_no_memory encoding uri.now (number_below (codes "textDocument") (codes "version") (view params.now)) (text_of uri.now documents.new))) }
+    ensures documents { OnOk result (documents.new ≡ kept uri.now (text_after client.encoding method (view params.now) (text_of uri.now documents.old)) (closed uri.now documents.old)) }
+    ensures out { IfOk result (λ told. told.out.items ≡ frame (publication V.meaning told.has_no_memory client uri.now (number_below (codes "textDocument") (codes "version") (view params.now)) (text_of uri.now documents.new))) }
 {
     let old = documents.take(uri);
-    let new = document_after(alloc, encoding, method, params, old)?;
+    let new = document_after(alloc, client.encoding, method, params, old)?;
     documents.keep(uri, new)?;
     let version = number_below(params, "textDocument", "version");
-    publication(alloc, service, encoding, uri, version, documents.text(uri))
+    publication(alloc, service, client, uri, version, documents.text(uri))
 }
 
 // Takes a notification.
@@ -141,7 +141,7 @@ fn take_notice<V: Service>(
     ensures documents { OnOk result (server.new.documents ≡ documents_after (notice_of server.old.phase method (option_map (λ v. view v.now) params.entry)) server.old.documents) }
     ensures out { IfOk result (λ told. told.out.items ≡ notice_text V.meaning told.has_no_memory (notice_of server.old.phase method (option_map (λ v. view v.now) params.entry)) server.new.documents) }
 {
-    let Phase::Running(encoding) = server.phase else {
+    let Phase::Running(client) = server.phase else {
         return Ok(Told::whole(Vec::new(alloc)));
     };
     let Some(params) = params else {
@@ -157,7 +157,7 @@ fn take_notice<V: Service>(
         alloc,
         service,
         &mut server.documents,
-        encoding,
+        client,
         method,
         params,
         uri.as_bytes(),

@@ -5,6 +5,7 @@ ghost use Rattle.rb_document.specs.declared.limits.TheConstants.{MAX_TEXT};
 ghost use Rattle.rb_server.specs.Meanings.{Meaning};
 
 use crate::asked::Asked;
+use crate::client::Client;
 use rb_document::Encoding;
 use std::alloc::AllocError;
 
@@ -19,13 +20,13 @@ pub trait Service {
     /// Adds the diagnostics of the text of a document. They depend on what is handed in alone.
     fn add_diagnostics(
         &mut self,
-        encoding: Encoding,
+        client: Client,
         uri: &[u8],
         text: &[u8],
         out: &mut Vec<u8>,
     ) -> Result<(), AllocError>
         requires { length text.now ≤ MAX_TEXT }
-        ensures { OnOk result (out.new.items ≡ out.old.items ++ (meaning).diagnose encoding uri.now text.now) };
+        ensures { OnOk result (out.new.items ≡ out.old.items ++ (meaning).diagnose client uri.now text.now) };
 
     /// Adds the result of a request, of the text of a document. It depends on what is handed in alone.
     fn add_answer(

@@ -1,14 +1,16 @@
 use Rattle.std.proofs.Common.{arith}
 use Rattle.rb_replay.specs.Run.{outputs}
-use Rattle.rb_diagnostics.proofs.FindingLaws.{said_last, said_more}
+use Rattle.rb_diagnostics.proofs.FindingLaws.{said_last, said_more, stands_there}
 use Rattle.rb_diagnostics.proofs.MismatchLaws.{differs_there, left_behind}
 use Rattle.rb_diagnostics.proofs.running.each_finding.Goals as goal
 
 pub finding-requires : goal.finding-requires
 finding-requires g c =
-    let s = c.args.session.now.script in
-    differs_there c.mismatches-mismatches.result.now c.loop-i.next c.loop-i.i s.blocks (outputs s) c.block_at-block.result.now c.output_at-output.result.now c.block_at-block.ensures c.output_at-output.ensures c.loop-i.invariant.left
-    c.is_next-differs.result c.is_next-differs.ensures
+    let s = c.args.session.now.script in record {
+      stands = stands_there c.args.text.now s.blocks c.args.heads.now c.loop-i.i c.number_at-line.result c.block_at-block.result.now c.requires c.number_at-line.ensures c.block_at-block.ensures;
+      differs = differs_there c.mismatches-mismatches.result.now c.loop-i.next c.loop-i.i s.blocks (outputs s) c.block_at-block.result.now c.output_at-output.result.now c.block_at-block.ensures c.output_at-output.ensures c.loop-i.invariant.left
+          c.is_next-differs.result c.is_next-differs.ensures;
+    }
 
 pub loop-i-preserved : goal.loop-i-preserved
 loop-i-preserved g c =
@@ -27,4 +29,4 @@ loop-i-preserved g c =
 pub returns : goal.returns
 returns g c =
     said_last c.args.text.now c.args.heads.now c.args.session.now.script.blocks (outputs c.args.session.now.script) c.loop-i.i c.loop-i.list.items _
-    (omega (arith, c.loop-i-test.false, c.len-i-end.ensures.len, c.requires)) c.loop-i.invariant.said
+    (omega (arith, c.loop-i-test.false, c.len-i-end.ensures.len, c.requires.count)) c.loop-i.invariant.said

@@ -1,7 +1,7 @@
 use Rattle.std.proofs.Common.{◌≡◌, ◌∙◌, ◌+◌, ◌-◌, length, ap, arith}
 use Rattle.rb_offers.specs.BlockLines.{behind_head, mark_lines}
 use Rattle.rb_offers.proofs.BlockLaws.{block_inputs, end_within, lines_made}
-use Rattle.rb_offers.proofs.block_lines.block_lines.Goals as goal
+use Rattle.rb_offers.proofs.block_lines.BlockLines.of_block.Goals as goal
 
 pub overflow_add-below : goal.overflow_add-below
 overflow_add-below c =
