@@ -29,12 +29,6 @@ def same_counts(what, came, wanted):
         raise Failed(f"{what}: {len(more)} should not be, as {more[:MOST_TOLD]}, and {len(less)} are wanting, as {less[:MOST_TOLD]}")
 
 
-def same_arrows(what, came, wanted):
-    """Where an arrow ends that leads to no node doesn't matter."""
-    more, less = came - wanted, wanted - came
-    same_counts(what, Counter(arrow._replace(to=None) for arrow in more.elements()), less)
-
-
 def rows_tell_what_is_printed():
     """Without a browser: by a page's rows messages take the course that they take by what is printed."""
     for name, data in {**SCRIPTS, "full": FULL}.items():
@@ -47,9 +41,22 @@ def rows_tell_what_is_printed():
 
 
 def arrows_as_printed(name, data, sheet):
-    messages = messages_of_lines(steps_of(data))
-    same_arrows(f"the arrows of {name}", sheet.arrows(), Counter(message.arrow(len(sheet.columns)) for message in messages))
+    """Also within a step: from the top downwards arrows begin in the order in which messages are sent, and end in that in which they are met."""
+    messages, arrows = messages_of_lines(steps_of(data)), sheet.arrows()
+    wanted = [message.arrow(len(sheet.columns)) for message in messages]
+    same_arrows(f"the arrows of {name}", [arrow for arrow, _, _ in arrows], wanted)
+    ends = sorted((end, message.order) for (_, _, end), message in zip(arrows, messages) if message.is_met())
+    same(f"the order in which arrows of {name} end", [order for _, order in ends], sorted(order for _, order in ends))
     same_counts(f"the labels of {name}", sheet.labels(), Counter(message.label() for message in messages))
+
+
+def same_arrows(what, came, wanted):
+    """Where an arrow ends that leads to no node doesn't matter."""
+    more, less = Counter(came) - Counter(wanted), Counter(wanted) - Counter(came)
+    same_counts(what, Counter(arrow._replace(to=None) for arrow in more.elements()), less)
+    came = [arrow if want.to else arrow._replace(to=None) for arrow, want in zip(came, wanted)]
+    for at, arrow in enumerate(wanted):
+        same(f"{what} in place {at}", came[at], arrow)
 
 
 def marks_as_printed(name, data, sheet):

@@ -85,7 +85,8 @@ def node_of(state, log, status):
     entries = [ENTRY.fullmatch(line).groups() for line in log[1:]]
     views = [VIEW.fullmatch(line).groups() for line in status[1:]]
     numbers = Numbers(*map(int, [*hard, *BASE.fullmatch(log[0]).groups()]))
-    return int(id), Node(role, numbers, (int(length), end), {int(index): (int(term), body) for term, index, body, _ in entries}, status[0], views)
+    bodies = {int(index): (int(term), body) for term, index, body, _ in entries}
+    return int(id), Node(role, numbers, (int(length), end), bodies, status[0], views)
 
 
 def nodes_of(states, printed):

@@ -292,9 +292,8 @@ def click_into(reader, asking, place):
 def frames_step_without_an_address(reader):
     """A frame that was given its document as a text, as a code review may show what is attached; also where scripts alone may run."""
     page = page_of(TOUR[0].read_bytes(), "framed")
-    for attributes, asking, document in [
-        ("", contextlib.nullcontext, "document.getElementById('frame').contentDocument"), ("sandbox=allow-scripts", reader.browser.inside, "document"),
-    ]:
+    inner = "document.getElementById('frame').contentDocument"
+    for attributes, asking, document in [("", contextlib.nullcontext, inner), ("sandbox=allow-scripts", reader.browser.inside, "document")]:
         reader.open_page(framed(page, attributes), "framed")
         place = f"{document}.getElementById('where').textContent.split(',')[0]"
         with asking():

@@ -62,10 +62,11 @@ class Sheet:
     # Arrows
 
     def arrows(self):
-        """How often each arrow is drawn."""
+        """The arrows from the top downwards, each with how far down it begins and ends."""
         lines = parts_of([[look.replace(" here", ""), path] for look, path in self.gathered("lines")])
         ends = {"tip": self.ends("tips", 0), "cross": self.ends("crosses", 4)}
-        arrows = Counter(self.arrow(look.split(), points, ends) for look, points in lines)
+        lines.sort(key=lambda line: line[1][0][1])
+        arrows = [(self.arrow(look.split(), points, ends), points[0][1], points[-1][1]) for look, points in lines]
         same("the tips and crosses that end no arrow", ends, {"tip": [], "cross": []})
         return arrows
 

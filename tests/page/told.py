@@ -50,7 +50,8 @@ class Arrow(NamedTuple):
 
 @dataclass
 class Message:
-    """A message: from, to and type, the lines of the directives where it was sent and met, and its text where that is known."""
+    """A message: from, to and type, the lines of the directives where it was sent and met, its text where that is known, and how many were
+    met before it."""
     sender: int
     to: int
     kind: str
@@ -58,6 +59,7 @@ class Message:
     met: int | None = None
     fate: str = "waiting"
     text: str = ""
+    order: int = 0
 
     def course(self):
         """All but its text."""
@@ -74,10 +76,13 @@ class Message:
 
     def arrow(self, nodes):
         """Its arrow where there are so many nodes; one that comes to no node ends anywhere on its way."""
-        is_met = self.fate in FATES.values()
         sign = {"delivered": "tip", "waiting": "dots"}.get(self.fate, "cross")
         side = -1 if self.to < self.sender else 1
-        return Arrow(KINDS[self.kind], self.sent, self.sender, side, self.met or self.sent, self.to if is_met and self.to <= nodes else None, sign)
+        to = self.to if self.is_met() and self.to <= nodes else None
+        return Arrow(KINDS[self.kind], self.sent, self.sender, side, self.met or self.sent, to, sign)
+
+    def is_met(self):
+        return self.fate in FATES.values()
 
     def is_pending_after(self, line):
         return self.sent <= line and (self.met is None or self.met > line)
@@ -87,7 +92,7 @@ class Mail:
     """Messages and what becomes of them. Of those with one key the earliest is the one that is met, and the latest the one without room."""
 
     def __init__(self):
-        self.messages, self.waiting, self.ready = [], defaultdict(list), []
+        self.messages, self.waiting, self.ready, self.met = [], defaultdict(list), [], 0
 
     def read(self, verb, key, message):
         """Takes a message as sent or met; what met it is the line where the given one was sent."""
@@ -105,7 +110,8 @@ class Mail:
             self.ready += [(key, message)] if verb == "send" else []
 
     def end(self, message, at, fate):
-        message.met, message.fate = at.sent, fate
+        message.met, message.fate, message.order = at.sent, fate, self.met
+        self.met += 1
 
 
 def messages_of_lines(steps):
