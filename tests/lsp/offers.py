@@ -25,6 +25,9 @@ NAME = re.compile(rf"[ \t]*({TOKEN}*)\Z")
 ARGUMENT = re.compile(rf"[ \t]+({TOKEN}*)\Z")
 VALUE_OF = re.compile(rf"[ \t]+({TOKEN}*)=(?!\()([^ \t]*)\Z")
 LIST_OF = re.compile(rf"[ \t]+({TOKEN}*)=\(([^()]*)\Z")
+BEGUN = re.compile(rf"[ \t]+({TOKEN}*)")
+NUMBER = re.compile(r"[0-9]{1,10}\Z")
+MOST_NODES, MOST_WORDS = 32, 64
 
 
 # ---- where blocks stand
@@ -116,42 +119,57 @@ def cells(line):
     return [cell.strip() for cell in line.strip().strip("|").split("|")]
 
 
+def id_places(words):
+    """How many of a directive's words are ids, which are the first."""
+    if words.startswith("ids"):
+        return MOST_WORDS
+    return next((n for n, word in enumerate(words.split(", ")) if word not in ("id", "from", "to")), len(words.split(", ")))
+
+
 def table_of_directives():
-    """Of each directive's name its options and what it does, by the document's table; and of each option its values, where it has some alone."""
+    """Of each directive's name its options, what it does, and how many of its words are ids, by the document's table; of each option its values,
+    where it has some alone; and the options whose values are ids."""
     lines = (TOP / "docs" / "DIRECTIVES.md").read_text().splitlines()
     at = lines.index("| Directive | Words | Options | Does |")
     rows = [cells(line) for line in lines[at + 2:lines.index("", at)]]
-    directives = {CODE.search(name)[1]: ([*CODE.findall(options), "log-level"], does) for name, _, options, does in rows}
+    directives = {CODE.search(name)[1]: ([*CODE.findall(options), "log-level"], does, id_places(words)) for name, words, options, does in rows}
     at = lines.index("| What | Is |")
-    values = {key: CODE.findall(is_.split(";")[0].split(", in")[0]) for what, is_ in map(cells, lines[at + 2:lines.index("", at)]) for key in CODE.findall(what)}
+    rows = [cells(line) for line in lines[at + 2:lines.index("", at)]]
+    values = {key: CODE.findall(is_.split(";")[0].split(", in")[0]) for what, is_ in rows for key in CODE.findall(what)}
+    ids = {key for what, is_ in rows if "an id" in what or "number of ids" in is_ for key in CODE.findall(what)}
     at = next(n for n, line in enumerate(lines) if line.startswith("| Message |"))
     types = [name for line in lines[at + 2:lines.index("", at)] for name in cells(line)[0].split(", ")]
     kept = {key: values[key] for key in ("prevote", "checkquorum", "step-down-on-removal", "v1", "transition", "log-level")}
-    return directives, kept | {"type": [*types, "MsgUnreachable"]}
+    return directives, kept | {"type": [*types, "MsgUnreachable"]}, ids
 
 
-DIRECTIVES, VALUES = table_of_directives()
+DIRECTIVES, VALUES, ID_KEYS = table_of_directives()
 
 
-def head_before(lines, front):
-    """The lines of the head in which the line stands that begins so, below these, or None."""
-    at = 0
+def joined(head):
+    return "".join(line.rstrip(" \t")[:-1] + " " for line in head[:-1]) + head[-1]
+
+
+def heads_before(lines, front):
+    """The heads in these lines, and the one in which the line stands that begins so, below these, or None: each joined."""
+    at, heads = 0, []
     while True:
         while at < len(lines) and is_lead(lines[at]):
             at += 1
         if at == len(lines):
-            return None if front.lstrip(" \t").startswith("#") else [front]
+            return heads, None if front.lstrip(" \t").startswith("#") else front
         start = at
         while at < len(lines) and is_continued(lines[at]):
             at += 1
         if at == len(lines):
-            return lines[start:] + [front]
+            return heads, joined(lines[start:] + [front])
         at += 1
+        heads.append(joined(lines[start:at]))
         while at < len(lines) and lines[at].strip(" \t") != "----":
             at += 1
         at = behind_expectation(lines, at + 1)
         if at is None:
-            return None
+            return heads, None
 
 
 def is_blank(line):
@@ -175,21 +193,42 @@ def behind_expectation(lines, at):
     return next((n + 1 for n in range(at, len(lines)) if is_blank(lines[n])), None)
 
 
-def wanted(head):
-    """What a joined head ends in: the words that may stand there, what they are, and what stands of one; None where nothing is known."""
+def first_word(head):
+    """The first argument of a joined head that has no key, as far as it goes."""
+    at = WHOLE_NAME.match(head).end() if WHOLE_NAME.match(head) else len(head)
+    while found := BEGUN.match(head, at):
+        if head[found.end():found.end() + 1] != "=":
+            return found[1]
+        whole = WHOLE_ARGUMENT.match(head, at)
+        at = whole.end() if whole else len(head)
+    return ""
+
+
+def ids_by(heads):
+    """The ids of the nodes that there would be by these heads: each `add-nodes` adds as many as it says, unless they would be too many."""
+    nodes = 0
+    for head in heads:
+        more = int(first_word(head)) if name_of(head) == "add-nodes" and NUMBER.match(first_word(head)) else 0
+        nodes += more if nodes + more <= MOST_NODES else 0
+    return [str(id) for id in range(1, nodes + 1)]
+
+
+def wanted(head, ids):
+    """What a joined head ends in: the words that may stand there, each with what it is, and what stands of one; None where nothing is known."""
     if found := NAME.match(head):
-        return [*DIRECTIVES], FUNCTION, found[1]
+        return [(name, FUNCTION) for name in DIRECTIVES], found[1]
     if not (name := WHOLE_NAME.match(head)):
         return None
-    at = name.end()
+    at, words = name.end(), 0
     while whole := WHOLE_ARGUMENT.match(head, at):
-        at = whole.end()
-    options = DIRECTIVES.get(name[1], (["log-level"], ""))[0]
+        at, words = whole.end(), words + ("=" not in whole[0])
+    options, _, places = DIRECTIVES.get(name[1], (["log-level"], "", 0))
     if found := ARGUMENT.match(head, at):
-        return options, PROPERTY, found[1]
+        return [(key, PROPERTY) for key in options] + [(id, VALUE) for id in ids if words < places], found[1]
     if found := VALUE_OF.match(head, at) or LIST_OF.match(head, at):
         prefix = found[2] if found.re is VALUE_OF else re.split(r"[ \t,]", found[2])[-1]
-        return VALUES.get(found[1], []) if found[1] in options else [], VALUE, prefix
+        values = ids if found[1] in ID_KEYS else VALUES.get(found[1], [])
+        return [(value, VALUE) for value in values if found[1] in options], prefix
     return None
 
 
@@ -202,20 +241,17 @@ def completion(text, at, encoding):
     """The items at a place: each with its label, its kind, what it puts there, and what the document says that the directive does."""
     start = text.rfind("\n", 0, at) + 1
     lines = [line.rstrip("\r") for line in text[:start].split("\n")[:-1]]
-    head = head_before(lines, text[start:at])
-    if head is None:
+    above, head = heads_before(lines, text[start:at])
+    asked = head is not None and wanted(head, ids_by([*above, head]))
+    if not asked:
         return []
-    joined = "".join(line.rstrip(" \t")[:-1] + " " for line in head[:-1]) + head[-1]
-    asked = wanted(joined)
-    if asked is None:
-        return []
-    words, kind, prefix = asked
+    words, prefix = asked
     range_ = {"start": position(text, at - len(prefix), encoding), "end": position(text, at, encoding)}
     items = []
-    for word in words:
+    for word, kind in words:
         if word.startswith(prefix):
             label = word + ("=" if kind == PROPERTY else "")
-            does = DIRECTIVES.get(word if kind == FUNCTION else name_of(joined), ([], ""))[1]
+            does = DIRECTIVES.get(word if kind == FUNCTION else name_of(head), ([], "", 0))[1]
             items.append({"label": label, "kind": kind, "does": CODE.sub(r"\1", does), "textEdit": {"range": range_, "newText": label}})
     return items
 

@@ -8,3 +8,6 @@ pub mod OrderLaws
 pub mod NameLaws
 pub mod HeadToLaws
 pub mod WantedLaws
+pub mod WordLaws
+pub mod NodeLaws
+pub mod IdLaws

@@ -97,7 +97,7 @@ keys_offered name prefix = option_words name prefix ∙ ap (λ (ks : List Key). 
 
 -- ---- values
 
-chosen_words : (prefix documentation : List ℕ) (cs : List (List ℕ)) → words (chosen prefix documentation cs) ≡ filter (begins_with prefix) cs
+pub chosen_words : (prefix documentation : List ℕ) (cs : List (List ℕ)) → words (chosen prefix documentation cs) ≡ filter (begins_with prefix) cs
 unfolding chosen
 chosen_words prefix documentation [] = refl
 chosen_words prefix documentation (c ∷ cs) =

@@ -10,6 +10,7 @@ use Rattle.rb_offers.specs.declared.offer.Kind.TheVariants as kinds
 use Rattle.rb_offers.specs.Above.{head_to}
 use Rattle.rb_offers.specs.Unfinished.{name_of, wanted_of}
 use Rattle.rb_offers.specs.Offers.{PlainOffer, offers}
+use Rattle.rb_offers.specs.Ids.{id_offers}
 use Rattle.rb_offers.specs.Texts.{list_text, range_text}
 
 abbrev pub kind_number : Kind → ℕ
@@ -39,7 +40,7 @@ item_text start end o = front_text o ++ (range_text start end ++ back_text o)
 -- the words that a head can go on with, which ends at a place, in the place of what stands of one before it
 unfoldable pub of_head : Encoding → List ℕ → ℕ → List ℕ → List ℕ
 of_head encoding text at head =
-    list_text (item_text (position_of encoding (at - length (wanted_of head).prefix) text) (position_of encoding at text)) (offers (name_of head) (wanted_of head))
+    list_text (item_text (position_of encoding (at - length (wanted_of head).prefix) text) (position_of encoding at text)) (offers (name_of head) (wanted_of head) ++ id_offers at text head (wanted_of head))
 
 abbrev pub of_found : Encoding → List ℕ → ℕ → Option (List ℕ) → List ℕ
 of_found encoding text at None = codes "[]"

@@ -7,5 +7,8 @@ pub mod Formatting
 pub mod Above
 pub mod Unfinished
 pub mod Offers
+pub mod Words
+pub mod Nodes
+pub mod Ids
 pub mod Completion
 pub mod Laws

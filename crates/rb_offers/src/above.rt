@@ -9,8 +9,8 @@ use crate::part::Part;
 use rb_script::{Lines, is_space, lines_of};
 use std::alloc::{AllocError, Global};
 
-// Where the line begins in which a place stands.
-fn line_begin(at: usize, text: &[u8]) -> usize
+/// Where the line begins in which a place stands.
+pub(crate) fn line_begin(at: usize, text: &[u8]) -> usize
     requires { at ≤ length text.now }
     ensures value { result ≡ line_begin at text.now }
     ensures before { result ≤ at }
@@ -36,8 +36,8 @@ fn body(line: &[u8]) -> &[u8]
     front
 }
 
-// What is known of a head behind a line, which the line of this part follows.
-fn keep(head: &mut Vec<u8>, part: Part, line: &[u8]) -> Result<(), AllocError>
+/// What is known of a head behind a line, which the line of this part follows.
+pub(crate) fn keep(head: &mut Vec<u8>, part: Part, line: &[u8]) -> Result<(), AllocError>
     ensures { OnOk result (head.new.items ≡ kept part line.now head.old.items) }
 {
     match part {

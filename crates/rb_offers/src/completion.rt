@@ -6,6 +6,7 @@ ghost use Rattle.rb_offers.specs.Completion.{back_text, completion, front_text, 
 ghost use Rattle.rb_offers.specs.Texts.{listed};
 
 use crate::above::head_to;
+use crate::ids::add_ids;
 use crate::offer::{Kind, Offer, offers};
 use crate::unfinished::{name_of, wanted_of};
 use crate::writing::add_range;
@@ -120,7 +121,8 @@ fn add_offers(
     ensures { OnOk result (out.new.items ≡ out.old.items ++ of_head encoding text.now at head.now) }
 {
     let wanted = wanted_of(head);
-    let list = offers(alloc, name_of(head), &wanted)?;
+    let mut list = offers(alloc, name_of(head), &wanted)?;
+    add_ids(alloc, &mut list, at, text, head, &wanted)?;
     let start = at.saturating_sub(wanted.prefix.len());
     out.extend_from_slice(b"[")?;
     add_all(
@@ -132,7 +134,7 @@ fn add_offers(
 }
 
 /// Adds the words that a text can go on with at a position, as the result of `textDocument/completion`: names of directives, keys of their
-/// options, and values of which an option takes some alone. Outside a head there are none. The text need be no script.
+/// options, values of which an option takes some alone, and ids of nodes. Outside a head there are none. The text need be no script.
 ///
 /// # Errors
 ///

@@ -1,6 +1,6 @@
 //! Laws of what an editor is offered, for whoever reads the contracts. No call does anything.
 
-ghost use Rattle.rb_offers.specs.Laws.{BlocksStandApart, FormattingMakes, HeadsAreKnown, KeysAreOfTheTable, LinesStayInOrder, NamesAreOfTheTable, ValuesAreOfTheOption};
+ghost use Rattle.rb_offers.specs.Laws.{BlocksStandApart, FormattingMakes, HeadsAreKnown, IdsAreOfTheNodes, IdsStandInTheTable, KeysAreOfTheTable, LinesStayInOrder, NamesAreOfTheTable, ValuesAreOfTheOption};
 
 /// The blocks of a text stand in its lines, one behind the other, and each has a head, a separator below it, and perhaps an expectation: so
 /// no fold goes beyond the text, and where two have a line in common one is within the other.
@@ -31,6 +31,16 @@ pub fn keys_are_those_of_the_table()
 /// The values that are offered are those of the option that begin so.
 pub fn values_are_those_of_the_option()
     ensures { ValuesAreOfTheOption }
+{}
+
+/// The ids that are offered are those of the nodes that there would be, which begin so: numbers from 1 on, in decimal digits.
+pub fn ids_are_those_of_the_nodes()
+    ensures { IdsAreOfTheNodes }
+{}
+
+/// Ids are offered where the table of directives has them: among as many of a directive's first words, and in the same options.
+pub fn ids_stand_where_the_table_has_them()
+    ensures { IdsStandInTheTable }
 {}
 
 /// On the line of each head of a script it is known that a head can be written there.

@@ -11,11 +11,14 @@ mod class;
 mod completion;
 mod folds;
 mod formatting;
+mod ids;
 mod laws;
+mod nodes;
 mod offer;
 mod part;
 mod symbols;
 mod unfinished;
+mod words;
 mod writing;
 
 pub use block_lines::BlockLines;
@@ -24,8 +27,8 @@ pub use folds::add_folds;
 pub use formatting::add_formatting;
 pub use laws::{
     blocks_stand_apart, formatting_makes_the_canonical_text, heads_are_known,
-    keys_are_those_of_the_table, lines_stay_in_order, names_are_those_of_the_table,
-    values_are_those_of_the_option,
+    ids_are_those_of_the_nodes, ids_stand_where_the_table_has_them, keys_are_those_of_the_table,
+    lines_stay_in_order, names_are_those_of_the_table, values_are_those_of_the_option,
 };
 pub use symbols::{MAX_NAME, add_symbols};
 pub use writing::add_range_member;

@@ -86,16 +86,16 @@ fn line_in(name: &[u8], pages: &[(Known, Known, Known)]) -> Known
     b""
 }
 
-// The line of the manual on the directive with this name.
+/// The line of the manual on the directive with this name.
 #[tactic(auto, unfolding(rb_manual::specs::Manual::pages, crate::specs::Offers::line_of))]
-fn line_of(name: &[u8]) -> Known
+pub(crate) fn line_of(name: &[u8]) -> Known
     ensures { result.now ≡ line_of name.now }
 {
     line_in(name, &PAGES)
 }
 
-// Whether the directive with this name has an option with this key among these.
-fn has_key(name: &[u8], key: &[u8], keys: &[(Known, Known)]) -> bool
+/// Whether the directive with this name has an option with this key among these.
+pub(crate) fn has_key(name: &[u8], key: &[u8], keys: &[(Known, Known)]) -> bool
     ensures { result ≡ has_key name.now key.now (map (λ k. (k.0.now, k.1.now)) keys.now) }
 {
     for row in keys {
@@ -163,6 +163,26 @@ fn options(alloc: Global, name: &[u8], prefix: &[u8]) -> Result<Vec<Offer>, Allo
     Ok(list)
 }
 
+/// Adds the values among these that begin so.
+pub(crate) fn add_chosen(
+    list: &mut Vec<Offer>,
+    prefix: &[u8],
+    documentation: Known,
+    choices: &[Known],
+) -> Result<(), AllocError>
+    ensures { OnOk result (list.new.items ≡ list.old.items ++ chosen prefix.now documentation.now (map (λ c. c.now) choices.now)) }
+{
+    for choice in choices {
+        let offer = Offer {
+            kind: Kind::Value,
+            word: *choice,
+            documentation,
+        };
+        keep(list, begins_with(prefix, choice), offer)?;
+    }
+    Ok(())
+}
+
 // The values among these that begin so.
 fn chosen(
     alloc: Global,
@@ -173,14 +193,7 @@ fn chosen(
     ensures { IfOk result (λ list. list.items ≡ chosen prefix.now documentation.now (map (λ c. c.now) choices.now)) }
 {
     let mut list = Vec::new(alloc);
-    for choice in choices {
-        let offer = Offer {
-            kind: Kind::Value,
-            word: *choice,
-            documentation,
-        };
-        keep(&mut list, begins_with(prefix, choice), offer)?;
-    }
+    add_chosen(&mut list, prefix, documentation, choices)?;
     Ok(list)
 }
 

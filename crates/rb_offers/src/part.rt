@@ -25,9 +25,9 @@ pub(crate) enum Part {
     Closing,
 }
 
-// Whether a line is blank, or a comment.
+/// Whether a line is blank, or a comment.
 #[tactic(auto, unfolding(rb_script::specs::Marks::is_lead))]
-fn is_lead(line: &[u8]) -> bool
+pub(crate) fn is_lead(line: &[u8]) -> bool
     ensures { result ≡ is_lead line.now }
 {
     match without_front(line) {

@@ -53,8 +53,8 @@ fn nothing<'a>() -> Wanted<'a>
     }
 }
 
-// Whether the bytes begin with this one.
-fn begins(b: u8, bytes: &[u8]) -> bool
+/// Whether the bytes begin with this one.
+pub(crate) fn begins(b: u8, bytes: &[u8]) -> bool
     ensures { result ≡ begins b bytes.now }
 {
     match bytes {
@@ -63,8 +63,8 @@ fn begins(b: u8, bytes: &[u8]) -> bool
     }
 }
 
-// Whether they begin with a blank.
-fn begins_space(bytes: &[u8]) -> bool
+/// Whether they begin with a blank.
+pub(crate) fn begins_space(bytes: &[u8]) -> bool
     ensures { result ≡ begins_space bytes.now }
 {
     match bytes {
@@ -134,9 +134,9 @@ fn value_at<'a>(key: &'a [u8], bytes: &'a [u8]) -> Result<&'a [u8], Wanted<'a>>
     rest_or(wanted, Class::Value.after(bytes))
 }
 
-// What is left behind the argument at the front, or where the head ends in it.
+/// What is left behind the argument at the front, or where the head ends in it.
 #[tactic(auto, unfolding(crate::specs::Unfinished::argument_at))]
-fn argument_at(bytes: &[u8]) -> Result<&[u8], Wanted<'_>>
+pub(crate) fn argument_at(bytes: &[u8]) -> Result<&[u8], Wanted<'_>>
     ensures { reach_of result ≡ argument_at bytes.now }
 {
     let rest = Class::Word.after(bytes);

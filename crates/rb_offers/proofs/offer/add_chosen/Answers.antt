@@ -1,7 +1,7 @@
 use Rattle.std.proofs.Common.{◌∙◌, sym}
 use Rattle.rb_offers.specs.Offers.{begins_with, chosen, value_offer}
 use Rattle.rb_offers.proofs.OfferLaws.{none_left, one_seen}
-use Rattle.rb_offers.proofs.offer.chosen.Goals as goal
+use Rattle.rb_offers.proofs.offer.add_chosen.Goals as goal
 
 pub loop-choice-preserved : goal.loop-choice-preserved
 unfolding chosen
