@@ -47,18 +47,23 @@ def changed(uri, version, *changes):
 
 
 def recorder(program, room):
-    """A program that runs this one, and writes into the folder what it is sent and what it tells."""
+    """A program that runs this one, and writes into the folder, to files of that run, what it is sent and what it tells: some clients begin anew."""
     script = pathlib.Path(room, "recorder")
     sent, told, run = (shlex.quote(str(it)) for it in (room / "sent", room / "told", program))
     # It ends when the program does, also where more could still be sent.
-    script.write_text(f'#!/bin/bash\n{run} "$@" < <(tee {sent}) | tee {told}\nexit "${{PIPESTATUS[0]}}"\n')
+    script.write_text(f'#!/bin/bash\n{run} "$@" < <(tee {sent}.$$) | tee {told}.$$\nexit "${{PIPESTATUS[0]}}"\n')
     script.chmod(0o755)
     return script
 
 
 def recorded(room):
-    """What a recorder wrote, as a conversation: of each message whether the client sent it, and the message."""
-    return [(from_client, message) for from_client, name in ((True, "sent"), (False, "told")) for message in unframed((room / name).read_bytes())]
+    """What a recorder wrote, as a conversation, run by run: of each message whether the client sent it, and the message."""
+    return [
+        (from_client, message)
+        for sent in sorted(room.glob("sent.*"), key=lambda path: path.stat().st_mtime_ns)
+        for from_client, path in ((True, sent), (False, sent.with_name(f"told{sent.suffix}")))
+        for message in unframed(path.read_bytes())
+    ]
 
 
 class Client:
