@@ -2,6 +2,7 @@ pub mod RunLaws
 pub mod PointLaws
 pub mod PaceLaws
 pub mod PartLaws
+pub mod PlaceLaws
 pub mod ReuseLaws
 pub mod ReadyLaws
 pub mod NearLaws

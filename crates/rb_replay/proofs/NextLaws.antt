@@ -1,5 +1,5 @@
 -- Laws of where a point stands among ascending points.
-use Rattle.std.proofs.Common.{◌≡◌, ℕ, zero, suc, ◌+◌, ◌<◌, ◌≤◌, List, [], ◌∷◌, length, arith, get_or, inl, inr}
+use Rattle.std.proofs.Common.{◌≡◌, ℕ, zero, suc, ◌+◌, ◌<◌, ◌≤◌, List, [], ◌∷◌, length, arith, sym, get_or, inl, inr}
 use Rattle.std.specs.Prelude.{Contains}
 use Rattle.std.proofs.lemmas.Bool.{cases_lt}
 use Rattle.std.proofs.lemmas.List.{get_or_default}
@@ -18,6 +18,14 @@ rising-later a zero zero (p ∷ ps) rising lt within = absurd (omega arith)
 rising-later a zero (suc k) (p ∷ ps) rising lt within = let t : p + 1 ≤ get_or ps k 0 = rising-first (p + 1) k ps rising.1 (omega arith) in omega arith
 rising-later a (suc i) zero (p ∷ ps) rising lt within = absurd (omega arith)
 rising-later a (suc i) (suc k) (p ∷ ps) rising lt within = rising-later (p + 1) i k ps rising.1 (omega arith) (omega arith)
+
+-- where one is below a bound, so are all up to it
+pub below-up-to : (bound i k : ℕ) (ps : List ℕ) → IsRising 0 ps → k ≤ i → i < length ps → get_or ps i 0 < bound → get_or ps k 0 < bound
+below-up-to bound i k ps rising le within low =
+    elim (cases_lt k i) as (λ _. get_or ps k 0 < bound) [
+      | inl lt ↦ let less : get_or ps k 0 < get_or ps i 0 = rising-later 0 k i ps rising lt within in omega arith
+      | inr ge ↦ let same : i ≡ k = omega arith in rw (sym same) low
+    ]
 
 -- the point stands at the index, and the next one after it
 pub next-on : (ps : List ℕ) (p i : ℕ) → IsRising 0 ps → IsNext ps p i → i < length ps → get_or ps i 0 ≡ p → IsNext ps (p + 1) (i + 1)

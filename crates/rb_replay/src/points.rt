@@ -16,12 +16,17 @@ pub(crate) fn count_below(points: &[usize], bound: usize) -> usize
     ensures front { take result points.now ≡ filter (λ p. nat_lt p bound) points.now }
     ensures rest { drop result points.now ≡ filter (λ p. nat_le bound p) points.now }
 {
-    for (i, p) in points.iter().enumerate() {
-        if *p >= bound {
-            return i;
+    let mut low = 0;
+    let mut high = points.len();
+    while low < high {
+        let middle = low + (high - low) / 2;
+        if points[middle] < bound {
+            low = middle + 1;
+        } else {
+            high = middle;
         }
     }
-    points.len()
+    low
 }
 
 /// Where the greatest point that is at most `front` stands among the points.
@@ -59,28 +64,35 @@ fn put_in<T: Drop>(items: &mut Vec<T>, at: usize, fresh: &mut Vec<T>)
     items[at..].rotate_right(count);
 }
 
-/// Puts the fresh items in place of as many from `from` on.
-fn put_over<T: Drop>(items: &mut Vec<T>, from: usize, fresh: &mut Vec<T>)
-    requires within { from + vec_len fresh.old ≤ vec_len items.old }
-    ensures { items.new.items ≡ take from items.old.items ++ (fresh.old.items ++ drop (from + vec_len fresh.old) items.old.items) }
+/// So many items from `from` on and the first of the fresh ones change places.
+fn exchange<T: Drop>(items: &mut Vec<T>, from: usize, count: usize, fresh: &mut Vec<T>)
+    requires within { from + count ≤ vec_len items.old }
+    requires few { count ≤ vec_len fresh.old }
+    ensures items { items.new.items ≡ take from items.old.items ++ (take count fresh.old.items ++ drop (from + count) items.old.items) }
+    ensures fresh { drop count fresh.new.items ≡ drop count fresh.old.items }
+    ensures len { vec_len items.new ≡ vec_len items.old }
+    ensures fresh_len { vec_len fresh.new ≡ vec_len fresh.old }
+    ensures room { vec_capacity items.new ≡ vec_capacity items.old }
 {
-    items[from..from + fresh.len()].swap_with_slice(fresh.as_mut_slice());
+    items[from..from + count].swap_with_slice(&mut fresh[0..count]);
 }
 
-/// Puts the fresh items in place of those from `from` to `to`. It takes no memory: what follows them is never set aside. Where as
-/// many come as go it stays where it is, and else it is turned past those that go, and then past those that come.
+/// Puts the fresh items in place of those from `from` to `to`. It takes no memory: what follows them is never set aside. As many as
+/// both have change places, so that what follows is moved once, past those that are left over, and stays where it is where none are.
 pub(crate) fn put_between<T: Drop>(items: &mut Vec<T>, from: usize, to: usize, fresh: &mut Vec<T>)
     requires order { from ≤ to }
     requires within { to ≤ vec_len items.old }
     requires room { vec_len items.old + vec_len fresh.old ≤ vec_capacity items.old }
     ensures { items.new.items ≡ take from items.old.items ++ (fresh.old.items ++ drop to items.old.items) }
 {
-    if fresh.len() == to - from {
-        put_over(items, from, fresh);
-        return;
+    let count = fresh.len().min(to - from);
+    exchange(items, from, count, fresh);
+    if from + count < to {
+        cut_out(items, from + count, to);
+    } else {
+        cut_out(fresh, 0, count);
+        put_in(items, to, fresh);
     }
-    cut_out(items, from, to);
-    put_in(items, from, fresh);
 }
 
 /// Thins the points, and drops what is kept at those that go.

@@ -12,7 +12,6 @@ use Rattle.std.proofs.lemmas.Bool.Decides.{nat_tests}
 use Rattle.rb_script.specs.declared.span.Span.{Span}
 use Rattle.rb_script.specs.declared.limits.TheConstants.{MAX_VALUES}
 use Rattle.rb_script.specs.declared.argument.Argument.{Argument}
-use Rattle.rb_script.specs.declared.block.Front.{Front}
 use Rattle.rb_script.specs.declared.fault.ScriptFault.TheVariants as faults
 use Rattle.rb_script.specs.declared.tokens.HeadFault.{HeadFault}
 use Rattle.rb_script.specs.declared.tokens.HeadFault.TheVariants as head_faults
@@ -21,36 +20,20 @@ use Rattle.rb_script.specs.ByteClasses.{is_piece}
 use Rattle.rb_script.specs.Lines.{Line}
 use Rattle.rb_script.specs.Marks.{is_space, is_blank}
 use Rattle.rb_script.specs.Joined.{while_of, after_while}
-use Rattle.rb_script.specs.Tokens.{SpannedDirective, token, argument_of, plain, line_at, IsPart}
+use Rattle.rb_script.specs.Tokens.{token, argument_of, line_at, IsPart}
 use Rattle.rb_script.specs.Parsed.{spanned, AreParts, KeepsValues, with_one, ParsesValues, ParsesArgument, ParsesArguments, ParsesHead}
-use Rattle.rb_script.specs.Told.{IsSpanned}
-use Rattle.rb_script.specs.Heads.{with_inputs, directive_of, head_at, begins_space, ValuesThere, ArgumentThere, list_at, values_at, with_key, behind_key, argument_at, ArgumentsThere, before, then_arguments, arguments_at, HeadThere, named, word_head, few_or}
-use Rattle.rb_script.specs.Fronts.{block_of_front, HasTokens}
+use Rattle.rb_script.specs.Heads.{head_at, begins_space, ValuesThere, ArgumentThere, list_at, values_at, with_key, behind_key, argument_at, ArgumentsThere, before, then_arguments, arguments_at, HeadThere, named, word_head, few_or}
 use Rattle.rb_script.proofs.TokenLaws.{begins_by, run_parts, run_all, after_stops, while_one, after_one, while_over, after_over, all_wider, some_run, after_len, after_shorter, begins_at, begins_nowhere, front_cons}
 
 -- parts, told of the arguments or of their places
-parts_map : (head : List Line) (args : List Argument) → AllByRecursion (λ a. AreParts head (spanned a)) args → AllByRecursion (AreParts head) (map spanned args)
+pub parts_map : (head : List Line) (args : List Argument) → AllByRecursion (λ a. AreParts head (spanned a)) args → AllByRecursion (AreParts head) (map spanned args)
 parts_map head [] parts = tt
 parts_map head (a ∷ args) parts = (parts.0, parts_map head args parts.1)
 
 -- the arguments, told by way of their places or not
-plain_map : (head : List Line) (args : List Argument) → map (argument_of head) (map spanned args) ≡ map (λ a. argument_of head (spanned a)) args
+pub plain_map : (head : List Line) (args : List Argument) → map (argument_of head) (map spanned args) ≡ map (λ a. argument_of head (spanned a)) args
 plain_map head [] = refl
 plain_map head (a ∷ args) = ap (λ l. argument_of head (spanned a) ∷ l) (plain_map head args)
-
--- what stands above an expectation, as a directive with the places of its tokens
-abbrev pub spanned_front : Front → SpannedDirective
-spanned_front f = record { head = f.head; name = f.name; args = map spanned f.args.items; inputs = f.input }
-
--- its tokens are parts
-pub front_is_spanned : (f : Front) → HasTokens f → IsSpanned (spanned_front f)
-front_is_spanned f tokens = record { name = tokens.parts.0; args = parts_map f.head f.args.items tokens.parts.1 }
-
--- it is what the grammar says of the head
-pub front_plain : (f : Front) (expected : List Line) → HasTokens f → plain (spanned_front f) ≡ directive_of (block_of_front f expected)
-unfolding directive_of
-front_plain f expected tokens =
-    ap (λ args. with_inputs f.input (Some (token f.head f.name, args))) (plain_map f.head f.args.items) ∙ ap (with_inputs f.input) (sym tokens.texts_are)
 
 -- ---- the kinds within parentheses
 

@@ -25,7 +25,7 @@ use Rattle.rb_script.proofs.ExpectationLaws.{expectation_sound, expectation_comp
 -- ---- directives
 
 -- a head that was taken is there, and its arguments are few enough
-few_is : (n : ℕ) (there : HeadThere) (x : List ℕ × List PlainArgument) → few_or n there ≡ Ok x → (there ≡ Some x) × (are_few x.1 ≡ true)
+pub few_is : (n : ℕ) (there : HeadThere) (x : List ℕ × List PlainArgument) → few_or n there ≡ Ok x → (there ≡ Some x) × (are_few x.1 ≡ true)
 few_is n None x e = absurd cc
 few_is n (Some y) x e =
     elim (cases_Bool (are_few y.1)) [

@@ -1,10 +1,10 @@
 -- Lines in one buffer.
-use Rattle.std.proofs.Common.{◌≡◌, ℕ, ◌+◌, ◌-◌, ◌≤◌, ◌<◌, List, [], ◌∷◌, ◌++◌, length, take, drop, get_or, refl, ap, sym, subst, ◌∙◌, append_assoc, zero, suc, length-append, arith}
+use Rattle.std.proofs.Common.{◌≡◌, ℕ, ◌+◌, ◌-◌, ◌≤◌, ◌<◌, List, [], ◌∷◌, ◌++◌, length, take, drop, map, get_or, refl, ap, sym, subst, ◌∙◌, append_assoc, zero, suc, length-append, arith}
 use Rattle.std.specs.Prelude.{slice_get, Option, Some, Result, Ok, Err, OnOk, OnErr}
 use Rattle.std.proofs.lemmas.List.{append-nil, take-append-drop}
 use Rattle.std.proofs.lemmas.List.Concat.{flat_map-append}
 use Rattle.rb_script.specs.Lines.{Line, line_text, text_of}
-use Rattle.rb_script.specs.Flat.{ends_of, parted, line_start, between, IsFlat}
+use Rattle.rb_script.specs.Flat.{ends_of, from_start, parted, line_start, between, IsFlat}
 use Rattle.rb_script.proofs.BetweenLaws.{take_between}
 
 take_front : (a b : List ℕ) → take (length a) (a ++ b) ≡ a
@@ -83,6 +83,11 @@ flat_pushed (Err x) ends text ends' text' line flat t e h = subst (λ (l : List 
 pub parted_pushed : {X E : Type 0} (r : Result X E) (ends text ends' text' : List ℕ) (line : Line) → IsFlat ends text → OnOk r (text' ≡ text ++ line_text line) → OnOk r (ends' ≡ ends ++ length text' ∷ []) → OnOk r (parted 0 ends' text' ≡ parted 0 ends text ++ line ∷ [])
 parted_pushed (Ok x) ends text ends' text' line flat t e = (flat_push ends text ends' text' line flat t e).1
 parted_pushed (Err x) ends text ends' text' line flat t e = tt
+
+-- a line more, as a call answered that else left none
+pub flat_written : {X E : Type 0} (r : Result X E) (ends text ends' text' : List ℕ) (line : Line) → IsFlat ends text → OnOk r (text' ≡ text ++ line_text line) → OnOk r (ends' ≡ ends ++ length text' ∷ []) → OnErr r ((text' ≡ []) × (ends' ≡ [])) → IsFlat ends' text'
+flat_written (Ok x) ends text ends' text' line flat t e h = (flat_push ends text ends' text' line flat t e).0
+flat_written (Err x) ends text ends' text' line flat t e h = (flat_nil ends' text' h.1 h.0).0
 
 -- ---- a line
 
@@ -183,3 +188,51 @@ slice_is found end start first text line there e at =
 
 pub part_is : (start end first last : ℕ) (text part : List ℕ) → start ≡ first → end ≡ last → TextBetween first last text part → TextBetween start end text part
 part_is start end first last text part e f at = subst (λ (n : ℕ). TextBetween n end text part) (sym e) (subst (λ (n : ℕ). TextBetween first n text part) (sym f) at)
+
+-- ---- ends
+
+drop_ends : (at : ℕ) (ls : List Line) (k : ℕ) → drop k (ends_of at ls) ≡ ends_of (line_start at (ends_of at ls) k) (drop k ls)
+unfolding ends_of
+drop_ends at ls zero = refl
+drop_ends at [] (suc k) = refl
+drop_ends at (line ∷ ls) (suc k) =
+    let n = at + length line + 1 in
+    drop_ends n ls k ∙ ap (λ (s : ℕ). ends_of s (drop k ls)) (sym (start_next n (ends_of n ls) k))
+
+take_ends : (at : ℕ) (ls : List Line) (k : ℕ) → take k (ends_of at ls) ≡ ends_of at (take k ls)
+unfolding ends_of
+take_ends at ls zero = refl
+take_ends at [] (suc k) = refl
+take_ends at (line ∷ ls) (suc k) = ap (λ (l : List ℕ). (at + length line + 1) ∷ l) (take_ends (at + length line + 1) ls k)
+
+-- where some lines end
+pub ends_between : (ends text : List ℕ) (from to : ℕ) → IsFlat ends text → take (to - from) (drop from ends) ≡ ends_of (line_start 0 ends from) (between from to (parted 0 ends text))
+ends_between ends text from to flat =
+    let ls = parted 0 ends text in
+    ap (λ (e : List ℕ). take (to - from) (drop from e)) flat.ends_are ∙ ap (take (to - from)) (drop_ends 0 ls from)
+    ∙ take_ends (line_start 0 (ends_of 0 ls) from) (drop from ls) (to - from)
+    ∙ sym (ap (λ (e : List ℕ). ends_of (line_start 0 e from) (between from to ls)) flat.ends_are)
+
+ends_moved : (at by : ℕ) (ls : List Line) → from_start at (ends_of (at + by) ls) ≡ ends_of by ls
+unfolding ends_of
+ends_moved at by [] = refl
+ends_moved at by (line ∷ ls) =
+    let n = by + length line + 1 in
+    let first : (at + by + length line + 1) - at ≡ n = omega arith in
+    let next : at + by + length line + 1 ≡ at + n = omega arith in
+    ap (λ (e : ℕ). e ∷ from_start at (ends_of (at + by + length line + 1) ls)) first
+    ∙ ap (λ (l : List ℕ). n ∷ l) (ap (λ (e : ℕ). from_start at (ends_of e ls)) next ∙ ends_moved at n ls)
+
+ends_counted : (at : ℕ) (ls : List Line) → from_start at (ends_of at ls) ≡ ends_of 0 ls
+ends_counted at ls =
+    let same : at ≡ at + 0 = omega arith in
+    ap (λ (n : ℕ). from_start at (ends_of n ls)) same ∙ ends_moved at 0 ls
+
+-- lines are told by their text, and by how long they are
+pub told_by_ends : (ls ms : List Line) (at bt : ℕ) (ends others : List ℕ) → ends ≡ ends_of at ls → others ≡ ends_of bt ms → from_start at ends ≡ from_start bt others → text_of ls ≡ text_of ms → ls ≡ ms
+told_by_ends ls ms at bt ends others e f alike text =
+    let same : ends_of 0 ls ≡ ends_of 0 ms = sym (ap (from_start at) e ∙ ends_counted at ls) ∙ alike ∙ ap (from_start bt) f ∙ ends_counted bt ms in
+    sym (parted_whole ls) ∙ ap (λ (l : List ℕ). parted 0 l (text_of ls)) same ∙ ap (parted 0 (ends_of 0 ms)) text ∙ parted_whole ms
+
+pub ends_alike : (ls ms : List Line) (at bt : ℕ) (ends others : List ℕ) → ends ≡ ends_of at ls → others ≡ ends_of bt ms → ls ≡ ms → from_start at ends ≡ from_start bt others
+ends_alike ls ms at bt ends others e f same = ap (from_start at) e ∙ ends_counted at ls ∙ ap (ends_of 0) same ∙ sym (ap (from_start bt) f ∙ ends_counted bt ms)

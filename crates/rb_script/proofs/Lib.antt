@@ -2,6 +2,7 @@ pub mod BetweenLaws
 pub mod FlatLaws
 pub mod WholeLaws
 pub mod LineLaws
+pub mod PlaceLaws
 pub mod DirectiveLaws
 pub mod MarkLaws
 pub mod ReadingLaws
@@ -15,6 +16,7 @@ pub mod RunLaws
 pub mod ExpectationLaws
 pub mod BlockLaws
 pub mod BlocksLaws
+pub mod FrontLaws
 pub mod ScriptLaws
 pub mod TextLaws
 pub mod ValidLaws
@@ -23,6 +25,7 @@ pub mod HeadLineLaws
 pub mod WriteLaws
 pub mod LengthLaws
 pub mod SharedLaws
+pub mod GroupLaws
 pub mod EditedLaws
 pub mod LinePartLaws
 pub mod EndLaws

@@ -1,12 +1,12 @@
 -- Edits of lists of blocks.
 use Rattle.std.proofs.Common.{◌≡◌, ℕ, ◌+◌, ◌-◌, ◌≤◌, ◌<◌, Bool, true, false, cond, not, ◌&&◌, List, [], ◌∷◌, ◌++◌, length, take, drop, get_or, Some, zero, suc, refl, ap, sym, subst, ◌∙◌, inl, inr, append_assoc, append-nil, arith}
 use Rattle.std.specs.Prelude.{◌==◌, nat_le, slice_get}
-use Rattle.std.proofs.lemmas.Option.{slice_get_within, same_Some}
+use Rattle.std.proofs.lemmas.Option.{slice_get_within, get_or_from_slice_get, same_Some}
 use Rattle.std.specs.declared.rc.Rc.{Rc}
 use Rattle.std.specs.declared.alloc.Global.{Global}
 use Rattle.std.specs.List.{list_all, AllByRecursion}
 use Rattle.std.proofs.lemmas.Bool.{cases_Bool, and_parts, and_from, not-true, leb-true, le-leb}
-use Rattle.std.proofs.lemmas.List.{take-append-drop, drop_all, drop_more, take_more, take_all, take_rest, take-map, drop-map, map-append, length-map}
+use Rattle.std.proofs.lemmas.List.{take-append-drop, drop_all, drop_more, take_more, take_all, map-append, length-map}
 use Rattle.std.proofs.Math.ListN.{get_or-map}
 use Rattle.rb_script.specs.declared.limits.TheConstants.{MAX_LINE}
 use Rattle.rb_script.specs.Lines.{Line, put_before, without_returns}
@@ -162,45 +162,40 @@ shared_all {T} ps i old now le so_far = so_far ∙ ap (λ (l : List T). old ++ l
 pub values_none : {T : Type 0} (ps : List (Rc T Global)) (i : ℕ) → length ps ≤ i → drop i (values ps) ≡ []
 values_none ps i le = drop_all i (values ps) (subst (λ (n : ℕ). n ≤ i) (sym (values-length ps)) le)
 
--- shared up to a place, then new, then shared from a place on
-pub shared_part : {T : Type 0} (ps : List (Rc T Global)) (from to : ℕ) (new first second third last : List T) → first ≡ [] → second ≡ first ++ values (take from ps) → third ≡ second ++ new → last ≡ third ++ values (take (length ps - to) (drop to ps))
-    → last ≡ take from (values ps) ++ (new ++ drop to (values ps))
-shared_part {T} ps from to new first second third last e1 e2 e3 e4 =
-    let f : Rc T Global → T = λ p. p.value in
-    let front : second ≡ take from (values ps) = e2 ∙ ap (λ (l : List T). l ++ values (take from ps)) e1 ∙ sym (take-map f from ps) in
-    let back : values (take (length ps - to) (drop to ps)) ≡ drop to (values ps) = ap values (take_rest ps to) ∙ sym (drop-map f to ps) in
-    e4 ∙ ap (λ (l : List T). third ++ l) back ∙ ap (λ (l : List T). l ++ drop to (values ps)) (e3 ∙ ap (λ (l : List T). l ++ new) front) ∙ append_assoc (take from (values ps)) new (drop to (values ps))
-
 -- one more pointer, to this value
 pub pushed : {T : Type 0} (into next : List (Rc T Global)) (p : Rc T Global) (v : T) → next ≡ into ++ p ∷ [] → p.value ≡ v → values next ≡ values into ++ v ∷ []
 pushed {T} into next p v e is = ap values e ∙ map-append (λ (q : Rc T Global). q.value) into (p ∷ []) ∙ ap (λ (x : T). values into ++ x ∷ []) is
 
+-- what stands at a place, and those after it
+pub drop_there : {X : Type 0} (xs : List X) (i : ℕ) (x : X) → slice_get xs i ≡ Some x → drop i xs ≡ x ∷ drop (i + 1) xs
+drop_there {X} xs i x found = drop_more xs i x (slice_get_within xs i x found) ∙ ap (λ (y : X). y ∷ drop (i + 1) xs) (get_or_from_slice_get xs i x x found)
+
 -- ---- each block with its output
 
-module _ (ps : List (Rc PlainBlock Global)) (outputs : List (List Line)) (i : ℕ) (p : Rc PlainBlock Global) (output : List Line) (lt : i < length ps) (p_is : p ≡ get_or ps i p) (some : i < length outputs) (output_is : output ≡ get_or outputs i output) where
+module _ (bs : List PlainBlock) (outputs : List (List Line)) (i : ℕ) (b : PlainBlock) (output : List Line) (found : slice_get bs i ≡ Some b) (some : i < length outputs) (output_is : output ≡ get_or outputs i output) where
   -- the block at a place with its output, and those after it
-  pub expecting_split : all_expecting (drop i (values ps)) (drop i outputs) ≡ expecting p.value output ∷ all_expecting (drop (i + 1) (values ps)) (drop (i + 1) outputs)
+  pub expecting_split : all_expecting (drop i bs) (drop i outputs) ≡ expecting b output ∷ all_expecting (drop (i + 1) bs) (drop (i + 1) outputs)
   unfolding all_expecting
   expecting_split =
-      ap (λ (l : List PlainBlock). all_expecting l (drop i outputs)) (values_split ps i p lt p_is)
-      ∙ ap (all_expecting (p.value ∷ drop (i + 1) (values ps))) (drop_more outputs i output some ∙ ap (λ (o : List Line). o ∷ drop (i + 1) outputs) (sym output_is))
+      ap (λ (l : List PlainBlock). all_expecting l (drop i outputs)) (drop_there bs i b found)
+      ∙ ap (all_expecting (b ∷ drop (i + 1) bs)) (drop_more outputs i output some ∙ ap (λ (o : List Line). o ∷ drop (i + 1) outputs) (sym output_is))
 
   -- one more block with its output was made
-  pub expecting_more : (all : List PlainBlock) (made next : List (Rc PlainBlock Global)) (r : Rc PlainBlock Global) → next ≡ made ++ r ∷ [] → r.value ≡ expecting p.value output
-      → values made ++ all_expecting (drop i (values ps)) (drop i outputs) ≡ all → values next ++ all_expecting (drop (i + 1) (values ps)) (drop (i + 1) outputs) ≡ all
+  pub expecting_more : (all : List PlainBlock) (made next : List (Rc PlainBlock Global)) (r : Rc PlainBlock Global) → next ≡ made ++ r ∷ [] → r.value ≡ expecting b output
+      → values made ++ all_expecting (drop i bs) (drop i outputs) ≡ all → values next ++ all_expecting (drop (i + 1) bs) (drop (i + 1) outputs) ≡ all
   expecting_more all made next r e same so_far =
-      let rest = all_expecting (drop (i + 1) (values ps)) (drop (i + 1) outputs) in
+      let rest = all_expecting (drop (i + 1) bs) (drop (i + 1) outputs) in
       ap (λ (l : List (Rc PlainBlock Global)). values l ++ rest) e ∙ ap (λ (l : List PlainBlock). l ++ rest) (map-append (λ (q : Rc PlainBlock Global). q.value) made (r ∷ [])) ∙ append_assoc (values made) (r.value ∷ []) rest
       ∙ ap (λ (v : PlainBlock). values made ++ v ∷ rest) same ∙ ap (λ (l : List PlainBlock). values made ++ l) (sym expecting_split) ∙ so_far
 
 -- no block is left
-pub expecting_none : (ps : List (Rc PlainBlock Global)) (outputs : List (List Line)) (i : ℕ) → length ps ≤ i → all_expecting (drop i (values ps)) outputs ≡ []
+pub expecting_none : (bs : List PlainBlock) (outputs : List (List Line)) (i : ℕ) → length bs ≤ i → all_expecting (drop i bs) outputs ≡ []
 unfolding all_expecting
-expecting_none ps outputs i le = ap (λ (l : List PlainBlock). all_expecting l outputs) (values_none ps i le)
+expecting_none bs outputs i le = ap (λ (l : List PlainBlock). all_expecting l outputs) (drop_all i bs le)
 
 -- all are made
-pub expecting_all : (ps : List (Rc PlainBlock Global)) (outputs : List (List Line)) (i : ℕ) (made all : List PlainBlock) → length ps ≤ i → made ++ all_expecting (drop i (values ps)) (drop i outputs) ≡ all → made ≡ all
-expecting_all ps outputs i made all le so_far = sym (append-nil made) ∙ ap (λ (l : List PlainBlock). made ++ l) (sym (expecting_none ps (drop i outputs) i le)) ∙ so_far
+pub expecting_all : (bs : List PlainBlock) (outputs : List (List Line)) (i : ℕ) (made all : List PlainBlock) → length bs ≤ i → made ++ all_expecting (drop i bs) (drop i outputs) ≡ all → made ≡ all
+expecting_all bs outputs i made all le so_far = sym (append-nil made) ∙ ap (λ (l : List PlainBlock). made ++ l) (sym (expecting_none bs (drop i outputs) i le)) ∙ so_far
 
 -- as many blocks as before
 pub outputs_count : (bs : List PlainBlock) (outputs : List (List Line)) → length outputs ≡ length bs → length (all_expecting bs outputs) ≡ length bs

@@ -3,7 +3,7 @@ use Rattle.std.proofs.Common.{◌≡◌, ℕ, ◌+◌, ◌-◌, ◌≤◌, ◌<�
 use Rattle.std.specs.Prelude.{IfSome, slice_index}
 use Rattle.std.specs.List.{AllByRecursion}
 use Rattle.std.proofs.lemmas.Bool.{le-ltb}
-use Rattle.std.proofs.lemmas.List.{take_rest, get_or-take, length-take}
+use Rattle.std.proofs.lemmas.List.{take_rest, get_or-take, length-take, length-map}
 use Rattle.memchr.specs.Find.{IsLastByte, is_byte}
 use Rattle.rb_script.specs.declared.limits.TheConstants.{MAX_LINE}
 use Rattle.rb_script.specs.Lines.{Line, put_before, without_returns, in_first, cut, lines}
@@ -88,3 +88,23 @@ none_long n (line ∷ ls) h =
 pub short_lines : (bytes : List ℕ) (n : ℕ) → AreShort bytes → long_line n (lines bytes) ≡ None
 unfolding lines
 short_lines bytes n h = none_long n (cut bytes) h
+
+-- ---- no more lines than bytes
+
+in_first_few : (b : ℕ) (ls : List Line) → length (in_first b ls) ≤ suc (length ls)
+in_first_few b [] = omega arith
+in_first_few b (line ∷ ls) = omega arith
+
+cut_few : (bytes : List ℕ) → length (cut bytes) ≤ length bytes
+unfolding cut
+cut_few [] = omega arith
+cut_few (b ∷ bytes) =
+    let rest = cut_few bytes in
+    elim (eqb b 10) as (λ t. length (cond t ([] ∷ cut bytes) (in_first b (cut bytes))) ≤ suc (length bytes)) [
+      | true ↦ omega (arith, rest)
+      | false ↦ omega (arith, rest, in_first_few b (cut bytes))
+    ]
+
+pub lines_few : (bytes : List ℕ) → length (lines bytes) ≤ length bytes
+unfolding lines
+lines_few bytes = omega (arith, length-map (cut bytes) without_returns, cut_few bytes)

@@ -1,16 +1,24 @@
 -- The bytes of a joined head, and runs of bytes of a class.
-use Rattle.std.proofs.Common.{◌≡◌, ℕ, ◌+◌, ◌-◌, ◌≤◌, ◌<◌, Bool, true, false, cond, ◌&&◌, List, [], ◌∷◌, ◌++◌, length, take, drop, get_or, refl, ap, sym, ◌∙◌, append_assoc, arith}
+use Rattle.std.proofs.Common.{◌≡◌, ℕ, ◌+◌, ◌-◌, ◌≤◌, ◌<◌, Bool, true, false, cond, ◌&&◌, List, [], ◌∷◌, ◌++◌, length, take, drop, get_or, zero, suc, refl, ap, sym, ◌∙◌, append_assoc, arith}
 use Rattle.std.specs.Prelude.{slice_get, Some, None}
-use Rattle.std.specs.List.{list_all}
+use Rattle.std.specs.List.{list_all, AllByRecursion}
 use Rattle.std.proofs.lemmas.List.{append-nil, take_more, drop_more, take_all, drop_all, take_rest, drop-drop, take_at, take-append-drop, take-take, drop-take, length-drop, length-take, length-append}
 use Rattle.std.proofs.lemmas.Option.{get_or_from_slice_get}
 use Rattle.std.proofs.lemmas.Bool.{and_parts, and_from, both_ways, false_from_ne_true}
+use Rattle.rb_script.specs.declared.limits.TheConstants.{MAX_LINE}
 use Rattle.rb_script.specs.Lines.{Line}
+use Rattle.rb_script.specs.Valid.{IsLine}
 use Rattle.rb_script.specs.Marks.{is_space, is_blank, continues}
 use Rattle.rb_script.specs.Joined.{body, while_of, after_while, behind_piece, joined}
 use Rattle.rb_script.specs.Tokens.{line_at}
 use Rattle.rb_script.specs.Directive.{is_some_piece}
 use Rattle.rb_script.proofs.ReadingLaws.{drop_found}
+
+-- no line of a head is long
+pub line_short : (head : List Line) (n : ℕ) → AllByRecursion IsLine head → length (line_at head n) ≤ MAX_LINE
+line_short [] n h = omega arith
+line_short (line ∷ head) zero h = h.0.short
+line_short (line ∷ head) (suc n) h = line_short head n h.1
 
 module _ (p : ℕ → Bool) (bytes : List ℕ) (i : ℕ) (lt : i < length bytes) where
   -- one byte more of the run

@@ -24,6 +24,7 @@ pub mod Found
 pub mod Parsed
 pub mod Fronts
 pub mod Told
+pub mod Groups
 pub mod Shared
 pub mod Edits
 pub mod LineParts

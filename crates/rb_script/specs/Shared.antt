@@ -2,8 +2,7 @@
 use Rattle.std.specs.Prelude.{◌≡◌, ℕ, List, length, map}
 use Rattle.std.specs.declared.rc.Rc.{Rc}
 use Rattle.std.specs.declared.alloc.Global.{Global}
-use Rattle.rb_script.specs.Lines.{Line}
-use Rattle.rb_script.specs.Script.{PlainBlock, PlainScript, text}
+use Rattle.rb_script.specs.Script.{PlainScript, text}
 use Rattle.rb_script.specs.Valid.{IsScript}
 use Rattle.rb_script.specs.declared.reading.Parts.{Parts}
 
@@ -11,12 +10,9 @@ use Rattle.rb_script.specs.declared.reading.Parts.{Parts}
 abbrev pub values : {T : Type 0} → List (Rc T Global) → List T
 values pointers = map (λ p. p.value) pointers
 
-abbrev pub script_of : List (Rc PlainBlock Global) → List Line → PlainScript
-script_of blocks tail = record { blocks = values blocks; tail = tail }
-
 pub record IsKeptScript (s : PlainScript) (text_len : ℕ) : Type 0 where
   pub script : IsScript s
   pub len : text_len ≡ length (text s)
 
 abbrev pub parts_view : Parts → PlainScript
-parts_view p = script_of p.blocks.items p.tail
+parts_view p = record { blocks = values p.blocks.items; tail = p.tail }

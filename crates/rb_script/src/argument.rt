@@ -1,15 +1,25 @@
 //! An argument of a directive.
 
 use crate::span::Span;
-use std::alloc::Global;
+use std::alloc::{AllocError, Global};
 use std::default::MadeWith;
 
 /// Where the key and the values of an argument stand.
-#[derive(Drop)]
 pub(crate) struct Argument {
     pub(crate) key: Span,
     pub(crate) has_equals: bool,
     pub(crate) values: Vec<Span>,
+}
+
+// Written out, so that giving one back is a call wherever it is owned, and is proved here alone.
+impl Drop for Argument {
+    fn drop(self) {
+        let Argument {
+            key: _,
+            has_equals: _,
+            values: _,
+        } = self;
+    }
 }
 
 // What a short list of arguments holds where it has none.
@@ -24,5 +34,21 @@ impl MadeWith<Global> for Argument {
             has_equals: false,
             values: Vec::new(alloc),
         }
+    }
+}
+
+impl Argument {
+    ghost use Rattle.std.specs.Prelude.{◌≡◌, IfOk};
+    ghost use Rattle.rb_script.specs.Parsed.{spanned};
+
+    /// The same, in memory of its own.
+    pub(crate) fn try_copy(&self, alloc: Global) -> Result<Argument, AllocError>
+        ensures { IfOk result (λ copy. spanned copy ≡ spanned self.now) }
+    {
+        Ok(Argument {
+            key: self.key,
+            has_equals: self.has_equals,
+            values: Vec::from_slice(alloc, self.values.as_slice())?,
+        })
     }
 }

@@ -1,39 +1,32 @@
 //! A block of a script.
 
-use crate::argument::Argument;
 use crate::directive::DirectiveRef;
+use crate::expected::Expected;
 use crate::fault::ScriptFault;
-use crate::line_part::LinePart;
+use crate::front::Front;
 use crate::lines::Lines;
-use crate::marks::RULE_LINE;
 use crate::reading;
-use crate::span::Span;
 use crate::writing::shown_len;
-use smallvec::SmallVec;
 use std::alloc::{AllocError, Global};
 use std::marker::Model;
-use std::rc::Rc;
-
-/// How long a separator and the empty line after an expectation are.
-const AROUND_LEN: usize = RULE_LINE.len() + 1;
-
-/// What stands above an expectation. The copies of a block share it.
-#[derive(Drop)]
-pub(crate) struct Front {
-    pub(crate) lead: LinePart,
-    pub(crate) head: LinePart,
-    pub(crate) input: LinePart,
-    pub(crate) name: Span,
-    pub(crate) args: SmallVec<Argument, 1>,
-}
 
 /// A directive with its expectation, as lines: lead lines, the head, input lines and the expected lines.
-#[derive(Drop)]
 pub struct Block {
-    front: Rc<Front>,
+    front: Front,
     expected: Lines,
     // the length of the canonical text
     text_len: usize,
+}
+
+// Written out, so that giving one back is a call wherever it is owned, and is proved here alone.
+impl Drop for Block {
+    fn drop(self) {
+        let Block {
+            front: _,
+            expected: _,
+            text_len: _,
+        } = self;
+    }
 }
 
 impl Model for Block {
@@ -43,9 +36,9 @@ impl Model for Block {
 
     ghost use Rattle.rb_script.specs.Fronts.{block_of_front, IsKeptBlock};
 
-    ghost view = { λ b. block_of_front b.front.value b.expected };
+    ghost view = { λ b. block_of_front b.front b.expected };
 
-    ghost invariant = { λ b. IsKeptBlock b.front.value b.expected b.text_len };
+    ghost invariant = { λ b. IsKeptBlock b.front b.expected b.text_len };
 }
 
 impl Block {
@@ -77,15 +70,15 @@ impl Block {
     }
 
     // The block of what stands above its expectation, and that.
-    pub(crate) fn new(front: Rc<Front>, expected: Lines) -> Block
-        requires block { IsBlock (block_of_front front.value expected) }
-        requires tokens { HasTokens front.value }
-        ensures { result ≡ block_of_front front.value expected }
+    pub(crate) fn new(front: Front, expected: Expected) -> Block
+        requires block { IsBlock (block_of_front front expected) }
+        requires tokens { HasTokens front }
+        ensures { result ≡ block_of_front front expected }
     {
-        let text_len = front.text_len().saturating_add(shown_len(&expected));
+        let text_len = front.text_len().saturating_add(expected.shown_len());
         Block {
             front,
-            expected,
+            expected: expected.into_lines(),
             text_len,
         }
     }
@@ -96,8 +89,7 @@ impl Block {
         ensures whole { plain result ≡ directive_of self.now }
         ensures head { result.head ≡ self.now.head }
     {
-        let front: &Front = &self.front;
-        DirectiveRef::new(&front.head, front.name, front.args.as_slice(), &front.input)
+        DirectiveRef::new(&self.front)
     }
 
     /// The expected lines.
@@ -118,7 +110,7 @@ impl Block {
         ensures { IfOk result (λ copy. copy ≡ self.now) }
     {
         Ok(Block {
-            front: self.front.clone()?,
+            front: self.front.try_copy()?,
             expected: self.expected.try_copy()?,
             text_len: self.text_len,
         })
@@ -129,7 +121,8 @@ impl Block {
         requires { is_expectation lines.now ≡ true }
         ensures { IfOk result (λ b. b ≡ expecting self.now lines.now) }
     {
-        Ok(Block::new(self.front.clone()?, lines.try_copy()?))
+        let expected = Expected::new(lines.try_copy()?);
+        Ok(Block::new(self.front.try_copy()?, expected))
     }
 
     /// How long the canonical text is.
@@ -146,23 +139,5 @@ impl Block {
         ensures { result ≡ capped (length (block_text (expecting self.now lines.now))) }
     {
         self.front.text_len().saturating_add(shown_len(lines))
-    }
-}
-
-impl Front {
-    ghost use Rattle.std.specs.Prelude.{◌≡◌};
-    ghost use Rattle.rb_script.specs.Reading.{capped};
-    ghost use Rattle.rb_script.specs.Fronts.{front_len};
-
-    // How long the text is without the expectation.
-    fn text_len(&self) -> usize
-        ensures { result ≡ capped (front_len self.now) }
-    {
-        self.lead
-            .text()
-            .len()
-            .saturating_add(self.head.text().len())
-            .saturating_add(self.input.text().len())
-            .saturating_add(AROUND_LEN)
     }
 }

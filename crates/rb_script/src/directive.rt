@@ -1,7 +1,7 @@
 //! A directive, as it stands in a block.
 
 use crate::argument::Argument;
-use crate::line_part::LinePart;
+use crate::front::Front;
 use crate::span::Span;
 use std::marker::Model;
 
@@ -9,49 +9,36 @@ use std::marker::Model;
 /// of the head. Positions of arguments and values count from 0.
 #[derive(Drop)]
 pub struct DirectiveRef<'a> {
-    head: &'a LinePart,
-    name: Span,
-    args: &'a [Argument],
-    inputs: &'a LinePart,
+    front: &'a Front,
 }
 
 impl<'a> Model for DirectiveRef<'a> {
-    ghost use Rattle.std.specs.Prelude.{map};
     ghost use Rattle.rb_script.specs.Tokens.{SpannedDirective};
 
     ghost Value = { SpannedDirective };
 
-    ghost use Rattle.rb_script.specs.Parsed.{spanned};
+    ghost use Rattle.rb_script.specs.Fronts.{directive_of_front};
     ghost use Rattle.rb_script.specs.Told.{IsSpanned};
 
-    ghost view = { λ d. record { head = d.head.now; name = d.name; args = map spanned d.args.now; inputs = d.inputs.now } };
+    ghost view = { λ d. directive_of_front d.front.now };
 
-    ghost invariant = { λ d. IsSpanned (record { head = d.head.now; name = d.name; args = map spanned d.args.now; inputs = d.inputs.now }) };
+    ghost invariant = { λ d. IsSpanned (directive_of_front d.front.now) };
 }
 
 impl<'a> DirectiveRef<'a> {
-    ghost use Rattle.std.specs.Prelude.{◌≡◌, ◌<◌, ◌↔◌, IsTrue, Some, length, map, slice_get};
+    ghost use Rattle.std.specs.Prelude.{◌≡◌, ◌<◌, ◌↔◌, IsTrue, Some, length, slice_get};
     ghost use Rattle.rb_script.specs.Directive.{plain_argument, plain_value};
     ghost use Rattle.rb_script.specs.Tokens.{SpannedDirective, token, plain, argument_of, IsPart};
     ghost use Rattle.rb_script.specs.Told.{IsSpanned, argument_at, value_span};
     ghost use Rattle.rb_script.specs.Parsed.{spanned, AreParts};
+    ghost use Rattle.rb_script.specs.Fronts.{directive_of_front};
 
-    // The parts of a directive.
-    pub(crate) fn new(
-        head: &'a LinePart,
-        name: Span,
-        args: &'a [Argument],
-        inputs: &'a LinePart,
-    ) -> DirectiveRef<'a>
-        requires { IsSpanned (record { head = head.now; name = name; args = map spanned args.now; inputs = inputs.now }) }
-        ensures { result ≡ record { head = head.now; name = name; args = map spanned args.now; inputs = inputs.now } }
+    // The directive of what stands above an expectation.
+    pub(crate) fn new(front: &'a Front) -> DirectiveRef<'a>
+        requires { IsSpanned (directive_of_front front.now) }
+        ensures { result ≡ directive_of_front front.now }
     {
-        DirectiveRef {
-            head,
-            name,
-            args,
-            inputs,
-        }
+        DirectiveRef { front }
     }
 
     /// The name.
@@ -59,14 +46,14 @@ impl<'a> DirectiveRef<'a> {
         ensures name { result.now ≡ token self.now.head self.now.name }
         ensures part { IsPart self.now.head self.now.name }
     {
-        self.text(self.name)
+        self.text(self.front.name())
     }
 
     /// How many arguments there are.
     pub fn args(&self) -> usize
         ensures { result ≡ length (plain self.now).args }
     {
-        self.args.len()
+        self.front.arguments().len()
     }
 
     /// The key of argument `i`.
@@ -110,7 +97,7 @@ impl<'a> DirectiveRef<'a> {
     pub fn inputs(&self) -> usize
         ensures { result ≡ length self.now.inputs }
     {
-        self.inputs.len()
+        self.front.inputs()
     }
 
     /// Input line `i`.
@@ -118,7 +105,7 @@ impl<'a> DirectiveRef<'a> {
         requires { i < length self.now.inputs }
         ensures { slice_get self.now.inputs i ≡ Some result.now }
     {
-        self.inputs.line(i)
+        self.front.input_line(i)
     }
 
     // Where the tokens of argument `i` stand.
@@ -128,7 +115,7 @@ impl<'a> DirectiveRef<'a> {
         ensures plain { argument_of self.now.head (spanned result.now) ≡ plain_argument (plain self.now) i }
         ensures parts { AreParts self.now.head (spanned result.now) }
     {
-        let args = self.args;
+        let args = self.front.arguments();
         &args[i]
     }
 
@@ -137,6 +124,6 @@ impl<'a> DirectiveRef<'a> {
         requires { IsPart self.now.head span }
         ensures { result.now ≡ token self.now.head span }
     {
-        &self.head.line(span.line)[span.start..span.end]
+        &self.front.head_line(span.line as usize)[span.start as usize..span.end as usize]
     }
 }

@@ -1,6 +1,6 @@
 //! Making an edit of a script.
 
-ghost use Rattle.std.specs.Prelude.{◌≡◌, ◌≤◌, ◌==◌, ◌++◌, true, not, length, take, drop, IfOk, OnOk, option_to_list};
+ghost use Rattle.std.specs.Prelude.{◌≡◌, ◌≤◌, ◌==◌, ◌++◌, true, not, length, take, drop, IfOk, option_to_list};
 ghost use Rattle.std.specs.List.{list_all, flat_map};
 ghost use Rattle.rb_script.specs.Lines.{text_of};
 ghost use Rattle.rb_script.specs.Script.{block_lines, all_expecting, expecting};
@@ -9,6 +9,7 @@ ghost use Rattle.rb_script.specs.Shared.{values};
 ghost use Rattle.rb_script.specs.Edits.{ends_in_return, is_text_line, is_expectation};
 
 use crate::block::Block;
+use crate::blocks::Blocks;
 use crate::edit::Edit;
 use crate::fault::EditFault;
 use crate::limits::{MAX_DIRECTIVES, MAX_LINE, MAX_SCRIPT};
@@ -64,42 +65,11 @@ fn are_expectations(outputs: &[Lines]) -> bool
     outputs.iter().all(is_expectation)
 }
 
-/// Adds pointers to these blocks.
-fn share(into: &mut Vec<Rc<Block>>, blocks: &[Rc<Block>]) -> Result<(), AllocError>
-    ensures { OnOk result (values into.new.items ≡ values into.old.items ++ values blocks.now) }
-{
-    for block in blocks {
-        into.push(block.clone()?)?;
-    }
-    Ok(())
-}
-
-/// The blocks before `from`, the new one if there is one, and the blocks from `to` on.
-fn spliced(
-    alloc: Global,
-    blocks: &[Rc<Block>],
-    from: usize,
-    new: Option<Block>,
-    to: usize,
-) -> Result<Vec<Rc<Block>>, AllocError>
-    requires from { from ≤ length blocks.now }
-    requires to { to ≤ length blocks.now }
-    ensures { IfOk result (λ v. values v.items ≡ take from (values blocks.now) ++ (option_to_list new ++ drop to (values blocks.now))) }
-{
-    let mut made = Vec::with_capacity(alloc, blocks.len() + 1)?;
-    share(&mut made, &blocks[..from])?;
-    if let Some(block) = new {
-        made.push(Rc::new(alloc, block)?)?;
-    }
-    share(&mut made, &blocks[to..])?;
-    Ok(made)
-}
-
 impl Script {
     ghost use Rattle.std.specs.Prelude.{◌≡◌, [], Err, IfErr, IfOk, length};
     ghost use Rattle.rb_script.specs.Script.{text, with_outputs};
     ghost use Rattle.rb_script.specs.Valid.{IsScript};
-    ghost use Rattle.rb_script.specs.Shared.{script_of, IsKeptScript};
+    ghost use Rattle.rb_script.specs.Shared.{IsKeptScript};
     ghost use Rattle.rb_script.specs.Edits.{edited, with_blocks, Makes};
     ghost use Rattle.rb_script.specs.declared.edit.Edit.TheVariants.{Insert, Replace, Remove, Expect, Accept};
 
@@ -226,7 +196,8 @@ impl Script {
         ensures ok { IfOk result (λ s. s ≡ with_outputs self.now outputs.now) }
         ensures err { IfErr result (λ e. e ≡ EditFault.OutOfMemory) }
     {
-        let blocks = all_expecting(self.alloc, &self.blocks, outputs)?;
+        let made = all_expecting(self.alloc, &self.blocks, outputs)?;
+        let blocks = Blocks::of(self.alloc, made)?;
         self.with_blocks(blocks, text_len)
     }
 
@@ -244,14 +215,14 @@ impl Script {
         ensures ok { IfOk result (λ s. s ≡ with_blocks self.now (take from self.now.blocks ++ (option_to_list new ++ drop to self.now.blocks))) }
         ensures err { IfErr result (λ e. e ≡ EditFault.OutOfMemory) }
     {
-        let blocks = spliced(self.alloc, &self.blocks, from, new, to)?;
+        let blocks = self.blocks.with_part(self.alloc, from, new, to)?;
         self.with_blocks(blocks, text_len)
     }
 
     // The script with these blocks in place of its own.
-    fn with_blocks(&self, blocks: Vec<Rc<Block>>, text_len: usize) -> Result<Script, EditFault>
-        requires { IsKeptScript (script_of blocks.items self.now.tail) text_len }
-        ensures ok { IfOk result (λ s. s ≡ script_of blocks.items self.now.tail) }
+    fn with_blocks(&self, blocks: Blocks, text_len: usize) -> Result<Script, EditFault>
+        requires { IsKeptScript (with_blocks self.now blocks) text_len }
+        ensures ok { IfOk result (λ s. s ≡ with_blocks self.now blocks) }
         ensures err { IfErr result (λ e. e ≡ EditFault.OutOfMemory) }
     {
         Ok(Script {
@@ -264,12 +235,13 @@ impl Script {
 }
 
 /// How long the texts of the blocks are with these outputs as expectations.
-fn text_len_with(blocks: &[Rc<Block>], outputs: &[Lines]) -> usize
+fn text_len_with(blocks: &Blocks, outputs: &[Lines]) -> usize
     requires { length outputs.now ≡ length blocks.now }
-    ensures { result ≡ capped (length (text_of (flat_map block_lines (all_expecting (values blocks.now) outputs.now)))) }
+    ensures { result ≡ capped (length (text_of (flat_map block_lines (all_expecting blocks.now outputs.now)))) }
 {
     let mut total: usize = 0;
-    for (i, block) in blocks.iter().enumerate() {
+    for i in 0..blocks.len() {
+        let block = blocks.at(i);
         total = total.saturating_add(block.text_len_with(&outputs[i]));
     }
     total
@@ -278,16 +250,16 @@ fn text_len_with(blocks: &[Rc<Block>], outputs: &[Lines]) -> usize
 /// Each block with its output as its expectation. A block that expects its output already is shared.
 fn all_expecting(
     alloc: Global,
-    blocks: &[Rc<Block>],
+    blocks: &Blocks,
     outputs: &[Lines],
 ) -> Result<Vec<Rc<Block>>, AllocError>
     requires count { length outputs.now ≡ length blocks.now }
     requires readable { list_all is_expectation outputs.now ≡ true }
-    ensures { IfOk result (λ v. values v.items ≡ all_expecting (values blocks.now) outputs.now) }
+    ensures { IfOk result (λ v. values v.items ≡ all_expecting blocks.now outputs.now) }
 {
     let mut made = Vec::with_capacity(alloc, blocks.len())?;
-    for (i, block) in blocks.iter().enumerate() {
-        made.push(expecting(alloc, block, &outputs[i])?)?;
+    for i in 0..blocks.len() {
+        made.push(expecting(alloc, blocks.at(i), &outputs[i])?)?;
     }
     Ok(made)
 }

@@ -5,18 +5,25 @@ ghost use Rattle.rb_script.specs.Lines.{lines, text_of, line_text};
 ghost use Rattle.rb_script.specs.Flat.{ends_of, parted, line_start, between, IsFlat};
 
 use crate::lines::{line_feed, next_line};
+use crate::written_line::WrittenLine;
 use memchr::memchr;
 use smallvec::SmallVec;
 use std::alloc::{AllocError, Global};
 use std::marker::Model;
 
 /// A list of byte lines in memory of its own. A line may hold any bytes.
-#[derive(Drop)]
 pub(crate) struct FlatLines {
     // each line, with one LF after it
     text: Vec<u8>,
     // where each line with its LF ends in the text; most lists are short
     ends: SmallVec<usize, 4>,
+}
+
+// Written out, so that giving one back is a call wherever it is owned, and is proved here alone.
+impl Drop for FlatLines {
+    fn drop(self) {
+        let FlatLines { text: _, ends: _ } = self;
+    }
 }
 
 impl Model for FlatLines {
@@ -70,7 +77,7 @@ impl FlatLines {
         let ends = line_ends(alloc, bytes)?;
         Ok(FlatLines {
             text: Vec::from_slice(alloc, bytes)?,
-            ends,
+            ends: SmallVec::from_vec(ends),
         })
     }
 
@@ -100,12 +107,11 @@ impl FlatLines {
         append_line(&mut self.text, &mut self.ends, line)
     }
 
-    /// Adds a line that has memory of its own, at the end.
-    pub(crate) fn push_text(&mut self, line: Vec<u8>) -> Result<(), AllocError>
-        ensures ok { OnOk result (self.new ≡ self.old ++ line.items ∷ []) }
-        ensures err { OnErr result (self.new ≡ self.old) }
+    /// Adds a line at the end, which is put together where it stays. Where memory runs out, nothing is known of which lines these are then.
+    pub(crate) fn push_written<W: WrittenLine>(&mut self, line: &W) -> Result<(), AllocError>
+        ensures { OnOk result (self.new ≡ self.old ++ W.bytes line.now ∷ []) }
     {
-        take_line(&mut self.text, &mut self.ends, line)
+        write_or_clear(&mut self.text, &mut self.ends, line)
     }
 
     /// How many lines there are.
@@ -128,6 +134,23 @@ impl FlatLines {
         ensures { result.now ≡ text_of self.now }
     {
         self.text.as_slice()
+    }
+
+    /// Where the lines end in their text, and where the first of them begins.
+    pub(crate) fn ends(&self) -> (&[usize], usize)
+        ensures { result.0.now ≡ ends_of result.1 self.now }
+    {
+        (self.ends.as_slice(), 0)
+    }
+
+    /// The same of the lines from one position up to another, in the text of all.
+    pub(crate) fn ends_between(&self, from: usize, to: usize) -> (&[usize], usize)
+        requires order { from ≤ to }
+        requires within { to ≤ length self.now }
+        ensures { result.0.now ≡ ends_of result.1 (between from to self.now) }
+    {
+        let ends = self.ends.as_slice();
+        (&ends[from..to], start_of(ends, from))
     }
 
     /// The text of the lines from one position up to another.
@@ -184,12 +207,12 @@ fn is_their_text(bytes: &[u8]) -> bool
     }
 }
 
-// Where each line of the bytes, which are their text, ends in it.
-fn line_ends(alloc: Global, bytes: &[u8]) -> Result<SmallVec<usize, 4>, AllocError>
+// Where each line of the bytes, which are their text, ends in it. These are many, so that the list isn't asked with each whether it is short.
+fn line_ends(alloc: Global, bytes: &[u8]) -> Result<Vec<usize>, AllocError>
     requires { text_of (lines bytes.now) ≡ bytes.now }
     ensures { IfOk result (λ ends. ends.items ≡ ends_of 0 (lines bytes.now)) }
 {
-    let mut ends = SmallVec::new(alloc);
+    let mut ends = Vec::new(alloc);
     let mut rest = bytes;
     let mut end = 0;
     while let Some(feed) = line_feed(rest) {
@@ -218,24 +241,50 @@ fn append_line(
     Ok(())
 }
 
-// Adds a line with its LF, and its end. The memory of the first is the text's from then on: nothing is copied.
-fn take_line(
+// Makes room in a text that has no line yet.
+fn make_room(text: &mut Vec<u8>, room: usize) -> Result<(), AllocError>
+    ensures { text.new.items ≡ text.old.items }
+{
+    if text.is_empty() {
+        text.reserve(room)?;
+    }
+    Ok(())
+}
+
+// Writes the line with its LF, and adds its end.
+fn write_line<W: WrittenLine>(
     text: &mut Vec<u8>,
     ends: &mut SmallVec<usize, 4>,
-    line: Vec<u8>,
+    line: &W,
 ) -> Result<(), AllocError>
-    ensures text { OnOk result (text.new.items ≡ text.old.items ++ line_text line.items) }
+    ensures text { OnOk result (text.new.items ≡ text.old.items ++ line_text (W.bytes line.now)) }
     ensures ends { OnOk result (ends.new.items ≡ ends.old.items ++ length text.new.items ∷ []) }
-    ensures err { OnErr result ((text.new.items ≡ text.old.items) × (ends.new.items ≡ ends.old.items)) }
 {
-    if !text.is_empty() {
-        return append_line(text, ends, line.as_slice());
-    }
-    let mut first = line;
-    first.push(b'\n')?;
-    ends.push(first.len())?;
-    *text = first;
+    make_room(text, line.room())?;
+    line.add_to(text)?;
+    text.push(b'\n')?;
+    ends.push(text.len())?;
     Ok(())
+}
+
+// Does so, or takes all lines away where a part of this one may be written.
+fn write_or_clear<W: WrittenLine>(
+    text: &mut Vec<u8>,
+    ends: &mut SmallVec<usize, 4>,
+    line: &W,
+) -> Result<(), AllocError>
+    ensures text { OnOk result (text.new.items ≡ text.old.items ++ line_text (W.bytes line.now)) }
+    ensures ends { OnOk result (ends.new.items ≡ ends.old.items ++ length text.new.items ∷ []) }
+    ensures err { OnErr result ((text.new.items ≡ []) × (ends.new.items ≡ [])) }
+{
+    match write_line(text, ends, line) {
+        Ok(()) => Ok(()),
+        Err(refusal) => {
+            text.clear();
+            ends.clear();
+            Err(refusal)
+        }
+    }
 }
 
 // Where a line begins, or behind the last where the next would.

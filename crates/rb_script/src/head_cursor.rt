@@ -109,14 +109,18 @@ impl<'a> Model for HeadCursor<'a> {
 }
 
 impl<'a> HeadCursor<'a> {
-    ghost use Rattle.std.specs.Prelude.{◌≡◌, ◌<◌, length, drop, slice_get, option_copied};
+    ghost use Rattle.std.specs.Prelude.{◌≡◌, ◌<◌, ◌^◌, length, drop, slice_get, option_copied};
+    ghost use Rattle.std.specs.List.{AllByRecursion};
+    ghost use Rattle.rb_script.specs.Valid.{IsLine};
     ghost use Rattle.rb_script.specs.Joined.{joined, while_of, after_while};
     ghost use Rattle.rb_script.specs.Tokens.{token, IsPart};
     ghost use Rattle.rb_script.specs.ByteClasses.{is_of, IsWithinLine};
 
     /// The beginning of the joined head.
     pub(crate) fn new(head: &'a LinePart) -> HeadCursor<'a>
-        requires { 0 < length head.now }
+        requires there { 0 < length head.now }
+        requires few { length head.now < 2 ^ 32 }
+        requires lines { AllByRecursion IsLine head.now }
         ensures head { result.head ≡ head.now }
         ensures left { result.left ≡ joined head.now }
     {
@@ -181,6 +185,7 @@ impl<'a> HeadCursor<'a> {
 
     /// Goes past the bytes of the class, and says where they stand. The space that joins two lines is not of the
     /// class, so they stand in one line.
+    #[tactic(auto, using(crate::proofs::TokenLaws::line_short))]
     pub(crate) fn take(&mut self, class: ByteClass) -> Span
         requires { IsWithinLine class }
         ensures token { token self.old.head result ≡ while_of (is_of class) self.old.left }
@@ -192,9 +197,9 @@ impl<'a> HeadCursor<'a> {
         let end = start + class.run_len(&self.piece[start..]);
         self.at = end;
         Span {
-            line: self.line,
-            start,
-            end,
+            line: self.line as u32,
+            start: start as u32,
+            end: end as u32,
         }
     }
 }

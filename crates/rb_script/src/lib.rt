@@ -9,17 +9,22 @@
 
 mod argument;
 mod block;
+mod blocks;
 mod directive;
 mod edit;
 mod edits;
+mod expected;
 mod fault;
 mod flat;
+mod front;
+mod group;
 mod head_cursor;
 mod laws;
 mod limits;
 mod line_part;
 mod lines;
 mod marks;
+mod place;
 mod reading;
 mod script;
 mod shared_lines;
@@ -28,6 +33,7 @@ mod span;
 mod tokens;
 mod with_lines;
 mod writing;
+mod written_line;
 
 pub use block::Block;
 pub use directive::DirectiveRef;
@@ -45,3 +51,4 @@ pub use script::Script;
 pub use sink::{Sink, Through, WriteFault};
 pub use span::Span;
 pub use with_lines::ScriptWithLines;
+pub use written_line::WrittenLine;

@@ -2,7 +2,7 @@
 
 ghost use Rattle.std.specs.Prelude.{◌≡◌, ◌↔◌, ◌<◌, ◌≤◌, [], length, slice_get, IfOk, IsTrue, Some};
 ghost use Rattle.rb_script.specs.Lines.{text_of};
-ghost use Rattle.rb_script.specs.Flat.{between};
+ghost use Rattle.rb_script.specs.Flat.{between, ends_of};
 
 use crate::flat::FlatLines;
 use crate::shared_lines::SharedLines;
@@ -10,11 +10,21 @@ use std::alloc::{AllocError, Global};
 use std::marker::Model;
 
 /// The lines from one position up to another. A copy costs a pointer.
-#[derive(Drop)]
 pub(crate) struct LinePart {
     all: SharedLines,
     from: usize,
     to: usize,
+}
+
+// Written out, so that giving one back is a call wherever it is owned, and is proved here alone.
+impl Drop for LinePart {
+    fn drop(self) {
+        let LinePart {
+            all: _,
+            from: _,
+            to: _,
+        } = self;
+    }
 }
 
 impl Model for LinePart {
@@ -75,6 +85,13 @@ impl LinePart {
         ensures { slice_get self.now i ≡ Some result.now }
     {
         self.all.line(self.from + i)
+    }
+
+    /// Where the lines end in the text of all, and where the first of them begins.
+    pub(crate) fn ends(&self) -> (&[usize], usize)
+        ensures { result.0.now ≡ ends_of result.1 self.now }
+    {
+        self.all.ends_between(self.from, self.to)
     }
 
     /// The lines as one text, each with one LF.

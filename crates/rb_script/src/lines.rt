@@ -2,20 +2,27 @@
 
 ghost use Rattle.std.specs.Prelude.{◌≡◌, ◌↔◌, ◌+◌, ◌<◌, ◌≤◌, ◌^◌, [], ◌∷◌, ◌++◌, length, slice_get, OnOk, IfOk, OnErr, MatchOption, IfSome, IfNone, IsTrue, Some, ℕ, ◌≢◌, slice_index, vec_capacity};
 ghost use Rattle.rb_script.specs.Lines.{lines, text_of, without_returns};
-ghost use Rattle.rb_script.specs.Flat.{between};
+ghost use Rattle.rb_script.specs.Flat.{between, ends_of, from_start};
 ghost use Rattle.rb_script.specs.Kept.{kept_lines};
 
 use crate::flat::FlatLines;
 use crate::line_part::LinePart;
 use crate::shared_lines::SharedLines;
-use memchr::memchr;
+use crate::written_line::WrittenLine;
+use memchr::memchr_iter;
 use std::alloc::{AllocError, Global};
 use std::marker::Model;
 
 /// A list of byte lines. A line may hold any bytes.
-#[derive(Drop)]
 pub struct Lines {
     kept: Kept,
+}
+
+// Written out, so that giving one back is a call wherever it is owned, and is proved here alone.
+impl Drop for Lines {
+    fn drop(self) {
+        let Lines { kept: _ } = self;
+    }
 }
 
 /// Where lines are kept.
@@ -74,12 +81,12 @@ impl Lines {
         self.kept.push(line)
     }
 
-    /// Adds a line that has memory of its own, at the end. Where it is the first, the lines keep that memory.
-    pub fn push_text(&mut self, line: Vec<u8>) -> Result<(), AllocError>
-        ensures ok { OnOk result (self.new ≡ self.old ++ line.items ∷ []) }
-        ensures err { OnErr result (self.new ≡ self.old) }
+    /// Adds a line at the end, which is put together where it stays. Where memory runs out, nothing is known of the lines then: they are only
+    /// good for being dropped.
+    pub fn push_written<W: WrittenLine>(&mut self, line: &W) -> Result<(), AllocError>
+        ensures { OnOk result (self.new ≡ self.old ++ W.bytes line.now ∷ []) }
     {
-        self.kept.push_text(line)
+        self.kept.push_written(line)
     }
 
     /// An empty text, with room for this many bytes, where the lines have their memory: for a line that is put together of many pieces.
@@ -143,15 +150,19 @@ impl Lines {
     pub fn same(&self, other: &Lines) -> bool
         ensures { IsTrue result ↔ (self.now ≡ other.now) }
     {
-        if self.len() != other.len() {
-            return false;
+        let (ends, start) = self.ends();
+        let (others, other_start) = other.ends();
+        are_as_long(ends, start, others, other_start) && is_same(self.text(), other.text())
+    }
+
+    // Where the lines end in a text that has them, and where the first of them begins.
+    fn ends(&self) -> (&[usize], usize)
+        ensures { result.0.now ≡ ends_of result.1 self.now }
+    {
+        match &self.kept {
+            Kept::Own(own) => own.ends(),
+            Kept::Part(part) => part.ends(),
         }
-        for i in 0..self.len() {
-            if !is_same(self.line(i), other.line(i)) {
-                return false;
-            }
-        }
-        true
     }
 
     // Where the memory is.
@@ -183,16 +194,44 @@ impl Kept {
         }
     }
 
-    // Adds a line that has memory of its own, at the end.
-    fn push_text(&mut self, line: Vec<u8>) -> Result<(), AllocError>
-        ensures ok { OnOk result (kept_lines self.new ≡ kept_lines self.old ++ line.items ∷ []) }
-        ensures err { OnErr result (kept_lines self.new ≡ kept_lines self.old) }
+    // Adds a line at the end, which is put together where it stays.
+    fn push_written<W: WrittenLine>(&mut self, line: &W) -> Result<(), AllocError>
+        ensures { OnOk result (kept_lines self.new ≡ kept_lines self.old ++ W.bytes line.now ∷ []) }
     {
         match self {
-            Kept::Own(own) => own.push_text(line),
-            Kept::Part(_) => self.push(line.as_slice()),
+            Kept::Own(own) => own.push_written(line),
+            Kept::Part(part) => {
+                *self = Kept::Own(own_with(part, line)?);
+                Ok(())
+            }
         }
     }
+}
+
+// The lines of a part and this one, in memory of their own. It stands apart, since what a function needs is cleared as it begins: who adds to
+// lines that nobody shares clears nothing of it.
+#[inline(never)]
+fn own_with<W: WrittenLine>(part: &LinePart, line: &W) -> Result<FlatLines, AllocError>
+    ensures { IfOk result (λ own. own ≡ part.now ++ W.bytes line.now ∷ []) }
+{
+    let mut own = part.own()?;
+    own.push_written(line)?;
+    Ok(own)
+}
+
+// Whether lines that end so are as long as those that end as the others do.
+fn are_as_long(ends: &[usize], start: usize, others: &[usize], other_start: usize) -> bool
+    ensures { IsTrue result ↔ (from_start start ends.now ≡ from_start other_start others.now) }
+{
+    if ends.len() != others.len() {
+        return false;
+    }
+    for i in 0..ends.len() {
+        if ends[i].saturating_sub(start) != others[i].saturating_sub(other_start) {
+            return false;
+        }
+    }
+    true
 }
 
 /// Whether the two are the same bytes.
@@ -226,13 +265,14 @@ pub fn lines_of(alloc: Global, bytes: &[u8]) -> Result<Lines, AllocError>
     })
 }
 
-/// Where the first line feed stands.
+/// Where the first line feed stands. It is looked for among the next few bytes first, since most lines are short.
 pub(crate) fn line_feed(bytes: &[u8]) -> Option<usize>
     ensures none { IfNone result ((k : ℕ) → k < length bytes.now → slice_index bytes.now k ≢ 10) }
     ensures found { IfSome result (λ end. (end < length bytes.now) × (slice_index bytes.now end ≡ 10)) }
     ensures first { IfSome result (λ end. (k : ℕ) → k < end → slice_index bytes.now k ≢ 10) }
 {
-    memchr(b'\n', bytes)
+    let mut feeds = memchr_iter(b'\n', bytes);
+    feeds.next()
 }
 
 /// The first line of the bytes, and what follows it.

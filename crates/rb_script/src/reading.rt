@@ -20,9 +20,12 @@ ghost use Rattle.rb_script.specs.Valid.{IsLine};
 ghost use Rattle.rb_script.specs.Shared.{values, parts_view};
 ghost use Rattle.rb_script.specs.HeadLines.{AreHeadLines};
 
-use crate::block::{Block, Front};
+use crate::block::Block;
+use crate::blocks::Blocks;
+use crate::expected::Expected;
 use crate::fault::ScriptFault;
 use crate::flat::FlatLines;
+use crate::front::Front;
 use crate::limits::{MAX_DIRECTIVES, MAX_LINE, MAX_SCRIPT};
 use crate::line_part::LinePart;
 use crate::lines::{Lines, next_line};
@@ -110,14 +113,15 @@ pub(crate) fn is_readable(lines: &Lines) -> bool
 }
 
 /// A plain expectation, and the position behind it.
-fn plain(all: &SharedLines, start: usize) -> Result<Option<(Lines, usize)>, AllocError>
+fn plain(all: &SharedLines, start: usize) -> Result<Option<(Expected, usize)>, AllocError>
     requires { start ≤ length all.now }
     ensures found { IfOk result (λ found. seen all.now found ≡ plain_at (drop start all.now)) }
     ensures within { IfOk result (λ found. IfSome found (λ p. p.1 ≤ length all.now)) }
 {
     let end = run(all, start, Stop::Blank);
-    let expected = Lines::part(all, start, end)?;
-    if is_readable(&expected) {
+    let part = Lines::part(all, start, end)?;
+    let expected = Expected::new(part);
+    if expected.is_readable() {
         Ok(Some((expected, after_blank(all, end))))
     } else {
         Ok(None)
@@ -142,7 +146,7 @@ fn pair(all: &SharedLines, start: usize) -> Option<(usize, usize)>
 }
 
 /// An expectation in the double form behind its first line ----, and the position behind it.
-fn double(all: &SharedLines, start: usize) -> Result<Option<(Lines, usize)>, AllocError>
+fn double(all: &SharedLines, start: usize) -> Result<Option<(Expected, usize)>, AllocError>
     requires { start ≤ length all.now }
     ensures found { IfOk result (λ found. seen all.now found ≡ then_blank (to_pair (drop start all.now))) }
     ensures within { IfOk result (λ found. IfSome found (λ p. p.1 ≤ length all.now)) }
@@ -150,12 +154,13 @@ fn double(all: &SharedLines, start: usize) -> Result<Option<(Lines, usize)>, All
     let Some((close, after)) = pair(all, start) else {
         return Ok(None);
     };
-    let expected = Lines::part(all, start, close)?;
+    let part = Lines::part(all, start, close)?;
+    let expected = Expected::new(part);
     Ok(Some((expected, after_blank(all, after))))
 }
 
 #[tactic(auto, unfolding(crate::specs::Expectations::expectation_at))]
-fn expectation(all: &SharedLines, start: usize) -> Result<Option<(Lines, usize)>, AllocError>
+fn expectation(all: &SharedLines, start: usize) -> Result<Option<(Expected, usize)>, AllocError>
     requires { start ≤ length all.now }
     ensures found { IfOk result (λ found. seen all.now found ≡ expectation_at (drop start all.now)) }
     ensures within { IfOk result (λ found. IfSome found (λ p. p.1 ≤ length all.now)) }
@@ -166,78 +171,74 @@ fn expectation(all: &SharedLines, start: usize) -> Result<Option<(Lines, usize)>
     }
 }
 
-/// The head that begins at this line, where its tokens stand, and the position behind it.
+/// Where the tokens of the head stand that begins at this line, and the position behind it.
 fn head_tokens(
     alloc: Global,
     all: &SharedLines,
     start: usize,
     number: usize,
-) -> Result<(LinePart, Tokens, usize), ScriptFault>
+) -> Result<(Tokens, usize), ScriptFault>
+    requires few { length all.now < 2 ^ 32 }
     requires start { start ≤ length all.now }
+    requires lines { AllByRecursion IsLine (drop start all.now) }
     requires head { begins_lead (drop start all.now) ≡ false }
-    ensures head { IfOk result (λ p. p.0 ≡ head_of (drop start all.now)) }
-    ensures tokens { IfOk result (λ p. ParsesHead p.0 (Ok p.1) (few_or number (head_at (joined p.0)))) }
-    ensures rest { IfOk result (λ p. drop p.2 all.now ≡ after_head (drop start all.now)) }
-    ensures within { IfOk result (λ p. p.2 ≤ length all.now) }
+    ensures head { IfOk result (λ p. between start p.1 all.now ≡ head_of (drop start all.now)) }
+    ensures tokens { IfOk result (λ p. ParsesHead (between start p.1 all.now) (Ok p.0) (few_or number (head_at (joined (between start p.1 all.now))))) }
+    ensures rest { IfOk result (λ p. drop p.1 all.now ≡ after_head (drop start all.now)) }
+    ensures order { IfOk result (λ p. (start ≤ p.1) × (p.1 ≤ length all.now)) }
     ensures failed { IfErr result (λ fault. Fails fault (few_or number (head_at (joined (head_of (drop start all.now)))))) }
 {
     let end = head(all, start);
     let head = LinePart::new(all, start, end)?;
     let tokens = tokens_of(alloc, &head, number)?;
-    Ok((head, tokens, end))
+    Ok((tokens, end))
 }
 
-/// What stands below the head that begins at this line: the input, the expected lines, and the position behind them.
+/// What stands below the head that begins at this line: where the input ends, the expected lines, and the position behind them.
 fn below_head(
     all: &SharedLines,
     start: usize,
     number: usize,
-) -> Result<(LinePart, Lines, usize), ScriptFault>
+) -> Result<(usize, Expected, usize), ScriptFault>
     requires { start ≤ length all.now }
-    ensures gives { Gives (λ p. (p.0, p.1, drop p.2 all.now)) result (below_head (1 + length all.now) number (drop start all.now)) }
+    ensures gives { Gives (λ p. (between start p.0 all.now, p.1, drop p.2 all.now)) result (below_head (1 + length all.now) number (drop start all.now)) }
+    ensures order { IfOk result (λ p. (start ≤ p.0) × (p.0 ≤ length all.now)) }
     ensures within { IfOk result (λ p. p.2 ≤ length all.now) }
 {
     let separator = run(all, start, Stop::Separator);
     if separator == all.len() {
         return Err(ScriptFault::NoSeparator(number));
     }
-    let input = LinePart::new(all, start, separator)?;
     let Some((expected, after)) = expectation(all, separator + 1)? else {
         return Err(ScriptFault::NotClosed(separator + 1));
     };
-    Ok((input, expected, after))
+    Ok((separator, expected, after))
 }
 
-/// The block whose lead was read and whose head begins at this line, and the position behind it.
+/// The block whose lead begins at one line and whose head begins at another, and the position behind it.
 fn block(
     alloc: Global,
     all: &SharedLines,
-    lead: LinePart,
+    from: usize,
     start: usize,
     number: usize,
-) -> Result<(Block, usize), ScriptFault>
+) -> Result<(Rc<Block>, usize), ScriptFault>
+    requires few { length all.now < 2 ^ 32 }
+    requires from { from ≤ start }
     requires start { start ≤ length all.now }
     requires number { number ≡ start + 1 }
-    requires lead { list_all is_lead lead ≡ true }
-    requires lead_lines { AllByRecursion IsLine lead }
+    requires lead { list_all is_lead (between from start all.now) ≡ true }
+    requires lead_lines { AllByRecursion IsLine (between from start all.now) }
     requires lines { AllByRecursion IsLine (drop start all.now) }
     requires head { begins_lead (drop start all.now) ≡ false }
-    ensures gives { Gives (λ p. (p.0, drop p.1 all.now)) result (block_at (1 + length all.now) lead (drop start all.now)) }
+    ensures gives { Gives (λ p. (p.0.value, drop p.1 all.now)) result (block_at (1 + length all.now) (between from start all.now) (drop start all.now)) }
     ensures within { IfOk result (λ p. p.1 ≤ length all.now) }
 {
-    let (head, tokens, below) = head_tokens(alloc, all, start, number)?;
-    let (input, expected, after) = below_head(all, below, number)?;
-    let front = Rc::new(
-        alloc,
-        Front {
-            lead,
-            head,
-            input,
-            name: tokens.name,
-            args: tokens.args,
-        },
-    )?;
-    Ok((Block::new(front, expected), after))
+    let (tokens, below) = head_tokens(alloc, all, start, number)?;
+    let (separator, expected, after) = below_head(all, below, number)?;
+    let front = Front::new(all, from, start, below, separator, tokens)?;
+    let block = Rc::new(alloc, Block::new(front, expected))?;
+    Ok((block, after))
 }
 
 /// The blocks with the lines on which their heads begin, the tail, and all lines.
@@ -251,7 +252,8 @@ struct Parts {
 
 /// The blocks and the tail of the lines.
 fn blocks(alloc: Global, all: &SharedLines) -> Result<Parts, ScriptFault>
-    requires { AllByRecursion IsLine all.now }
+    requires lines { AllByRecursion IsLine all.now }
+    requires few { length all.now < 2 ^ 32 }
     ensures gives { Gives parts_view result (blocks_at MAX_DIRECTIVES (1 + length all.now) all.now) }
     ensures heads { IfOk result (λ p. AreHeadLines 1 all.now (parts_view p).blocks p.heads.items) }
     ensures lines { IfOk result (λ p. p.all ≡ all.now) }
@@ -261,13 +263,13 @@ fn blocks(alloc: Global, all: &SharedLines) -> Result<Parts, ScriptFault>
     let mut at = 0;
     loop {
         let start = run(all, at, Stop::Head);
-        let lead = LinePart::new(all, at, start)?;
         if start == all.len() {
+            let tail = LinePart::new(all, at, start)?;
             let all = all.try_copy()?;
             return Ok(Parts {
                 blocks: found,
                 heads,
-                tail: lead,
+                tail,
                 all,
             });
         }
@@ -275,19 +277,18 @@ fn blocks(alloc: Global, all: &SharedLines) -> Result<Parts, ScriptFault>
             return Err(ScriptFault::TooManyDirectives);
         }
         let number = start + 1;
-        let (block, after) = block(alloc, all, lead, start, number)?;
-        keep(alloc, &mut found, block)?;
+        let (block, after) = block(alloc, all, at, start, number)?;
+        keep(&mut found, block)?;
         heads.push(number)?;
         at = after;
     }
 }
 
 /// Keeps a block behind those that were found before it.
-fn keep(alloc: Global, found: &mut Vec<Rc<Block>>, block: Block) -> Result<(), AllocError>
-    ensures items { IfOk result (λ _. values found.new.items ≡ values found.old.items ++ block ∷ []) }
+fn keep(found: &mut Vec<Rc<Block>>, block: Rc<Block>) -> Result<(), AllocError>
+    ensures items { IfOk result (λ _. values found.new.items ≡ values found.old.items ++ block.value ∷ []) }
     ensures len { IfOk result (λ _. vec_len found.new ≡ vec_len found.old + 1) }
 {
-    let block = Rc::new(alloc, block)?;
     Ok(found.push(block)?)
 }
 
@@ -376,7 +377,7 @@ pub(crate) fn with_lines(alloc: Global, bytes: &[u8]) -> Result<ScriptWithLines,
     }
     let script = Script {
         alloc,
-        blocks: parts.blocks,
+        blocks: Blocks::of(alloc, parts.blocks)?,
         tail: Rc::new(alloc, parts.tail)?,
         text_len,
     };

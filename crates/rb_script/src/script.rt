@@ -1,6 +1,7 @@
 //! A script: blocks, and the lines after them.
 
 use crate::block::Block;
+use crate::blocks::Blocks;
 use crate::fault::ScriptFault;
 use crate::line_part::LinePart;
 use crate::reading;
@@ -9,14 +10,24 @@ use std::marker::Model;
 use std::rc::Rc;
 
 /// A script.
-#[derive(Drop)]
 pub struct Script {
     pub(crate) alloc: Global,
-    // scripts share blocks, so that an edit copies pointers
-    pub(crate) blocks: Vec<Rc<Block>>,
+    pub(crate) blocks: Blocks,
     pub(crate) tail: Rc<LinePart>,
     // the length of the canonical text
     pub(crate) text_len: usize,
+}
+
+// Written out, so that giving one back is a call wherever it is owned, and is proved here alone.
+impl Drop for Script {
+    fn drop(self) {
+        let Script {
+            alloc: _,
+            blocks: _,
+            tail: _,
+            text_len: _,
+        } = self;
+    }
 }
 
 impl Model for Script {
@@ -25,11 +36,11 @@ impl Model for Script {
 
     ghost Value = { PlainScript };
 
-    ghost use Rattle.rb_script.specs.Shared.{script_of, IsKeptScript};
+    ghost use Rattle.rb_script.specs.Shared.{IsKeptScript};
 
-    ghost view = { λ s. script_of s.blocks.items s.tail.value };
+    ghost view = { λ s. record { blocks = s.blocks; tail = s.tail.value } };
 
-    ghost invariant = { λ s. IsKeptScript (script_of s.blocks.items s.tail.value) s.text_len };
+    ghost invariant = { λ s. IsKeptScript (record { blocks = s.blocks; tail = s.tail.value }) s.text_len };
 }
 
 impl Script {
@@ -75,10 +86,7 @@ impl Script {
     {
         match place {
             0 => None,
-            _ => match self.blocks.get(place - 1) {
-                Some(block) => Some(&**block),
-                None => None,
-            },
+            _ => self.blocks.get(place - 1),
         }
     }
 }

@@ -1,7 +1,9 @@
 //! The name and the arguments of a head.
 
-ghost use Rattle.std.specs.Prelude.{◌≡◌, ◌<◌, ◌++◌, ◌∷◌, ℕ, List, [], length, IfOk, option_map};
+ghost use Rattle.std.specs.Prelude.{◌≡◌, ◌<◌, ◌^◌, ◌++◌, ◌∷◌, ℕ, List, [], length, IfOk, option_map};
+ghost use Rattle.std.specs.List.{AllByRecursion};
 ghost use Rattle.rb_script.specs.Lines.{Line};
+ghost use Rattle.rb_script.specs.Valid.{IsLine};
 ghost use Rattle.rb_script.specs.Joined.{joined};
 ghost use Rattle.rb_script.specs.Directive.{PlainArgument};
 ghost use Rattle.rb_script.specs.Heads.{list_at, values_at, behind_key, argument_at, arguments_at, few_or, head_at};
@@ -217,7 +219,9 @@ pub(crate) fn tokens_of(
     head: &LinePart,
     number: usize,
 ) -> Result<Tokens, ScriptFault>
-    requires { 0 < length head.now }
+    requires there { 0 < length head.now }
+    requires few { length head.now < 2 ^ 32 }
+    requires lines { AllByRecursion IsLine head.now }
     ensures gives { ParsesHead head.now result (few_or number (head_at (joined head.now))) }
 {
     let mut at = HeadCursor::new(head);

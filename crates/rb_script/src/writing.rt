@@ -35,11 +35,15 @@ pub(crate) fn needs_double(expected: &Lines) -> bool
 pub(crate) fn shown_len(expected: &Lines) -> usize
     ensures { result ≡ capped (length (text_of (shown expected.now))) }
 {
-    let marks = if needs_double(expected) {
-        DOUBLE_LEN
-    } else {
-        0
-    };
+    form_len(expected, needs_double(expected))
+}
+
+/// The same, where it is known whether only the double form can show them.
+pub(crate) fn form_len(expected: &Lines, is_double: bool) -> usize
+    requires { is_double ≡ needs_double expected.now }
+    ensures { result ≡ capped (length (text_of (shown expected.now))) }
+{
+    let marks = if is_double { DOUBLE_LEN } else { 0 };
     expected.text().len().saturating_add(marks)
 }
 
@@ -62,9 +66,9 @@ fn put_front<S: Sink>(sink: &mut S, block: &Block) -> Result<(), WriteFault>
     ensures all { S.takes_all sink.old → IsOk result × S.takes_all sink.new }
 {
     let front = block.front();
-    sink.put(front.lead.text())?;
-    sink.put(front.head.text())?;
-    sink.put(front.input.text())?;
+    sink.put(front.lead_text())?;
+    sink.put(front.head_text())?;
+    sink.put(front.input_text())?;
     sink.put(RULE_LINE)
 }
 
@@ -88,7 +92,8 @@ impl Script {
         ensures wrote { Writes result (S.held sink.old) (S.held sink.new) (text self.now) }
         ensures all { S.takes_all sink.old → IsOk result × S.takes_all sink.new }
     {
-        for block in &self.blocks {
+        for i in 0..self.blocks.len() {
+            let block = self.blocks.at(i);
             put_block(sink, block, block.expected())?;
         }
         sink.put(self.tail.text())
@@ -101,7 +106,8 @@ impl Script {
         ensures wrote { Writes result (S.held sink.old) (S.held sink.new) (text (with_outputs self.now outputs.now)) }
         ensures all { S.takes_all sink.old → IsOk result × S.takes_all sink.new }
     {
-        for (i, block) in self.blocks.iter().enumerate() {
+        for i in 0..self.blocks.len() {
+            let block = self.blocks.at(i);
             put_block(sink, block, &outputs[i])?;
         }
         sink.put(self.tail.text())

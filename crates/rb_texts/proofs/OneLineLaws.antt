@@ -1,14 +1,16 @@
 -- Each text is in one line: each of its bytes is from 32 to 126.
-use Rattle.std.proofs.Common.{◌≡◌, ℕ, ◌+◌, ◌%◌, ◌/◌, ◌<◌, ◌≤◌, Bool, true, false, List, [], ◌∷◌, ◌++◌, zero, suc, take, decimal, codes, refl, ◌∙◌, arith}
+use Rattle.std.proofs.Common.{◌≡◌, ℕ, ◌+◌, ◌%◌, ◌/◌, ◌<◌, ◌≤◌, Bool, true, false, List, [], ◌∷◌, ◌++◌, take, decimal, codes, refl, arith}
 use Rattle.std.specs.Prelude.{not, ◌&&◌, ◌==◌, nat_le, nat_lt, if◌then◌else◌}
 use Rattle.std.specs.List.{flat_map}
-use Rattle.std.specs.Fmt.{digits, digits_onto, digit_glyph}
 use Rattle.std.proofs.lemmas.Bool.{le-leb}
 use Rattle.std.proofs.lemmas.List.Folds.{list_all-append}
 use Rattle.rb_level.specs.declared.directive_error.DirectiveError.{DirectiveError}
 use Rattle.rb_level.specs.declared.directive_error.DirectiveError.TheVariants as errors
 use Rattle.rb_level.specs.declared.level.Level.{Level}
 use Rattle.rb_level.specs.declared.level.Level.TheVariants as levels
+use Rattle.rb_level.specs.declared.message_type.MessageType.{MessageType}
+use Rattle.rb_level.specs.declared.message_type.MessageType.TheVariants as types
+use Rattle.rb_level.specs.MessageTypes.{type_text}
 use Rattle.rb_message.specs.declared.event.Event.{Event}
 use Rattle.rb_message.specs.declared.event.Event.TheVariants as events
 use Rattle.rb_message.specs.declared.event.WhyNoCampaign.{WhyNoCampaign}
@@ -19,8 +21,6 @@ use Rattle.rb_message.specs.declared.hard_state.HardState.{HardState}
 use Rattle.rb_message.specs.declared.kind.MessageKind.{MessageKind}
 use Rattle.rb_message.specs.declared.kind.MessageKind.TheVariants as kinds
 use Rattle.rb_message.specs.declared.message.Message.{Message}
-use Rattle.rb_message.specs.declared.message_type.MessageType.{MessageType}
-use Rattle.rb_message.specs.declared.message_type.MessageType.TheVariants as types
 use Rattle.rb_message.specs.declared.role.Role.{Role}
 use Rattle.rb_message.specs.declared.role.Role.TheVariants as roles
 use Rattle.rb_message.specs.Messages.{has_term}
@@ -48,10 +48,11 @@ use Rattle.rb_texts.specs.Entries.{place_text, transition_text, letter, change_w
 use Rattle.rb_texts.specs.Errors.{error_text, WORD_SHOWN}
 use Rattle.rb_texts.specs.Events.{event_level, level_text, no_campaign_text, replaced_text, votes_text, fault_text, happening_text, event_text}
 use Rattle.rb_texts.specs.Items.{PlainNodeLine}
-use Rattle.rb_texts.specs.Messages.{type_text, answer_text, kind_text, term_text, message_text, verb_text}
+use Rattle.rb_texts.specs.Messages.{answer_text, kind_text, term_text, message_text, verb_text}
 use Rattle.rb_texts.specs.Quoted.{is_printable, is_plain, numbered, escaped, quoted}
 use Rattle.rb_texts.specs.Shapes.{is_one_line}
 use Rattle.rb_texts.specs.States.{role_text, node_text, hard_state_text, log_text, progress_state_text, under_way_text, mark_text, progress_text}
+use Rattle.rb_texts.proofs.KindLaws.{decimal_of, flat_of, joined_of}
 
 -- two tests that pass, as one
 pub both : (a b : Bool) → a ≡ true → b ≡ true → (a && b) ≡ true
@@ -68,27 +69,17 @@ printable b low high = both (nat_le 32 b) (nat_le b 126) (le-leb 32 b low) (le-l
 
 -- two texts in one line make one line
 pub joined : (a b : List ℕ) → is_one_line a ≡ true → is_one_line b ≡ true → is_one_line (a ++ b) ≡ true
-joined a b p q = list_all-append is_printable a b ∙ both (is_one_line a) (is_one_line b) p q
+joined a b p q = joined_of is_printable a b p q
 
 -- ---- numbers
 
--- a digit, by the test that tells a figure from a letter
-digit_one_line : (t : Bool) (d : ℕ) → d < 16 → is_printable (if t then 48 + d else (if false then 55 + d else 87 + d)) ≡ true
-digit_one_line true d lt = printable (48 + d) (omega arith) (omega arith)
-digit_one_line false d lt = printable (87 + d) (omega arith) (omega arith)
-
--- digits before a text in one line
-digits_one_line : (k n : ℕ) (acc : List ℕ) → is_one_line acc ≡ true → is_one_line (digits_onto k 10 false n acc) ≡ true
-digits_one_line zero n acc h = h
-digits_one_line (suc k) n acc h =
-    let more : is_one_line (digit_glyph false (n % 10) ∷ acc) ≡ true = both _ (is_one_line acc) (digit_one_line (nat_lt (n % 10) 10) (n % 10) (omega arith)) h in
-    elim (n / 10 == 0) as (λ t. is_one_line (if t then digit_glyph false (n % 10) ∷ acc else digits_onto k 10 false (n / 10) (digit_glyph false (n % 10) ∷ acc)) ≡ true)
-    [ true ↦ more | false ↦ digits_one_line k (n / 10) (digit_glyph false (n % 10) ∷ acc) more ]
+-- a figure is printable
+figure : (d : ℕ) → d < 10 → is_printable (48 + d) ≡ true
+figure d lt = printable (48 + d) (omega arith) (omega arith)
 
 -- a number is in one line
 pub decimal_one_line : (n : ℕ) → is_one_line (decimal n) ≡ true
-unfolding digits
-decimal_one_line n = digits_one_line 64 n [] refl
+decimal_one_line n = decimal_of is_printable figure n
 
 -- so are ids
 ids_one_line : (ids : List ℕ) → is_one_line (ids_text ids) ≡ true
@@ -111,9 +102,7 @@ escaped_one_line false b h = both _ _ (hex_one_line (nat_lt (b / 16 % 16) 10) (b
 
 -- all bytes between quotes are in one line
 all_escaped_one_line : (bytes : List ℕ) → is_one_line (flat_map escaped bytes) ≡ true
-all_escaped_one_line [] = refl
-all_escaped_one_line (b ∷ bytes) =
-    joined (escaped b) (flat_map escaped bytes) (escaped_one_line (is_plain b) b (first_of_three (is_printable b) (not (b == 34)) (not (b == 92)))) (all_escaped_one_line bytes)
+all_escaped_one_line bytes = flat_of is_printable escaped (λ b. escaped_one_line (is_plain b) b (first_of_three (is_printable b) (not (b == 34)) (not (b == 92)))) bytes
 
 -- so are they with their quotes
 quoted_one_line : (bytes : List ℕ) → is_one_line (quoted bytes) ≡ true
@@ -148,7 +137,7 @@ shown_one_line true text h = h
 shown_one_line false text h = refl
 
 -- a role is in one line
-role_one_line : (x : Role) → is_one_line (role_text x) ≡ true
+pub role_one_line : (x : Role) → is_one_line (role_text x) ≡ true
 role_one_line roles.Follower = refl
 role_one_line roles.Precandidate = refl
 role_one_line roles.Candidate = refl
@@ -170,7 +159,7 @@ unfolding log_text
 log_one_line l = simp (list_all-append, decimal_one_line)
 
 -- the state of a view is in one line
-progress_state_one_line : (x : ProgressState) → is_one_line (progress_state_text x) ≡ true
+pub progress_state_one_line : (x : ProgressState) → is_one_line (progress_state_text x) ≡ true
 progress_state_one_line states.Probe = refl
 progress_state_one_line states.Replicate = refl
 progress_state_one_line states.Snapshot = refl
@@ -214,11 +203,10 @@ change_word_one_line w = simp (list_all-append, decimal_one_line, letter_one_lin
 
 -- so are its words
 change_words_one_line : (ws : List Word) → is_one_line (flat_map change_word ws) ≡ true
-change_words_one_line [] = refl
-change_words_one_line (w ∷ ws) = joined (change_word w) (flat_map change_word ws) (change_word_one_line w) (change_words_one_line ws)
+change_words_one_line ws = flat_of is_printable change_word change_word_one_line ws
 
 -- what an entry brings is in one line
-body_one_line : (body : Body) → is_one_line (body_text body) ≡ true
+pub body_one_line : (body : Body) → is_one_line (body_text body) ≡ true
 unfolding body_text
 body_one_line (bodies.Payload bytes) = quoted_one_line bytes
 body_one_line (bodies.Change transition words) = simp (list_all-append, transition_one_line, change_words_one_line)
@@ -229,19 +217,9 @@ unfolding entry_text
 entry_one_line index e = simp (list_all-append, decimal_one_line, body_one_line)
 
 -- the type of a message is in one line
-type_one_line : (x : MessageType) → is_one_line (type_text x) ≡ true
+pub type_one_line : (x : MessageType) → is_one_line (type_text x) ≡ true
 type_one_line types.Vote = refl
-type_one_line types.PreVote = refl
-type_one_line types.VoteResponse = refl
-type_one_line types.PreVoteResponse = refl
-type_one_line types.Append = refl
-type_one_line types.AppendResponse = refl
-type_one_line types.Heartbeat = refl
-type_one_line types.HeartbeatResponse = refl
-type_one_line types.Snapshot = refl
-type_one_line types.Proposal = refl
-type_one_line types.TransferLeader = refl
-type_one_line types.TimeoutNow = refl
+type_one_line type = refl
 
 -- an answer is in one line
 answer_one_line : (granted : Bool) → is_one_line (answer_text granted) ≡ true
@@ -291,7 +269,7 @@ level_one_line levels.Fatal = refl
 level_one_line levels.None = refl
 
 -- why a node can't campaign is in one line
-no_campaign_one_line : (x : WhyNoCampaign) → is_one_line (no_campaign_text x) ≡ true
+pub no_campaign_one_line : (x : WhyNoCampaign) → is_one_line (no_campaign_text x) ≡ true
 no_campaign_one_line no_campaign.Leader = refl
 no_campaign_one_line no_campaign.NotAVoter = refl
 no_campaign_one_line no_campaign.SnapshotPending = refl
@@ -299,19 +277,19 @@ no_campaign_one_line no_campaign.ChangePending = refl
 no_campaign_one_line no_campaign.TermLimit = refl
 
 -- why a change is replaced is in one line
-replaced_one_line : (x : WhyReplaced) → is_one_line (replaced_text x) ≡ true
+pub replaced_one_line : (x : WhyReplaced) → is_one_line (replaced_text x) ≡ true
 replaced_one_line replaced.Unapplied = refl
 replaced_one_line replaced.Joint = refl
 replaced_one_line replaced.NotJoint = refl
 
 -- what votes come to is in one line
-votes_one_line : (x : VoteResult) → is_one_line (votes_text x) ≡ true
+pub votes_one_line : (x : VoteResult) → is_one_line (votes_text x) ≡ true
 votes_one_line votes.Won = refl
 votes_one_line votes.Lost = refl
 votes_one_line votes.Pending = refl
 
 -- the name of a fault is in one line
-fault_one_line : (x : ChangeFault) → is_one_line (fault_text x) ≡ true
+pub fault_one_line : (x : ChangeFault) → is_one_line (fault_text x) ≡ true
 fault_one_line faults.AlreadyJoint = refl
 fault_one_line faults.NotJoint = refl
 fault_one_line faults.SimpleWhileJoint = refl

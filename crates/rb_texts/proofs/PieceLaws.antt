@@ -1,5 +1,6 @@
 -- Texts that join a line one after the other, and texts of lists.
-use Rattle.std.proofs.Common.{◌≡◌, ℕ, ◌<◌, ◌+◌, List, [], ◌∷◌, ◌++◌, length, take, get_or, decimal, refl, ap, sym, ◌∙◌, append_assoc, append-nil}
+use Rattle.std.proofs.Common.{◌≡◌, ℕ, ◌<◌, ◌≤◌, ◌^◌, ◌+◌, ◌/◌, ◌%◌, List, [], ◌∷◌, ◌++◌, length, take, get_or, decimal, refl, ap, sym, ◌∙◌, append_assoc, append-nil, arith}
+use Rattle.std.proofs.lemmas.Fmt.{decimal_digit, decimal_step}
 use Rattle.std.proofs.lemmas.List.{take_more}
 use Rattle.std.proofs.lemmas.List.Concat.{flat_map-append}
 use Rattle.std.specs.List.{flat_map}
@@ -8,6 +9,13 @@ use Rattle.rb_texts.specs.Configs.{ids_text}
 -- texts that join the line in two steps
 pub added_twice : (before now after a b : List ℕ) → now ≡ before ++ a → after ≡ now ++ b → after ≡ before ++ (a ++ b)
 added_twice before now after a b first second = second ∙ ap (λ (l : List ℕ). l ++ b) first ∙ append_assoc before a b
+
+-- a number of two digits
+pub two_digits : (n : ℕ) → 10 ≤ n → n < 100 → decimal n ≡ (48 + n / 10) ∷ (48 + n % 10) ∷ []
+two_digits n least most =
+    let small : n < 2 ^ 64 = omega arith in
+    let first : n / 10 < 10 = omega arith in
+    (decimal_step n least small) ∙ ap (λ (l : List ℕ). l ++ (48 + n % 10) ∷ []) (decimal_digit (n / 10) first)
 
 -- a further id
 abbrev pub comma_before : ℕ → List ℕ

@@ -19,11 +19,8 @@ word_pieces text word n e =
     ap (λ (l : List ℕ). text ++ l) (append-nil (quoted (take n word)) ∙ ap (λ (m : ℕ). quoted (take m word)) same ∙ ap quoted (take_min WORD_SHOWN word))
 
 -- the whole line of an item that is shown
-pub line_joined : (before after : List Line) (empty line : List ℕ) (level : Level) (item : PlainItem) → is_shown level item ≡ true → empty ≡ [] → line ≡ empty ++ item_text item → after ≡ before ++ line ∷ []
-    → after ≡ before ++ line_of level item
-line_joined before after empty line level item shown none add push =
-    push ∙ ap (λ (l : Line). before ++ l ∷ []) (add ∙ ap (λ (l : Line). l ++ item_text item) none)
-    ∙ ap (λ (b : Bool). before ++ (if b then item_text item ∷ [] else [])) (sym shown)
+pub line_joined : (before after : List Line) (level : Level) (item : PlainItem) → is_shown level item ≡ true → after ≡ before ++ item_text item ∷ [] → after ≡ before ++ line_of level item
+line_joined before after level item shown push = push ∙ ap (λ (b : Bool). before ++ (if b then item_text item ∷ [] else [])) (sym shown)
 
 -- the parts of a configuration joined the line one after the other
 pub config_joined : (before one two three four after : List ℕ) (c : Config) → one ≡ before ++ (codes "voters=(" ++ (ids_text c.incoming ++ (codes ")" ++ [])))

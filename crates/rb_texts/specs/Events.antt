@@ -2,9 +2,10 @@
 use Rattle.std.specs.Prelude.{ℕ, Bool, codes, decimal, List, ◌++◌}
 use Rattle.rb_level.specs.declared.level.Level.{Level}
 use Rattle.rb_level.specs.declared.level.Level.TheVariants as levels
+use Rattle.rb_level.specs.declared.message_type.MessageType.{MessageType}
+use Rattle.rb_level.specs.MessageTypes.{type_text}
 use Rattle.rb_message.specs.declared.event.Event.{Event}
 use Rattle.rb_message.specs.declared.event.Event.TheVariants as events
-use Rattle.rb_message.specs.declared.message_type.MessageType.{MessageType}
 use Rattle.rb_message.specs.declared.role.Role.{Role}
 use Rattle.rb_message.specs.declared.event.WhyNoCampaign.{WhyNoCampaign}
 use Rattle.rb_message.specs.declared.event.WhyNoCampaign.TheVariants as no_campaign
@@ -17,7 +18,7 @@ use Rattle.rb_tracker.specs.declared.votes.VoteResult.{VoteResult}
 use Rattle.rb_tracker.specs.declared.votes.VoteResult.TheVariants as votes
 use Rattle.rb_texts.specs.Configs.{config_text}
 use Rattle.rb_texts.specs.Entries.{place_text}
-use Rattle.rb_texts.specs.Messages.{answer_text, type_text}
+use Rattle.rb_texts.specs.Messages.{answer_text}
 use Rattle.rb_texts.specs.States.{role_text}
 
 -- the level of an event

@@ -1,29 +1,14 @@
 -- Messages as a line shows them. (The types are named as in etcd raft's documentation, "MessageType"; the texts are this project's.)
 use Rattle.std.specs.Prelude.{ℕ, Bool, false, if◌then◌else◌, codes, decimal, List, [], ◌++◌, length}
+use Rattle.rb_level.specs.MessageTypes.{type_text}
 use Rattle.rb_message.specs.declared.kind.MessageKind.{MessageKind}
 use Rattle.rb_message.specs.declared.kind.MessageKind.TheVariants as kinds
 use Rattle.rb_message.specs.declared.message.Message.{Message}
-use Rattle.rb_message.specs.declared.message_type.MessageType.{MessageType}
-use Rattle.rb_message.specs.declared.message_type.MessageType.TheVariants as types
 use Rattle.rb_message.specs.Appends.{PlainAppend}
 use Rattle.rb_message.specs.Messages.{type_of, has_term}
 use Rattle.rb_texts.specs.declared.item.Verb.{Verb}
 use Rattle.rb_texts.specs.declared.item.Verb.TheVariants as verbs
 use Rattle.rb_texts.specs.Entries.{place_text, body_text}
-
-abbrev pub type_text : MessageType → List ℕ
-type_text types.Vote = codes "MsgVote"
-type_text types.PreVote = codes "MsgPreVote"
-type_text types.VoteResponse = codes "MsgVoteResp"
-type_text types.PreVoteResponse = codes "MsgPreVoteResp"
-type_text types.Append = codes "MsgApp"
-type_text types.AppendResponse = codes "MsgAppResp"
-type_text types.Heartbeat = codes "MsgHeartbeat"
-type_text types.HeartbeatResponse = codes "MsgHeartbeatResp"
-type_text types.Snapshot = codes "MsgSnap"
-type_text types.Proposal = codes "MsgProp"
-type_text types.TransferLeader = codes "MsgTransferLeader"
-type_text types.TimeoutNow = codes "MsgTimeoutNow"
 
 abbrev pub answer_text : Bool → List ℕ
 answer_text granted = if granted then codes "granted" else codes "refused"

@@ -7,7 +7,7 @@ ghost use Rattle.std.specs.Prelude.{◌≡◌, ◌++◌, codes, OnOk};
 ghost use Rattle.std.specs.List.{flat_map};
 ghost use Rattle.rb_texts.specs.Entries.{transition_text, letter, change_word, body_text, entry_text};
 
-use crate::piece::{Piece, add_pieces};
+use crate::piece::{Piece, add_bytes, add_pieces, add_place, add_quoted};
 use rb_change::{Transition, Word, WordKind};
 use rb_raftlog::{Body, Entry};
 use std::alloc::AllocError;
@@ -69,7 +69,7 @@ pub(crate) fn add_body(line: &mut Vec<u8>, body: &Body) -> Result<(), AllocError
     ensures { OnOk result (line.new.items ≡ line.old.items ++ body_text body.now) }
 {
     match body {
-        Body::Payload(bytes) => add_pieces(line, &[Piece::Quoted(bytes.as_slice())]),
+        Body::Payload(bytes) => add_quoted(line, bytes.as_slice()),
         Body::Change { transition, words } => add_change(line, *transition, words.as_slice()),
     }
 }
@@ -77,6 +77,7 @@ pub(crate) fn add_body(line: &mut Vec<u8>, body: &Body) -> Result<(), AllocError
 pub(crate) fn add_entry(line: &mut Vec<u8>, index: u64, entry: &Entry) -> Result<(), AllocError>
     ensures { OnOk result (line.new.items ≡ line.old.items ++ entry_text index entry.now) }
 {
-    add_pieces(line, &[Piece::Place(entry.term, index), Piece::Bytes(b" ")])?;
+    add_place(line, entry.term, index)?;
+    add_bytes(line, b" ")?;
     add_body(line, &entry.body)
 }

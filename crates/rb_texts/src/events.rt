@@ -8,11 +8,11 @@ ghost use Rattle.rb_texts.specs.Entries.{place_text};
 ghost use Rattle.rb_texts.specs.Events.{event_level, level_text, no_campaign_text, replaced_text, votes_text, fault_text, started_text, became_text, vote_counted_text, ignored_text, conflict_text, replaced_change_text, refused_change_text, happening_text, event_text};
 
 use crate::configs::add_config;
-use crate::messages::{answer_name, type_name};
+use crate::messages::answer_name;
 use crate::piece::{Piece, add_bytes, add_pieces};
 use crate::states::role_name;
-use rb_level::Level;
-use rb_message::{Event, MessageType, Role, WhyNoCampaign, WhyReplaced};
+use rb_level::{Level, MessageType};
+use rb_message::{Event, Role, WhyNoCampaign, WhyReplaced};
 use rb_tracker::{ChangeFault, Config, VoteResult};
 use std::alloc::AllocError;
 
@@ -170,7 +170,7 @@ fn add_vote_counted(
     let pieces = [
         Piece::Number(id),
         Piece::Bytes(b" has "),
-        Piece::Bytes(type_name(message_type)),
+        Piece::Bytes(message_type.text()),
         Piece::Bytes(b" "),
         Piece::Bytes(answer_name(granted)),
         Piece::Field(b" from ", from),
@@ -191,7 +191,7 @@ fn add_ignored(
     let pieces = [
         Piece::Number(id),
         Piece::Bytes(b" ignored "),
-        Piece::Bytes(type_name(message_type)),
+        Piece::Bytes(message_type.text()),
         Piece::Field(b" from ", from),
     ];
     add_pieces(line, &pieces)

@@ -5,33 +5,14 @@
 
 ghost use Rattle.std.specs.Prelude.{◌≡◌, ◌++◌, codes, decimal, OnOk};
 ghost use Rattle.rb_texts.specs.Entries.{body_text, place_text};
-ghost use Rattle.rb_texts.specs.Messages.{type_text, answer_text, vote_text, append_text, refusal_text, kind_text, term_text, message_text, verb_text};
+ghost use Rattle.rb_texts.specs.Messages.{answer_text, vote_text, append_text, refusal_text, kind_text, term_text, message_text, verb_text};
 
 use crate::entries::add_body;
 use crate::item::Verb;
-use crate::piece::{Piece, add_bytes, add_pieces, shown_if};
-use rb_message::{Append, Message, MessageKind, MessageType};
+use crate::piece::{Piece, add_bytes, add_field, add_numbered, add_pieces, add_place, shown_if};
+use rb_message::{Append, Message, MessageKind};
 use rb_raftlog::{Body, Snapshot};
 use std::alloc::AllocError;
-
-pub(crate) fn type_name(message_type: MessageType) -> &'static [u8]
-    ensures { result.now ≡ type_text message_type }
-{
-    match message_type {
-        MessageType::Vote => b"MsgVote",
-        MessageType::PreVote => b"MsgPreVote",
-        MessageType::VoteResponse => b"MsgVoteResp",
-        MessageType::PreVoteResponse => b"MsgPreVoteResp",
-        MessageType::Append => b"MsgApp",
-        MessageType::AppendResponse => b"MsgAppResp",
-        MessageType::Heartbeat => b"MsgHeartbeat",
-        MessageType::HeartbeatResponse => b"MsgHeartbeatResp",
-        MessageType::Snapshot => b"MsgSnap",
-        MessageType::Proposal => b"MsgProp",
-        MessageType::TransferLeader => b"MsgTransferLeader",
-        MessageType::TimeoutNow => b"MsgTimeoutNow",
-    }
-}
 
 pub(crate) fn answer_name(granted: bool) -> &'static [u8]
     ensures { result.now ≡ answer_text granted }
@@ -76,13 +57,10 @@ fn add_answer(line: &mut Vec<u8>, granted: bool) -> Result<(), AllocError>
 fn add_append(line: &mut Vec<u8>, append: &Append) -> Result<(), AllocError>
     ensures { OnOk result (line.new.items ≡ line.old.items ++ append_text append.now) }
 {
-    let pieces = [
-        Piece::Bytes(b" prev="),
-        Piece::Place(append.prev_term(), append.prev()),
-        Piece::Field(b" commit=", append.commit()),
-        Piece::Field(b" entries=", append.entries().len() as u64),
-    ];
-    add_pieces(line, &pieces)
+    add_bytes(line, b" prev=")?;
+    add_place(line, append.prev_term(), append.prev())?;
+    add_field(line, b" commit=", append.commit())?;
+    add_field(line, b" entries=", append.entries().len() as u64)
 }
 
 fn add_refusal(line: &mut Vec<u8>, refused: u64, hint: u64) -> Result<(), AllocError>
@@ -112,13 +90,6 @@ fn add_proposal(line: &mut Vec<u8>, body: &Body) -> Result<(), AllocError>
     add_body(line, body)
 }
 
-// Adds a text, and a number.
-fn add_counted<'a>(line: &mut Vec<u8>, text: &'a [u8], n: u64) -> Result<(), AllocError>
-    ensures { OnOk result (line.new.items ≡ line.old.items ++ (text.now ++ decimal n)) }
-{
-    add_pieces(line, &[Piece::Field(text, n)])
-}
-
 // Adds what a message says.
 #[tactic(auto, unfolding(crate::specs::Messages::kind_text))]
 fn add_kind(line: &mut Vec<u8>, kind: &MessageKind) -> Result<(), AllocError>
@@ -137,13 +108,13 @@ fn add_kind(line: &mut Vec<u8>, kind: &MessageKind) -> Result<(), AllocError>
         MessageKind::VoteResponse { granted } => add_answer(line, *granted),
         MessageKind::PreVoteResponse { granted } => add_answer(line, *granted),
         MessageKind::Append(append) => add_append(line, append),
-        MessageKind::AppendResponse { matched } => add_counted(line, b" match=", *matched),
+        MessageKind::AppendResponse { matched } => add_field(line, b" match=", *matched),
         MessageKind::AppendRefusal { refused, hint } => add_refusal(line, *refused, *hint),
-        MessageKind::Heartbeat { commit } => add_counted(line, b" commit=", *commit),
+        MessageKind::Heartbeat { commit } => add_field(line, b" commit=", *commit),
         MessageKind::HeartbeatResponse => Ok(()),
         MessageKind::Snapshot(install) => add_snapshot(line, install.snapshot()),
         MessageKind::Proposal(body) => add_proposal(line, body),
-        MessageKind::TransferLeader { target } => add_counted(line, b" target=", *target),
+        MessageKind::TransferLeader { target } => add_field(line, b" target=", *target),
         MessageKind::TimeoutNow => Ok(()),
     }
 }
@@ -155,20 +126,22 @@ fn add_term(line: &mut Vec<u8>, message: &Message) -> Result<(), AllocError>
     if !message.kind.has_term() {
         return Ok(());
     }
-    add_counted(line, b" term=", message.term)
+    add_field(line, b" term=", message.term)
+}
+
+// Adds who sent a message to whom.
+fn add_way(line: &mut Vec<u8>, from: u64, to: u64) -> Result<(), AllocError>
+    ensures { OnOk result (line.new.items ≡ line.old.items ++ (decimal from ++ codes "->" ++ decimal to ++ codes " ")) }
+{
+    add_numbered(line, from, b"->")?;
+    add_numbered(line, to, b" ")
 }
 
 pub(crate) fn add_message(line: &mut Vec<u8>, message: &Message) -> Result<(), AllocError>
     ensures { OnOk result (line.new.items ≡ line.old.items ++ message_text message.now) }
 {
-    let pieces = [
-        Piece::Number(message.from),
-        Piece::Bytes(b"->"),
-        Piece::Number(message.to),
-        Piece::Bytes(b" "),
-        Piece::Bytes(type_name(message.kind.message_type())),
-    ];
-    add_pieces(line, &pieces)?;
+    add_way(line, message.from, message.to)?;
+    add_bytes(line, message.kind.message_type().text())?;
     add_term(line, message)?;
     add_kind(line, &message.kind)
 }

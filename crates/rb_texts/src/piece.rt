@@ -73,24 +73,56 @@ fn add_piece(line: &mut Vec<u8>, piece: Piece<'_>) -> Result<(), AllocError>
     }
 }
 
-fn add_number(line: &mut Vec<u8>, n: u64) -> Result<(), AllocError>
+/// Adds a number in decimal digits.
+pub(crate) fn add_number(line: &mut Vec<u8>, n: u64) -> Result<(), AllocError>
     ensures { OnOk result (line.new.items ≡ line.old.items ++ decimal n) }
 {
     if n < 10 {
         return add_byte(line, b'0' + n as u8);
     }
+    if n < 100 {
+        return add_two_digits(line, n);
+    }
+    add_digits(line, n)
+}
+
+fn add_two_digits(line: &mut Vec<u8>, n: u64) -> Result<(), AllocError>
+    requires least { 10 ≤ n }
+    requires most { n < 100 }
+    ensures { OnOk result (line.new.items ≡ line.old.items ++ decimal n) }
+{
+    add_bytes(line, &[b'0' + (n / 10) as u8, b'0' + (n % 10) as u8])
+}
+
+// It stands apart, since its buffer is cleared as it begins: a short number needs none.
+#[inline(never)]
+fn add_digits(line: &mut Vec<u8>, n: u64) -> Result<(), AllocError>
+    ensures { OnOk result (line.new.items ≡ line.old.items ++ decimal n) }
+{
     let mut digits = Buffer::new();
     add_bytes(line, digits.format(n).as_bytes())
 }
 
-fn add_field(line: &mut Vec<u8>, name: &[u8], n: u64) -> Result<(), AllocError>
+/// Adds bytes, and a number after them.
+#[inline(always)]
+pub(crate) fn add_field(line: &mut Vec<u8>, name: &[u8], n: u64) -> Result<(), AllocError>
     ensures { OnOk result (line.new.items ≡ line.old.items ++ (name.now ++ decimal n)) }
 {
     add_bytes(line, name)?;
     add_number(line, n)
 }
 
-fn add_place(line: &mut Vec<u8>, term: u64, index: u64) -> Result<(), AllocError>
+/// Adds a number, and bytes after it.
+#[inline(always)]
+pub(crate) fn add_numbered(line: &mut Vec<u8>, n: u64, bytes: &[u8]) -> Result<(), AllocError>
+    ensures { OnOk result (line.new.items ≡ line.old.items ++ (decimal n ++ bytes.now)) }
+{
+    add_number(line, n)?;
+    add_bytes(line, bytes)
+}
+
+/// Adds a term and an index, with a slash between them.
+pub(crate) fn add_place(line: &mut Vec<u8>, term: u64, index: u64) -> Result<(), AllocError>
     ensures { OnOk result (line.new.items ≡ line.old.items ++ place_text term index) }
 {
     add_number(line, term)?;
@@ -156,8 +188,8 @@ fn numbered(b: u8) -> [u8; 4]
     [b'\\', b'x', hex_digit(b / 16), hex_digit(b % 16)]
 }
 
-// Adds the bytes in double quotes: what stands for itself in one piece, and each other byte by its number.
-fn add_quoted(line: &mut Vec<u8>, bytes: &[u8]) -> Result<(), AllocError>
+/// Adds the bytes in double quotes: what stands for itself in one piece, and each other byte by its number.
+pub(crate) fn add_quoted(line: &mut Vec<u8>, bytes: &[u8]) -> Result<(), AllocError>
     ensures { OnOk result (line.new.items ≡ line.old.items ++ quoted bytes.now) }
 {
     add_bytes(line, b"\"")?;

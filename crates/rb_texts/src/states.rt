@@ -8,7 +8,7 @@ ghost use Rattle.rb_texts.specs.Items.{plain_node};
 ghost use Rattle.rb_texts.specs.States.{role_text, node_text, hard_state_text, log_text, progress_state_text, under_way_text, progress_text};
 
 use crate::item::{LogLine, NodeLine};
-use crate::piece::{Piece, add_bytes, add_pieces, shown_if};
+use crate::piece::{Piece, add_bytes, add_field, add_pieces, shown_if};
 use rb_message::{HardState, Role};
 use rb_tracker::{Progress, ProgressState};
 use std::alloc::AllocError;
@@ -46,12 +46,9 @@ pub(crate) fn add_node(line: &mut Vec<u8>, node: &NodeLine<'_>) -> Result<(), Al
 pub(crate) fn add_hard_state(line: &mut Vec<u8>, hard: &HardState) -> Result<(), AllocError>
     ensures { OnOk result (line.new.items ≡ line.old.items ++ hard_state_text hard.now) }
 {
-    let pieces = [
-        Piece::Field(b"  hard term=", hard.term),
-        Piece::Field(b" vote=", hard.vote),
-        Piece::Field(b" commit=", hard.commit),
-    ];
-    add_pieces(line, &pieces)
+    add_field(line, b"  hard term=", hard.term)?;
+    add_field(line, b" vote=", hard.vote)?;
+    add_field(line, b" commit=", hard.commit)
 }
 
 pub(crate) fn add_log(line: &mut Vec<u8>, log: &LogLine) -> Result<(), AllocError>

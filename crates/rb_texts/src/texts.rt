@@ -12,12 +12,12 @@ use crate::errors::add_error;
 use crate::events::{add_event, event_level};
 use crate::item::{Item, Verb};
 use crate::messages::{add_message, verb_name};
-use crate::piece::{Piece, add_bytes, add_pieces, shown_if};
+use crate::piece::{Piece, add_bytes, add_numbered, add_pieces, shown_if};
 use crate::states::{add_hard_state, add_log, add_node, add_progress};
 use rb_level::Level;
 use rb_message::Message;
 use rb_raftlog::Entry;
-use rb_script::Lines;
+use rb_script::{Lines, WrittenLine};
 use std::alloc::AllocError;
 
 // Most lines are shorter, and a line that is longer takes more room. The room of a list's first line is the list's from then on: most lists
@@ -35,16 +35,24 @@ pub fn put(lines: &mut Lines, level: Level, item: &Item<'_>) -> Result<(), Alloc
     if !is_shown(level, item) {
         return Ok(());
     }
-    let mut line = lines.new_text(room_of(item))?;
-    add_item(&mut line, item)?;
-    lines.push_text(line)
+    lines.push_written(item)
 }
 
-// How much room the line of an item begins with.
-fn room_of(item: &Item<'_>) -> usize {
-    match item {
-        Item::NothingElse => OK_ROOM,
-        _ => ROOM,
+impl WrittenLine for Item<'_> {
+    ghost use Rattle.rb_texts.specs.Items.{plain_item};
+    ghost use Rattle.rb_texts.specs.Texts.{item_text};
+
+    ghost bytes = { λ item. item_text (plain_item item) };
+
+    fn room(&self) -> usize {
+        match self {
+            Item::NothingElse => OK_ROOM,
+            _ => ROOM,
+        }
+    }
+
+    fn add_to(&self, text: &mut Vec<u8>) -> Result<(), AllocError> {
+        add_item(text, self)
     }
 }
 
@@ -129,13 +137,13 @@ fn add_item(line: &mut Vec<u8>, item: &Item<'_>) -> Result<(), AllocError>
 {
     match item {
         Item::NothingElse => add_bytes(line, b"ok"),
-        Item::Ready(id) => add_counted(line, b"", *id, b" ready"),
+        Item::Ready(id) => add_numbered(line, *id, b" ready"),
         Item::HardState(hard) => add_hard_state(line, hard),
         Item::Snapshot(term, index) => add_snapshot(line, *term, *index),
         Item::Save(index, entry) => add_entry_after(line, b"  save ", *index, entry),
         Item::Apply(index, entry) => add_entry_after(line, b"  apply ", *index, entry),
         Item::Send(message) => add_message_after(line, b"  send ", message),
-        Item::NothingReady(id) => add_counted(line, b"", *id, b" has nothing ready"),
+        Item::NothingReady(id) => add_numbered(line, *id, b" has nothing ready"),
         Item::Moved(verb, message) => add_moved(line, *verb, message),
         Item::NoMessages => add_bytes(line, b"no messages"),
         Item::Stopped(rounds) => add_counted(line, b"stopped after ", *rounds, b" rounds"),

@@ -6,11 +6,11 @@ use Rattle.rb_script.proofs.edits.all_expecting.Goals as goal
 
 pub loop-i-preserved : goal.loop-i-preserved
 loop-i-preserved c =
-    expecting_more c.args.blocks.now c.args.outputs.now c.loop-i.i c.index-blocks-i.result c.index-outputs-i.result c.loop-i-test.true c.index-blocks-i.is (omega arith) c.index-outputs-i.is
+    expecting_more c.args.blocks.now c.args.outputs.now c.loop-i.i c.at.result.now.value c.index-outputs-i.result c.at.ensures (omega arith) c.index-outputs-i.is
     _ c.loop-i.made.items c.push.new.self.items c.in_ok-expecting.field-0 c.in_ok-push.ensures.items c.in_ok-expecting.ensures c.loop-i.invariant
 
 pub returns : goal.returns
 returns c =
     let blocks = c.args.blocks.now in
     let outputs = c.args.outputs.now in
-    expecting_all blocks outputs c.loop-i.i (values c.loop-i.made.items) (all_expecting (values blocks) outputs) c.loop-i-test.false c.loop-i.invariant
+    expecting_all blocks outputs c.loop-i.i (values c.loop-i.made.items) (all_expecting blocks outputs) (omega arith) c.loop-i.invariant

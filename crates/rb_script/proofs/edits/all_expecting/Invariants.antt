@@ -5,4 +5,4 @@ use Rattle.rb_script.specs.Shared.{values}
 use Rattle.rb_script.proofs.edits.all_expecting.Given as goal
 
 abbrev pub invariant-loop-i : goal.invariant-loop-i
-invariant-loop-i l = values l.made.items ++ all_expecting (drop l.i (values l.blocks)) (drop l.i l.outputs) ≡ all_expecting (values l.blocks) l.outputs
+invariant-loop-i l = values l.made.items ++ all_expecting (drop l.i l.blocks) (drop l.i l.outputs) ≡ all_expecting l.blocks l.outputs

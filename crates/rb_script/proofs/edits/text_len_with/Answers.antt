@@ -1,7 +1,6 @@
 use Rattle.std.proofs.Common.{◌+◌, length, min, drop, ap, ◌∙◌, arith}
 use Rattle.rb_script.specs.Script.{PlainBlock, block_text, all_expecting, expecting}
 use Rattle.rb_script.specs.Reading.{capped}
-use Rattle.rb_script.specs.Shared.{values}
 use Rattle.rb_script.proofs.SharedLaws.{expecting_split, expecting_none}
 use Rattle.rb_script.proofs.LengthLaws.{blocks_len, sum_more, sum_end}
 use Rattle.rb_script.proofs.edits.text_len_with.Goals as goal
@@ -9,11 +8,11 @@ use Rattle.rb_script.proofs.edits.text_len_with.Goals as goal
 pub loop-i-preserved : goal.loop-i-preserved
 loop-i-preserved c =
     let i = c.loop-i.i in
-    let block = c.index-blocks-i.result in
+    let block = c.at-block.result.now.value in
     let output = c.index-outputs-i.result in
-    let split = expecting_split c.args.blocks.now c.args.outputs.now i block output c.loop-i-test.true c.index-blocks-i.is (omega arith) c.index-outputs-i.is in
+    let split = expecting_split c.args.blocks.now c.args.outputs.now i block output c.at-block.ensures (omega arith) c.index-outputs-i.is in
     record {
-      same = sum_more (expecting block.value output) _ _ c.loop-i.total c.saturating_add-total.result _ split
+      same = sum_more (expecting block output) _ _ c.loop-i.total c.saturating_add-total.result _ split
           (c.saturating_add-total.ensures ∙ ap (λ n. min (c.loop-i.total + n) 18446744073709551615) (c.text_len_with.ensures ∙ ap (λ (b : PlainBlock). capped (length (block_text (expecting b output)))) c.deref.ensures))
           c.loop-i.invariant.same;
       fits = omega arith;
@@ -21,7 +20,7 @@ loop-i-preserved c =
 
 pub returns : goal.returns
 returns c =
-    let bs = values c.args.blocks.now in
+    let bs = c.args.blocks.now in
     let outputs = c.args.outputs.now in
     let i = c.loop-i.i in
-    sum_end (all_expecting (drop i bs) (drop i outputs)) c.loop-i.total (capped (blocks_len (all_expecting bs outputs))) (expecting_none c.args.blocks.now (drop i outputs) i c.loop-i-test.false) c.loop-i.invariant.fits c.loop-i.invariant.same
+    sum_end (all_expecting (drop i bs) (drop i outputs)) c.loop-i.total (capped (blocks_len (all_expecting bs outputs))) (expecting_none bs (drop i outputs) i (omega arith)) c.loop-i.invariant.fits c.loop-i.invariant.same

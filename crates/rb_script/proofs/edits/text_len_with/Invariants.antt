@@ -2,12 +2,11 @@
 use Rattle.std.proofs.Common.{◌≡◌, ◌+◌, ◌<◌, ◌^◌, drop}
 use Rattle.rb_script.specs.Script.{all_expecting}
 use Rattle.rb_script.specs.Reading.{capped}
-use Rattle.rb_script.specs.Shared.{values}
 use Rattle.rb_script.proofs.LengthLaws.{blocks_len}
 use Rattle.rb_script.proofs.edits.text_len_with.Given as goal
 
 abbrev pub invariant-loop-i : goal.invariant-loop-i
 invariant-loop-i l = record {
-  same : capped (l.total + blocks_len (all_expecting (drop l.i (values l.blocks)) (drop l.i l.outputs))) ≡ capped (blocks_len (all_expecting (values l.blocks) l.outputs));
+  same : capped (l.total + blocks_len (all_expecting (drop l.i l.blocks) (drop l.i l.outputs))) ≡ capped (blocks_len (all_expecting l.blocks l.outputs));
   fits : l.total < 2 ^ 64;
 }

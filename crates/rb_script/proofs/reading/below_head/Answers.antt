@@ -1,5 +1,6 @@
 use Rattle.std.proofs.Common.{◌+◌, [], length, drop, get_or, sym, ap, ◌∙◌, arith}
 use Rattle.std.proofs.lemmas.List.{drop_all, drop_more, length-drop}
+use Rattle.rb_script.specs.Flat.{between}
 use Rattle.rb_script.specs.Found.{seen}
 use Rattle.rb_script.proofs.BlockLaws.{number_is, below_none, below_open, below_read}
 use Rattle.rb_script.proofs.reading.below_head.Goals as goal
@@ -21,5 +22,5 @@ pub returns-clause-gives : goal.returns-clause-gives
 returns-clause-gives c =
     let all = c.args.all.now in
     let at = c.run-separator.result in
-    below_read (1 + length all) c.args.number (drop c.args.start all) (drop at all) c.run-separator.ensures.rest c.in_ok-input.input (drop (at + 1) all) c.in-Some.expected (drop c.in-Some.after all) (get_or all at [])
-    (c.in_ok-input.ensures ∙ c.run-separator.ensures.run) (drop_more all at [] (omega arith)) (ap (seen all) (sym c.in-Some.is) ∙ c.in_ok-expected.ensures.found)
+    below_read (1 + length all) c.args.number (drop c.args.start all) (drop at all) c.run-separator.ensures.rest (between c.args.start at all) (drop (at + 1) all) c.in-Some.expected (drop c.in-Some.after all) (get_or all at [])
+    c.run-separator.ensures.run (drop_more all at [] (omega arith)) (ap (seen all) (sym c.in-Some.is) ∙ c.in_ok-expected.ensures.found)

@@ -8,8 +8,8 @@ use Rattle.rb_script.proofs.BlocksLaws.{with_blocks}
 use Rattle.rb_script.proofs.HeadLineLaws.{HeadsSoFar}
 use Rattle.rb_script.proofs.reading.blocks.Given as goal
 
-abbrev pub invariant-loop-heads : goal.invariant-loop-heads
-invariant-loop-heads l = record {
+abbrev pub invariant-loop-alloc : goal.invariant-loop-alloc
+invariant-loop-alloc l = record {
   within : l.at ≤ length l.all;
   read : with_blocks (values l.found.items) (blocks_at (MAX_DIRECTIVES - vec_len l.found) (1 + length l.all) (drop l.at l.all)) ≡ blocks_at MAX_DIRECTIVES (1 + length l.all) l.all;
   lines_left : AllByRecursion IsLine (drop l.at l.all);
@@ -17,5 +17,5 @@ invariant-loop-heads l = record {
   heads : HeadsSoFar 1 l.all (values l.found.items) (drop l.at l.all) l.heads.items;
 }
 
-abbrev pub decreases-loop-heads : goal.decreases-loop-heads
-decreases-loop-heads l = MAX_DIRECTIVES - vec_len l.found
+abbrev pub decreases-loop-alloc : goal.decreases-loop-alloc
+decreases-loop-alloc l = MAX_DIRECTIVES - vec_len l.found

@@ -11,5 +11,5 @@ returns-in_default-clause-found c = ap then_blank (ap (pair_seen c.args.all.now 
 pub returns-clause-found : goal.returns-clause-found
 returns-clause-found c =
     let all = c.args.all.now in
-    double_found (between c.args.start c.in-Some.close all) (drop c.in-Some.after all) c.in_ok-expected.expected (drop c.after_blank.result all) _
-    (ap (pair_seen all c.args.start) (sym c.in-Some.is) ∙ c.pair.ensures.found) c.in_ok-expected.ensures c.after_blank.ensures.rest
+    double_found (between c.args.start c.in-Some.close all) (drop c.in-Some.after all) c.new-expected.result (drop c.after_blank.result all) _
+    (ap (pair_seen all c.args.start) (sym c.in-Some.is) ∙ c.pair.ensures.found) (c.new-expected.ensures ∙ c.in_ok-part.ensures) c.after_blank.ensures.rest

@@ -6,7 +6,6 @@ use Rattle.rb_texts.proofs.texts.put.Goals as goal
 
 pub returns : goal.returns
 returns c =
-    on_ok_weaker c.push_text.result
-    (line_joined c.args.lines.now c.push_text.new.self c.in_ok-line.line.items _ c.args.level (plain_item c.args.item.now) (sym c.is_shown.ensures ∙ c.if-not-is_shown.false)
-    c.in_ok-line.ensures.empty c.in_ok-add_item.ensures)
-    c.push_text.ensures.ok
+    on_ok_weaker c.push_written.result
+    (line_joined c.args.lines.now c.push_written.new.self c.args.level (plain_item c.args.item.now) (sym c.is_shown.ensures ∙ c.if-not-is_shown.false))
+    c.push_written.ensures

@@ -4,5 +4,4 @@ use Rattle.rb_script.proofs.block.Block.with_expected.Goals as goal
 pub new-requires-clause-block : goal.new-requires-clause-block
 new-requires-clause-block c =
     let held = expecting_valid _ c.args.lines.now c.self.invariant.block c.requires in
-    let same = c.in_ok-clone.ensures.cases in
-    rw (same, c.in_ok-try_copy.ensures) held
+    rw (c.new-expected.ensures, c.in_ok-try_copy.ensures, c.in_ok-try_copy-2.ensures) held

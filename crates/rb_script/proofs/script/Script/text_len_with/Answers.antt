@@ -2,7 +2,6 @@ use Rattle.std.proofs.Common.{length, ap, ◌∙◌, arith}
 use Rattle.rb_script.specs.Lines.{text_of}
 use Rattle.rb_script.specs.Script.{PlainScript, all_expecting, with_outputs}
 use Rattle.rb_script.specs.Reading.{capped}
-use Rattle.rb_script.specs.Shared.{values}
 use Rattle.rb_script.proofs.LengthLaws.{blocks_len, text-length}
 use Rattle.rb_script.proofs.script.Script.text_len_with.Goals as goal
 
@@ -11,5 +10,5 @@ returns c =
     let outputs = c.args.outputs.now in
     let whole = text-length (with_outputs c.args.self.now outputs) in
     let tail = ap length (c.text-tail.ensures ∙ ap text_of c.deref.ensures ∙ ap (λ (s : PlainScript). text_of s.tail) c.self.view_is) in
-    let blocks = c.text_len_with.ensures ∙ ap (λ ps. capped (blocks_len (all_expecting (values ps) outputs))) c.deref-2.ensures.value ∙ ap (λ (s : PlainScript). capped (blocks_len (all_expecting s.blocks outputs))) c.self.view_is in
+    let blocks = c.text_len_with.ensures ∙ ap (λ (s : PlainScript). capped (blocks_len (all_expecting s.blocks outputs))) c.self.view_is in
     omega (arith, whole, tail, blocks)

@@ -1,9 +1,9 @@
-use Rattle.std.proofs.Common.{◌≡◌, ◌++◌, drop, ◌+◌, ap, ◌∙◌}
+use Rattle.std.proofs.Common.{◌≡◌, ◌++◌, drop, ◌+◌, ap, ◌∙◌, arith}
+use Rattle.std.proofs.lemmas.List.{drop_all}
 use Rattle.std.specs.List.{flat_map}
 use Rattle.rb_script.specs.Lines.{text_of}
 use Rattle.rb_script.specs.Script.{block_lines, block_text, script_lines, expecting, text}
-use Rattle.rb_script.specs.Shared.{values}
-use Rattle.rb_script.proofs.SharedLaws.{values_split, values_none}
+use Rattle.rb_script.proofs.SharedLaws.{drop_there}
 use Rattle.rb_script.proofs.WriteLaws.{SentLines, lines_more, lines_exit, lines_last, lines_along, next_block, no_block, own_text}
 use Rattle.rb_script.proofs.script.Script.write_to.Given as given
 use Rattle.rb_script.proofs.script.Script.write_to.Goals as goal
@@ -11,37 +11,36 @@ use Rattle.rb_script.proofs.script.Script.write_to.Goals.{After-put_block}
 
 -- before a block is put it and those after it are still to go
 before : (g : given.Over) (c : After-put_block g)
-    → SentLines (g.S.Sink.held c.args.sink.now) (g.S.Sink.held c.loop-block.sink) (script_lines c.args.self.now) (block_lines c.block-item.result.value ++ (flat_map block_lines (drop (c.loop-block.block-index + 1) (values c.deref-block-items.result.now)) ++ c.self.inside.tail.value))
+    → SentLines (g.S.Sink.held c.args.sink.now) (g.S.Sink.held c.loop-i.sink) (script_lines c.args.self.now) (block_lines c.at-block.result.now.value ++ (flat_map block_lines (drop (c.loop-i.i + 1) c.self.inside.blocks) ++ c.self.inside.tail.value))
 before g c =
-    let ps = c.deref-block-items.result.now in
-    let i = c.loop-block.block-index in
-    let block = c.block-item.result in
-    let split = values_split ps i block c.loop-block-test.true c.block-item.is in
-    lines_along (next_block (drop i (values ps)) (drop (i + 1) (values ps)) block.value c.self.inside.tail.value split) c.loop-block.invariant.sent
+    let bs = c.self.inside.blocks in
+    let i = c.loop-i.i in
+    let block = c.at-block.result.now.value in
+    lines_along (next_block (drop i bs) (drop (i + 1) bs) block c.self.inside.tail.value (drop_there bs i block c.at-block.ensures)) c.loop-i.invariant.sent
 
 -- what is put is its text
-put_text : (g : given.Over) (c : After-put_block g) → block_text (expecting c.deref.result.now c.expected.result.now) ≡ block_text c.block-item.result.value
-put_text g c = own_text c.deref.result.now c.deref-in-loop-block.result.now c.block-item.result.value c.expected.result.now c.deref.ensures c.deref-in-loop-block.ensures c.expected.ensures
+put_text : (g : given.Over) (c : After-put_block g) → block_text (expecting c.deref.result.now c.expected.result.now) ≡ block_text c.at-block.result.now.value
+put_text g c = own_text c.deref.result.now c.deref-in-loop-i.result.now c.at-block.result.now.value c.expected.result.now c.deref.ensures c.deref-in-loop-i.ensures c.expected.ensures
 
 pub returns-in_err-put_block-clause-wrote : goal.returns-in_err-put_block-clause-wrote
 unfolding text
 returns-in_err-put_block-clause-wrote g c =
     let at = (goal.at.returns-in_err-put_block-clause-wrote g c).After-put_block in
-    lines_exit c.from_residual.result (g.S.Sink.held c.put_block.new.sink) (block_lines c.block-item.result.value) _ (put_text g at) c.from_residual.ensures.0 (before g at) c.in_err-put_block.ensures.wrote
+    lines_exit c.from_residual.result (g.S.Sink.held c.put_block.new.sink) (block_lines c.at-block.result.now.value) _ (put_text g at) c.from_residual.ensures.0 (before g at) c.in_err-put_block.ensures.wrote
 
-pub loop-block-preserved : goal.loop-block-preserved
-loop-block-preserved g c =
-    let at = (goal.at.loop-block-preserved g c).After-put_block in
+pub loop-i-preserved : goal.loop-i-preserved
+loop-i-preserved g c =
+    let at = (goal.at.loop-i-preserved g c).After-put_block in
     record {
-      sent = lines_more (g.S.Sink.held c.put_block.new.sink) (block_lines c.block-item.result.value) _ (put_text g at) (before g at) c.in_ok-put_block.ensures.wrote;
-      takes = λ t. (c.in_ok-put_block.ensures.all (c.loop-block.invariant.takes t)).1;
+      sent = lines_more (g.S.Sink.held c.put_block.new.sink) (block_lines c.at-block.result.now.value) _ (put_text g at) (before g at) c.in_ok-put_block.ensures.wrote;
+      takes = λ t. (c.in_ok-put_block.ensures.all (c.loop-i.invariant.takes t)).1;
     }
 
 pub returns-clause-wrote : goal.returns-clause-wrote
 unfolding text
 returns-clause-wrote g c =
-    let ps = c.deref-block-items.result.now in
-    let i = c.loop-block.block-index in
+    let bs = c.self.inside.blocks in
+    let i = c.loop-i.i in
     let tail = c.self.inside.tail.value in
     lines_last c.put.result (g.S.Sink.held c.put.new.self) tail (c.text.ensures ∙ ap text_of c.deref-2.ensures)
-    (lines_along (no_block (drop i (values ps)) tail (values_none ps i c.loop-block-test.false)) c.loop-block.invariant.sent) c.put.ensures.wrote
+    (lines_along (no_block (drop i bs) tail (drop_all i bs (omega arith))) c.loop-i.invariant.sent) c.put.ensures.wrote

@@ -1,6 +1,6 @@
 use Rattle.rb_script.specs.Shared.{values}
 use Rattle.rb_script.proofs.SharedLaws.{shared_more, shared_all}
-use Rattle.rb_script.proofs.edits.share.Goals as goal
+use Rattle.rb_script.proofs.blocks.share.Goals as goal
 
 pub loop-block-preserved : goal.loop-block-preserved
 loop-block-preserved c =

@@ -1,0 +1,189 @@
+//! What stands above an expectation.
+
+ghost use Rattle.std.specs.Prelude.{◌≡◌, IfOk, map};
+ghost use Rattle.rb_script.specs.Parsed.{spanned};
+
+use crate::argument::Argument;
+use crate::marks::RULE_LINE;
+use crate::shared_lines::SharedLines;
+use crate::span::Span;
+use crate::tokens::Tokens;
+use smallvec::SmallVec;
+use std::alloc::{AllocError, Global};
+use std::marker::Model;
+
+/// How long a separator and the empty line after an expectation are.
+const AROUND_LEN: usize = RULE_LINE.len() + 1;
+
+/// What stands above an expectation: a lead, a head and an input, one behind the other in lines that others share, and where the
+/// tokens of the head stand. A script has fewer lines than a `u32` counts.
+pub(crate) struct Front {
+    all: SharedLines,
+    // where each of the three begins, and where the last ends
+    lead: u32,
+    head: u32,
+    input: u32,
+    end: u32,
+    name: Span,
+    args: SmallVec<Argument, 1>,
+}
+
+// Written out, so that giving one back is a call wherever it is owned, and is proved here alone.
+impl Drop for Front {
+    fn drop(self) {
+        let Front {
+            all: _,
+            lead: _,
+            head: _,
+            input: _,
+            end: _,
+            name: _,
+            args: _,
+        } = self;
+    }
+}
+
+impl Model for Front {
+    ghost use Rattle.rb_script.specs.Fronts.{PlainFront};
+
+    ghost Value = { PlainFront };
+
+    ghost use Rattle.rb_script.specs.Fronts.{front_of, AreInOrder};
+
+    ghost view = { λ f. front_of f.all f.lead f.head f.input f.end f.name f.args.items };
+
+    ghost invariant = { λ f. AreInOrder f.all f.lead f.head f.input f.end };
+}
+
+impl Front {
+    ghost use Rattle.std.specs.Prelude.{◌≡◌, ◌<◌, ◌≤◌, ◌^◌, length, slice_get, map, IfOk, Some};
+    ghost use Rattle.rb_script.specs.Lines.{text_of};
+    ghost use Rattle.rb_script.specs.Parsed.{spanned};
+    ghost use Rattle.rb_script.specs.Reading.{capped};
+    ghost use Rattle.rb_script.specs.Fronts.{front_of, front_len};
+
+    /// The lead, the head and the input that begin at these positions of the lines, and the tokens of the head. Nothing is copied.
+    pub(crate) fn new(
+        all: &SharedLines,
+        lead: usize,
+        head: usize,
+        input: usize,
+        end: usize,
+        tokens: Tokens,
+    ) -> Result<Front, AllocError>
+        requires lead_ends { lead ≤ head }
+        requires head_ends { head ≤ input }
+        requires input_ends { input ≤ end }
+        requires within { end ≤ length all.now }
+        requires short { end < 2 ^ 32 }
+        ensures { IfOk result (λ front. front ≡ front_of all.now lead head input end tokens.name tokens.args.items) }
+    {
+        Ok(Front {
+            all: all.try_copy()?,
+            lead: lead as u32,
+            head: head as u32,
+            input: input as u32,
+            end: end as u32,
+            name: tokens.name,
+            args: tokens.args,
+        })
+    }
+
+    /// The text of the lead.
+    pub(crate) fn lead_text(&self) -> &[u8]
+        ensures { result.now ≡ text_of self.now.lead }
+    {
+        self.all
+            .text_between(self.lead as usize, self.head as usize)
+    }
+
+    /// The text of the head.
+    pub(crate) fn head_text(&self) -> &[u8]
+        ensures { result.now ≡ text_of self.now.head }
+    {
+        self.all
+            .text_between(self.head as usize, self.input as usize)
+    }
+
+    /// The text of the input.
+    pub(crate) fn input_text(&self) -> &[u8]
+        ensures { result.now ≡ text_of self.now.input }
+    {
+        self.all
+            .text_between(self.input as usize, self.end as usize)
+    }
+
+    /// Line `i` of the head.
+    pub(crate) fn head_line(&self, i: usize) -> &[u8]
+        requires { i < length self.now.head }
+        ensures { slice_get self.now.head i ≡ Some result.now }
+    {
+        self.all.line(self.head as usize + i)
+    }
+
+    /// How many input lines there are.
+    pub(crate) fn inputs(&self) -> usize
+        ensures { result ≡ length self.now.input }
+    {
+        (self.end - self.input) as usize
+    }
+
+    /// Input line `i`.
+    pub(crate) fn input_line(&self, i: usize) -> &[u8]
+        requires { i < length self.now.input }
+        ensures { slice_get self.now.input i ≡ Some result.now }
+    {
+        self.all.line(self.input as usize + i)
+    }
+
+    /// Where the name stands in the head.
+    pub(crate) fn name(&self) -> Span
+        ensures { result ≡ self.now.name }
+    {
+        self.name
+    }
+
+    /// Where the arguments stand in the head.
+    pub(crate) fn arguments(&self) -> &[Argument]
+        ensures { map spanned result.now ≡ self.now.args }
+    {
+        self.args.as_slice()
+    }
+
+    /// The same, with arguments in memory of their own.
+    pub(crate) fn try_copy(&self) -> Result<Front, AllocError>
+        ensures { IfOk result (λ copy. copy ≡ self.now) }
+    {
+        let args = copied(self.all.allocator(), self.args.as_slice())?;
+        Ok(Front {
+            all: self.all.try_copy()?,
+            lead: self.lead,
+            head: self.head,
+            input: self.input,
+            end: self.end,
+            name: self.name,
+            args,
+        })
+    }
+
+    /// How long the text is without the expectation. The lead, the head and the input are looked at as one.
+    pub(crate) fn text_len(&self) -> usize
+        ensures { result ≡ capped (front_len self.now) }
+    {
+        self.all
+            .text_between(self.lead as usize, self.end as usize)
+            .len()
+            .saturating_add(AROUND_LEN)
+    }
+}
+
+/// The same arguments, in memory of their own.
+fn copied(alloc: Global, arguments: &[Argument]) -> Result<SmallVec<Argument, 1>, AllocError>
+    ensures { IfOk result (λ copy. map spanned copy.items ≡ map spanned arguments.now) }
+{
+    let mut copy = SmallVec::new(alloc);
+    for argument in arguments {
+        copy.push(argument.try_copy(alloc)?)?;
+    }
+    Ok(copy)
+}
