@@ -4,13 +4,12 @@
 //! voters. Learners take entries and don't vote; those that are still outgoing voters become learners when the joint configuration
 //! is left. This is the plain record, as etcd's raft has one of this name: what may be done with it is no matter of a log.
 
-ghost use Rattle.std.specs.Prelude.{◌≡◌, ◌↔◌, IsTrue, IfOk};
+ghost use Rattle.std.specs.Prelude.{◌≡◌, ◌↔◌, IsTrue};
 
 use crate::shared::Shared;
-use std::alloc::AllocError;
 
-/// A configuration: four lists of ids, each ascending, and a flag.
-#[derive(Drop)]
+/// A configuration: four lists of ids, each ascending, and a flag. A copy costs four pointers.
+#[derive(Clone, Drop)]
 pub struct ConfState {
     /// The voters.
     pub incoming: Shared<u64>,
@@ -25,19 +24,6 @@ pub struct ConfState {
 }
 
 impl ConfState {
-    /// The same configuration once more. It costs four pointers.
-    pub fn try_copy(&self) -> Result<ConfState, AllocError>
-        ensures { IfOk result (λ copy. copy ≡ self.now) }
-    {
-        Ok(ConfState {
-            incoming: self.incoming.try_copy()?,
-            outgoing: self.outgoing.try_copy()?,
-            learners: self.learners.try_copy()?,
-            next: self.next.try_copy()?,
-            auto: self.auto,
-        })
-    }
-
     /// Whether both have the same lists and the same flag.
     pub fn same(&self, other: &ConfState) -> bool
         ensures { IsTrue result ↔ (self.now ≡ other.now) }

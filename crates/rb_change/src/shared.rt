@@ -70,3 +70,11 @@ impl<T: Drop> Shared<T> {
         self.as_slice() == other.as_slice()
     }
 }
+
+impl<T: Drop> Clone for Shared<T> {
+    ghost is_clone = { λ list copy. copy ≡ list };
+
+    fn clone(&self) -> Result<Shared<T>, AllocError> {
+        self.try_copy()
+    }
+}

@@ -1,9 +1,9 @@
 -- Messages between nodes (Ongaro's thesis, sections 3.4 and 3.5; etcd raft documentation, "MessageType")
 use Rattle.std.specs.Prelude.{Bool, true, false}
+use Rattle.rb_level.specs.declared.message_type.MessageType.{MessageType}
+use Rattle.rb_level.specs.declared.message_type.MessageType.TheVariants as type
 use Rattle.rb_message.specs.declared.kind.MessageKind.{MessageKind}
 use Rattle.rb_message.specs.declared.kind.MessageKind.TheVariants as kind
-use Rattle.rb_message.specs.declared.message_type.MessageType.{MessageType}
-use Rattle.rb_message.specs.declared.message_type.MessageType.TheVariants as type
 
 -- the type of what is said
 abbrev pub type_of : MessageKind → MessageType

@@ -4,16 +4,15 @@
 //! follower that holds another one there refuses (the consistency check of Ongaro's thesis, section 3.5). Beside them it says how far
 //! the log is committed.
 
-ghost use Rattle.std.specs.Prelude.{◌≡◌, ◌-◌, ◌≤◌, ◌↔◌, length, IsTrue, IfOk};
+ghost use Rattle.std.specs.Prelude.{◌≡◌, ◌-◌, ◌≤◌, ◌↔◌, length, IsTrue};
 ghost use Rattle.rb_raftlog.specs.declared.limits.TheConstants.{MAX_INDEX};
 ghost use Rattle.rb_message.specs.Appends.{PlainAppend};
 
 use rb_raftlog::Entries;
-use std::alloc::AllocError;
 use std::marker::Model;
 
-/// Entries that follow the one at `prev`. There are none past the limit of indexes.
-#[derive(Drop)]
+/// Entries that follow the one at `prev`. There are none past the limit of indexes. A copy costs pointers.
+#[derive(Clone, Drop)]
 pub struct Append {
     prev_term: u64,
     prev: u64,
@@ -74,18 +73,6 @@ impl Append {
         ensures { result.now ≡ self.now.entries }
     {
         &self.entries
-    }
-
-    /// The same once more. It costs pointers.
-    pub fn try_copy(&self) -> Result<Append, AllocError>
-        ensures { IfOk result (λ copy. copy ≡ self.now) }
-    {
-        Ok(Append {
-            prev_term: self.prev_term,
-            prev: self.prev,
-            commit: self.commit,
-            entries: self.entries.try_copy()?,
-        })
     }
 
     /// Whether both say the same. Numbers are looked at first.

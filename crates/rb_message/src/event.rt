@@ -3,8 +3,8 @@
 //! An event says what a node decided where its state alone doesn't show it: why it does nothing, what it counted, what it gave up. Each
 //! names the node that it is of.
 
-use crate::message_type::MessageType;
 use crate::role::Role;
+use rb_level::MessageType;
 use rb_tracker::{ChangeFault, Config, VoteResult};
 
 /// Why a node can't campaign: the first that holds, in this order.

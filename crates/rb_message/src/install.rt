@@ -3,15 +3,14 @@
 //! Where a leader's log no longer has what a follower lacks, the leader sends its state in place of entries (`InstallSnapshot` in
 //! Ongaro's thesis, section 5.3).
 
-ghost use Rattle.std.specs.Prelude.{◌≡◌, ◌≤◌, ◌↔◌, IsTrue, IfOk};
+ghost use Rattle.std.specs.Prelude.{◌≡◌, ◌≤◌, ◌↔◌, IsTrue};
 ghost use Rattle.rb_raftlog.specs.declared.limits.TheConstants.{MAX_INDEX};
 
 use rb_raftlog::Snapshot;
-use std::alloc::AllocError;
 use std::marker::Model;
 
-/// A snapshot that is to be installed. Its index is within the limits of an index. Contracts see the snapshot.
-#[derive(Drop)]
+/// A snapshot that is to be installed. Its index is within the limits of an index. Contracts see the snapshot. A copy costs pointers.
+#[derive(Clone, Drop)]
 pub struct Install {
     snapshot: Snapshot,
 }
@@ -42,15 +41,6 @@ impl Install {
         ensures within { self.now.index ≤ MAX_INDEX }
     {
         &self.snapshot
-    }
-
-    /// The same once more. It costs pointers.
-    pub fn try_copy(&self) -> Result<Install, AllocError>
-        ensures { IfOk result (λ copy. copy ≡ self.now) }
-    {
-        Ok(Install {
-            snapshot: self.snapshot.try_copy()?,
-        })
     }
 
     /// Whether both bring the same. Numbers are looked at first.

@@ -1,16 +1,15 @@
 //! What a message says.
 
-ghost use Rattle.std.specs.Prelude.{◌≡◌, ◌↔◌, IsTrue, IfOk};
+ghost use Rattle.std.specs.Prelude.{◌≡◌, ◌↔◌, IsTrue};
 ghost use Rattle.rb_message.specs.Messages.{type_of, has_term};
 
 use crate::append::Append;
 use crate::install::Install;
-use crate::message_type::MessageType;
+use rb_level::MessageType;
 use rb_raftlog::Body;
-use std::alloc::AllocError;
 
-/// What a message says.
-#[derive(Drop)]
+/// What a message says. A copy costs pointers.
+#[derive(Clone, Drop)]
 pub enum MessageKind {
     /// A candidate asks for a vote, and names its last entry. `transfer` is set where the old leader handed the lead over.
     Vote {
@@ -90,52 +89,6 @@ impl MessageKind {
             self,
             MessageKind::Proposal(_) | MessageKind::TransferLeader { .. }
         )
-    }
-
-    /// The same once more. It costs pointers.
-    pub fn try_copy(&self) -> Result<MessageKind, AllocError>
-        ensures { IfOk result (λ copy. copy ≡ self.now) }
-    {
-        match self {
-            MessageKind::Vote {
-                last_term,
-                last_index,
-                transfer,
-            } => Ok(MessageKind::Vote {
-                last_term: *last_term,
-                last_index: *last_index,
-                transfer: *transfer,
-            }),
-            MessageKind::PreVote {
-                last_term,
-                last_index,
-            } => Ok(MessageKind::PreVote {
-                last_term: *last_term,
-                last_index: *last_index,
-            }),
-            MessageKind::VoteResponse { granted } => {
-                Ok(MessageKind::VoteResponse { granted: *granted })
-            }
-            MessageKind::PreVoteResponse { granted } => {
-                Ok(MessageKind::PreVoteResponse { granted: *granted })
-            }
-            MessageKind::Append(append) => Ok(MessageKind::Append(append.try_copy()?)),
-            MessageKind::AppendResponse { matched } => {
-                Ok(MessageKind::AppendResponse { matched: *matched })
-            }
-            MessageKind::AppendRefusal { refused, hint } => Ok(MessageKind::AppendRefusal {
-                refused: *refused,
-                hint: *hint,
-            }),
-            MessageKind::Heartbeat { commit } => Ok(MessageKind::Heartbeat { commit: *commit }),
-            MessageKind::HeartbeatResponse => Ok(MessageKind::HeartbeatResponse),
-            MessageKind::Snapshot(install) => Ok(MessageKind::Snapshot(install.try_copy()?)),
-            MessageKind::Proposal(body) => Ok(MessageKind::Proposal(body.try_copy()?)),
-            MessageKind::TransferLeader { target } => {
-                Ok(MessageKind::TransferLeader { target: *target })
-            }
-            MessageKind::TimeoutNow => Ok(MessageKind::TimeoutNow),
-        }
     }
 
     /// Whether both say the same. Numbers are looked at before lists.

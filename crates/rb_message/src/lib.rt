@@ -13,7 +13,6 @@ mod kind;
 mod limits;
 mod mail;
 mod message;
-mod message_type;
 mod messages;
 mod role;
 
@@ -24,5 +23,4 @@ pub use install::Install;
 pub use kind::MessageKind;
 pub use mail::Mail;
 pub use message::Message;
-pub use message_type::MessageType;
 pub use role::Role;

@@ -2,7 +2,7 @@
 //!
 //! They grow at their end while nobody takes them, and a session keeps hundreds of clusters whose nodes have much the same mail. So
 //! they stand in pages, which never change and which copies share, and a tail behind them that is shorter than a page. A copy
-//! costs a pointer for each page and copies of the tail's messages. Equal mail is cut at the same places.
+//! costs two pointers for the pages, and copies of the tail's messages. Equal mail is cut at the same places.
 
 ghost use Rattle.std.specs.Prelude.{◌≡◌, ◌+◌, ◌<◌, ◌≤◌, ◌++◌, ◌∷◌, [], ◌↔◌, length, slice_get, Some, IsTrue, IfOk, OnOk};
 ghost use Rattle.rb_raftlog.specs.Packed.{joined};
@@ -12,6 +12,7 @@ use crate::limits::{MAX_PAGES, PAGE};
 use crate::message::Message;
 use crate::messages::{copies_of, push_copies, same_messages};
 use rb_change::Shared;
+use rb_raftlog::{Pages, limits_are};
 use std::alloc::{AllocError, Global};
 use std::marker::Model;
 use std::mem;
@@ -20,7 +21,7 @@ use std::mem;
 #[derive(Drop)]
 pub struct Mail {
     // Each has PAGE messages.
-    pages: Vec<Shared<Message>>,
+    pages: Pages<Shared<Message>>,
     // Fewer than PAGE.
     tail: Vec<Message>,
 }
@@ -33,31 +34,20 @@ impl Model for Mail {
 
     ghost Value = { List Message };
 
-    ghost view = { λ m. joined m.pages.items ++ m.tail.items };
+    ghost view = { λ m. joined m.pages ++ m.tail.items };
 
-    ghost invariant = { λ m. IsPaged m.pages.items m.tail.items };
-}
-
-// The pages once more: a pointer each.
-fn copied(alloc: Global, pages: &[Shared<Message>]) -> Result<Vec<Shared<Message>>, AllocError>
-    ensures { IfOk result (λ copies. copies.items ≡ pages.now) }
-{
-    let mut copies = Vec::with_capacity(alloc, pages.len())?;
-    for page in pages {
-        copies.push(page.try_copy()?)?;
-    }
-    Ok(copies)
+    ghost invariant = { λ m. IsPaged m.pages m.tail.items };
 }
 
 // Whether the two are the same pages. Their numbers are looked at first.
-fn same_pages(pages: &[Shared<Message>], others: &[Shared<Message>]) -> bool
+fn same_pages(pages: &Pages<Shared<Message>>, others: &Pages<Shared<Message>>) -> bool
     ensures { IsTrue result ↔ (pages.now ≡ others.now) }
 {
     if pages.len() != others.len() {
         return false;
     }
     for k in 0..pages.len() {
-        if !same_messages(pages[k].as_slice(), others[k].as_slice()) {
+        if !same_messages(pages.item(k).as_slice(), others.item(k).as_slice()) {
             return false;
         }
     }
@@ -65,11 +55,11 @@ fn same_pages(pages: &[Shared<Message>], others: &[Shared<Message>]) -> bool
 }
 
 // Appends copies of the messages of the pages.
-fn push_pages(messages: &mut Vec<Message>, pages: &[Shared<Message>]) -> Result<(), AllocError>
+fn push_pages(messages: &mut Vec<Message>, pages: &Pages<Shared<Message>>) -> Result<(), AllocError>
     ensures { OnOk result (messages.new.items ≡ messages.old.items ++ joined pages.now) }
 {
-    for page in pages {
-        push_copies(messages, page.as_slice())?;
+    for k in 0..pages.len() {
+        push_copies(messages, pages.item(k).as_slice())?;
     }
     Ok(())
 }
@@ -87,15 +77,16 @@ fn full_page(tail: &mut Vec<Message>, last: Message) -> Result<Shared<Message>, 
 
 // Puts the message that makes the tail a page. Mail of more than 2,000,000,000 pages is refused as if memory had been.
 fn push_page(
-    pages: &mut Vec<Shared<Message>>,
+    pages: &mut Pages<Shared<Message>>,
     tail: &mut Vec<Message>,
     last: Message,
 ) -> Result<(), AllocError>
-    requires paged { IsPaged pages.old.items tail.old.items }
+    requires paged { IsPaged pages.old tail.old.items }
     requires full { PAGE ≤ length tail.old.items + 1 }
-    ensures paged { IsPaged pages.new.items tail.new.items }
-    ensures put { OnOk result (joined pages.new.items ++ tail.new.items ≡ (joined pages.old.items ++ tail.old.items) ++ last ∷ []) }
+    ensures paged { IsPaged pages.new tail.new.items }
+    ensures put { OnOk result (joined pages.new ++ tail.new.items ≡ (joined pages.old ++ tail.old.items) ++ last ∷ []) }
 {
+    limits_are();
     if pages.len() >= MAX_PAGES {
         return Err(AllocError);
     }
@@ -109,7 +100,7 @@ impl Mail {
         ensures { result ≡ [] }
     {
         Mail {
-            pages: Vec::new(alloc),
+            pages: Pages::new(alloc),
             tail: Vec::new(alloc),
         }
     }
@@ -131,7 +122,7 @@ impl Mail {
         ensures { slice_get self.now k ≡ Some result.now }
     {
         if k / PAGE < self.pages.len() {
-            return &self.pages[k / PAGE].as_slice()[k % PAGE];
+            return &self.pages.item(k / PAGE).as_slice()[k % PAGE];
         }
         &self.tail[k - self.pages.len() * PAGE]
     }
@@ -155,23 +146,23 @@ impl Mail {
         let alloc = self.allocator();
         let len = self.len();
         let mut tail = mem::replace(&mut self.tail, Vec::new(alloc));
-        if self.pages.is_empty() {
+        if self.pages.len() == 0 {
             return Ok(tail);
         }
-        let pages = mem::replace(&mut self.pages, Vec::new(alloc));
+        let pages = mem::replace(&mut self.pages, Pages::new(alloc));
         let mut messages = Vec::with_capacity(alloc, len)?;
-        push_pages(&mut messages, pages.as_slice())?;
+        push_pages(&mut messages, &pages)?;
         messages.append(&mut tail)?;
         Ok(messages)
     }
 
-    /// The same messages once more: a pointer a page, and copies of the tail's.
+    /// The same messages once more: two pointers for the pages, and copies of the tail's.
     pub fn try_copy(&self) -> Result<Mail, AllocError>
         ensures { IfOk result (λ copy. copy ≡ self.now) }
     {
         let alloc = self.allocator();
         Ok(Mail {
-            pages: copied(alloc, &self.pages)?,
+            pages: self.pages.try_copy()?,
             tail: copies_of(alloc, &self.tail)?,
         })
     }

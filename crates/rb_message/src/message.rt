@@ -6,7 +6,7 @@ use crate::kind::MessageKind;
 use std::alloc::AllocError;
 
 /// A message from one node to another.
-#[derive(Drop)]
+#[derive(Clone, Drop)]
 pub struct Message {
     /// The node that sent it.
     pub from: u64,
@@ -23,12 +23,7 @@ impl Message {
     pub fn try_copy(&self) -> Result<Message, AllocError>
         ensures { IfOk result (λ copy. copy ≡ self.now) }
     {
-        Ok(Message {
-            from: self.from,
-            to: self.to,
-            term: self.term,
-            kind: self.kind.try_copy()?,
-        })
+        self.clone()
     }
 
     /// Whether both are the same message. Numbers are looked at first.

@@ -1,9 +1,8 @@
 -- Laws of pages.
-use Rattle.std.proofs.Common.{◌≡◌, ℕ, suc, ◌+◌, ◌-◌, ◌*◌, ◌/◌, ◌%◌, ◌<◌, ◌≤◌, List, [], ◌∷◌, ◌++◌, length, get_or, take, drop, min, ap, sym, subst, ◌∙◌, arith, length-append, append_assoc, inl, inr}
-use Rattle.std.proofs.lemmas.List.{append-nil, take-append-drop, take_more, drop_more, drop-drop, drop-append-le, drop_at, take_at, take-take, take_all, take-append-le, length-take, length-take-le, length_push, length-drop, take_more_set, drop-take, drop_all, set_split, get_or-drop, take_rest}
+use Rattle.std.proofs.Common.{◌≡◌, ℕ, ◌+◌, ◌-◌, ◌*◌, ◌/◌, ◌%◌, ◌<◌, ◌≤◌, List, [], ◌∷◌, ◌++◌, length, get_or, take, drop, min, ap, sym, subst, ◌∙◌, arith, length-append, append_assoc, inl, inr}
+use Rattle.std.proofs.lemmas.List.{append-nil, take-append-drop, take_more, drop_more, drop-drop, drop-append-le, drop_at, take-take, take_all, take-append-le, length-take-le, length_push, length-drop, drop-take, get_or-drop, take_rest}
 use Rattle.std.proofs.lemmas.List.Concat.{flat_map-append, get_or-flat_map}
 use Rattle.std.proofs.lemmas.Bool.{cases_lt}
-use Rattle.std.proofs.Math.ListN.{set}
 use Rattle.rb_raftlog.proofs.ListLaws.{take_past}
 use Rattle.rb_raftlog.specs.declared.limits.TheConstants.{PAGE}
 use Rattle.rb_raftlog.specs.Packed.{joined, IsPacked}
@@ -59,10 +58,6 @@ entry_is {X} ps k r d e packed s h =
     ap (λ (n : ℕ). get_or (joined ps) (n + r) e) (sym (before ps k packed (omega arith)))
     ∙ get_or-flat_map (λ (p : List X). p) ps k r d e (page_in ps k r packed h) (entry_in ps k r d packed s h)
 
-taken : {X : Type 0} (ps : Sheets X) (k : ℕ) → IsPacked ps → PAGE * k ≤ length (joined ps) → take (PAGE * k) (joined ps) ≡ joined (take k ps)
-taken {X} ps k packed h =
-    ap (take (PAGE * k)) (joined_split ps k) ∙ take_at (joined (take k ps)) (joined (drop k ps)) (PAGE * k) (before ps k packed h)
-
 dropped : {X : Type 0} (ps : Sheets X) (k : ℕ) → IsPacked ps → PAGE * k ≤ length (joined ps) → drop (PAGE * k) (joined ps) ≡ joined (drop k ps)
 dropped {X} ps k packed h =
     ap (drop (PAGE * k)) (joined_split ps k) ∙ drop_at (joined (take k ps)) (joined (drop k ps)) (PAGE * k) (before ps k packed h)
@@ -77,15 +72,14 @@ rest_is {X} ps k r d packed s h =
     dropped_in ps k r packed (omega arith) ∙ ap (drop r) (joined_at ps k d (page_in ps k r packed h)) ∙ drop-append-le r (get_or ps k d) (joined (drop (k + 1) ps)) (omega arith)
 
 -- what precedes a place
-pub front_is : {X : Type 0} (ps : Sheets X) (k r : ℕ) (d : List X) → IsPacked ps → r < PAGE → PAGE * k + r < length (joined ps) → take (PAGE * k + r) (joined ps) ≡ joined (take k ps) ++ take r (get_or ps k d)
-front_is {X} ps k r d packed s h =
-    let within : r < length (get_or ps k d) = entry_in ps k r d packed s h in
-    let n : PAGE * k ≡ length (joined (take k ps)) = sym (before ps k packed (omega arith)) in
+pub front_is : {X : Type 0} (ps : Sheets X) (k r : ℕ) (d : List X) → IsPacked ps → k < length ps → PAGE * k ≤ length (joined ps) → r ≤ length (get_or ps k d) → take (PAGE * k + r) (joined ps) ≡ joined (take k ps) ++ take r (get_or ps k d)
+front_is {X} ps k r d packed low h within =
+    let n : PAGE * k ≡ length (joined (take k ps)) = sym (before ps k packed h) in
     let whole : joined ps ≡ joined (take k ps) ++ (get_or ps k d ++ joined (drop (k + 1) ps)) =
-    joined_split ps k ∙ ap (λ (l : List X). joined (take k ps) ++ l) (joined_at ps k d (page_in ps k r packed h)) in
+    joined_split ps k ∙ ap (λ (l : List X). joined (take k ps) ++ l) (joined_at ps k d low) in
     ap (λ (m : ℕ). take (m + r) (joined ps)) n ∙ ap (take (length (joined (take k ps)) + r)) whole
     ∙ take_past (joined (take k ps)) (get_or ps k d ++ joined (drop (k + 1) ps)) r
-    ∙ ap (λ (l : List X). joined (take k ps) ++ l) (take-append-le r (get_or ps k d) (joined (drop (k + 1) ps)) (omega arith))
+    ∙ ap (λ (l : List X). joined (take k ps) ++ l) (take-append-le r (get_or ps k d) (joined (drop (k + 1) ps)) within)
 
 -- ---- the same of an index, where the first entries of the first page are dropped
 
@@ -115,37 +109,18 @@ pieces_of {X} ps v skip k d packed e h =
     ap (drop k) (sym e) ∙ drop-drop k skip (joined ps) ∙ ap (λ (n : ℕ). drop n (joined ps)) (sym (parts (skip + k)))
     ∙ rest_is ps ((skip + k) / PAGE) ((skip + k) % PAGE) d packed (omega arith) (omega (arith, within ps v skip k e h))
 
--- the same, where the parts are slices of the page and of the pages
-pub from_is : {X : Type 0} (ps : Sheets X) (v : List X) (skip k : ℕ) (page d : List X) (qs : Sheets X) → IsPacked ps → drop skip (joined ps) ≡ v → k < length v → page ≡ get_or ps ((skip + k) / PAGE) d → qs ≡ ps → take (length page - (skip + k) % PAGE) (drop ((skip + k) % PAGE) page) ++ joined (take (length qs - ((skip + k) / PAGE + 1)) (drop ((skip + k) / PAGE + 1) qs)) ≡ drop k v
-from_is {X} ps v skip k page d qs packed e h is same =
+-- the same, where the first part is a slice of the page
+pub from_is : {X : Type 0} (ps : Sheets X) (v rest : List X) (skip k : ℕ) (page d : List X) → IsPacked ps → drop skip (joined ps) ≡ v → k < length v → page ≡ get_or ps ((skip + k) / PAGE) d → rest ≡ joined (drop ((skip + k) / PAGE + 1) ps) → take (length page - (skip + k) % PAGE) (drop ((skip + k) % PAGE) page) ++ rest ≡ drop k v
+from_is {X} ps v rest skip k page d packed e h is same =
     let r : ℕ = (skip + k) % PAGE in
-    let n : ℕ = (skip + k) / PAGE + 1 in
-    ap (λ (l : List X). l ++ joined (take (length qs - n) (drop n qs))) (take_rest page r ∙ ap (drop r) is)
-    ∙ ap (λ (rest : Sheets X). drop r (get_or ps ((skip + k) / PAGE) d) ++ joined rest) (take_rest qs n ∙ ap (drop n) same)
+    ap (λ (l : List X). l ++ rest) (take_rest page r ∙ ap (drop r) is)
+    ∙ ap (λ (l : List X). drop r (get_or ps ((skip + k) / PAGE) d) ++ l) same
     ∙ sym (pieces_of ps v skip k d packed e h)
 
 -- ---- what stays packed
 
 abbrev size : {X : Type 0} → Sheets X → ℕ
 size {X} ps = length (joined ps)
-
--- the pages of the first k, however many are taken
-fronts : {X : Type 0} (ps : Sheets X) (k j : ℕ) → IsPacked ps → PAGE * k ≤ length (joined ps) → length (joined (take j (take k ps))) ≡ min (PAGE * j) (length (joined (take k ps)))
-fronts {X} ps k j packed h =
-    elim (cases_lt k j) as (λ _. length (joined (take j (take k ps))) ≡ min (PAGE * j) (length (joined (take k ps)))) [
-      | inl high ↦
-          let e : length (joined (take j (take k ps))) ≡ length (joined (take k ps)) = ap size (take_all j (take k ps) (omega (arith, length-take k ps))) in
-          omega (arith, packed.places k)
-      | inr low ↦
-          let e : length (joined (take j (take k ps))) ≡ length (joined (take j ps)) = ap size (take-take j k ps low) in
-          omega (arith, packed.places j, packed.places k)
-    ]
-
-pub packed_take : {X : Type 0} (ps : Sheets X) (k : ℕ) → IsPacked ps → PAGE * k ≤ length (joined ps) → IsPacked (take k ps)
-packed_take {X} ps k packed h = record {
-  places = λ j. fronts ps k j packed h;
-  few = omega (arith, packed.places k, length-take k ps);
-}
 
 -- the first k pages, and one more that is not empty
 ends : {X : Type 0} (ps : Sheets X) (k j : ℕ) (p : List X) → IsPacked ps → k ≤ length ps → PAGE * k ≤ length (joined ps) → length p ≤ PAGE → length (joined (take j (take k ps ++ p ∷ []))) ≡ min (PAGE * j) (length (joined (take k ps ++ p ∷ [])))
@@ -192,36 +167,29 @@ packed_drop {X} ps k packed low h =
       few = omega (arith, packed.places k, packed.few, length-drop k ps);
     }
 
--- ---- a page that is put in the place of the last
-
-pub put_last : {X : Type 0} (ps : Sheets X) (k : ℕ) (p : List X) → k + 1 ≡ length ps → set ps k p ≡ take k ps ++ p ∷ []
-put_last {X} ps k p h =
-    set_split ps k p (omega arith) ∙ ap (λ (l : Sheets X). take k ps ++ p ∷ l) (drop_all (suc k) ps (omega arith))
-
 -- ---- the steps of the code: pages that are cut, and pages that grow
 
-pub cut_even : {X : Type 0} (ps : Sheets X) (at : ℕ) → IsPacked ps → at % PAGE ≡ 0 → at < length (joined ps) → IsPacked (take (at / PAGE) ps) × (joined (take (at / PAGE) ps) ≡ take at (joined ps))
-cut_even {X} ps at packed even h =
-    let e : PAGE * (at / PAGE) ≡ at = omega arith in (
-      packed_take ps (at / PAGE) packed (omega arith),
-      sym (taken ps (at / PAGE) packed (omega arith)) ∙ ap (λ (n : ℕ). take n (joined ps)) e,
-    )
+-- the page that is cut, where a first item is left: it has what is left of it
+pub cut_page : {X : Type 0} (ps : Sheets X) (at : ℕ) → IsPacked ps → at < length (joined ps) → (at ≡ 0 → ⊥) → (at - 1) / PAGE < length ps
+cut_page {X} ps at packed h some = page_in ps ((at - 1) / PAGE) ((at - 1) % PAGE) packed (omega arith)
 
-pub cut_odd : {X : Type 0} (ps qs : Sheets X) (at : ℕ) (d whole page : List X) → IsPacked ps → at < length (joined ps) → (at % PAGE ≡ 0 → ⊥) → whole ≡ get_or ps (at / PAGE) d → page ≡ take (at % PAGE) whole → qs ≡ take (at / PAGE + 1) (set ps (at / PAGE) page) → IsPacked qs × (joined qs ≡ take at (joined ps))
-cut_odd {X} ps qs at d whole page packed h odd whole_is page_is qs_is =
-    let k : ℕ = at / PAGE in
-    let r : ℕ = at % PAGE in
-    let low : r < PAGE = omega arith in
-    let in_all : PAGE * k + r < length (joined ps) = omega arith in
-    let k_in : k < length ps = page_in ps k r packed in_all in
-    let r_in : r < length (get_or ps k d) = entry_in ps k r d packed low in_all in
+cut_within : {X : Type 0} (ps : Sheets X) (at : ℕ) (d : List X) → IsPacked ps → at < length (joined ps) → (at ≡ 0 → ⊥) → at - (at - 1) / PAGE * PAGE ≤ length (get_or ps ((at - 1) / PAGE) d)
+cut_within {X} ps at d packed h some =
+    omega (arith, entry_in ps ((at - 1) / PAGE) ((at - 1) % PAGE) d packed (omega arith) (omega arith))
+
+pub cut_at : {X : Type 0} (ps qs : Sheets X) (at : ℕ) (d whole page : List X) → IsPacked ps → at < length (joined ps) → (at ≡ 0 → ⊥) → whole ≡ get_or ps ((at - 1) / PAGE) d → page ≡ take (at - (at - 1) / PAGE * PAGE) whole → qs ≡ take ((at - 1) / PAGE) ps ++ page ∷ [] → IsPacked qs × (joined qs ≡ take at (joined ps))
+cut_at {X} ps qs at d whole page packed h some whole_is page_is qs_is =
+    let k : ℕ = (at - 1) / PAGE in
+    let r : ℕ = at - k * PAGE in
+    let low : k < length ps = cut_page ps at packed h some in
+    let r_in : r ≤ length (get_or ps k d) = cut_within ps at d packed h some in
     let is : page ≡ take r (get_or ps k d) = page_is ∙ ap (take r) whole_is in
-    let n : length page ≡ r = ap length is ∙ length-take-le r (get_or ps k d) (omega arith) in
-    let e : qs ≡ take k ps ++ page ∷ [] = qs_is ∙ take_more_set ps k page k_in in
+    let n : length page ≡ r = ap length is ∙ length-take-le r (get_or ps k d) r_in in
+    let e : PAGE * k + r ≡ at = omega arith in
     let P : Sheets X → Type 0 = λ l. IsPacked l in (
-      subst P (sym e) (packed_end ps k page packed (omega arith) (omega arith) (omega arith) (omega arith)),
-      ap joined e ∙ joined_end (take k ps) page ∙ ap (λ (l : List X). joined (take k ps) ++ l) is
-          ∙ sym (front_is ps k r d packed low in_all) ∙ ap (λ (m : ℕ). take m (joined ps)) (parts at),
+      subst P (sym qs_is) (packed_end ps k page packed (omega arith) (omega arith) (omega arith) (omega arith)),
+      ap joined qs_is ∙ joined_end (take k ps) page ∙ ap (λ (l : List X). joined (take k ps) ++ l) is
+          ∙ sym (front_is ps k r d packed low (omega arith) r_in) ∙ ap (λ (m : ℕ). take m (joined ps)) e,
     )
 
 pub push_even : {X : Type 0} (ps qs : Sheets X) (at : ℕ) (more page : List X) → IsPacked ps → at ≡ length (joined ps) → at % PAGE ≡ 0 → 0 < length more → length more ≤ PAGE → page ≡ more → qs ≡ ps ++ page ∷ [] → IsPacked qs × (joined qs ≡ joined ps ++ more)
@@ -234,28 +202,34 @@ push_even {X} ps qs at more page packed end even some fits is qs_is =
     )
 
 -- the last page, where it is not full
-last_in : {X : Type 0} (ps : Sheets X) (at : ℕ) → IsPacked ps → at ≡ length (joined ps) → (at % PAGE ≡ 0 → ⊥) → at / PAGE + 1 ≡ length ps
+pub last_in : {X : Type 0} (ps : Sheets X) (at : ℕ) → IsPacked ps → at ≡ length (joined ps) → (at % PAGE ≡ 0 → ⊥) → at / PAGE + 1 ≡ length ps
 last_in {X} ps at packed end odd = omega (arith, packed.few, enough ps packed)
 
-pub last_page : {X : Type 0} (ps : Sheets X) (at : ℕ) → IsPacked ps → at ≡ length (joined ps) → (at % PAGE ≡ 0 → ⊥) → at / PAGE < length ps
-last_page {X} ps at packed end odd = omega (arith, last_in ps at packed end odd)
+-- it is what the pages before it lack
+last_part : {X : Type 0} (ps : Sheets X) (at : ℕ) (d : List X) → IsPacked ps → at ≡ length (joined ps) → (at % PAGE ≡ 0 → ⊥) → joined ps ≡ joined (take (at / PAGE) ps) ++ get_or ps (at / PAGE) d
+last_part {X} ps at d packed end odd =
+    let last : at / PAGE + 1 ≡ length ps = last_in ps at packed end odd in
+    ap joined (sym (take_all (at / PAGE + 1) ps (omega arith))) ∙ joined_more ps (at / PAGE) d (omega arith)
 
-pub push_odd : {X : Type 0} (ps qs : Sheets X) (at : ℕ) (more d whole page : List X) → IsPacked ps → at ≡ length (joined ps) → (at % PAGE ≡ 0 → ⊥) → length more ≤ PAGE - at % PAGE → whole ≡ get_or ps (at / PAGE) d → page ≡ whole ++ more → qs ≡ set ps (at / PAGE) page → IsPacked qs × (joined qs ≡ joined ps ++ more)
-push_odd {X} ps qs at more d whole page packed end odd fits whole_is page_is qs_is =
+last_size : {X : Type 0} (ps : Sheets X) (at : ℕ) (d : List X) → IsPacked ps → at ≡ length (joined ps) → (at % PAGE ≡ 0 → ⊥) → length (get_or ps (at / PAGE) d) ≡ at % PAGE
+last_size {X} ps at d packed end odd =
+    let sizes : length (joined ps) ≡ length (joined (take (at / PAGE) ps)) + length (get_or ps (at / PAGE) d) =
+    ap length (last_part ps at d packed end odd) ∙ length-append (joined (take (at / PAGE) ps)) (get_or ps (at / PAGE) d) in
+    omega (arith, packed.places (at / PAGE))
+
+pub last_room : {X : Type 0} (ps : Sheets X) (at : ℕ) → IsPacked ps → at ≡ length (joined ps) → (at % PAGE ≡ 0 → ⊥) → length (get_or ps (at / PAGE) []) < PAGE
+last_room {X} ps at packed end odd = omega (arith, last_size ps at [] packed end odd)
+
+pub push_odd : {X : Type 0} (ps qs : Sheets X) (at : ℕ) (x : X) → IsPacked ps → at ≡ length (joined ps) → (at % PAGE ≡ 0 → ⊥) → qs ≡ take (at / PAGE) ps ++ (get_or ps (at / PAGE) [] ++ x ∷ []) ∷ [] → IsPacked qs × (joined qs ≡ joined ps ++ x ∷ [])
+push_odd {X} ps qs at x packed end odd qs_is =
     let k : ℕ = at / PAGE in
-    let r : ℕ = at % PAGE in
+    let page : List X = get_or ps k [] ++ x ∷ [] in
     let last : k + 1 ≡ length ps = last_in ps at packed end odd in
-    let all : joined ps ≡ joined (take k ps) ++ get_or ps k d =
-    ap joined (sym (take_all (k + 1) ps (omega arith))) ∙ joined_more ps k d (omega arith) in
-    let sizes : length (joined ps) ≡ length (joined (take k ps)) + length (get_or ps k d) =
-    ap length all ∙ length-append (joined (take k ps)) (get_or ps k d) in
-    let is : page ≡ get_or ps k d ++ more = page_is ∙ ap (λ (l : List X). l ++ more) whole_is in
-    let n : length page ≡ length (get_or ps k d) + length more = ap length is ∙ length-append (get_or ps k d) more in
-    let e : qs ≡ take k ps ++ page ∷ [] = qs_is ∙ put_last ps k page last in
+    let n : length page ≡ at % PAGE + 1 = length_push (get_or ps k []) x ∙ ap (λ (m : ℕ). m + 1) (last_size ps at [] packed end odd) in
     let P : Sheets X → Type 0 = λ l. IsPacked l in (
-      subst P (sym e) (packed_end ps k page packed (omega arith) (omega arith) (omega (arith, packed.places k)) (omega (arith, packed.places k))),
-      ap joined e ∙ joined_end (take k ps) page ∙ ap (λ (l : List X). joined (take k ps) ++ l) is
-          ∙ sym (append_assoc (joined (take k ps)) (get_or ps k d) more) ∙ ap (λ (l : List X). l ++ more) (sym all),
+      subst P (sym qs_is) (packed_end ps k page packed (omega arith) (omega arith) (omega arith) (omega arith)),
+      ap joined qs_is ∙ joined_end (take k ps) page
+          ∙ sym (append_assoc (joined (take k ps)) (get_or ps k []) (x ∷ [])) ∙ ap (λ (l : List X). l ++ x ∷ []) (sym (last_part ps at [] packed end odd)),
     )
 
 -- ---- the same, where the first entries of the first page are dropped
@@ -294,7 +268,3 @@ front_view {X} ps qs v skip n packed e s h is =
 
 pub same_at : {X : Type 0} {xs ys : List X} (k : ℕ) (d : X) → xs ≡ ys → get_or xs k d ≡ get_or ys k d
 same_at {X} k d e = ap (λ (l : List X). get_or l k d) e
-
--- a slice from a place on
-pub rest_of : {X : Type 0} {xs ys zs : List X} (i : ℕ) → zs ≡ take (length ys - i) (drop i ys) → ys ≡ xs → zs ≡ drop i xs
-rest_of {X} {xs} {ys} {zs} i e is = e ∙ take_rest ys i ∙ ap (drop i) is

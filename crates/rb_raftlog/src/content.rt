@@ -207,7 +207,7 @@ impl Content {
         ensures { IfOk result (λ copy. copy ≡ self.now) }
     {
         Ok(Content {
-            pieces: self.pieces.copy_from(0)?,
+            pieces: self.pieces.try_copy()?,
             rest: Vec::from_slice(*self.rest.allocator(), &self.rest)?,
             sum: self.sum,
         })
@@ -233,5 +233,13 @@ impl Content {
         ensures { IsTrue result ↔ (self.now ≡ other.now) }
     {
         self.sum() == other.sum() && self.has_bytes_of(other)
+    }
+}
+
+impl Clone for Content {
+    ghost is_clone = { λ content copy. copy ≡ content };
+
+    fn clone(&self) -> Result<Content, AllocError> {
+        self.try_copy()
     }
 }

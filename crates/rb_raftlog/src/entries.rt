@@ -149,6 +149,14 @@ impl Entries {
     }
 }
 
+impl Clone for Entries {
+    ghost is_clone = { λ entries copy. copy ≡ entries };
+
+    fn clone(&self) -> Result<Entries, AllocError> {
+        self.try_copy()
+    }
+}
+
 impl EntryList for Entries {
     ghost listed = { λ e. e };
 

@@ -12,7 +12,7 @@ use rb_change::{Shared, Transition, Word};
 use std::alloc::AllocError;
 
 /// What an entry brings.
-#[derive(Drop)]
+#[derive(Clone, Drop)]
 pub enum Body {
     /// Bytes for the state machine.
     Payload(Shared<u8>),
@@ -37,13 +37,7 @@ impl Body {
     pub fn try_copy(&self) -> Result<Body, AllocError>
         ensures { IfOk result (λ copy. copy ≡ self.now) }
     {
-        match self {
-            Body::Payload(bytes) => Ok(Body::Payload(bytes.try_copy()?)),
-            Body::Change { transition, words } => Ok(Body::Change {
-                transition: *transition,
-                words: words.try_copy()?,
-            }),
-        }
+        self.clone()
     }
 
     /// Whether both bring the same.
@@ -65,7 +59,7 @@ impl Body {
 }
 
 /// An entry: the term in which it was proposed, and what it brings.
-#[derive(Drop)]
+#[derive(Clone, Drop)]
 pub struct Entry {
     pub term: u64,
     pub body: Body,
@@ -76,10 +70,7 @@ impl Entry {
     pub fn try_copy(&self) -> Result<Entry, AllocError>
         ensures { IfOk result (λ copy. copy ≡ self.now) }
     {
-        Ok(Entry {
-            term: self.term,
-            body: self.body.try_copy()?,
-        })
+        self.clone()
     }
 
     /// Whether both are the same entry. Terms are looked at first.

@@ -12,10 +12,12 @@ mod laws;
 mod limits;
 mod log;
 mod page;
+mod page_list;
 mod pages;
 mod pieces;
 mod plain_store;
 mod raft_log;
+mod shelf;
 mod snapshot;
 mod split_store;
 mod store;
@@ -34,12 +36,14 @@ pub use laws::{
 };
 pub use limits::{MAX_INDEX, MAX_TERM, limits_are};
 pub use log::Log;
+pub use pages::Pages;
 pub use pieces::Pieces;
 pub use plain_store::PlainStore;
 pub use raft_log::{Appended, CompactFault, LogFault, RaftLog};
 pub use snapshot::Snapshot;
 pub use split_store::SplitStore;
 pub use store::Store;
+pub use try_copy::TryCopy;
 
 /// A log whose entries are one list.
 pub type PlainLog = Log<PlainStore>;

@@ -89,3 +89,10 @@ impl<T: TryCopy> Page<T> {
         })
     }
 }
+
+impl<T: TryCopy> TryCopy for Page<T> {
+    // It takes one pointer.
+    fn try_copy(&self) -> Result<Page<T>, AllocError> {
+        Page::try_copy(self)
+    }
+}

@@ -1,6 +1,7 @@
 //! Entries in pieces.
 //!
-//! A log lends its entries as they lie: one slice, or the rest of a page and the pages after it. Nothing is copied to read them.
+//! A log lends its entries as they lie: one slice, or the rest of a page, the pages after it, and the last one. Nothing is copied to
+//! read them.
 
 use crate::entry::Entry;
 use crate::page::Page;
@@ -12,6 +13,7 @@ use std::marker::Model;
 pub struct Pieces<'a> {
     front: &'a [Entry],
     pages: &'a [Page<Entry>],
+    back: &'a [Entry],
 }
 
 impl<'a> Model for Pieces<'a> {
@@ -21,17 +23,21 @@ impl<'a> Model for Pieces<'a> {
 
     ghost Value = { List Entry };
 
-    ghost view = { λ p. p.front.now ++ joined p.pages.now };
+    ghost view = { λ p. p.front.now ++ (joined p.pages.now ++ p.back.now) };
 }
 
 impl<'a> Pieces<'a> {
     ghost use Rattle.std.specs.Prelude.{◌≡◌, ◌<◌, ◌≤◌, ◌++◌, [], length, drop, IfNone, IfSome};
 
     /// One slice.
-    pub(crate) fn one(front: &'a [Entry]) -> Pieces<'a>
-        ensures { result ≡ front.now }
+    pub(crate) fn one(back: &'a [Entry]) -> Pieces<'a>
+        ensures { result ≡ back.now }
     {
-        Pieces { front, pages: &[] }
+        Pieces {
+            front: &[],
+            pages: &[],
+            back,
+        }
     }
 
     /// What a list in pages has from a place on.
@@ -42,8 +48,8 @@ impl<'a> Pieces<'a> {
         if from == all.len() {
             return Pieces::one(&[]);
         }
-        let (front, pages) = all.from(from);
-        Pieces { front, pages }
+        let (front, pages, back) = all.from(from);
+        Pieces { front, pages, back }
     }
 
     /// Takes the next piece, which has at least one entry.
@@ -60,6 +66,11 @@ impl<'a> Pieces<'a> {
         if !self.pages.is_empty() {
             let piece = self.pages[0].as_slice();
             self.pages = &self.pages[1..];
+            return Some(piece);
+        }
+        if !self.back.is_empty() {
+            let piece = self.back;
+            self.back = &[];
             return Some(piece);
         }
         None

@@ -7,7 +7,6 @@ use crate::entry::Entry;
 use crate::entry_list::{EntryList, push_from};
 use crate::pieces::Pieces;
 use crate::store::Store;
-use crate::try_copy::push_copies;
 use std::alloc::{AllocError, Global};
 use std::marker::Model;
 
@@ -33,9 +32,7 @@ impl Model for PlainStore {
 fn copies_of(alloc: Global, entries: &[Entry]) -> Result<Vec<Entry>, AllocError>
     ensures { IfOk result (λ copies. copies.items ≡ entries.now) }
 {
-    let mut copies = Vec::with_capacity(alloc, entries.len())?;
-    push_copies(&mut copies, entries)?;
-    Ok(copies)
+    Vec::from_clones(alloc, entries)
 }
 
 impl Store for PlainStore {

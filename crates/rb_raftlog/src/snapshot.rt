@@ -10,7 +10,7 @@ use rb_change::ConfState;
 use std::alloc::AllocError;
 
 /// A node's content and configuration, as they are where the entry at an index, which is of a term, is applied.
-#[derive(Drop)]
+#[derive(Clone, Drop)]
 pub struct Snapshot {
     pub index: u64,
     pub term: u64,
@@ -23,12 +23,7 @@ impl Snapshot {
     pub fn try_copy(&self) -> Result<Snapshot, AllocError>
         ensures { IfOk result (λ copy. copy ≡ self.now) }
     {
-        Ok(Snapshot {
-            index: self.index,
-            term: self.term,
-            content: self.content.try_copy()?,
-            config: self.config.try_copy()?,
-        })
+        self.clone()
     }
 
     /// Whether both are the same. Numbers are looked at first.

@@ -1,6 +1,6 @@
 //! Entries in pages that copies share, and how many of them are durable.
 //!
-//! Whether an entry is durable or not, it stands in a page, so a copy costs a pointer a page, however many entries a leader proposes
+//! Whether an entry is durable or not, it stands in a page, so a copy costs two pointers, however many entries a leader proposes
 //! and never saves. To make them durable is to count them.
 
 use crate::entries::Entries;
@@ -95,7 +95,7 @@ impl Store for SplitStore {
     fn try_copy(&self) -> Result<SplitStore, AllocError> {
         let kept = self.kept;
         Ok(SplitStore {
-            all: self.all.copy_from(0)?,
+            all: self.all.try_copy()?,
             kept,
         })
     }

@@ -10,7 +10,7 @@ use rb_change::Shared;
 use std::alloc::AllocError;
 
 /// What can be copied.
-pub(crate) trait TryCopy: Drop {
+pub trait TryCopy: Drop {
     /// The same value once more.
     fn try_copy(&self) -> Result<Self, AllocError>
         ensures { IfOk result (λ copy. copy ≡ self.now) };
@@ -22,8 +22,8 @@ impl TryCopy for Entry {
     }
 }
 
-impl TryCopy for Shared<u8> {
-    fn try_copy(&self) -> Result<Shared<u8>, AllocError> {
+impl<T: Drop> TryCopy for Shared<T> {
+    fn try_copy(&self) -> Result<Shared<T>, AllocError> {
         Shared::try_copy(self)
     }
 }

@@ -3,5 +3,5 @@ use Rattle.std.proofs.Common.{◌≡◌, ◌++◌, take}
 use Rattle.rb_raftlog.specs.Packed.{joined}
 use Rattle.rb_message.proofs.mail.push_pages.Given as goal
 
-abbrev pub invariant-loop-page : goal.invariant-loop-page
-invariant-loop-page l = l.messages.items ≡ l.initial.messages.items ++ joined (take l.page-index l.pages)
+abbrev pub invariant-loop-k : goal.invariant-loop-k
+invariant-loop-k l = l.messages.items ≡ l.initial.messages.items ++ joined (take l.k l.pages)

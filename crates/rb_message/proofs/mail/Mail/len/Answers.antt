@@ -3,4 +3,4 @@ use Rattle.rb_message.proofs.MailLaws.{paged_size}
 use Rattle.rb_message.proofs.mail.Mail.len.Goals as goal
 
 pub returns : goal.returns
-returns c = omega (arith, paged_size c.self.inside.pages.items c.self.inside.tail.items c.self.invariant, ap length c.self.view_is)
+returns c = omega (arith, paged_size c.self.inside.pages c.self.inside.tail.items c.self.invariant, ap length c.self.view_is)

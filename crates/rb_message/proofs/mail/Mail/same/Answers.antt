@@ -6,8 +6,8 @@ pub returns-then-same_messages : goal.returns-then-same_messages
 returns-then-same_messages c =
     let tails = sym c.deref.ensures.value ∙ c.same_messages.ensures.0 (search rules) ∙ c.deref-2.ensures.value in
     let told = same_by_pages _ _ _ _ _ _ c.self.invariant c.other.invariant c.self.view_is c.other.view_is tails in (
-      λ h. told.0 (sym c.deref-then-same_messages.ensures.value ∙ c.same_pages.ensures.0 h ∙ c.deref-then-same_messages-2.ensures.value),
-      λ e. c.same_pages.ensures.1 (c.deref-then-same_messages.ensures.value ∙ told.1 e ∙ sym c.deref-then-same_messages-2.ensures.value),
+      λ h. told.0 (c.same_pages.ensures.0 h),
+      λ e. c.same_pages.ensures.1 (told.1 e),
     )
 
 pub returns-else-same_messages : goal.returns-else-same_messages

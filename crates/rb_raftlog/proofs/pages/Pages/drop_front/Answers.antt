@@ -2,20 +2,20 @@ use Rattle.std.proofs.Common.{arith}
 use Rattle.rb_raftlog.proofs.PageLaws.{front_page, front_packed, front_size, front_view}
 use Rattle.rb_raftlog.proofs.pages.Pages.drop_front.Goals as goal
 
-pub drop_pages-requires : goal.drop_pages-requires
-drop_pages-requires g c =
-    omega (arith, front_page c.self.inside.pages.items c.args.self.now c.self.inside.skip c.args.n c.self.invariant.0 c.self.view_is (omega arith) c.requires)
+pub drop_front-requires : goal.drop_front-requires
+drop_front-requires g c =
+    omega (arith, front_page c.self.inside.pages c.args.self.now c.self.inside.skip c.args.n c.self.invariant.0 c.self.view_is (omega arith) c.requires)
 
 pub invariant_of-self : goal.invariant_of-self
 invariant_of-self g c =
-    let ps = c.self.inside.pages.items in
-    let qs = c.drop_pages.new.pages.items in (
-      front_packed ps qs c.args.self.now c.self.inside.skip c.args.n c.self.invariant.0 c.self.view_is (omega arith) c.requires c.drop_pages.ensures,
-      front_size ps qs c.args.self.now c.self.inside.skip c.self.inside.len c.args.n c.self.invariant.0 c.self.view_is (omega arith) c.requires c.drop_pages.ensures,
+    let ps = c.self.inside.pages in
+    let qs = c.drop_front.new.self in (
+      front_packed ps qs c.args.self.now c.self.inside.skip c.args.n c.self.invariant.0 c.self.view_is (omega arith) c.requires c.drop_front.ensures,
+      front_size ps qs c.args.self.now c.self.inside.skip c.self.inside.len c.args.n c.self.invariant.0 c.self.view_is (omega arith) c.requires c.drop_front.ensures,
       omega arith,
       omega arith,
     )
 
 pub returns : goal.returns
 returns g c =
-    front_view c.self.inside.pages.items c.drop_pages.new.pages.items c.args.self.now c.self.inside.skip c.args.n c.self.invariant.0 c.self.view_is (omega arith) c.requires c.drop_pages.ensures
+    front_view c.self.inside.pages c.drop_front.new.self c.args.self.now c.self.inside.skip c.args.n c.self.invariant.0 c.self.view_is (omega arith) c.requires c.drop_front.ensures

@@ -1,0 +1,124 @@
+//! A list that its copies share whole.
+//!
+//! A copy costs one pointer, however long the list is. While the list is shared it never changes: who drops items of it passes over
+//! them, and in the place of one to which an item is appended comes a new list with pointers to the same items. One that nobody shares
+//! grows in place, and gives back what is dropped.
+
+ghost use Rattle.std.specs.Prelude.{◌≡◌, ◌≤◌, ◌++◌, ◌∷◌, [], length, take, drop, IfOk, OnOk, OnErr};
+
+use crate::try_copy::{TryCopy, push_copies};
+use std::alloc::{AllocError, Global};
+use std::marker::Model;
+use std::rc::Rc;
+
+/// A list, which its copies share. Contracts see the items.
+#[derive(Drop)]
+pub(crate) struct Shelf<T> {
+    // How many of the first items are passed over.
+    skip: usize,
+    items: Rc<Vec<T>>,
+}
+
+impl<T> Model for Shelf<T> {
+    ghost use Rattle.std.specs.Prelude.{List, ◌≤◌, length, drop};
+
+    ghost Value = { List T };
+
+    ghost view = { λ s. drop s.skip s.items.value.items };
+
+    ghost invariant = { λ s. s.skip ≤ length s.items.value.items };
+}
+
+/// Copies of the items, with room for one more.
+fn copies_of<T: TryCopy>(alloc: Global, items: &[T]) -> Result<Vec<T>, AllocError>
+    ensures { IfOk result (λ copies. copies.items ≡ items.now) }
+{
+    let mut copies = Vec::with_capacity(alloc, items.len().saturating_add(1))?;
+    push_copies(&mut copies, items)?;
+    Ok(copies)
+}
+
+/// Drops the first k items.
+fn drop_items<T: TryCopy>(items: &mut Vec<T>, k: usize)
+    requires { k ≤ length items.old.items }
+    ensures { items.new.items ≡ drop k items.old.items }
+{
+    items.rotate_left(k);
+    let rest = items.len() - k;
+    items.truncate(rest);
+}
+
+impl<T: TryCopy> Shelf<T> {
+    /// A list of these items.
+    pub(crate) fn of(items: Vec<T>) -> Result<Shelf<T>, AllocError>
+        ensures { IfOk result (λ shelf. shelf ≡ items.items) }
+    {
+        let alloc = *items.allocator();
+        Ok(Shelf {
+            skip: 0,
+            items: Rc::new(alloc, items)?,
+        })
+    }
+
+    /// The items.
+    pub(crate) fn as_slice(&self) -> &[T]
+        ensures { result.now ≡ self.now }
+    {
+        &self.items.as_slice()[self.skip..]
+    }
+
+    /// Appends an item. Who shares the list keeps it as it was.
+    pub(crate) fn push(&mut self, item: T) -> Result<(), AllocError>
+        ensures ok { OnOk result (self.new ≡ self.old ++ item ∷ []) }
+        ensures err { OnErr result (self.new ≡ self.old) }
+    {
+        if let Some(own) = Rc::get_mut(&mut self.items) {
+            own.push(item)?;
+            return Ok(());
+        }
+        let alloc = *self.items.allocator();
+        let mut items = copies_of(alloc, self.as_slice())?;
+        items.push(item)?;
+        let shelf = Shelf::of(items)?;
+        *self = shelf;
+        Ok(())
+    }
+
+    /// Leaves the first k items.
+    pub(crate) fn cut(&mut self, k: usize) -> Result<(), AllocError>
+        requires { k ≤ length self.old }
+        ensures ok { OnOk result (self.new ≡ take k self.old) }
+        ensures err { OnErr result (self.new ≡ self.old) }
+    {
+        let alloc = *self.items.allocator();
+        let items = copies_of(alloc, &self.as_slice()[..k])?;
+        let shelf = Shelf::of(items)?;
+        *self = shelf;
+        Ok(())
+    }
+
+    /// Drops the first k items. It takes no memory.
+    pub(crate) fn drop_front(&mut self, k: usize)
+        requires { k ≤ length self.old }
+        ensures { self.new ≡ drop k self.old }
+    {
+        let left = self.as_slice().len() - k;
+        let gone = self.items.len() - left;
+        self.skip = gone;
+        if let Some(own) = Rc::get_mut(&mut self.items) {
+            drop_items(own, gone);
+            self.skip = 0;
+        }
+    }
+
+    /// The same list once more: a pointer to it.
+    pub(crate) fn try_copy(&self) -> Result<Shelf<T>, AllocError>
+        ensures { IfOk result (λ copy. copy ≡ self.now) }
+    {
+        let skip = self.skip;
+        Ok(Shelf {
+            skip,
+            items: self.items.clone()?,
+        })
+    }
+}
