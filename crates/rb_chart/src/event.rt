@@ -1,8 +1,9 @@
 //! What happened, of which a row is read.
 
-use crate::names::{Name, name_of, role_of, type_of};
+use crate::names::{Name, name_of, role_of};
 use crate::row::{Row, name_and_cells, row_of};
-use rb_message::{MessageType, Role};
+use rb_level::{MessageType, type_of};
+use rb_message::Role;
 
 /// What happened.
 #[derive(Clone, Copy)]

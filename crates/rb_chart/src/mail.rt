@@ -5,12 +5,12 @@
 
 use crate::event::Message;
 use crate::labels::Label;
-use rb_message::MessageType;
+use rb_level::MessageType;
 use std::alloc::{AllocError, Global};
 use std::collections::VecDeque;
 
-// Ids are at most 32, and there are 12 types of messages.
-const TYPES: usize = 12;
+// Ids are at most 32, and there are 13 types of messages.
+const TYPES: usize = 13;
 
 /// How many queues there are.
 pub(crate) const QUEUES: usize = 33 * TYPES;

@@ -7,7 +7,7 @@ use crate::painting::fitted;
 use crate::sentence::{sentence, with_one, with_two};
 use crate::sizes::MOST_LABEL;
 use rb_json::Piece;
-use rb_message::MessageType;
+use rb_level::MessageType;
 use std::alloc::{AllocError, Global};
 
 fn vote_words(alloc: Global, name: &[u8], said: [u64; 4]) -> Result<Vec<u8>, AllocError> {
@@ -69,7 +69,7 @@ fn words_behind(alloc: Global, message: &Message<'_>, name: &[u8]) -> Result<Vec
             message.body,
         ),
         MessageType::TransferLeader => with_one(alloc, name, b" to ", said[0]),
-        MessageType::HeartbeatResponse | MessageType::TimeoutNow => {
+        MessageType::HeartbeatResponse | MessageType::TimeoutNow | MessageType::Unreachable => {
             sentence(alloc, &[Piece::Bytes(name)], &[])
         }
     }

@@ -1,7 +1,8 @@
 //! What rows call the kinds of rows, of messages and of roles.
 
 use crate::look::Kind;
-use rb_message::{MessageType, Role};
+use rb_level::MessageType;
+use rb_message::Role;
 
 /// The rows that a picture shows something of.
 #[derive(Clone, Copy)]
@@ -81,32 +82,6 @@ pub(crate) fn name_of(text: &[u8]) -> Option<Name> {
     None
 }
 
-#[rattlefmt::skip]
-static TYPES: [(&[u8], MessageType); 12] = [
-    (b"MsgVote", MessageType::Vote),
-    (b"MsgPreVote", MessageType::PreVote),
-    (b"MsgVoteResp", MessageType::VoteResponse),
-    (b"MsgPreVoteResp", MessageType::PreVoteResponse),
-    (b"MsgApp", MessageType::Append),
-    (b"MsgAppResp", MessageType::AppendResponse),
-    (b"MsgHeartbeat", MessageType::Heartbeat),
-    (b"MsgHeartbeatResp", MessageType::HeartbeatResponse),
-    (b"MsgSnap", MessageType::Snapshot),
-    (b"MsgProp", MessageType::Proposal),
-    (b"MsgTransferLeader", MessageType::TransferLeader),
-    (b"MsgTimeoutNow", MessageType::TimeoutNow),
-];
-
-/// The type of a message, by its name.
-pub(crate) fn type_of(text: &[u8]) -> Option<MessageType> {
-    for row in &TYPES {
-        if row.0 == text {
-            return Some(row.1);
-        }
-    }
-    None
-}
-
 /// The name of a message's type, without what all of them begin with.
 pub(crate) fn short_name(name: &[u8]) -> &[u8] {
     name.strip_prefix(b"Msg".as_slice()).unwrap_or(name)
@@ -123,7 +98,9 @@ pub(crate) fn kind_of(message_type: MessageType) -> Kind {
         MessageType::Append | MessageType::AppendResponse => Kind::Append,
         MessageType::Heartbeat | MessageType::HeartbeatResponse => Kind::Heartbeat,
         MessageType::Snapshot => Kind::Snapshot,
-        MessageType::Proposal | MessageType::TransferLeader => Kind::Proposal,
+        MessageType::Proposal | MessageType::TransferLeader | MessageType::Unreachable => {
+            Kind::Proposal
+        }
     }
 }
 

@@ -1,5 +1,5 @@
 -- Reasons of a script's outputs: where they stand, and what they add.
-use Rattle.std.proofs.Common.{◌≡◌, ◌∙◌, ℕ, ◌+◌, ◌-◌, ◌≤◌, Bool, true, false, cond, List, [], ◌∷◌, ◌++◌, length, drop, Option, Some, Result, refl, ap, sym, subst, append_assoc, append-nil, arith}
+use Rattle.std.proofs.Common.{◌≡◌, ◌∙◌, ℕ, ◌+◌, ◌-◌, ◌≤◌, Bool, true, false, cond, List, [], ◌∷◌, ◌++◌, length, drop, Option, Some, unwrap_or, Result, refl, ap, sym, subst, append_assoc, append-nil, arith}
 use Rattle.std.specs.Prelude.{IsErr, slice_get, slice_index_or}
 use Rattle.std.specs.Io.KnownBytes.{Appends}
 use Rattle.std.proofs.lemmas.List.{drop_all}
@@ -20,7 +20,7 @@ use Rattle.rb_check.proofs.AddedLaws.{as_it_is, both_add, either_adds, mismatch-
 use Rattle.rb_checked.specs.declared.view.Shown.{Shown}
 use Rattle.rb_checked.specs.declared.view.Shown.TheVariants as shown
 use Rattle.rb_checked.specs.Checked.{head_of, hint_of, head_line, match_shown, mismatch_shown, directive_shown, all_shown, mismatch_at, brief_at, of_first, checked_text}
-use Rattle.rb_checked.specs.Whys.{is_reason, or_nothing, first_reason, reasons_below, why_of, why_at, told_differing, told_match, told_directive, all_told, told_at, told_text}
+use Rattle.rb_checked.specs.Whys.{is_reason, or_nothing, first_reason, reasons_below, why_at, told_differing, told_match, told_directive, all_told, told_at, told_text}
 use Rattle.rb_checked.proofs.ShownLaws.{head_line-is}
 
 -- ---- one directive on
@@ -77,7 +77,7 @@ told-is colors path whys heads s i line b o w head block output why =
 -- ---- no reasons
 
 nothing_at : (i : ℕ) → why_at [] i ≡ []
-nothing_at i = ap why_of (slice_get_past [] i (omega arith))
+nothing_at i = ap (λ (o : Option (List Line)). unwrap_or o []) (slice_get_past [] i (omega arith))
 
 untold-match : (all : Bool) (ls : List Line) (path : List ℕ) (line : ℕ) (b : PlainBlock) (output : List Line) → told_match all ls path line b output [] ≡ match_shown all ls path line b output
 untold-match true ls path line b output = untold-run path line (head_of b) output (hint_of b output)

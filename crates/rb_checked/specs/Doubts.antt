@@ -11,12 +11,12 @@ use Rattle.rb_script.specs.Reading.{directive_of, block_of}
 use Rattle.rb_words.specs.Words.{words}
 use Rattle.rb_directive.specs.declared.name.Name.TheVariants.{ProposeConfChange}
 use Rattle.rb_directive.specs.Names.{name_text}
+use Rattle.rb_directive.specs.Table.{is_name}
 use Rattle.rb_replay.specs.Report.{same_lines}
 use Rattle.rb_check.specs.declared.doubt.Doubt.{Doubt}
 use Rattle.rb_check.specs.declared.doubt.Doubt.TheVariants.{InExpectation, InInput, Unread}
 use Rattle.rb_checked.specs.declared.part.Part.{Part}
 use Rattle.rb_checked.specs.declared.part.Part.TheVariants.{Head, Input, Expected}
-use Rattle.rb_checked.specs.declared.names.TheConstants.{NAMES}
 use Rattle.rb_checked.specs.declared.warning.Warning.{Warning}
 
 -- what the line after a line of this part is
@@ -29,10 +29,7 @@ abbrev pub first_of : List Line → Line
 first_of [] = []
 first_of (word ∷ ws) = word
 
-abbrev pub is_name : List ℕ → Bool
-is_name word = list_any (λ name. bytes_eq (name_text name) word) NAMES
-
--- the line's first word is the name of a directive
+-- the line's first word is the name of a directive, by the table
 abbrev pub begins_with_name : Line → Bool
 begins_with_name line = is_name (first_of (words line))
 

@@ -1,6 +1,6 @@
 -- Why nothing came of messages, below the lines of the outputs that they belong to: what `check` shows of a script where reasons are asked for.
 -- (This project's.)
-use Rattle.std.specs.Prelude.{ℕ, ◌+◌, ◌-◌, Bool, true, false, ◌||◌, if◌then◌else◌, List, [], ◌∷◌, ◌++◌, length, map, take, drop, codes, Option, Some, None, slice_get, slice_index_or}
+use Rattle.std.specs.Prelude.{ℕ, ◌+◌, ◌-◌, Bool, true, false, ◌||◌, if◌then◌else◌, List, [], ◌∷◌, ◌++◌, length, map, take, drop, codes, slice_get, slice_index_or, unwrap_or}
 use Rattle.std.specs.Str.{bytes_eq}
 use Rattle.rb_script.specs.Lines.{Line}
 use Rattle.rb_script.specs.Directive.{PlainDirective}
@@ -61,13 +61,9 @@ whys_of s = map reasons_of (explanations empty (directives s))
 
 -- ---- what is shown
 
-abbrev pub why_of : Option (List Line) → List Line
-why_of None = []
-why_of (Some why) = why
-
 -- the reasons of the directive at an index, which counts from 0
 abbrev pub why_at : List (List Line) → ℕ → List Line
-why_at whys i = why_of (slice_get whys i)
+why_at whys i = unwrap_or (slice_get whys i) []
 
 -- a block that expects other lines than the output
 abbrev pub told_differing : Colors → List ℕ → ℕ → PlainBlock → List Line → List Line → List ℕ

@@ -1,6 +1,6 @@
 //! Laws of what is shown of a script.
 
-ghost use Rattle.std.specs.Prelude.{◌≡◌, ℕ, Bool, true, false, if◌then◌else◌, List, [], map, length, slice_index, slice_get, Some, None};
+ghost use Rattle.std.specs.Prelude.{◌≡◌, ℕ, Bool, true, false, if◌then◌else◌, List, [], length, slice_index, slice_get, Some, None};
 ghost use Rattle.std.specs.List.{flat_map, list_all};
 ghost use Rattle.rb_script.specs.Lines.{Line, lines};
 ghost use Rattle.rb_script.specs.Script.{PlainBlock, PlainScript, expecting, with_outputs};
@@ -19,9 +19,6 @@ ghost use Rattle.rb_checked.specs.declared.wanted.Picked.TheVariants.{All};
 ghost use Rattle.rb_checked.specs.declared.wanted.Wanted.{Wanted};
 ghost use Rattle.rb_checked.specs.Accepting.{is_picked, is_left, accepted};
 ghost use Rattle.rb_checked.specs.Doubts.{all_warnings, is_called_rightly};
-ghost use Rattle.rb_checked.specs.declared.names.TheConstants.{NAMES};
-ghost use Rattle.rb_directive.specs.declared.table.Row.{Row};
-ghost use Rattle.rb_directive.specs.Table.{directives};
 
 /// Each mismatch is shown once, in order, with the line of its directive; and nothing else is but errors that aren't said to be expected.
 pub fn mismatches_are_shown()
@@ -72,9 +69,4 @@ pub fn errors_are_accepted_on_request()
 /// A line that is called a directive looks like one.
 pub fn called_lines_look_like_directives()
     ensures { (ls : List Line) (heads : List ℕ) (bs : List PlainBlock) (os : List (List Line)) → list_all (is_called_rightly ls) (all_warnings ls heads bs os) ≡ true }
-{}
-
-/// A line that looks like a directive begins with a name of the table.
-pub fn names_are_those_of_the_table()
-    ensures { map (λ (row : Row). row.name) directives ≡ NAMES }
 {}

@@ -30,9 +30,8 @@ pub use errors::{first_line, has_errors, is_unexpected};
 pub use fault::ShowFault;
 pub use laws::{
     accepted_scripts_are, called_lines_look_like_directives, errors_are_accepted_on_request,
-    matching_scripts_show_nothing, mismatches_are_shown, names_are_those_of_the_table,
-    new_errors_are_left, nothing_is_told_unasked, others_stay, reasons_stand_between_outputs,
-    shown_lines_are_of_heads,
+    matching_scripts_show_nothing, mismatches_are_shown, new_errors_are_left,
+    nothing_is_told_unasked, others_stay, reasons_stand_between_outputs, shown_lines_are_of_heads,
 };
 pub use layout::{Layout, layout_of};
 pub use put::{is_quiet, is_same, put_checked, put_left_errors, put_one_mismatch};

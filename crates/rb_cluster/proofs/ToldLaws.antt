@@ -6,11 +6,12 @@ use Rattle.std.specs.List.{flat_map, range_with_len}
 use Rattle.std.proofs.lemmas.List.Concat.{flat_map-append}
 use Rattle.rb_script.specs.Directive.{PlainDirective}
 use Rattle.rb_script.specs.Lines.{Line}
+use Rattle.rb_directive.specs.declared.act_with.ActWith.TheVariants as withs
 use Rattle.rb_directive.specs.declared.asking.AddNodes.{AddNodes}
 use Rattle.rb_directive.specs.declared.asking.DeliverMsgs.{DeliverMsgs}
 use Rattle.rb_directive.specs.declared.asking.Request.{Request}
 use Rattle.rb_directive.specs.declared.asking.Request.TheVariants as requests
-use Rattle.rb_directive.specs.declared.message_type.TypeSet.{TypeSet}
+use Rattle.rb_directive.specs.declared.type_set.TypeSet.{TypeSet}
 use Rattle.rb_directive.specs.declared.build.Asked.{Asked}
 use Rattle.rb_directive.specs.Requests.{request}
 use Rattle.rb_level.specs.declared.level.Level.{Level}
@@ -265,20 +266,17 @@ status_shown_by_tells (Some n) c = all_tells c (status_items n)
 
 pub effect_tells : (r : Request) (c : Cluster) → Tells (λ (a : Screen). effect r (scene c a))
 effect_tells (requests.AddNodes asked) c = nodes_added_tells asked c
-effect_tells (requests.Campaign id) c = acted_tells c id _
+effect_tells (requests.Act what id) c = acted_tells c id _
 effect_tells (requests.Propose id payload) c = acted_tells c id _
 effect_tells (requests.ProposeConfChange asked) c = acted_tells c asked.id _
 effect_tells (requests.ProcessReady ids) c = ready_done_each_tells c ids
 effect_tells (requests.DeliverMsgs asked) c = msgs_delivered_tells asked c
 effect_tells (requests.Stabilize ids rounds) c = settled_tells rounds rounds c (chosen ids c.nodes)
-effect_tells (requests.TickElection id) c = acted_tells c id _
-effect_tells (requests.TickHeartbeat id) c = acted_tells c id _
-effect_tells (requests.SetRandomizedElectionTimeout id timeout) c = none_tells (acts.set_timeout id timeout c)
-effect_tells (requests.TransferLeadership from to) c = transferred_tells c from to
-effect_tells (requests.ForgetLeader id) c = none_tells (acts.forget_leader id c)
-effect_tells (requests.ReportUnreachable id peer) c = none_tells (acts.report_unreachable id peer c)
-effect_tells (requests.SendSnapshot from to) c = snapshot_sent_by_tells (node_at c from) from to c
-effect_tells (requests.Compact id index) c = compact_by_tells (node_at c id) id index c
+effect_tells (requests.ActWith withs.SetRandomizedElectionTimeout id timeout) c = none_tells (acts.set_timeout id timeout c)
+effect_tells (requests.ActWith withs.TransferLeadership from to) c = transferred_tells c from to
+effect_tells (requests.ActWith withs.ReportUnreachable id peer) c = none_tells (acts.report_unreachable id peer c)
+effect_tells (requests.ActWith withs.SendSnapshot from to) c = snapshot_sent_by_tells (node_at c from) from to c
+effect_tells (requests.ActWith withs.Compact id index) c = compact_by_tells (node_at c id) id index c
 effect_tells (requests.LogLevel level) c = none_tells (level_set level c)
 effect_tells (requests.RaftLog id) c = log_shown_by_tells (node_at c id) c
 effect_tells (requests.Status id) c = status_shown_by_tells (node_at c id) c

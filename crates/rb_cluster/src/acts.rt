@@ -3,11 +3,12 @@
 ghost use Rattle.std.specs.Prelude.{◌≡◌, OnOk};
 ghost use Rattle.rb_message.specs.declared.kind.MessageKind.TheVariants.{TransferLeader};
 ghost use Rattle.rb_step.specs.Node.{turn, message};
-ghost use Rattle.rb_machine.specs.Acts.{campaign, propose, ticked_times, tick_election, tick_heartbeat, set_timeout, transfer, forget_leader, report_unreachable};
+ghost use Rattle.rb_machine.specs.Acts.{ticked_times, turn_by, act, propose, set_timeout, transfer, report_unreachable};
 ghost use Rattle.rb_machine.specs.Scenes.{scene};
 
 use crate::cluster::{Cluster, place_of};
 use rb_change::Shared;
+use rb_directive::Act;
 use rb_level::Word;
 use rb_machine::Screen;
 use rb_message::{Event, Message, MessageKind};
@@ -32,6 +33,25 @@ fn tick_times<L: RaftLog>(
     Ok(())
 }
 
+// The turn of a node that is told nothing more.
+fn take_turn<L: RaftLog>(
+    node: &mut Node<L>,
+    what: Act,
+    events: &mut Vec<Event>,
+) -> Result<(), AllocError>
+    ensures { OnOk result (turn node.new events.new.items ≡ turn_by what (turn node.old events.old.items)) }
+{
+    match what {
+        Act::Campaign => node.campaign(events),
+        Act::TickElection => tick_times(node, ELECTION_TICKS, events),
+        Act::TickHeartbeat => node.tick(events),
+        Act::ForgetLeader => {
+            node.forget_leader();
+            Ok(())
+        }
+    }
+}
+
 // What a node tells itself where it is asked to hand the lead over.
 fn transfer_message(from: u64, to: u64) -> Message
     ensures { result ≡ message from from 0 (TransferLeader to) }
@@ -45,16 +65,16 @@ fn transfer_message(from: u64, to: u64) -> Message
 }
 
 impl<L: RaftLog> Cluster<L> {
-    /// A node campaigns.
-    pub(crate) fn campaign(&mut self, id: u64, screen: &mut Screen) -> Result<(), AllocError>
-        ensures { OnOk result (scene self.new screen.new ≡ campaign id (scene self.old screen.old)) }
+    /// A node does what it is told to.
+    pub(crate) fn act(&mut self, what: Act, id: u64, screen: &mut Screen) -> Result<(), AllocError>
+        ensures { OnOk result (scene self.new screen.new ≡ act what id (scene self.old screen.old)) }
     {
         let mut events = Vec::new(self.alloc);
         let Some(shared) = self.nodes.get_mut(place_of(id)) else {
             return Ok(());
         };
         let node = shared.to_change()?;
-        node.campaign(&mut events)?;
+        take_turn(node, what, &mut events)?;
         screen.show_events(&events)
     }
 
@@ -74,32 +94,6 @@ impl<L: RaftLog> Cluster<L> {
         };
         let node = shared.to_change()?;
         node.propose(bytes, &mut events)?;
-        screen.show_events(&events)
-    }
-
-    /// As many ticks pass at a node as an election timeout has at first.
-    pub(crate) fn tick_election(&mut self, id: u64, screen: &mut Screen) -> Result<(), AllocError>
-        ensures { OnOk result (scene self.new screen.new ≡ tick_election id (scene self.old screen.old)) }
-    {
-        let mut events = Vec::new(self.alloc);
-        let Some(shared) = self.nodes.get_mut(place_of(id)) else {
-            return Ok(());
-        };
-        let node = shared.to_change()?;
-        tick_times(node, ELECTION_TICKS, &mut events)?;
-        screen.show_events(&events)
-    }
-
-    /// One tick passes at a node.
-    pub(crate) fn tick_heartbeat(&mut self, id: u64, screen: &mut Screen) -> Result<(), AllocError>
-        ensures { OnOk result (scene self.new screen.new ≡ tick_heartbeat id (scene self.old screen.old)) }
-    {
-        let mut events = Vec::new(self.alloc);
-        let Some(shared) = self.nodes.get_mut(place_of(id)) else {
-            return Ok(());
-        };
-        let node = shared.to_change()?;
-        node.tick(&mut events)?;
         screen.show_events(&events)
     }
 
@@ -131,16 +125,6 @@ impl<L: RaftLog> Cluster<L> {
         node.transfer(to, &mut events)?;
         screen.show_events(&events)?;
         screen.explain(why)
-    }
-
-    /// A follower forgets its leader.
-    pub(crate) fn forget_leader(&mut self, id: u64) -> Result<(), AllocError>
-        ensures { OnOk result (self.new ≡ forget_leader id self.old) }
-    {
-        if let Some(shared) = self.nodes.get_mut(place_of(id)) {
-            shared.to_change()?.forget_leader();
-        }
-        Ok(())
     }
 
     /// It is reported to a node that another can't be reached.

@@ -13,7 +13,6 @@ mod deliveries;
 mod laws;
 mod letter;
 mod lists;
-mod message_types;
 mod meter;
 mod outcome;
 mod pending;

@@ -9,13 +9,13 @@ ghost use Rattle.rb_directive.specs.Requests.{request, IsWithin};
 ghost use Rattle.rb_step.specs.Node.{PlainNode};
 ghost use Rattle.rb_texts.specs.Items.{error};
 ghost use Rattle.rb_machine.specs.Cluster.{is_node};
-ghost use Rattle.rb_machine.specs.Outcome.{absent, first_absent, missing_node, own_fault, fault, effect, level_set, unless_refused, refused, outcome_of, outcome, happened, explanation, way_of};
+ghost use Rattle.rb_machine.specs.Outcome.{absent, first_absent, missing_node, with_fault, own_fault, fault, act_with, effect, level_set, unless_refused, refused, outcome_of, outcome, happened, explanation, way_of};
 ghost use Rattle.rb_machine.specs.Scenes.{scene, lines_of};
 
 use crate::add_nodes::add_nodes_fault;
 use crate::cluster::Cluster;
 use crate::shared_node::SharedNode;
-use rb_directive::{Asked, Named, Request, request};
+use rb_directive::{ActWith, Asked, Named, Request, request};
 use rb_level::{DirectiveError, Level};
 use rb_machine::{Form, Machine, Screen, Way};
 use rb_raftlog::RaftLog;
@@ -88,6 +88,16 @@ fn error_lines<'d>(alloc: Global, way: Way, fault: DirectiveError<'d>) -> Result
 }
 
 impl<L: RaftLog> Cluster<L> {
+    // What a node may not do with a number.
+    fn with_fault<'d>(&self, what: ActWith, id: u64, number: u64) -> Option<DirectiveError<'d>>
+        ensures { result ≡ with_fault what id number self.now }
+    {
+        match what {
+            ActWith::Compact => self.compact_error(id, number),
+            _ => None,
+        }
+    }
+
     // What a directive may not do in this cluster, where its nodes exist.
     fn own_fault<'d>(&self, wanted: &Request<'d>) -> Option<DirectiveError<'d>>
         ensures { result ≡ own_fault wanted.now self.now }
@@ -95,23 +105,8 @@ impl<L: RaftLog> Cluster<L> {
         match wanted {
             Request::AddNodes(asked) => add_nodes_fault(asked, &self.nodes),
             Request::ProposeConfChange(asked) => asked.fault.as_ref().map(DirectiveError::copy),
-            Request::Compact(id, index) => self.compact_error(*id, *index),
-            Request::Campaign(_)
-            | Request::Propose(_, _)
-            | Request::ProcessReady(_)
-            | Request::DeliverMsgs(_)
-            | Request::Stabilize(_, _)
-            | Request::TickElection(_)
-            | Request::TickHeartbeat(_)
-            | Request::SetRandomizedElectionTimeout(_, _)
-            | Request::TransferLeadership(_, _)
-            | Request::ForgetLeader(_)
-            | Request::ReportUnreachable(_, _)
-            | Request::SendSnapshot(_, _)
-            | Request::LogLevel(_)
-            | Request::RaftLog(_)
-            | Request::Status(_)
-            | Request::RaftState => None,
+            Request::ActWith(what, id, number) => self.with_fault(*what, *id, *number),
+            _ => None,
         }
     }
 
@@ -134,6 +129,31 @@ impl<L: RaftLog> Cluster<L> {
         self.level = level;
     }
 
+    // A node does something with a number.
+    fn act_with(
+        &mut self,
+        what: ActWith,
+        id: u64,
+        number: u64,
+        screen: &mut Screen,
+    ) -> Result<(), AllocError>
+        ensures { OnOk result (scene self.new screen.new ≡ act_with what id number (scene self.old screen.old)) }
+    {
+        match what {
+            ActWith::SetRandomizedElectionTimeout => {
+                self.set_timeout(id, number)?;
+                Ok(())
+            }
+            ActWith::TransferLeadership => self.transfer(id, number, screen),
+            ActWith::ReportUnreachable => {
+                self.report_unreachable(id, number)?;
+                Ok(())
+            }
+            ActWith::SendSnapshot => self.send_snapshot(id, number, screen),
+            ActWith::Compact => self.compact(id, number, screen),
+        }
+    }
+
     // Does what is asked for, and prints what comes of it.
     #[tactic(auto, using(crate::proofs::OutcomeLaws::room_for, crate::proofs::OutcomeLaws::index_for))]
     fn perform(&mut self, wanted: &Request<'_>, screen: &mut Screen) -> Result<(), AllocError>
@@ -143,29 +163,13 @@ impl<L: RaftLog> Cluster<L> {
     {
         match wanted {
             Request::AddNodes(asked) => self.add_nodes(asked, screen),
-            Request::Campaign(id) => self.campaign(*id, screen),
+            Request::Act(what, id) => self.act(*what, *id, screen),
             Request::Propose(id, payload) => self.propose(*id, payload, screen),
             Request::ProposeConfChange(asked) => self.propose_change(asked, screen),
             Request::ProcessReady(ids) => self.process_ready(ids.as_slice(), screen),
             Request::DeliverMsgs(asked) => self.deliver_msgs(asked, screen),
             Request::Stabilize(ids, rounds) => self.stabilize(ids, *rounds, screen),
-            Request::TickElection(id) => self.tick_election(*id, screen),
-            Request::TickHeartbeat(id) => self.tick_heartbeat(*id, screen),
-            Request::SetRandomizedElectionTimeout(id, ticks) => {
-                self.set_timeout(*id, *ticks)?;
-                Ok(())
-            }
-            Request::TransferLeadership(from, to) => self.transfer(*from, *to, screen),
-            Request::ForgetLeader(id) => {
-                self.forget_leader(*id)?;
-                Ok(())
-            }
-            Request::ReportUnreachable(id, peer) => {
-                self.report_unreachable(*id, *peer)?;
-                Ok(())
-            }
-            Request::SendSnapshot(from, to) => self.send_snapshot(*from, *to, screen),
-            Request::Compact(id, index) => self.compact(*id, *index, screen),
+            Request::ActWith(what, id, number) => self.act_with(*what, *id, *number, screen),
             Request::LogLevel(level) => {
                 self.set_level(*level);
                 Ok(())
@@ -198,9 +202,11 @@ impl<L: RaftLog> Cluster<L> {
         ensures cluster { OnOk result (self.new ≡ (outcome_of form (request (plain directive.now)) self.old).cluster) }
         ensures output { IfOk result (λ lines. lines ≡ (outcome_of form (request (plain directive.now)) self.old).output) }
     {
-        match request(directive) {
-            Ok(asked) => self.carry_out_asked(form, &asked),
-            Err(error) => error_lines(self.alloc, way_of(form, self.level), error),
+        // What is asked for is looked at where it stands: it is large.
+        let read = request(directive);
+        match &read {
+            Ok(asked) => self.carry_out_asked(form, asked),
+            Err(error) => error_lines(self.alloc, way_of(form, self.level), error.copy()),
         }
     }
 

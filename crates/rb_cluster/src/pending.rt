@@ -3,18 +3,28 @@
 //! They stand in one list, in the order in which they were sent. A message never changes, so a copy of the list costs a pointer a message.
 
 ghost use Rattle.std.specs.Prelude.{◌≡◌, ◌++◌, ◌∷◌, [], IfOk, OnOk, not, filter};
-ghost use Rattle.rb_machine.specs.Pending.{is_for, mail, other_mail, has_room, with_pending, sent, all_sent};
+ghost use Rattle.rb_machine.specs.Pending.{is_meant, is_for, mail, other_mail, has_room, with_pending, sent, all_sent};
 ghost use Rattle.rb_machine.specs.Scenes.{scene};
 
 use crate::cluster::Cluster;
 use crate::letter::Letter;
-use crate::message_types::is_meant;
 use rb_directive::TypeSet;
+use rb_level::MessageType;
 use rb_machine::{MAX_PENDING, Screen};
 use rb_message::Message;
 use rb_raftlog::RaftLog;
 use rb_texts::{Item, Verb};
 use std::alloc::{AllocError, Global};
+
+// Whether a message of this type is meant: one of these, or any where none are named.
+fn is_meant(types: &Option<TypeSet>, message_type: MessageType) -> bool
+    ensures { result ≡ is_meant types.now message_type }
+{
+    match types {
+        Some(set) => set.has(message_type),
+        None => true,
+    }
+}
 
 /// Whether a message is for this node, and of one of the types.
 pub(crate) fn is_for(id: u64, types: &Option<TypeSet>, message: &Message) -> bool

@@ -5,7 +5,7 @@ use Rattle.std.specs.List.{range_with_len}
 use Rattle.std.proofs.lemmas.Bool.{and_parts}
 use Rattle.std.proofs.lemmas.List.Elements.{All-nil, All-head, All-tail, All-cons, All-push, All-weaker, All-append, All-filter, All-contains_itself, Contains-append_left, Contains-append_right, filter_passes}
 use Rattle.rb_directive.specs.declared.asking.DeliverMsgs.{DeliverMsgs}
-use Rattle.rb_directive.specs.declared.message_type.TypeSet.{TypeSet}
+use Rattle.rb_directive.specs.declared.type_set.TypeSet.{TypeSet}
 use Rattle.rb_tracker.proofs.SetLaws.{if_both}
 use Rattle.rb_message.specs.Messages.{type_of}
 use Rattle.rb_message.specs.declared.message.Message.{Message}
@@ -16,8 +16,7 @@ use Rattle.rb_node_laws.specs.Calling.{Call, Step, Tick, Advance, after}
 use Rattle.rb_machine.specs.Acts.{ticked_times}
 use Rattle.rb_machine.specs.Cluster.{Cluster, node_at, with_node}
 use Rattle.rb_machine.specs.Deliveries.{left_by, received, all_received, delivered, delivered_each, dropped, dropped_each, meets_any, msgs_delivered}
-use Rattle.rb_machine.specs.MessageTypes.{is_meant}
-use Rattle.rb_machine.specs.Pending.{is_for, mail, other_mail, with_pending, has_room, sent, all_sent}
+use Rattle.rb_machine.specs.Pending.{is_meant, is_for, mail, other_mail, with_pending, has_room, sent, all_sent}
 use Rattle.rb_machine.specs.Readies.{ready_items, advanced_by, all_done, ready_done_by, ready_done, ready_done_each}
 use Rattle.rb_machine.specs.Rounds.{is_chosen, chosen, is_ready, has_work, readied_each, round, settled}
 use Rattle.rb_machine.specs.Scenes.{Scene, shown, all_shown, with_cluster, acted_by, acted}

@@ -7,6 +7,9 @@ use Rattle.std.proofs.lemmas.List.Elements.{All-nil, All-cons, All-push}
 use Rattle.rb_script.specs.Directive.{PlainDirective}
 use Rattle.rb_level.specs.declared.directive_error.DirectiveError.{DirectiveError}
 use Rattle.rb_level.specs.declared.directive_error.DirectiveError.TheVariants as errors
+use Rattle.rb_directive.specs.declared.act.Act.{Act}
+use Rattle.rb_directive.specs.declared.act.Act.TheVariants as does
+use Rattle.rb_directive.specs.declared.act_with.ActWith.TheVariants as withs
 use Rattle.rb_directive.specs.declared.asking.Request.{Request}
 use Rattle.rb_directive.specs.declared.asking.Request.TheVariants as requests
 use Rattle.rb_directive.specs.declared.build.Asked.{Asked}
@@ -22,9 +25,10 @@ use Rattle.rb_message.specs.declared.message.Message.{Message}
 use Rattle.rb_step.specs.declared.limits.TheConstants.{ELECTION_TICKS}
 use Rattle.rb_step.specs.Node.{PlainNode, turn, message}
 use Rattle.rb_step.specs.Sends.{snapshot_of}
-use Rattle.rb_node.specs.Calls.{leader_forgotten, reported}
+use Rattle.rb_node.specs.Calls.{reported}
 use Rattle.rb_node_laws.specs.Calling.{Call, Campaign, Propose, Transfer, Tick, ForgetLeader, ReportUnreachable, SetTimeout, Compact, compacted_unless, after}
 use Rattle.rb_machine.specs.declared.screen.Form.TheVariants as forms
+use Rattle.rb_machine.specs.Acts.{act}
 use Rattle.rb_machine.specs.Cluster.{Cluster, is_node, node_at, with_node, changed_by}
 use Rattle.rb_machine.specs.Outcome.{absent, first_absent, missing_node, own_fault, fault, effect, unless_refused, screen_of, outcome_of, outcome}
 use Rattle.rb_machine.specs.Pending.{has_room}
@@ -61,6 +65,14 @@ all_present nodes [] none = All-nil (λ (id : ℕ). 0 < id)
 all_present nodes (id ∷ ids) none =
     let both = neither (absent nodes id) (first_absent nodes ids) none in
     All-cons (λ (i : ℕ). 0 < i) id ids (present nodes id both.0) (all_present nodes ids both.1)
+
+-- ---- what a node is told to do
+
+act_reached : (g : Setting) (s : Network) (what : Act) (x : Scene) (id : ℕ) → IsTied g s x.cluster → IsReached g s (act what id x).cluster
+act_reached g s does.Campaign x id tied = acts g s x id Campaign tied (tt, tt)
+act_reached g s does.TickElection x id tied = ticks g s x id ELECTION_TICKS tied
+act_reached g s does.TickHeartbeat x id tied = acts g s x id Tick tied (tt, tt)
+act_reached g s does.ForgetLeader x id tied = acts g s x id ForgetLeader tied (tt, tt)
 
 -- ---- changes that tell nothing
 
@@ -118,19 +130,16 @@ pub has_effect : (g : Setting) (s : Network) (r : Request) (x : Scene) → IsSte
 unfolding compact_error
 has_effect g s (requests.AddNodes asked) x steady may tied = absurd steady
 has_effect g s (requests.ProposeConfChange asked) x steady may tied = absurd steady
-has_effect g s (requests.Campaign id) x steady may tied = acts g s x id Campaign tied (tt, tt)
+has_effect g s (requests.Act what id) x steady may tied = act_reached g s what x id tied
 has_effect g s (requests.Propose id payload) x steady may tied = acts g s x id (Propose (Payload payload)) tied (refl, tt)
 has_effect g s (requests.ProcessReady ids) x steady may tied = readies_each g s x ids tied
 has_effect g s (requests.DeliverMsgs asked) x steady may tied = delivers_msgs g s asked x (all_present x.cluster.nodes asked.nodes may.0) tied
 has_effect g s (requests.Stabilize ids rounds) x steady may tied = settles g s rounds rounds x (chosen ids x.cluster.nodes) (chosen_some ids x.cluster.nodes) tied
-has_effect g s (requests.TickElection id) x steady may tied = ticks g s x id ELECTION_TICKS tied
-has_effect g s (requests.TickHeartbeat id) x steady may tied = acts g s x id Tick tied (tt, tt)
-has_effect g s (requests.SetRandomizedElectionTimeout id timeout) x steady may tied = changes_by g s x.cluster id (SetTimeout timeout) (λ (n : PlainNode). record n { timeout = timeout }) (node_at x.cluster id) (λ n. refl) (tt, tt) refl tied
-has_effect g s (requests.TransferLeadership from to) x steady may tied = acts g s x from (Transfer to) tied (tt, tt)
-has_effect g s (requests.ForgetLeader id) x steady may tied = changes_by g s x.cluster id ForgetLeader leader_forgotten (node_at x.cluster id) (λ n. refl) (tt, tt) refl tied
-has_effect g s (requests.ReportUnreachable id peer) x steady may tied = changes_by g s x.cluster id (ReportUnreachable peer) (λ (n : PlainNode). reported n peer) (node_at x.cluster id) (λ n. refl) (tt, tt) refl tied
-has_effect g s (requests.SendSnapshot from to) x steady may tied = sends_snapshot g s x from to (node_at x.cluster from) refl tied
-has_effect g s (requests.Compact id index) x steady may tied = compacts g s x id index (node_at x.cluster id) refl may.1 tied
+has_effect g s (requests.ActWith withs.SetRandomizedElectionTimeout id timeout) x steady may tied = changes_by g s x.cluster id (SetTimeout timeout) (λ (n : PlainNode). record n { timeout = timeout }) (node_at x.cluster id) (λ n. refl) (tt, tt) refl tied
+has_effect g s (requests.ActWith withs.TransferLeadership from to) x steady may tied = acts g s x from (Transfer to) tied (tt, tt)
+has_effect g s (requests.ActWith withs.ReportUnreachable id peer) x steady may tied = changes_by g s x.cluster id (ReportUnreachable peer) (λ (n : PlainNode). reported n peer) (node_at x.cluster id) (λ n. refl) (tt, tt) refl tied
+has_effect g s (requests.ActWith withs.SendSnapshot from to) x steady may tied = sends_snapshot g s x from to (node_at x.cluster from) refl tied
+has_effect g s (requests.ActWith withs.Compact id index) x steady may tied = compacts g s x id index (node_at x.cluster id) refl may.1 tied
 has_effect g s (requests.LogLevel level) x steady may tied = stays g s _ (record { sane = tied.sane; nodes = tied.nodes; pending = tied.pending })
 has_effect g s (requests.RaftLog id) x steady may tied = shows_log g s x (node_at x.cluster id) tied
 has_effect g s (requests.Status id) x steady may tied = shows_status g s x (node_at x.cluster id) tied

@@ -49,10 +49,7 @@ word_as_id name inputs w None = tt
 word_as_id name inputs w (Some id) = ids_ask name inputs w id
 
 node_asks : (name : Name) (inputs : List Line) (w : Word) (id : ℕ) → Asks (of_node name id) (from name inputs (or_bad w (Some (number_set numbers.Id id begun))))
-node_asks names.Campaign inputs w id = refl
-node_asks names.TickElection inputs w id = refl
-node_asks names.TickHeartbeat inputs w id = refl
-node_asks names.ForgetLeader inputs w id = refl
+node_asks (names.Act act) inputs w id = refl
 node_asks names.RaftLog inputs w id = refl
 node_asks names.Status inputs w id = refl
 node_asks name inputs w id = tt

@@ -10,6 +10,8 @@ use Rattle.rb_script.specs.Lines.{Line}
 use Rattle.rb_script.specs.Directive.{PlainDirective}
 use Rattle.rb_number.specs.Numbers.{number_of}
 use Rattle.rb_level.specs.declared.directive_error.DirectiveError.{DirectiveError}
+use Rattle.rb_directive.specs.declared.act_with.ActWith.{ActWith}
+use Rattle.rb_directive.specs.declared.act_with.ActWith.TheVariants as withs
 use Rattle.rb_directive.specs.declared.name.Name.{Name}
 use Rattle.rb_directive.specs.declared.name.Name.TheVariants as names
 use Rattle.rb_directive.specs.declared.table.Row.{Row}
@@ -32,10 +34,11 @@ use Rattle.rb_directive.specs.declared.build.Asked.{Asked}
 use Rattle.rb_directive.specs.declared.limits.TheConstants.{MAX_ID, MAX_NODES, MAX_INDEX, MAX_COMPACTED, MAX_BYTES, MAX_WINDOW, MAX_ROUNDS, MAX_TIMEOUT, MAX_IDS, WINDOW, ROUNDS}
 use Rattle.rb_directive.specs.Forms.{Word, is_within, within}
 use Rattle.rb_directive.specs.IdLists.{id_of, with_id, with_ids}
+use Rattle.rb_directive.specs.Names.{number_text}
 use Rattle.rb_directive.specs.Table.{directives, options}
 use Rattle.rb_directive.specs.Givens.{nothing, number_given, bytes_given, ids_given, listed, excludes, number_set, bytes_set, ids_set}
 use Rattle.rb_directive.specs.Reading.{only, number_said, bytes_said, ids_kept}
-use Rattle.rb_directive.specs.Requests.{IsFrom, IsId, AreIds, AreNodes, IsWithin, wanted, and_then, add_nodes, at_node, propose, propose_conf_change, process_ready, deliver_msgs, stabilize, set_timeout, transfer_leadership, report_unreachable, send_snapshot, compact, built, request}
+use Rattle.rb_directive.specs.Requests.{IsFrom, IsId, IsNumber, AreIds, AreNodes, IsWithin, wanted, and_then, add_nodes, at_node, propose, propose_conf_change, process_ready, deliver_msgs, stabilize, wants, act_with, built, request}
 use Rattle.rb_directive.proofs.ReadLaws.{ids_none}
 use Rattle.rb_directive.proofs.BuildLaws.{wanted_some, done, read_of}
 use Rattle.rb_directive.proofs.KeepLaws.{numbers_of, bytes_of, lists_of, rest_still, map_some, option_fits, row_fits, words_fit, word_of_fits, Keeps, AllKeep, arguments_kept}
@@ -303,41 +306,16 @@ ready_within g r p h =
     let ids = wanted_some (codes "id") g.nodes _ r h in
     done_within _ r ids.2 (at_some AreIds g.nodes ids.0 ids.1 (p.lists lists.Nodes))
 
-timeout_within : (g : Given) (r : Request) → IsGivenWithin names.SetRandomizedElectionTimeout g → set_timeout g ≡ Ok r → IsWithin r
+act_within : (act : ActWith) (g : Given) (r : Request) → IfSome (number_given (wants act).0 g) IsId → IfSome (number_given (wants act).1 g) (IsNumber (wants act).1) → act_with act g ≡ Ok r → IsWithin r
 unfolding IsWithin
-timeout_within g r p h =
-    let id = wanted_some (codes "id") g.id _ r h in
-    let timeout = wanted_some (codes "timeout") g.timeout _ r id.2 in
-    done_within _ r timeout.2 (at_some IsId g.id id.0 id.1 (p.numbers numbers.Id), at_some (IsFrom 1 MAX_TIMEOUT) g.timeout timeout.0 timeout.1 (p.numbers numbers.Timeout))
+act_within act g r node number h =
+    let id = wanted_some (number_text (wants act).0) (number_given (wants act).0 g) _ r h in
+    let value = wanted_some (number_text (wants act).1) (number_given (wants act).1 g) _ r id.2 in
+    done_within _ r value.2 (at_some IsId (number_given (wants act).0 g) id.0 id.1 node, at_some (IsNumber (wants act).1) (number_given (wants act).1 g) value.0 value.1 number)
 
-transfer_within : (g : Given) (r : Request) → IsGivenWithin names.TransferLeadership g → transfer_leadership g ≡ Ok r → IsWithin r
-unfolding IsWithin
-transfer_within g r p h =
-    let from = wanted_some (codes "from") g.from _ r h in
-    let to = wanted_some (codes "to") g.to _ r from.2 in
-    done_within _ r to.2 (at_some IsId g.from from.0 from.1 (p.numbers numbers.From), at_some IsId g.to to.0 to.1 (p.numbers numbers.To))
-
-report_within : (g : Given) (r : Request) → IsGivenWithin names.ReportUnreachable g → report_unreachable g ≡ Ok r → IsWithin r
-unfolding IsWithin
-report_within g r p h =
-    let id = wanted_some (codes "id") g.id _ r h in
-    let peer = wanted_some (codes "id") g.peer _ r id.2 in
-    done_within _ r peer.2 (at_some IsId g.id id.0 id.1 (p.numbers numbers.Id), at_some IsId g.peer peer.0 peer.1 (p.numbers numbers.Peer))
-
-snapshot_within : (g : Given) (r : Request) → IsGivenWithin names.SendSnapshot g → send_snapshot g ≡ Ok r → IsWithin r
-unfolding IsWithin
-snapshot_within g r p h =
-    let from = wanted_some (codes "from") g.from _ r h in
-    let to = wanted_some (codes "to") g.to _ r from.2 in
-    done_within _ r to.2 (at_some IsId g.from from.0 from.1 (p.numbers numbers.From), at_some IsId g.to to.0 to.1 (p.numbers numbers.To))
-
-compact_within : (g : Given) (r : Request) → IsGivenWithin names.Compact g → compact g ≡ Ok r → IsWithin r
-unfolding IsWithin
-compact_within g r p h =
-    let id = wanted_some (codes "id") g.id _ r h in
-    let index = wanted_some (codes "index") g.index _ r id.2 in
-    let most = at_some (IsFrom 0 MAX_COMPACTED) g.index index.0 index.1 (p.numbers numbers.Index) in
-    done_within _ r index.2 (at_some IsId g.id id.0 id.1 (p.numbers numbers.Id), most.1)
+with_within : (act : ActWith) (g : Given) (r : Request) → IsGivenWithin (names.ActWith act) g → act_with act g ≡ Ok r → IsWithin r
+with_within withs.Compact g r p h = act_within withs.Compact g r (p.numbers (wants withs.Compact).0) (p.numbers (wants withs.Compact).1) h
+with_within act g r p h = act_within act g r (p.numbers (wants act).0) (p.numbers (wants act).1) h
 
 level_within : (g : Given) (r : Request) → and_then (wanted (codes "level") g.level) (λ level. Ok (requests.LogLevel level)) ≡ Ok r → IsWithin r
 unfolding IsWithin
@@ -346,21 +324,14 @@ level_within g r h = let level = wanted_some (codes "level") g.level _ r h in do
 built_within : (name : Name) (g : Given) (inputs : List Line) (r : Request) → IsGivenWithin name g → built name g inputs ≡ Ok r → IsWithin r
 unfolding IsWithin
 built_within names.AddNodes g inputs r p h = nodes_within g r p h
-built_within names.Campaign g inputs r p h = node_within requests.Campaign (λ id is. is) names.Campaign g r p h
+built_within (names.Act act) g inputs r p h = node_within (requests.Act act) (λ id is. is) (names.Act act) g r p h
 built_within names.Propose g inputs r p h = propose_within g r p h
 built_within names.ProposeConfChange g inputs r p h = change_within g inputs r p h
 built_within names.ProcessReady g inputs r p h = ready_within g r p h
 built_within names.DeliverMsgs g inputs r p h = done_within (deliver_msgs g) r h (or_none g.nodes (p.lists lists.Nodes), or_none g.drop (p.lists lists.Drop))
 built_within names.Stabilize g inputs r p h =
     done_within (stabilize g) r h (or_none g.nodes (p.lists lists.Nodes), or_else 1 MAX_ROUNDS ROUNDS g.rounds (omega arith, omega arith) (p.numbers numbers.Rounds))
-built_within names.TickElection g inputs r p h = node_within requests.TickElection (λ id is. is) names.TickElection g r p h
-built_within names.TickHeartbeat g inputs r p h = node_within requests.TickHeartbeat (λ id is. is) names.TickHeartbeat g r p h
-built_within names.SetRandomizedElectionTimeout g inputs r p h = timeout_within g r p h
-built_within names.TransferLeadership g inputs r p h = transfer_within g r p h
-built_within names.ForgetLeader g inputs r p h = node_within requests.ForgetLeader (λ id is. is) names.ForgetLeader g r p h
-built_within names.ReportUnreachable g inputs r p h = report_within g r p h
-built_within names.SendSnapshot g inputs r p h = snapshot_within g r p h
-built_within names.Compact g inputs r p h = compact_within g r p h
+built_within (names.ActWith act) g inputs r p h = with_within act g r p h
 built_within names.LogLevel g inputs r p h = level_within g r h
 built_within names.RaftLog g inputs r p h = node_within requests.RaftLog (λ id is. is) names.RaftLog g r p h
 built_within names.Status g inputs r p h = node_within requests.Status (λ id is. is) names.Status g r p h

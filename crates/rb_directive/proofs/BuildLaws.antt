@@ -13,11 +13,11 @@ use Rattle.rb_directive.specs.declared.asking.Request.{Request}
 use Rattle.rb_directive.specs.declared.asking.Request.TheVariants as requests
 use Rattle.rb_directive.specs.declared.build.Asked.{Asked}
 use Rattle.rb_directive.specs.Forms.{Word}
-use Rattle.rb_directive.specs.Names.{name_text}
+use Rattle.rb_directive.specs.Names.{name_text, number_text}
 use Rattle.rb_directive.specs.Table.{directives, row_in}
-use Rattle.rb_directive.specs.Givens.{nothing}
+use Rattle.rb_directive.specs.Givens.{nothing, number_given}
 use Rattle.rb_directive.specs.Reading.{with_arguments}
-use Rattle.rb_directive.specs.Requests.{wanted, and_then, at_node, deliver_msgs, stabilize, built, request_of, request}
+use Rattle.rb_directive.specs.Requests.{wanted, and_then, at_node, deliver_msgs, stabilize, wants, built, request_of, request}
 use Rattle.rb_directive.specs.Whole.{name_of}
 use Rattle.rb_directive.proofs.TableLaws.{row_named}
 
@@ -70,20 +70,13 @@ node_named make name is g r h = let id = wanted_some (codes "id") g.id (λ id. d
 
 pub built_named : (name : Name) (g : Given) (inputs : List Line) (r : Request) → built name g inputs ≡ Ok r → name_of r ≡ name
 built_named names.AddNodes g inputs r h = let count = wanted_some (codes "n") g.count _ r h in done_named names.AddNodes _ r count.2 refl
-built_named names.Campaign g inputs r h = node_named requests.Campaign names.Campaign (λ id. refl) g r h
+built_named (names.Act act) g inputs r h = node_named (requests.Act act) (names.Act act) (λ id. refl) g r h
 built_named names.Propose g inputs r h = let id = wanted_some (codes "id") g.id _ r h in let payload = wanted_some (codes "payload") g.payload _ r id.2 in done_named names.Propose _ r payload.2 refl
 built_named names.ProposeConfChange g inputs r h = let id = wanted_some (codes "id") g.id _ r h in done_named names.ProposeConfChange _ r id.2 refl
 built_named names.ProcessReady g inputs r h = let nodes = wanted_some (codes "id") g.nodes _ r h in done_named names.ProcessReady _ r nodes.2 refl
 built_named names.DeliverMsgs g inputs r h = done_named names.DeliverMsgs (deliver_msgs g) r h refl
 built_named names.Stabilize g inputs r h = done_named names.Stabilize (stabilize g) r h refl
-built_named names.TickElection g inputs r h = node_named requests.TickElection names.TickElection (λ id. refl) g r h
-built_named names.TickHeartbeat g inputs r h = node_named requests.TickHeartbeat names.TickHeartbeat (λ id. refl) g r h
-built_named names.SetRandomizedElectionTimeout g inputs r h = let id = wanted_some (codes "id") g.id _ r h in let timeout = wanted_some (codes "timeout") g.timeout _ r id.2 in done_named names.SetRandomizedElectionTimeout _ r timeout.2 refl
-built_named names.TransferLeadership g inputs r h = let from = wanted_some (codes "from") g.from _ r h in let to = wanted_some (codes "to") g.to _ r from.2 in done_named names.TransferLeadership _ r to.2 refl
-built_named names.ForgetLeader g inputs r h = node_named requests.ForgetLeader names.ForgetLeader (λ id. refl) g r h
-built_named names.ReportUnreachable g inputs r h = let id = wanted_some (codes "id") g.id _ r h in let peer = wanted_some (codes "id") g.peer _ r id.2 in done_named names.ReportUnreachable _ r peer.2 refl
-built_named names.SendSnapshot g inputs r h = let from = wanted_some (codes "from") g.from _ r h in let to = wanted_some (codes "to") g.to _ r from.2 in done_named names.SendSnapshot _ r to.2 refl
-built_named names.Compact g inputs r h = let id = wanted_some (codes "id") g.id _ r h in let index = wanted_some (codes "index") g.index _ r id.2 in done_named names.Compact _ r index.2 refl
+built_named (names.ActWith act) g inputs r h = let id = wanted_some (number_text (wants act).0) (number_given (wants act).0 g) _ r h in let value = wanted_some (number_text (wants act).1) (number_given (wants act).1 g) _ r id.2 in done_named (names.ActWith act) _ r value.2 refl
 built_named names.LogLevel g inputs r h = let level = wanted_some (codes "level") g.level _ r h in done_named names.LogLevel _ r level.2 refl
 built_named names.RaftLog g inputs r h = node_named requests.RaftLog names.RaftLog (λ id. refl) g r h
 built_named names.Status g inputs r h = node_named requests.Status names.Status (λ id. refl) g r h

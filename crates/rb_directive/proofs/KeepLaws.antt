@@ -96,11 +96,11 @@ word_of_fits fits row all nodes place argument h =
 abbrev pub Keeps : (Given → Type 0) → Argument → Type 0
 Keeps P argument = (words : List Word) (g next : Given) → taken argument words g ≡ Some next → P g → P next
 
-or_bad_some : (key : Word) (o : Option Given) (next : Given) → or_bad key o ≡ Ok next → o ≡ Some next
+pub or_bad_some : (key : Word) (o : Option Given) (next : Given) → or_bad key o ≡ Ok next → o ≡ Some next
 or_bad_some key None next h = absurd (cc)
 or_bad_some key (Some g) next h = cc
 
-option_kept : (P : Given → Type 0) (o : Option Argument) → ((argument : Argument) → o ≡ Some argument → Keeps P argument)
+pub option_kept : (P : Given → Type 0) (o : Option Argument) → ((argument : Argument) → o ≡ Some argument → Keeps P argument)
     → (a : PlainArgument) (g next : Given) → with_option o a g ≡ Ok next → P g → P next
 option_kept P None keeps a g next h p = absurd (cc)
 option_kept P (Some argument) keeps a g next h p =

@@ -7,4 +7,5 @@ pub mod KeepLaws
 pub mod BuildLaws
 pub mod BoundLaws
 pub mod ApartLaws
+pub mod CountLaws
 pub mod AloneLaws

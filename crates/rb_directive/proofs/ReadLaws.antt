@@ -3,14 +3,15 @@ use Rattle.std.proofs.Common.{◌≡◌, ℕ, ◌+◌, ◌<◌, Bool, true, fals
 use Rattle.std.specs.Prelude.{nat_lt, if◌then◌else◌}
 use Rattle.rb_script.specs.Directive.{PlainArgument, no_argument}
 use Rattle.rb_level.specs.declared.directive_error.DirectiveError.{DirectiveError}
+use Rattle.rb_level.specs.declared.message_type.MessageType.{MessageType}
+use Rattle.rb_level.specs.MessageTypes.{type_of}
 use Rattle.rb_directive.specs.declared.table.Row.{Row}
 use Rattle.rb_directive.specs.declared.given.Given.{Given}
 use Rattle.rb_directive.specs.declared.limits.TheConstants.{MAX_IDS}
-use Rattle.rb_directive.specs.declared.message_type.MessageType.{MessageType}
-use Rattle.rb_directive.specs.declared.message_type.TypeSet.{TypeSet}
+use Rattle.rb_directive.specs.declared.type_set.TypeSet.{TypeSet}
 use Rattle.rb_directive.specs.Forms.{Word}
 use Rattle.rb_directive.specs.IdLists.{id_of, with_id, with_ids}
-use Rattle.rb_directive.specs.MessageTypes.{type_of, with_type, with_named, with_types}
+use Rattle.rb_directive.specs.TypeSets.{with_type, with_named, with_types}
 use Rattle.rb_directive.specs.Reading.{with_argument, with_arguments}
 use Rattle.rb_directive.proofs.ListLaws.{left_more}
 

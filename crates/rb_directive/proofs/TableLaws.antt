@@ -8,6 +8,8 @@ use Rattle.std.proofs.lemmas.Bool.{and_from}
 use Rattle.std.proofs.lemmas.Slice.Eq.{bytes_eq-Decides}
 use Rattle.rb_script.specs.Directive.{PlainArgument, PlainDirective}
 use Rattle.rb_level.specs.declared.directive_error.DirectiveError.{DirectiveError}
+use Rattle.rb_directive.specs.declared.act.Act.TheVariants as acts
+use Rattle.rb_directive.specs.declared.act_with.ActWith.TheVariants as withs
 use Rattle.rb_directive.specs.declared.name.Name.{Name}
 use Rattle.rb_directive.specs.declared.name.Name.TheVariants as names
 use Rattle.rb_directive.specs.declared.table.Row.{Row}
@@ -23,25 +25,9 @@ use Rattle.rb_directive.specs.Requests.{and_then, built, request_of, request}
 -- each row is the first with its name
 pub names_found : (name : Name) → option_map (λ (row : Row). row.name) (row_in directives (name_text name)) ≡ Some name
 unfolding directives
-names_found names.AddNodes = refl
-names_found names.Campaign = refl
-names_found names.Propose = refl
-names_found names.ProposeConfChange = refl
-names_found names.ProcessReady = refl
-names_found names.DeliverMsgs = refl
-names_found names.Stabilize = refl
-names_found names.TickElection = refl
-names_found names.TickHeartbeat = refl
-names_found names.SetRandomizedElectionTimeout = refl
-names_found names.TransferLeadership = refl
-names_found names.ForgetLeader = refl
-names_found names.ReportUnreachable = refl
-names_found names.SendSnapshot = refl
-names_found names.Compact = refl
-names_found names.LogLevel = refl
-names_found names.RaftLog = refl
-names_found names.Status = refl
-names_found names.RaftState = refl
+names_found (names.Act acts.Campaign) = refl
+names_found (names.ActWith withs.Compact) = refl
+names_found name = refl
 
 -- an option that the directive lacks is refused
 with_option_has : (o : Option Argument) (a : PlainArgument) (g after : Given) → with_option o a g ≡ Ok after → is_some o ≡ true

@@ -30,10 +30,7 @@ of_ids name ids = None
 
 -- at this node
 abbrev pub of_node : Name → ℕ → Option Request
-of_node names.Campaign id = Some (requests.Campaign id)
-of_node names.TickElection id = Some (requests.TickElection id)
-of_node names.TickHeartbeat id = Some (requests.TickHeartbeat id)
-of_node names.ForgetLeader id = Some (requests.ForgetLeader id)
+of_node (names.Act act) id = Some (requests.Act act id)
 of_node names.RaftLog id = Some (requests.RaftLog id)
 of_node names.Status id = Some (requests.Status id)
 of_node name id = None

@@ -1,9 +1,11 @@
 pub use Rattle.rb_level.specs.Levels
+pub use Rattle.rb_level.specs.MessageTypes
 pub mod Names
 pub mod Table
+pub mod Ids
 pub mod Forms
 pub mod IdLists
-pub mod MessageTypes
+pub mod TypeSets
 pub mod Givens
 pub mod Reading
 pub mod Changes

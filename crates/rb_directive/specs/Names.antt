@@ -1,6 +1,10 @@
 -- How directives and their arguments are called. (etcd raft's interaction tests have most of the directives; the others,
 -- and the names of what has no key there, are this project's.)
 use Rattle.std.specs.Prelude.{ℕ, codes, List}
+use Rattle.rb_directive.specs.declared.act.Act.{Act}
+use Rattle.rb_directive.specs.declared.act.Act.TheVariants as acts
+use Rattle.rb_directive.specs.declared.act_with.ActWith.{ActWith}
+use Rattle.rb_directive.specs.declared.act_with.ActWith.TheVariants as withs
 use Rattle.rb_directive.specs.declared.name.Name.{Name}
 use Rattle.rb_directive.specs.declared.name.Name.TheVariants as names
 use Rattle.rb_directive.specs.declared.argument.Argument.{Argument}
@@ -16,22 +20,28 @@ use Rattle.rb_directive.specs.declared.argument.Flag.TheVariants as flags
 use Rattle.rb_directive.specs.declared.argument.Ids.{Ids}
 use Rattle.rb_directive.specs.declared.argument.Ids.TheVariants as lists
 
+abbrev pub act_text : Act → List ℕ
+act_text acts.Campaign = codes "campaign"
+act_text acts.TickElection = codes "tick-election"
+act_text acts.TickHeartbeat = codes "tick-heartbeat"
+act_text acts.ForgetLeader = codes "forget-leader"
+
+abbrev pub act_with_text : ActWith → List ℕ
+act_with_text withs.SetRandomizedElectionTimeout = codes "set-randomized-election-timeout"
+act_with_text withs.TransferLeadership = codes "transfer-leadership"
+act_with_text withs.ReportUnreachable = codes "report-unreachable"
+act_with_text withs.SendSnapshot = codes "send-snapshot"
+act_with_text withs.Compact = codes "compact"
+
 abbrev pub name_text : Name → List ℕ
 name_text names.AddNodes = codes "add-nodes"
-name_text names.Campaign = codes "campaign"
+name_text (names.Act act) = act_text act
 name_text names.Propose = codes "propose"
 name_text names.ProposeConfChange = codes "propose-conf-change"
 name_text names.ProcessReady = codes "process-ready"
 name_text names.DeliverMsgs = codes "deliver-msgs"
 name_text names.Stabilize = codes "stabilize"
-name_text names.TickElection = codes "tick-election"
-name_text names.TickHeartbeat = codes "tick-heartbeat"
-name_text names.SetRandomizedElectionTimeout = codes "set-randomized-election-timeout"
-name_text names.TransferLeadership = codes "transfer-leadership"
-name_text names.ForgetLeader = codes "forget-leader"
-name_text names.ReportUnreachable = codes "report-unreachable"
-name_text names.SendSnapshot = codes "send-snapshot"
-name_text names.Compact = codes "compact"
+name_text (names.ActWith act) = act_with_text act
 name_text names.LogLevel = codes "log-level"
 name_text names.RaftLog = codes "raft-log"
 name_text names.Status = codes "status"

@@ -17,7 +17,7 @@ use Rattle.rb_directive.specs.Names.{name_text}
 use Rattle.rb_directive.specs.Table.{option_of, after, word_of}
 use Rattle.rb_directive.specs.Forms.{Word, is_within, within, flag_of, transition_of}
 use Rattle.rb_directive.specs.IdLists.{with_ids}
-use Rattle.rb_directive.specs.MessageTypes.{with_types, no_types}
+use Rattle.rb_directive.specs.TypeSets.{with_types, no_types}
 use Rattle.rb_directive.specs.Givens.{is_given, listed, excludes, number_set, flag_set, bytes_set, level_set, ids_set}
 
 -- ---- what one argument says

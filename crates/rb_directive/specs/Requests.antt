@@ -7,6 +7,10 @@ use Rattle.rb_script.specs.Lines.{Line}
 use Rattle.rb_script.specs.Directive.{PlainDirective}
 use Rattle.rb_level.specs.declared.directive_error.DirectiveError.{DirectiveError}
 use Rattle.rb_level.specs.declared.directive_error.DirectiveError.TheVariants as errors
+use Rattle.rb_directive.specs.declared.act_with.ActWith.{ActWith}
+use Rattle.rb_directive.specs.declared.act_with.ActWith.TheVariants as withs
+use Rattle.rb_directive.specs.declared.argument.Number.{Number}
+use Rattle.rb_directive.specs.declared.argument.Number.TheVariants as numbers
 use Rattle.rb_directive.specs.declared.name.Name.{Name}
 use Rattle.rb_directive.specs.declared.name.Name.TheVariants as names
 use Rattle.rb_change.specs.declared.change.Transition.TheVariants as transitions
@@ -21,7 +25,8 @@ use Rattle.rb_directive.specs.declared.build.Asked.{Asked}
 use Rattle.rb_directive.specs.declared.limits.TheConstants.{MAX_ID, MAX_NODES, MAX_INDEX, MAX_COMPACTED, MAX_BYTES, MAX_WINDOW, MAX_ROUNDS, MAX_TIMEOUT, MAX_IDS, WINDOW, ROUNDS}
 use Rattle.rb_directive.specs.Forms.{Word}
 use Rattle.rb_directive.specs.Table.{directives, row_in}
-use Rattle.rb_directive.specs.Givens.{nothing}
+use Rattle.rb_directive.specs.Givens.{nothing, number_given}
+use Rattle.rb_directive.specs.Names.{number_text}
 use Rattle.rb_directive.specs.Reading.{with_arguments}
 use Rattle.rb_directive.specs.Changes.{change_fault}
 
@@ -77,38 +82,30 @@ deliver_msgs g = requests.DeliverMsgs (record { nodes = unwrap_or g.nodes []; ty
 abbrev pub stabilize : Given → Request
 stabilize g = requests.Stabilize (unwrap_or g.nodes []) (unwrap_or g.rounds ROUNDS)
 
-abbrev pub set_timeout : Given → Result Request DirectiveError
-set_timeout g = and_then (wanted (codes "id") g.id) (λ id. and_then (wanted (codes "timeout") g.timeout) (λ timeout. Ok (requests.SetRandomizedElectionTimeout id timeout)))
+-- what a directive wants that is told a node and a number
+abbrev pub wants : ActWith → Number × Number
+wants withs.SetRandomizedElectionTimeout = (numbers.Id, numbers.Timeout)
+wants withs.TransferLeadership = (numbers.From, numbers.To)
+wants withs.ReportUnreachable = (numbers.Id, numbers.Peer)
+wants withs.SendSnapshot = (numbers.From, numbers.To)
+wants withs.Compact = (numbers.Id, numbers.Index)
 
-abbrev pub transfer_leadership : Given → Result Request DirectiveError
-transfer_leadership g = and_then (wanted (codes "from") g.from) (λ from. and_then (wanted (codes "to") g.to) (λ to. Ok (requests.TransferLeadership from to)))
+abbrev pub with_numbers : ActWith → Number → Number → Given → Result Request DirectiveError
+with_numbers what node number g =
+    and_then (wanted (number_text node) (number_given node g)) (λ id. and_then (wanted (number_text number) (number_given number g)) (λ value. Ok (requests.ActWith what id value)))
 
--- either of its ids is wanted as `id`
-abbrev pub report_unreachable : Given → Result Request DirectiveError
-report_unreachable g = and_then (wanted (codes "id") g.id) (λ id. and_then (wanted (codes "id") g.peer) (λ peer. Ok (requests.ReportUnreachable id peer)))
-
-abbrev pub send_snapshot : Given → Result Request DirectiveError
-send_snapshot g = and_then (wanted (codes "from") g.from) (λ from. and_then (wanted (codes "to") g.to) (λ to. Ok (requests.SendSnapshot from to)))
-
-abbrev pub compact : Given → Result Request DirectiveError
-compact g = and_then (wanted (codes "id") g.id) (λ id. and_then (wanted (codes "index") g.index) (λ index. Ok (requests.Compact id index)))
+abbrev pub act_with : ActWith → Given → Result Request DirectiveError
+act_with what g = with_numbers what (wants what).0 (wants what).1 g
 
 abbrev pub built : Name → Given → List Line → Result Request DirectiveError
 built names.AddNodes g inputs = add_nodes g
-built names.Campaign g inputs = at_node requests.Campaign g
+built (names.Act act) g inputs = at_node (requests.Act act) g
 built names.Propose g inputs = propose g
 built names.ProposeConfChange g inputs = propose_conf_change g inputs
 built names.ProcessReady g inputs = process_ready g
 built names.DeliverMsgs g inputs = Ok (deliver_msgs g)
 built names.Stabilize g inputs = Ok (stabilize g)
-built names.TickElection g inputs = at_node requests.TickElection g
-built names.TickHeartbeat g inputs = at_node requests.TickHeartbeat g
-built names.SetRandomizedElectionTimeout g inputs = set_timeout g
-built names.TransferLeadership g inputs = transfer_leadership g
-built names.ForgetLeader g inputs = at_node requests.ForgetLeader g
-built names.ReportUnreachable g inputs = report_unreachable g
-built names.SendSnapshot g inputs = send_snapshot g
-built names.Compact g inputs = compact g
+built (names.ActWith act) g inputs = act_with act g
 built names.LogLevel g inputs = and_then (wanted (codes "level") g.level) (λ level. Ok (requests.LogLevel level))
 built names.RaftLog g inputs = at_node requests.RaftLog g
 built names.Status g inputs = at_node requests.Status g
@@ -133,20 +130,13 @@ request d = request_of (row_in directives d.name) d
 
 abbrev pub nodes_of : Request → Named
 nodes_of (requests.AddNodes r) = named.None
-nodes_of (requests.Campaign id) = named.One id
+nodes_of (requests.Act act id) = named.One id
 nodes_of (requests.Propose id payload) = named.One id
 nodes_of (requests.ProposeConfChange r) = named.One r.id
 nodes_of (requests.ProcessReady ids) = named.Many ids
 nodes_of (requests.DeliverMsgs r) = named.Many r.nodes
 nodes_of (requests.Stabilize ids rounds) = named.Many ids
-nodes_of (requests.TickElection id) = named.One id
-nodes_of (requests.TickHeartbeat id) = named.One id
-nodes_of (requests.SetRandomizedElectionTimeout id timeout) = named.One id
-nodes_of (requests.TransferLeadership from to) = named.One from
-nodes_of (requests.ForgetLeader id) = named.One id
-nodes_of (requests.ReportUnreachable id peer) = named.One id
-nodes_of (requests.SendSnapshot from to) = named.One from
-nodes_of (requests.Compact id index) = named.One id
+nodes_of (requests.ActWith act id number) = named.One id
 nodes_of (requests.LogLevel level) = named.None
 nodes_of (requests.RaftLog id) = named.One id
 nodes_of (requests.Status id) = named.One id
@@ -163,6 +153,12 @@ IsId id = IsFrom 1 MAX_ID id
 abbrev pub AreIds : List ℕ → Type 0
 AreIds ids = All IsId ids × (length ids ≤ MAX_IDS)
 
+-- a number with which a node does something: an id, where it is nothing else
+abbrev pub IsNumber : Number → ℕ → Type 0
+IsNumber numbers.Timeout n = IsFrom 1 MAX_TIMEOUT n
+IsNumber numbers.Index n = IsFrom 0 MAX_COMPACTED n
+IsNumber which n = IsId n
+
 -- nodes that `add-nodes` can make
 pub record AreNodes (r : AddNodes) : Type 0 where
   pub count : IsFrom 1 MAX_NODES r.count
@@ -175,20 +171,13 @@ pub record AreNodes (r : AddNodes) : Type 0 where
 -- what is asked for is within the limits
 unfoldable pub IsWithin : Request → Type 0
 IsWithin (requests.AddNodes r) = AreNodes r
-IsWithin (requests.Campaign id) = IsId id
+IsWithin (requests.Act act id) = IsId id
 IsWithin (requests.Propose id payload) = IsId id × IsFrom 1 MAX_BYTES (length payload)
 IsWithin (requests.ProposeConfChange r) = IsId r.id
 IsWithin (requests.ProcessReady ids) = AreIds ids
 IsWithin (requests.DeliverMsgs r) = AreIds r.nodes × AreIds r.drop
 IsWithin (requests.Stabilize ids rounds) = AreIds ids × IsFrom 1 MAX_ROUNDS rounds
-IsWithin (requests.TickElection id) = IsId id
-IsWithin (requests.TickHeartbeat id) = IsId id
-IsWithin (requests.SetRandomizedElectionTimeout id timeout) = IsId id × IsFrom 1 MAX_TIMEOUT timeout
-IsWithin (requests.TransferLeadership from to) = IsId from × IsId to
-IsWithin (requests.ForgetLeader id) = IsId id
-IsWithin (requests.ReportUnreachable id peer) = IsId id × IsId peer
-IsWithin (requests.SendSnapshot from to) = IsId from × IsId to
-IsWithin (requests.Compact id index) = IsId id × (index ≤ MAX_COMPACTED)
+IsWithin (requests.ActWith act id number) = IsId id × IsNumber (wants act).1 number
 IsWithin (requests.LogLevel level) = ⊤
 IsWithin (requests.RaftLog id) = IsId id
 IsWithin (requests.Status id) = IsId id

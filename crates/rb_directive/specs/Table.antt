@@ -1,6 +1,7 @@
 -- What each directive takes, read off the table: the directive by its name, an option by its key, a word by its place.
 -- (This project's. A directive of etcd raft's interaction tests keeps its name.)
 use Rattle.std.specs.Prelude.{ℕ, Bool, ◌&&◌, ◌||◌, not, is_some, if◌then◌else◌, codes, List, [], ◌∷◌, Option, Some, None}
+use Rattle.std.specs.List.{list_any}
 use Rattle.std.specs.Str.{bytes_eq}
 use Rattle.rb_script.specs.Directive.{PlainArgument}
 use Rattle.rb_directive.specs.declared.table.Row.{Row}
@@ -26,6 +27,10 @@ options = OPTIONS
 abbrev pub row_in : List Row → List ℕ → Option Row
 row_in [] name = None
 row_in (row ∷ rows) name = if bytes_eq (name_text row.name) name then Some row else row_in rows name
+
+-- a directive has this name
+abbrev pub is_name : List ℕ → Bool
+is_name name = list_any (λ (row : Row). bytes_eq (name_text row.name) name) directives
 
 -- the option with this key that the directive of this name has among these
 abbrev pub option_in : List OptionRow → List ℕ → List ℕ → Option Argument

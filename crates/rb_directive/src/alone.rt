@@ -38,10 +38,7 @@ fn of_node<'d>(name: Name, id: u64) -> Option<Request<'d>>
     ensures { result ≡ of_node name id }
 {
     match name {
-        Name::Campaign => Some(Request::Campaign(id)),
-        Name::TickElection => Some(Request::TickElection(id)),
-        Name::TickHeartbeat => Some(Request::TickHeartbeat(id)),
-        Name::ForgetLeader => Some(Request::ForgetLeader(id)),
+        Name::Act(act) => Some(Request::Act(act, id)),
         Name::RaftLog => Some(Request::RaftLog(id)),
         Name::Status => Some(Request::Status(id)),
         _ => None,

@@ -6,9 +6,11 @@
 ghost use Rattle.std.specs.Prelude.{◌≡◌};
 ghost use Rattle.rb_directive.specs.Requests.{nodes_of};
 
+use crate::act::Act;
+use crate::act_with::ActWith;
 use crate::change::Inputs;
 use crate::id_list::IdList;
-use crate::message_type::TypeSet;
+use crate::type_set::TypeSet;
 use rb_change::Transition;
 use rb_level::{DirectiveError, Level, Word};
 
@@ -63,8 +65,8 @@ pub struct DeliverMsgs {
 #[derive(Drop)]
 pub enum Request<'d> {
     AddNodes(AddNodes<'d>),
-    /// The node campaigns.
-    Campaign(u64),
+    /// What the node does.
+    Act(Act, u64),
     /// The payload is proposed at the node.
     Propose(u64, Word<'d>),
     ProposeConfChange(ProposeConfChange<'d>),
@@ -73,21 +75,8 @@ pub enum Request<'d> {
     DeliverMsgs(DeliverMsgs),
     /// Rounds over the nodes, or over all of them where there is none, and how many at the most.
     Stabilize(IdList, u64),
-    /// As many ticks as an election timeout has at first.
-    TickElection(u64),
-    /// One tick.
-    TickHeartbeat(u64),
-    /// The node, and how many ticks its election timeout is to have.
-    SetRandomizedElectionTimeout(u64, u64),
-    /// The node that is asked, and the one that is to lead.
-    TransferLeadership(u64, u64),
-    ForgetLeader(u64),
-    /// The node to which it is reported, and the one that can't be reached.
-    ReportUnreachable(u64, u64),
-    /// Whose snapshot it is, and who is to get it.
-    SendSnapshot(u64, u64),
-    /// The node, and the index up to which its log is compacted.
-    Compact(u64, u64),
+    /// What the node does, the node, and the number with which it does it.
+    ActWith(ActWith, u64, u64),
     LogLevel(Level),
     RaftLog(u64),
     Status(u64),
@@ -112,16 +101,9 @@ impl<'d> Request<'d> {
             Request::ProposeConfChange(change) => Named::One(change.id),
             Request::DeliverMsgs(deliver) => Named::Many(deliver.nodes.copy()),
             Request::ProcessReady(ids) | Request::Stabilize(ids, _) => Named::Many(ids.copy()),
-            Request::Campaign(id)
+            Request::Act(_, id)
             | Request::Propose(id, _)
-            | Request::TickElection(id)
-            | Request::TickHeartbeat(id)
-            | Request::SetRandomizedElectionTimeout(id, _)
-            | Request::TransferLeadership(id, _)
-            | Request::ForgetLeader(id)
-            | Request::ReportUnreachable(id, _)
-            | Request::SendSnapshot(id, _)
-            | Request::Compact(id, _)
+            | Request::ActWith(_, id, _)
             | Request::RaftLog(id)
             | Request::Status(id) => Named::One(*id),
         }

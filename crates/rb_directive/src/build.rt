@@ -5,8 +5,9 @@
 ghost use Rattle.std.specs.Prelude.{◌≡◌, [], codes, IfOk};
 ghost use Rattle.std.specs.Option.{unwrap_or};
 ghost use Rattle.rb_script.specs.Tokens.{plain};
-ghost use Rattle.rb_directive.specs.Requests.{wanted, add_nodes, propose, propose_conf_change, process_ready, deliver_msgs, stabilize, set_timeout, transfer_leadership, report_unreachable, send_snapshot, compact, built, asked_of, request, IsWithin};
+ghost use Rattle.rb_directive.specs.Requests.{wanted, add_nodes, propose, propose_conf_change, process_ready, deliver_msgs, stabilize, act_with, built, asked_of, request, IsWithin};
 
+use crate::act_with::ActWith;
 use crate::alone::asked_alone;
 use crate::asking::{AddNodes, DeliverMsgs, ProposeConfChange, Request};
 use crate::change::{Inputs, change_fault};
@@ -119,44 +120,13 @@ fn stabilize(given: Given<'_>) -> Request<'_>
     Request::Stabilize(ids_or_none(given.nodes), rounds)
 }
 
-fn set_timeout(given: Given<'_>) -> Result<Request<'_>, DirectiveError<'_>>
-    ensures { result ≡ set_timeout given.entry }
+fn act_with<'d>(what: ActWith, given: &Given<'d>) -> Result<Request<'d>, DirectiveError<'d>>
+    ensures { result ≡ act_with what given.now }
 {
-    let id = wanted_id(&given)?;
-    let timeout = wanted(given.timeout, b"timeout")?;
-    Ok(Request::SetRandomizedElectionTimeout(id, timeout))
-}
-
-fn transfer_leadership(given: Given<'_>) -> Result<Request<'_>, DirectiveError<'_>>
-    ensures { result ≡ transfer_leadership given.entry }
-{
-    let from = wanted(given.from, b"from")?;
-    let to = wanted(given.to, b"to")?;
-    Ok(Request::TransferLeadership(from, to))
-}
-
-fn report_unreachable(given: Given<'_>) -> Result<Request<'_>, DirectiveError<'_>>
-    ensures { result ≡ report_unreachable given.entry }
-{
-    let id = wanted_id(&given)?;
-    let peer = wanted(given.peer, b"id")?;
-    Ok(Request::ReportUnreachable(id, peer))
-}
-
-fn send_snapshot(given: Given<'_>) -> Result<Request<'_>, DirectiveError<'_>>
-    ensures { result ≡ send_snapshot given.entry }
-{
-    let from = wanted(given.from, b"from")?;
-    let to = wanted(given.to, b"to")?;
-    Ok(Request::SendSnapshot(from, to))
-}
-
-fn compact(given: Given<'_>) -> Result<Request<'_>, DirectiveError<'_>>
-    ensures { result ≡ compact given.entry }
-{
-    let id = wanted_id(&given)?;
-    let index = wanted(given.index, b"index")?;
-    Ok(Request::Compact(id, index))
+    let (node, number) = what.wants();
+    let id = wanted(given.number(node), node.text())?;
+    let value = wanted(given.number(number), number.text())?;
+    Ok(Request::ActWith(what, id, value))
 }
 
 // What the directive of this name asks for.
@@ -169,25 +139,33 @@ fn built<'d>(
 {
     match name {
         Name::AddNodes => add_nodes(given),
-        Name::Campaign => Ok(Request::Campaign(wanted_id(&given)?)),
+        Name::Act(act) => Ok(Request::Act(act, wanted_id(&given)?)),
         Name::Propose => propose(given),
         Name::ProposeConfChange => propose_conf_change(given, inputs),
         Name::ProcessReady => process_ready(given),
         Name::DeliverMsgs => Ok(deliver_msgs(given)),
         Name::Stabilize => Ok(stabilize(given)),
-        Name::TickElection => Ok(Request::TickElection(wanted_id(&given)?)),
-        Name::TickHeartbeat => Ok(Request::TickHeartbeat(wanted_id(&given)?)),
-        Name::SetRandomizedElectionTimeout => set_timeout(given),
-        Name::TransferLeadership => transfer_leadership(given),
-        Name::ForgetLeader => Ok(Request::ForgetLeader(wanted_id(&given)?)),
-        Name::ReportUnreachable => report_unreachable(given),
-        Name::SendSnapshot => send_snapshot(given),
-        Name::Compact => compact(given),
+        Name::ActWith(act) => act_with(act, &given),
         Name::LogLevel => Ok(Request::LogLevel(wanted(given.level, b"level")?)),
         Name::RaftLog => Ok(Request::RaftLog(wanted_id(&given)?)),
         Name::Status => Ok(Request::Status(wanted_id(&given)?)),
         Name::RaftState => Ok(Request::RaftState),
     }
+}
+
+// What the directive of this row asks for, whatever it is given. It stands apart, since what a function needs is cleared as it begins: a
+// directive that is given one word clears nothing of all that may be given.
+#[inline(never)]
+fn asked_at_length<'d>(
+    row: &Row,
+    directive: &'d DirectiveRef<'d>,
+) -> Result<Asked<'d>, DirectiveError<'d>>
+    ensures { result ≡ asked_of row.now (plain directive.now) }
+{
+    let given = read(row, directive)?;
+    let log_level = given.log_level;
+    let request = built(row.name, given, Inputs::of(directive))?;
+    Ok(Asked { request, log_level })
 }
 
 // What the directive of this row asks for.
@@ -198,10 +176,7 @@ fn asked_of<'d>(row: &Row, directive: &'d DirectiveRef<'d>) -> Result<Asked<'d>,
         let log_level = None;
         return Ok(Asked { request, log_level });
     }
-    let given = read(row, directive)?;
-    let log_level = given.log_level;
-    let request = built(row.name, given, Inputs::of(directive))?;
-    Ok(Asked { request, log_level })
+    asked_at_length(row, directive)
 }
 
 /// What a directive asks for, or why it is refused: its name is unknown; or of the arguments, from left to right, the

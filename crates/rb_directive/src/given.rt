@@ -6,7 +6,7 @@ ghost use Rattle.rb_directive.specs.Givens.{nothing, number_given, flag_given, b
 
 use crate::argument::{Argument, Bytes, Flag, Ids, LevelFor, Number};
 use crate::id_list::IdList;
-use crate::message_type::TypeSet;
+use crate::type_set::TypeSet;
 use rb_change::Transition;
 use rb_level::{Level, Word};
 
@@ -93,7 +93,8 @@ impl<'d> Given<'d> {
         }
     }
 
-    fn number(&self, which: Number) -> Option<u64>
+    /// The number that is given under a name.
+    pub(crate) fn number(&self, which: Number) -> Option<u64>
         ensures { result ≡ number_given which self.now }
     {
         match which {

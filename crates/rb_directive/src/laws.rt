@@ -4,6 +4,7 @@ ghost use Rattle.std.specs.Prelude.{◌≡◌, ◌≢◌, ◌<◌, ◌≤◌, �
 ghost use Rattle.std.specs.Option.{option_map, unwrap_or};
 ghost use Rattle.std.specs.List.{list_all};
 ghost use Rattle.rb_script.specs.Directive.{PlainArgument, PlainDirective};
+ghost use Rattle.rb_number.specs.Numbers.{number_of};
 ghost use Rattle.rb_level.specs.declared.directive_error.DirectiveError.TheVariants as errors;
 ghost use Rattle.rb_directive.specs.declared.name.Name.{Name};
 ghost use Rattle.rb_directive.specs.declared.asking.AddNodes.{AddNodes};
@@ -15,7 +16,7 @@ ghost use Rattle.rb_directive.specs.Names.{name_text};
 ghost use Rattle.rb_directive.specs.Table.{directives, row_in, option_of, has_option};
 ghost use Rattle.rb_directive.specs.Reading.{number_said, with_argument};
 ghost use Rattle.rb_directive.specs.Requests.{request, IsWithin};
-ghost use Rattle.rb_directive.specs.Whole.{name_of, AreApart};
+ghost use Rattle.rb_directive.specs.Whole.{first_word, name_of, AreApart};
 
 /// Each directive is found under its name, and so no two have the same.
 pub fn names_are_apart()
@@ -42,6 +43,11 @@ pub fn requests_are_within()
 pub fn names_say_what_is_asked_for()
     ensures known { (d : PlainDirective) (a : Asked) → request d ≡ Ok a → name_text (name_of a.request) ≡ d.name }
     ensures unknown { (d : PlainDirective) → ((name : Name) → name_text name ≢ d.name) → request d ≡ Err (errors.UnknownDirective d.name) }
+{}
+
+/// How many nodes an `add-nodes` asks for is its first word.
+pub fn counts_are_first_words()
+    ensures { (d : PlainDirective) (a : Asked) (r : AddNodes) → request d ≡ Ok a → a.request ≡ requests.AddNodes r → number_of (first_word d.args) ≡ Some r.count }
 {}
 
 /// No id of an `add-nodes` that is read is a voter and a learner.

@@ -5,6 +5,8 @@
 //! as numbers, lists of ids and borrowed words, or the first thing that is wrong. It takes no memory.
 #![tactic(auto)]
 
+mod act;
+mod act_with;
 mod alone;
 mod argument;
 mod asking;
@@ -13,24 +15,28 @@ mod change;
 mod form;
 mod given;
 mod id_list;
+mod ids;
 mod laws;
 mod limits;
-mod message_type;
 mod name;
 mod reading;
 mod said;
 mod table;
+mod type_set;
 
+pub use act::Act;
+pub use act_with::ActWith;
 pub use argument::{Argument, Bytes, Flag, Ids, LevelFor, Number};
 pub use asking::{AddNodes, DeliverMsgs, Named, ProposeConfChange, Request};
 pub use build::{Asked, request};
 pub use change::{Inputs, change_of};
 pub use id_list::IdList;
+pub use ids::{id_words, takes_id};
 pub use laws::{
-    names_are_apart, names_say_what_is_asked_for, numbers_are_read, options_are_those_of_the_table,
-    requests_are_within, voters_and_learners_are_apart,
+    counts_are_first_words, names_are_apart, names_say_what_is_asked_for, numbers_are_read,
+    options_are_those_of_the_table, requests_are_within, voters_and_learners_are_apart,
 };
 pub use limits::{MAX_ID, MAX_NODES, limits_are};
-pub use message_type::{MessageType, TypeSet};
 pub use name::Name;
-pub use table::{OptionRow, Row};
+pub use table::{OptionRow, Row, is_name};
+pub use type_set::TypeSet;

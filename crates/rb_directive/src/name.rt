@@ -3,24 +3,22 @@
 ghost use Rattle.std.specs.Prelude.{◌≡◌};
 ghost use Rattle.rb_directive.specs.Names.{name_text};
 
+use crate::act::Act;
+use crate::act_with::ActWith;
+
 /// Which directive it is.
 #[derive(Clone, Copy, Debug, PartialEq, Eq)]
 pub enum Name {
     AddNodes,
-    Campaign,
+    /// One node does something.
+    Act(Act),
     Propose,
     ProposeConfChange,
     ProcessReady,
     DeliverMsgs,
     Stabilize,
-    TickElection,
-    TickHeartbeat,
-    SetRandomizedElectionTimeout,
-    TransferLeadership,
-    ForgetLeader,
-    ReportUnreachable,
-    SendSnapshot,
-    Compact,
+    /// One node does something with a number.
+    ActWith(ActWith),
     LogLevel,
     RaftLog,
     Status,
@@ -34,20 +32,13 @@ impl Name {
     {
         match self {
             Name::AddNodes => b"add-nodes",
-            Name::Campaign => b"campaign",
+            Name::Act(act) => act.text(),
             Name::Propose => b"propose",
             Name::ProposeConfChange => b"propose-conf-change",
             Name::ProcessReady => b"process-ready",
             Name::DeliverMsgs => b"deliver-msgs",
             Name::Stabilize => b"stabilize",
-            Name::TickElection => b"tick-election",
-            Name::TickHeartbeat => b"tick-heartbeat",
-            Name::SetRandomizedElectionTimeout => b"set-randomized-election-timeout",
-            Name::TransferLeadership => b"transfer-leadership",
-            Name::ForgetLeader => b"forget-leader",
-            Name::ReportUnreachable => b"report-unreachable",
-            Name::SendSnapshot => b"send-snapshot",
-            Name::Compact => b"compact",
+            Name::ActWith(act) => act.text(),
             Name::LogLevel => b"log-level",
             Name::RaftLog => b"raft-log",
             Name::Status => b"status",

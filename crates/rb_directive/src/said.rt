@@ -2,9 +2,9 @@
 
 use crate::form::{flag_of, id_of, number_within, transition_of};
 use crate::id_list::IdList;
-use crate::message_type::{TypeSet, type_of};
+use crate::type_set::TypeSet;
 use rb_change::Transition;
-use rb_level::{Level, level_of};
+use rb_level::{Level, level_of, type_of};
 use rb_script::DirectiveRef;
 use std::marker::Model;
 
@@ -32,7 +32,7 @@ impl<'d> Said<'d> {
     ghost use Rattle.rb_script.specs.Directive.{plain_argument};
     ghost use Rattle.rb_script.specs.Tokens.{plain};
     ghost use Rattle.rb_directive.specs.IdLists.{with_ids};
-    ghost use Rattle.rb_directive.specs.MessageTypes.{with_types, no_types};
+    ghost use Rattle.rb_directive.specs.TypeSets.{with_types, no_types};
     ghost use Rattle.rb_directive.specs.Reading.{words_said, only, number_said, bytes_said, level_said, flag_said, transition_said};
 
     /// The argument at a place of the directive, counted from 0.

@@ -3,8 +3,10 @@
 //! The rows are data that the code and the definitions share. Every directive also takes the option `log-level`.
 
 ghost use Rattle.std.specs.Prelude.{◌≡◌, MatchOption, Some, None};
-ghost use Rattle.rb_directive.specs.Table.{directives, options, row_in, option_in, option_of, word_of};
+ghost use Rattle.rb_directive.specs.Table.{directives, options, row_in, is_name, option_in, option_of, word_of};
 
+use crate::act::Act;
+use crate::act_with::ActWith;
 use crate::argument::{Argument, Bytes, Flag, Ids, LevelFor, Number};
 use crate::given::WordPlace;
 use crate::limits::{
@@ -79,20 +81,20 @@ const LEARNERS: Argument = Argument::Ids(Ids::Learners, Some(Ids::Voters));
 #[rattlefmt::skip]
 pub(crate) static DIRECTIVES: [Row; 19] = [
     Row { name: Name::AddNodes, first: Some(COUNT), second: None, takes_ids: false },
-    Row { name: Name::Campaign, first: Some(ID), second: None, takes_ids: false },
+    Row { name: Name::Act(Act::Campaign), first: Some(ID), second: None, takes_ids: false },
     Row { name: Name::Propose, first: Some(ID), second: Some(PAYLOAD), takes_ids: false },
     Row { name: Name::ProposeConfChange, first: Some(ID), second: None, takes_ids: false },
     Row { name: Name::ProcessReady, first: None, second: None, takes_ids: true },
     Row { name: Name::DeliverMsgs, first: None, second: None, takes_ids: true },
     Row { name: Name::Stabilize, first: None, second: None, takes_ids: true },
-    Row { name: Name::TickElection, first: Some(ID), second: None, takes_ids: false },
-    Row { name: Name::TickHeartbeat, first: Some(ID), second: None, takes_ids: false },
-    Row { name: Name::SetRandomizedElectionTimeout, first: Some(ID), second: None, takes_ids: false },
-    Row { name: Name::TransferLeadership, first: None, second: None, takes_ids: false },
-    Row { name: Name::ForgetLeader, first: Some(ID), second: None, takes_ids: false },
-    Row { name: Name::ReportUnreachable, first: Some(ID), second: Some(PEER), takes_ids: false },
-    Row { name: Name::SendSnapshot, first: Some(FROM), second: Some(TO), takes_ids: false },
-    Row { name: Name::Compact, first: Some(ID), second: Some(COMPACTED), takes_ids: false },
+    Row { name: Name::Act(Act::TickElection), first: Some(ID), second: None, takes_ids: false },
+    Row { name: Name::Act(Act::TickHeartbeat), first: Some(ID), second: None, takes_ids: false },
+    Row { name: Name::ActWith(ActWith::SetRandomizedElectionTimeout), first: Some(ID), second: None, takes_ids: false },
+    Row { name: Name::ActWith(ActWith::TransferLeadership), first: None, second: None, takes_ids: false },
+    Row { name: Name::Act(Act::ForgetLeader), first: Some(ID), second: None, takes_ids: false },
+    Row { name: Name::ActWith(ActWith::ReportUnreachable), first: Some(ID), second: Some(PEER), takes_ids: false },
+    Row { name: Name::ActWith(ActWith::SendSnapshot), first: Some(FROM), second: Some(TO), takes_ids: false },
+    Row { name: Name::ActWith(ActWith::Compact), first: Some(ID), second: Some(COMPACTED), takes_ids: false },
     Row { name: Name::LogLevel, first: Some(LEVEL), second: None, takes_ids: false },
     Row { name: Name::RaftLog, first: Some(ID), second: None, takes_ids: false },
     Row { name: Name::Status, first: Some(ID), second: None, takes_ids: false },
@@ -115,9 +117,9 @@ pub(crate) static OPTIONS: [OptionRow; 16] = [
     OptionRow { name: Name::DeliverMsgs, option: TYPES },
     OptionRow { name: Name::DeliverMsgs, option: DROP },
     OptionRow { name: Name::Stabilize, option: ROUNDS },
-    OptionRow { name: Name::SetRandomizedElectionTimeout, option: TIMEOUT },
-    OptionRow { name: Name::TransferLeadership, option: FROM },
-    OptionRow { name: Name::TransferLeadership, option: TO },
+    OptionRow { name: Name::ActWith(ActWith::SetRandomizedElectionTimeout), option: TIMEOUT },
+    OptionRow { name: Name::ActWith(ActWith::TransferLeadership), option: FROM },
+    OptionRow { name: Name::ActWith(ActWith::TransferLeadership), option: TO },
 ];
 
 // The row of the directive with this name.
@@ -138,6 +140,14 @@ pub(crate) fn row_of(name: &[u8]) -> Option<&'static Row>
     ensures { MatchOption result (row_in directives name.now ≡ None) (λ row. row_in directives name.now ≡ Some row.now) }
 {
     row_in(&DIRECTIVES, name)
+}
+
+/// Whether a directive has this name.
+#[tactic(auto, unfolding(crate::specs::Table::directives))]
+pub fn is_name(name: &[u8]) -> bool
+    ensures { result ≡ is_name name.now }
+{
+    DIRECTIVES.iter().any(|row| row.name.text() == name)
 }
 
 // The option with this key that the directive of this name has among these.

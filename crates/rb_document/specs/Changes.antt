@@ -1,5 +1,5 @@
 -- What changes make of a text. (LSP 3.17, "TextDocumentContentChangeEvent".)
-use Rattle.std.specs.Prelude.{◌≡◌, ℕ, List, [], ◌∷◌, ◌++◌, take, drop, max, true, length, Option, Some, None}
+use Rattle.std.specs.Prelude.{◌≡◌, ℕ, List, ◌++◌, take, drop, max, true, length, Option, Some, None}
 use Rattle.rb_document.specs.declared.position.Encoding.{Encoding}
 use Rattle.rb_document.specs.declared.position.Range.{Range}
 use Rattle.rb_document.specs.Places.{offset, position_of, is_place}
@@ -17,11 +17,6 @@ changed encoding range new text =
 abbrev pub changed_by : Encoding → Option Range → List ℕ → List ℕ → List ℕ
 changed_by encoding None new text = new
 changed_by encoding (Some range) new text = changed encoding range new text
-
--- changes come one after another, each to the text that the ones before it made
-abbrev pub all_changed : Encoding → List (Option Range × List ℕ) → List ℕ → List ℕ
-all_changed encoding [] text = text
-all_changed encoding (c ∷ changes) text = all_changed encoding changes (changed_by encoding c.0 c.1 text)
 
 -- the range of what stands between `before` and what comes behind `old`
 abbrev pub range_of : Encoding → List ℕ → List ℕ → List ℕ → Range

@@ -3,8 +3,8 @@
 ghost use Rattle.std.specs.Prelude.{◌≡◌, ◌≤◌, ◌<◌, true, is_some, length, List, Some};
 ghost use Rattle.std.specs.List.{list_all, Contains};
 ghost use Rattle.rb_level.specs.Levels.{level_of};
+ghost use Rattle.rb_level.specs.MessageTypes.{type_of};
 ghost use Rattle.rb_directive.specs.Forms.{flag_of, transition_of};
-ghost use Rattle.rb_directive.specs.MessageTypes.{type_of};
 ghost use Rattle.rb_hint.specs.Choices.{levels, flags, transitions, types};
 ghost use Rattle.rb_hint.specs.Distance.{Word, distance};
 ghost use Rattle.rb_hint.specs.Nearest.{nearest};

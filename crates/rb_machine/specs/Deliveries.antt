@@ -3,7 +3,7 @@
 use Rattle.std.specs.Prelude.{ℕ, Bool, ◌||◌, if◌then◌else◌, List, [], ◌∷◌, map, Option}
 use Rattle.std.specs.List.{list_any}
 use Rattle.rb_directive.specs.declared.asking.DeliverMsgs.{DeliverMsgs}
-use Rattle.rb_directive.specs.declared.message_type.TypeSet.{TypeSet}
+use Rattle.rb_directive.specs.declared.type_set.TypeSet.{TypeSet}
 use Rattle.rb_message.specs.declared.message.Message.{Message}
 use Rattle.rb_step.specs.Step.{stepped}
 use Rattle.rb_texts.specs.Items.{PlainItem, moved, no_messages}

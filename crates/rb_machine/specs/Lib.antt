@@ -11,7 +11,6 @@ pub use Rattle.rb_step.specs.Node
 pub mod Cluster
 pub mod Scenes
 pub mod Entries
-pub mod MessageTypes
 pub mod Pending
 pub mod Deliveries
 pub mod Readies

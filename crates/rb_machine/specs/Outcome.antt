@@ -7,6 +7,8 @@ use Rattle.rb_script.specs.Directive.{PlainDirective}
 use Rattle.rb_level.specs.declared.level.Level.{Level}
 use Rattle.rb_level.specs.declared.directive_error.DirectiveError.{DirectiveError}
 use Rattle.rb_level.specs.declared.directive_error.DirectiveError.TheVariants as errors
+use Rattle.rb_directive.specs.declared.act_with.ActWith.{ActWith}
+use Rattle.rb_directive.specs.declared.act_with.ActWith.TheVariants as withs
 use Rattle.rb_directive.specs.declared.asking.Request.{Request}
 use Rattle.rb_directive.specs.declared.asking.Request.TheVariants as requests
 use Rattle.rb_directive.specs.declared.asking.Named.{Named}
@@ -53,27 +55,17 @@ missing_node nodes named.None = None
 missing_node nodes (named.One id) = absent nodes id
 missing_node nodes (named.Many ids) = first_absent nodes ids
 
+-- what a node may not do with a number
+abbrev pub with_fault : ActWith → ℕ → ℕ → Cluster → Option DirectiveError
+with_fault withs.Compact id index c = compact_error id index c
+with_fault what id number c = None
+
 -- what a directive may not do in this cluster, where its nodes exist
 abbrev pub own_fault : Request → Cluster → Option DirectiveError
 own_fault (requests.AddNodes asked) c = add_nodes_fault asked c.nodes
 own_fault (requests.ProposeConfChange asked) c = asked.fault
-own_fault (requests.Compact id index) c = compact_error id index c
-own_fault (requests.Campaign id) c = None
-own_fault (requests.Propose id payload) c = None
-own_fault (requests.ProcessReady ids) c = None
-own_fault (requests.DeliverMsgs asked) c = None
-own_fault (requests.Stabilize ids rounds) c = None
-own_fault (requests.TickElection id) c = None
-own_fault (requests.TickHeartbeat id) c = None
-own_fault (requests.SetRandomizedElectionTimeout id timeout) c = None
-own_fault (requests.TransferLeadership from to) c = None
-own_fault (requests.ForgetLeader id) c = None
-own_fault (requests.ReportUnreachable id peer) c = None
-own_fault (requests.SendSnapshot from to) c = None
-own_fault (requests.LogLevel level) c = None
-own_fault (requests.RaftLog id) c = None
-own_fault (requests.Status id) c = None
-own_fault requests.RaftState c = None
+own_fault (requests.ActWith what id number) c = with_fault what id number c
+own_fault r c = None
 
 unfoldable pub fault : Request → Cluster → Option DirectiveError
 fault r c = option_or (missing_node c.nodes (nodes_of r)) (own_fault r c)
@@ -92,22 +84,22 @@ refusal d c = refusal_of (request d) c
 abbrev pub level_set : Level → Cluster → Cluster
 level_set level c = record c { level = level }
 
+abbrev pub act_with : ActWith → ℕ → ℕ → Scene → Scene
+act_with withs.SetRandomizedElectionTimeout id timeout s = with_cluster s (acts.set_timeout id timeout s.cluster)
+act_with withs.TransferLeadership from to s = acts.transfer from to s
+act_with withs.ReportUnreachable id peer s = with_cluster s (acts.report_unreachable id peer s.cluster)
+act_with withs.SendSnapshot from to s = snapshot_sent from to s
+act_with withs.Compact id index s = compact id index s
+
 abbrev pub effect : Request → Scene → Scene
 effect (requests.AddNodes asked) s = nodes_added asked s
-effect (requests.Campaign id) s = acts.campaign id s
+effect (requests.Act what id) s = acts.act what id s
 effect (requests.Propose id payload) s = acts.propose id payload s
 effect (requests.ProposeConfChange asked) s = propose_change asked s
 effect (requests.ProcessReady ids) s = ready_done_each s ids
 effect (requests.DeliverMsgs asked) s = msgs_delivered asked s
 effect (requests.Stabilize ids rounds) s = stabilized ids rounds s
-effect (requests.TickElection id) s = acts.tick_election id s
-effect (requests.TickHeartbeat id) s = acts.tick_heartbeat id s
-effect (requests.SetRandomizedElectionTimeout id timeout) s = with_cluster s (acts.set_timeout id timeout s.cluster)
-effect (requests.TransferLeadership from to) s = acts.transfer from to s
-effect (requests.ForgetLeader id) s = with_cluster s (acts.forget_leader id s.cluster)
-effect (requests.ReportUnreachable id peer) s = with_cluster s (acts.report_unreachable id peer s.cluster)
-effect (requests.SendSnapshot from to) s = snapshot_sent from to s
-effect (requests.Compact id index) s = compact id index s
+effect (requests.ActWith what id number) s = act_with what id number s
 effect (requests.LogLevel level) s = with_cluster s (level_set level s.cluster)
 effect (requests.RaftLog id) s = log_shown id s
 effect (requests.Status id) s = status_shown id s

@@ -1,17 +1,23 @@
 -- Messages on their way, in the order in which they were sent. They reach their nodes, or are dropped, only by directives. (etcd raft's
 -- interaction tests; the limit is this project's.)
-use Rattle.std.specs.Prelude.{ℕ, Bool, ◌&&◌, ◌==◌, not, nat_lt, if◌then◌else◌, List, [], ◌∷◌, ◌++◌, filter, length, Option}
-use Rattle.rb_directive.specs.declared.message_type.TypeSet.{TypeSet}
+use Rattle.std.specs.Prelude.{ℕ, Bool, true, ◌&&◌, ◌==◌, not, nat_lt, if◌then◌else◌, List, [], ◌∷◌, ◌++◌, filter, length, Option, Some, None}
+use Rattle.rb_level.specs.declared.message_type.MessageType.{MessageType}
+use Rattle.rb_directive.specs.declared.type_set.TypeSet.{TypeSet}
+use Rattle.rb_directive.specs.TypeSets.{has_type}
 use Rattle.rb_message.specs.Messages.{type_of}
 use Rattle.rb_message.specs.declared.message.Message.{Message}
 use Rattle.rb_texts.specs.Items.{moved}
 use Rattle.rb_texts.specs.declared.item.Verb.TheVariants as verbs
 use Rattle.rb_machine.specs.declared.limits.TheConstants.{MAX_PENDING}
 use Rattle.rb_machine.specs.Cluster.{Cluster}
-use Rattle.rb_machine.specs.MessageTypes.{is_meant}
 use Rattle.rb_machine.specs.Scenes.{Scene, shown, with_cluster}
 
 -- ---- which are meant
+
+-- a message of this type is: it is one of these, or none are named
+abbrev pub is_meant : Option TypeSet → MessageType → Bool
+is_meant None type = true
+is_meant (Some set) type = has_type set type
 
 -- the message is for this node, and of one of the types
 abbrev pub is_for : ℕ → Option TypeSet → Message → Bool

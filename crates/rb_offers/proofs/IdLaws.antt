@@ -1,16 +1,15 @@
--- The ids that are offered are numbers from 1 on, and stand where the table has them.
+-- The ids that are offered are numbers from 1 on.
 use Rattle.std.proofs.Common.{◌≡◌, ◌∙◌, ℕ, zero, suc, ◌+◌, ◌-◌, ◌≤◌, Bool, true, false, List, [], ◌∷◌, ◌++◌, map, take, refl, ap, sym, arith}
 use Rattle.std.specs.Prelude.{decimal, filter, if◌then◌else◌, nat_le}
 use Rattle.std.specs.Fmt.{digits}
 use Rattle.std.proofs.lemmas.Bool.Decides.{nat_tests}
-use Rattle.rb_directive.specs.Table.{directives, options}
 use Rattle.rb_script.specs.Lines.{Line, lines}
 use Rattle.rb_offers.specs.declared.ids.TheConstants.{IDS, MAX_IDS}
 use Rattle.rb_offers.specs.declared.part.Part.{Part}
 use Rattle.rb_offers.specs.declared.part.Part.TheVariants.{Lead}
 use Rattle.rb_offers.specs.Above.{kept, line_begin, next}
-use Rattle.rb_offers.specs.Ids.{first_ids, id_keys, id_offers, id_rows, takes_ids}
-use Rattle.rb_offers.specs.Laws.{IdsStandInTheTable, numbers_from, words}
+use Rattle.rb_offers.specs.Ids.{first_ids, id_offers, takes_ids}
+use Rattle.rb_offers.specs.Laws.{numbers_from, words}
 use Rattle.rb_offers.specs.Nodes.{added, ends_head, nodes_above, nodes_at, nodes_behind, with_more}
 use Rattle.rb_offers.specs.Offers.{begins_with, chosen, line_of}
 use Rattle.rb_offers.specs.Unfinished.{PlainWanted, name_of}
@@ -69,7 +68,3 @@ unfolding id_offers
 ids_offered at text head w taken =
     let ids = first_ids (nodes_at at text head) in
     rw taken (chosen_words w.prefix (line_of (name_of head)) ids) ∙ ap (λ (ws : List (List ℕ)). filter (begins_with w.prefix) ws) (ids_are (nodes_at at text head) (few_at at text head))
-
-pub of_the_table : IdsStandInTheTable
-unfolding id_rows id_keys directives options
-of_the_table = (refl, refl)

@@ -11,3 +11,4 @@ pub mod WantedLaws
 pub mod WordLaws
 pub mod NodeLaws
 pub mod IdLaws
+pub mod AskedLaws

@@ -1,14 +1,13 @@
 -- Ids of nodes, where a head can go on with one. (docs/DIRECTIVES.md. They are those of the nodes that there would be by the heads of `add-nodes`
 -- up to there: an offer, and no check, since which nodes there are is known by a run alone.)
-use Rattle.std.specs.Prelude.{ℕ, Bool, false, nat_lt, if◌then◌else◌, List, [], ◌∷◌, map, take}
-use Rattle.std.specs.Str.{bytes_eq}
+use Rattle.std.specs.Prelude.{ℕ, Bool, false, nat_lt, if◌then◌else◌, List, [], map, take}
 use Rattle.rb_script.specs.declared.limits.TheConstants.{MAX_ARGUMENTS}
-use Rattle.rb_manual.specs.Manual.{Key}
-use Rattle.rb_offers.specs.declared.ids.TheConstants.{IDS, ID_KEYS, ID_WORDS}
+use Rattle.rb_directive.specs.Ids.{id_words, takes_id}
+use Rattle.rb_offers.specs.declared.ids.TheConstants.{IDS}
 use Rattle.rb_offers.specs.declared.unfinished.Wish.{Wish}
 use Rattle.rb_offers.specs.declared.unfinished.Wish.TheVariants as wishes
 use Rattle.rb_offers.specs.Unfinished.{PlainWanted, name_of}
-use Rattle.rb_offers.specs.Offers.{PlainOffer, chosen, has_key, line_of}
+use Rattle.rb_offers.specs.Offers.{PlainOffer, chosen, line_of}
 use Rattle.rb_offers.specs.Words.{arguments_of, words_before}
 use Rattle.rb_offers.specs.Nodes.{nodes_at}
 
@@ -19,27 +18,6 @@ ids = map (λ i. i.now) IDS
 -- the first n
 abbrev pub first_ids : ℕ → List (List ℕ)
 first_ids n = take n ids
-
--- a directive's name, and how many of its words are ids, which are the first
-abbrev pub IdWords : Type 0
-IdWords = List ℕ × ℕ
-
-unfoldable pub id_rows : List IdWords
-id_rows = map (λ r. (r.0.now, r.1)) ID_WORDS
-
-abbrev pub id_words_in : List ℕ → List IdWords → ℕ
-id_words_in name [] = 0
-id_words_in name (r ∷ rs) = if bytes_eq r.0 name then r.1 else id_words_in name rs
-
-unfoldable pub id_words : List ℕ → ℕ
-id_words name = id_words_in name id_rows
-
--- the options whose values are ids
-unfoldable pub id_keys : List Key
-id_keys = map (λ k. (k.0.now, k.1.now)) ID_KEYS
-
-unfoldable pub takes_id : List ℕ → List ℕ → Bool
-takes_id name key = has_key name key id_keys
 
 abbrev pub takes_ids_at : Wish → List ℕ → List ℕ → Bool
 takes_ids_at wishes.Name head key = false

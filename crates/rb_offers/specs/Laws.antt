@@ -1,17 +1,14 @@
 -- What holds of what an editor is offered. (This project's.)
-use Rattle.std.specs.Prelude.{◌≡◌, ℕ, zero, suc, ◌+◌, ◌-◌, ◌≤◌, Bool, true, false, List, [], ◌∷◌, ◌++◌, codes, decimal, filter, if◌then◌else◌, length, map, nat_lt, take, Option, Some, None}
+use Rattle.std.specs.Prelude.{◌≡◌, ◌≢◌, ℕ, zero, suc, ◌+◌, ◌-◌, ◌≤◌, true, List, [], ◌∷◌, ◌++◌, codes, decimal, filter, length, map, take}
+use Rattle.std.specs.List.{sum_by}
 use Rattle.rb_script.specs.Lines.{Line, lines}
 use Rattle.rb_script.specs.Script.{PlainBlock, PlainScript, text as canonical_text}
 use Rattle.rb_script.specs.Reads.{Reads}
-use Rattle.rb_directive.specs.declared.argument.Argument.{Argument}
-use Rattle.rb_directive.specs.declared.argument.Argument.TheVariants as arguments
-use Rattle.rb_directive.specs.declared.argument.Number.{Number}
-use Rattle.rb_directive.specs.declared.argument.Number.TheVariants as numbers
 use Rattle.rb_directive.specs.declared.table.Row.{Row}
 use Rattle.rb_directive.specs.declared.table.OptionRow.{OptionRow}
 use Rattle.rb_directive.specs.Names.{argument_text, name_text}
 use Rattle.rb_directive.specs.Table.{directives, options as table_options}
-use Rattle.rb_manual.specs.Manual.{Key, pages}
+use Rattle.rb_manual.specs.Manual.{pages}
 use Rattle.rb_hint.specs.Choices.{choices_of}
 use Rattle.rb_hint.specs.Nearest.{keys_of}
 use Rattle.rb_document.specs.declared.position.Encoding.{Encoding}
@@ -21,12 +18,13 @@ use Rattle.rb_document.specs.Changes.{changed}
 use Rattle.rb_document.specs.Edits.{range_between, new_between}
 use Rattle.rb_offers.specs.declared.part.Part.TheVariants.{Lead}
 use Rattle.rb_offers.specs.Above.{behind_lines}
+use Rattle.rb_offers.specs.Asked.{AreRight, StandsBelow, asked_for}
 use Rattle.rb_offers.specs.BlockLines.{AreApart, StandsIn, blocks_of}
 use Rattle.rb_offers.specs.Formatting.{edits, formatting}
-use Rattle.rb_offers.specs.Ids.{IdWords, id_keys, id_offers, id_rows, takes_ids}
+use Rattle.rb_offers.specs.Ids.{id_offers, takes_ids}
 use Rattle.rb_offers.specs.Nodes.{nodes_at}
 use Rattle.rb_offers.specs.Offers.{PlainOffer, begins_with, named, options, takes, values}
-use Rattle.rb_offers.specs.Unfinished.{PlainWanted}
+use Rattle.rb_offers.specs.Unfinished.{PlainWanted, name_of}
 
 -- the blocks of a text stand in its lines, one behind the other
 abbrev pub BlocksStandApart : Type 0
@@ -71,33 +69,10 @@ abbrev pub IdsAreOfTheNodes : Type 0
 IdsAreOfTheNodes = (at : ℕ) (text head : List ℕ) (w : PlainWanted) → takes_ids head w ≡ true
     → words (id_offers at text head w) ≡ filter (begins_with w.prefix) (map decimal (numbers_from 1 (nodes_at at text head)))
 
--- a number that is an id
-abbrev pub is_id : Number → Bool
-is_id numbers.Id = true
-is_id numbers.Peer = true
-is_id numbers.From = true
-is_id numbers.To = true
-is_id number = false
-
--- an argument that is an id, or some
-abbrev pub has_ids : Argument → Bool
-has_ids (arguments.Number number least most) = is_id number
-has_ids (arguments.Ids list other) = true
-has_ids argument = false
-
--- a word that is an id, and those behind it
-abbrev pub with_word : Option Argument → ℕ → ℕ
-with_word None n = 0
-with_word (Some argument) n = if has_ids argument then 1 + n else 0
-
--- how many of a directive's first words are ids: as many as it may have arguments, where it takes any number
-abbrev pub ids_of : Row → ℕ
-ids_of row = if row.takes_ids then 64 else with_word row.first (with_word row.second 0)
-
--- the table has ids there
-abbrev pub IdsStandInTheTable : Type 0
-IdsStandInTheTable = (id_rows ≡ filter (λ (r : IdWords). nat_lt 0 r.1) (map (λ (row : Row). (name_text row.name, ids_of row)) directives))
-    × (id_keys ≡ map (λ (row : OptionRow). (name_text row.name, argument_text row.option)) (filter (λ (row : OptionRow). has_ids row.option) table_options))
+-- Where no `add-nodes` is being written, and each of those above is right, these are as many as they ask for.
+abbrev pub IdsAreAskedFor : Type 0
+IdsAreAskedFor = (bs : List PlainBlock) (at : ℕ) (text head : List ℕ) (w : PlainWanted) → StandsBelow bs at text → AreRight bs → name_of head ≢ codes "add-nodes" → takes_ids head w ≡ true
+    → words (id_offers at text head w) ≡ filter (begins_with w.prefix) (map decimal (numbers_from 1 (sum_by asked_for bs)))
 
 -- Above the head of each block of a script stand whole blocks and lead lines: so on its line a head can be written, and names are offered.
 abbrev pub HeadsAreKnown : Type 0

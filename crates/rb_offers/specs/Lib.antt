@@ -9,6 +9,7 @@ pub mod Unfinished
 pub mod Offers
 pub mod Words
 pub mod Nodes
+pub mod Asked
 pub mod Ids
 pub mod Completion
 pub mod Laws

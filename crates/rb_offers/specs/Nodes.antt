@@ -1,6 +1,6 @@
 -- How many nodes there would be at a place of a text, by the heads of `add-nodes` up to it: each adds as many as its first word says, and none
 -- where they would be too many. (docs/DIRECTIVES.md, "Nodes". The text need be no script.)
-use Rattle.std.specs.Prelude.{ℕ, ◌+◌, ◌-◌, Bool, false, ◌&&◌, not, nat_le, if◌then◌else◌, List, [], ◌∷◌, ◌++◌, codes, take, Option, Some, None}
+use Rattle.std.specs.Prelude.{ℕ, ◌+◌, ◌-◌, Bool, false, ◌&&◌, not, nat_le, if◌then◌else◌, List, [], ◌∷◌, ◌++◌, codes, take, unwrap_or}
 use Rattle.std.specs.Str.{bytes_eq}
 use Rattle.rb_script.specs.declared.limits.TheConstants.{MAX_ARGUMENTS}
 use Rattle.rb_script.specs.Lines.{Line, lines}
@@ -19,13 +19,9 @@ ends_head Lead line = not (is_lead line) && not (continues line)
 ends_head Head line = not (continues line)
 ends_head part line = false
 
-abbrev pub or_none : Option ℕ → ℕ
-or_none None = 0
-or_none (Some number) = number
-
 -- how many a head adds, its lines joined
 abbrev pub added : List ℕ → ℕ
-added head = if bytes_eq (name_of head) (codes "add-nodes") then or_none (number_of (first_word MAX_ARGUMENTS (arguments_of head))) else 0
+added head = if bytes_eq (name_of head) (codes "add-nodes") then unwrap_or (number_of (first_word MAX_ARGUMENTS (arguments_of head))) 0 else 0
 
 abbrev pub with_more : ℕ → ℕ → ℕ
 with_more nodes more = if nat_le more (MAX_IDS - nodes) then nodes + more else nodes

@@ -3,83 +3,24 @@
 ghost use Rattle.std.specs.Prelude.{◌≡◌, ◌≤◌, ◌++◌, OnOk, length, map, take};
 ghost use Rattle.rb_offers.specs.declared.ids.TheConstants.{MAX_IDS};
 ghost use Rattle.rb_offers.specs.Offers.{chosen};
-ghost use Rattle.rb_offers.specs.Ids.{first_ids, id_offers, id_words, id_words_in, ids, takes_id, takes_ids};
+ghost use Rattle.rb_offers.specs.Ids.{first_ids, id_offers, ids, takes_ids};
 
 use crate::nodes::nodes_at;
-use crate::offer::{Offer, add_chosen, has_key, line_of};
+use crate::offer::{Offer, add_chosen, line_of};
 use crate::unfinished::{Wanted, Wish, name_of};
 use crate::words::{arguments_of, words_before};
+use rb_directive::{id_words, takes_id};
 use rb_hint::Known;
 use std::alloc::{AllocError, Global};
 
 /// How many ids there are.
 pub(crate) const MAX_IDS: usize = 32;
 
-// Any number of words.
-const ANY: usize = 64;
-
 #[rattlefmt::skip]
 static IDS: [&[u8]; 32] = [
     b"1", b"2", b"3", b"4", b"5", b"6", b"7", b"8", b"9", b"10", b"11", b"12", b"13", b"14", b"15", b"16",
     b"17", b"18", b"19", b"20", b"21", b"22", b"23", b"24", b"25", b"26", b"27", b"28", b"29", b"30", b"31", b"32",
 ];
-
-// How many of a directive's words are ids: the first ones.
-#[rattlefmt::skip]
-static ID_WORDS: [(&[u8], usize); 15] = [
-    (b"campaign", 1),
-    (b"propose", 1),
-    (b"propose-conf-change", 1),
-    (b"process-ready", ANY),
-    (b"deliver-msgs", ANY),
-    (b"stabilize", ANY),
-    (b"tick-election", 1),
-    (b"tick-heartbeat", 1),
-    (b"set-randomized-election-timeout", 1),
-    (b"forget-leader", 1),
-    (b"report-unreachable", 2),
-    (b"send-snapshot", 2),
-    (b"compact", 1),
-    (b"raft-log", 1),
-    (b"status", 1),
-];
-
-// The options whose values are ids.
-static ID_KEYS: [(&[u8], &[u8]); 5] = [
-    (b"add-nodes", b"voters"),
-    (b"add-nodes", b"learners"),
-    (b"deliver-msgs", b"drop"),
-    (b"transfer-leadership", b"from"),
-    (b"transfer-leadership", b"to"),
-];
-
-// How many of the words of the directive with this name are ids, by these rows.
-fn id_words_in(name: &[u8], rows: &[(Known, usize)]) -> usize
-    ensures { result ≡ id_words_in name.now (map (λ r. (r.0.now, r.1)) rows.now) }
-{
-    for row in rows {
-        if row.0 == name {
-            return row.1;
-        }
-    }
-    0
-}
-
-// How many of the words of the directive with this name are ids.
-#[tactic(auto, unfolding(crate::specs::Ids::id_words, crate::specs::Ids::id_rows))]
-fn id_words(name: &[u8]) -> usize
-    ensures { result ≡ id_words name.now }
-{
-    id_words_in(name, &ID_WORDS)
-}
-
-// Whether the values of an option of the directive with this name are ids.
-#[tactic(auto, unfolding(crate::specs::Ids::takes_id, crate::specs::Ids::id_keys))]
-fn takes_id(name: &[u8], key: &[u8]) -> bool
-    ensures { result ≡ takes_id name.now key.now }
-{
-    has_key(name, key, &ID_KEYS)
-}
 
 // Whether a head can go on with an id, where this is what it ends in.
 fn takes_ids(head: &[u8], wanted: &Wanted<'_>) -> bool

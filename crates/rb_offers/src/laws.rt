@@ -1,6 +1,6 @@
 //! Laws of what an editor is offered, for whoever reads the contracts. No call does anything.
 
-ghost use Rattle.rb_offers.specs.Laws.{BlocksStandApart, FormattingMakes, HeadsAreKnown, IdsAreOfTheNodes, IdsStandInTheTable, KeysAreOfTheTable, LinesStayInOrder, NamesAreOfTheTable, ValuesAreOfTheOption};
+ghost use Rattle.rb_offers.specs.Laws.{BlocksStandApart, FormattingMakes, HeadsAreKnown, IdsAreAskedFor, IdsAreOfTheNodes, KeysAreOfTheTable, LinesStayInOrder, NamesAreOfTheTable, ValuesAreOfTheOption};
 
 /// The blocks of a text stand in its lines, one behind the other, and each has a head, a separator below it, and perhaps an expectation: so
 /// no fold goes beyond the text, and where two have a line in common one is within the other.
@@ -38,9 +38,10 @@ pub fn ids_are_those_of_the_nodes()
     ensures { IdsAreOfTheNodes }
 {}
 
-/// Ids are offered where the table of directives has them: among as many of a directive's first words, and in the same options.
-pub fn ids_stand_where_the_table_has_them()
-    ensures { IdsStandInTheTable }
+/// In a head that is no `add-nodes` those nodes are as many as the `add-nodes` above it ask for, where the arguments of each of these are right
+/// and they ask for no more than a cluster may have. The head need not be finished.
+pub fn ids_are_those_that_are_asked_for()
+    ensures { IdsAreAskedFor }
 {}
 
 /// On the line of each head of a script it is known that a head can be written there.

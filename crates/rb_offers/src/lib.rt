@@ -27,7 +27,7 @@ pub use folds::add_folds;
 pub use formatting::add_formatting;
 pub use laws::{
     blocks_stand_apart, formatting_makes_the_canonical_text, heads_are_known,
-    ids_are_those_of_the_nodes, ids_stand_where_the_table_has_them, keys_are_those_of_the_table,
+    ids_are_those_of_the_nodes, ids_are_those_that_are_asked_for, keys_are_those_of_the_table,
     lines_stay_in_order, names_are_those_of_the_table, values_are_those_of_the_option,
 };
 pub use symbols::{MAX_NAME, add_symbols};

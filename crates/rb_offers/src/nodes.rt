@@ -34,10 +34,7 @@ fn added(head: &[u8]) -> u64
     if name_of(head) != b"add-nodes".as_slice() {
         return 0;
     }
-    match number_of(first_word(arguments_of(head))) {
-        Some(number) => number,
-        None => 0,
-    }
+    number_of(first_word(arguments_of(head))).unwrap_or(0)
 }
 
 // More nodes, where those aren't too many.

@@ -1,13 +1,12 @@
 -- No byte of a text is a mark of a page, or past ASCII.
-use Rattle.std.proofs.Common.{◌≡◌, ℕ, ◌+◌, ◌%◌, ◌/◌, ◌<◌, ◌≤◌, ◌*◌, Bool, true, false, List, [], ◌∷◌, ◌++◌, zero, suc, length, decimal, codes, refl, ap, ◌∙◌, arith}
+use Rattle.std.proofs.Common.{◌≡◌, ℕ, ◌+◌, ◌%◌, ◌/◌, ◌<◌, ◌≤◌, ◌*◌, Bool, true, false, List, [], ◌∷◌, ◌++◌, length, decimal, codes, refl, ap, arith}
 use Rattle.std.specs.Prelude.{not, ◌&&◌, ◌==◌, nat_le, nat_lt, if◌then◌else◌}
 use Rattle.std.specs.List.{flat_map, list_all}
-use Rattle.std.specs.Fmt.{digits, digits_onto, digit_glyph}
 use Rattle.std.proofs.lemmas.Bool.{and_parts, le-leb, leb-true, ne_eqb, ltb-true}
 use Rattle.std.proofs.lemmas.List.{length-append}
-use Rattle.std.proofs.lemmas.List.Folds.{list_all-append}
 use Rattle.rb_page.specs.Escapes.{hex_digit, is_no_mark, is_inert, is_plain, numbered, escaped}
 use Rattle.rb_page.specs.Rows.{PlainCell, number, text, Row, cell_text, front_text, row_text, next_text, rows_text}
+use Rattle.rb_texts.proofs.KindLaws.{decimal_of, flat_of, joined_of}
 
 -- two tests that pass, as one
 both : (a b : Bool) → a ≡ true → b ≡ true → (a && b) ≡ true
@@ -65,28 +64,15 @@ escaped_inert b = escaped_by (is_plain b) b refl
 
 -- two inert texts make one
 joined : (a b : List ℕ) → list_all is_inert a ≡ true → list_all is_inert b ≡ true → list_all is_inert (a ++ b) ≡ true
-joined a b p q = list_all-append is_inert a b ∙ both (list_all is_inert a) (list_all is_inert b) p q
+joined a b p q = joined_of is_inert a b p q
 
 all_escaped_inert : (bytes : List ℕ) → list_all is_inert (flat_map escaped bytes) ≡ true
-all_escaped_inert [] = refl
-all_escaped_inert (b ∷ bytes) = joined (escaped b) (flat_map escaped bytes) (escaped_inert b) (all_escaped_inert bytes)
+all_escaped_inert bytes = flat_of is_inert escaped escaped_inert bytes
 
 -- ---- numbers
 
-glyph_by : (t : Bool) (d : ℕ) → nat_lt d 10 ≡ t → d < 10 → is_inert (if t then 48 + d else (if false then 55 + d else 87 + d)) ≡ true
-glyph_by true d e lt = figure (48 + d) (omega arith) (omega (arith, lt))
-glyph_by false d e lt = letter (87 + d) (omega arith) (omega (arith, lt))
-
-digits_inert : (k n : ℕ) (acc : List ℕ) → list_all is_inert acc ≡ true → list_all is_inert (digits_onto k 10 false n acc) ≡ true
-digits_inert zero n acc h = h
-digits_inert (suc k) n acc h =
-    let more : list_all is_inert (digit_glyph false (n % 10) ∷ acc) ≡ true = both _ (list_all is_inert acc) (glyph_by (nat_lt (n % 10) 10) (n % 10) refl (omega arith)) h in
-    elim (n / 10 == 0) as (λ t. list_all is_inert (if t then digit_glyph false (n % 10) ∷ acc else digits_onto k 10 false (n / 10) (digit_glyph false (n % 10) ∷ acc)) ≡ true)
-    [ true ↦ more | false ↦ digits_inert k (n / 10) (digit_glyph false (n % 10) ∷ acc) more ]
-
 decimal_inert : (n : ℕ) → list_all is_inert (decimal n) ≡ true
-unfolding digits
-decimal_inert n = digits_inert 64 n [] refl
+decimal_inert n = decimal_of is_inert (λ d lt. figure (48 + d) (omega arith) (omega (arith, lt))) n
 
 -- ---- rows
 
@@ -96,8 +82,7 @@ cell_inert (text bytes) =
     joined (codes ",\"") (flat_map escaped bytes ++ codes "\"") refl (joined (flat_map escaped bytes) (codes "\"") (all_escaped_inert bytes) refl)
 
 cells_inert : (cs : List PlainCell) → list_all is_inert (flat_map cell_text cs) ≡ true
-cells_inert [] = refl
-cells_inert (c ∷ cs) = joined (cell_text c) (flat_map cell_text cs) (cell_inert c) (cells_inert cs)
+cells_inert cs = flat_of is_inert cell_text cell_inert cs
 
 row_inert : (r : Row) → list_all is_inert (row_text r) ≡ true
 row_inert r =
@@ -107,8 +92,7 @@ row_inert r =
 
 next_inert : (rs : List Row) → list_all is_inert (flat_map next_text rs) ≡ true
 unfolding next_text
-next_inert [] = refl
-next_inert (r ∷ rs) = joined (next_text r) (flat_map next_text rs) (joined (codes ",\n") (row_text r) refl (row_inert r)) (next_inert rs)
+next_inert rs = flat_of is_inert next_text (λ r. joined (codes ",\n") (row_text r) refl (row_inert r)) rs
 
 -- so is the text of all rows
 pub rows_inert : (first : Row) (rest : List Row) → list_all is_inert (rows_text first rest) ≡ true

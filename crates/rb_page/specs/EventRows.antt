@@ -1,10 +1,10 @@
 -- What a node tells, as rows. (docs/PAGE.md; the events are this project's.)
 use Rattle.std.specs.Prelude.{ℕ, codes, List, [], ◌∷◌}
+use Rattle.rb_level.specs.MessageTypes.{type_text}
 use Rattle.rb_message.specs.declared.event.Event.{Event}
 use Rattle.rb_message.specs.declared.event.Event.TheVariants as events
 use Rattle.rb_texts.specs.Configs.{config_text}
 use Rattle.rb_texts.specs.Events.{fault_text, no_campaign_text, replaced_text, votes_text}
-use Rattle.rb_texts.specs.Messages.{type_text}
 use Rattle.rb_texts.specs.States.{role_text}
 use Rattle.rb_page.specs.MessageRows.{flag}
 use Rattle.rb_page.specs.Rows.{PlainCell, number, text, Row, row}

@@ -1,5 +1,6 @@
 -- Messages as rows. (docs/PAGE.md; the types are named as in etcd raft's documentation, "MessageType".)
 use Rattle.std.specs.Prelude.{ℕ, Bool, if◌then◌else◌, codes, List, [], ◌∷◌, length}
+use Rattle.rb_level.specs.MessageTypes.{type_text}
 use Rattle.rb_message.specs.declared.kind.MessageKind.{MessageKind}
 use Rattle.rb_message.specs.declared.kind.MessageKind.TheVariants as kinds
 use Rattle.rb_message.specs.declared.message.Message.{Message}
@@ -8,7 +9,6 @@ use Rattle.rb_message.specs.Messages.{type_of}
 use Rattle.rb_texts.specs.declared.item.Verb.{Verb}
 use Rattle.rb_texts.specs.declared.item.Verb.TheVariants as verbs
 use Rattle.rb_texts.specs.Entries.{body_text}
-use Rattle.rb_texts.specs.Messages.{type_text}
 use Rattle.rb_page.specs.Rows.{PlainCell, number, text, Row, row}
 
 -- 1 for yes, 0 for no

@@ -8,7 +8,7 @@ ghost use Rattle.rb_page.specs.Rows.{next_text, number, row, text};
 
 use crate::cell::Cell;
 use crate::message::flag;
-use crate::names::{fault_name, no_campaign_name, replaced_name, role_name, type_name, votes_name};
+use crate::names::{fault_name, no_campaign_name, replaced_name, role_name, votes_name};
 use crate::row::put_next;
 use rb_message::Event;
 use rb_script::{Sink, WriteFault};
@@ -36,7 +36,7 @@ pub(crate) fn put_event<S: Sink>(sink: &mut S, event: &Event) -> Result<(), Writ
         } => {
             let cells = [
                 Cell::Number(*id),
-                Cell::Text(type_name(*message_type)),
+                Cell::Text(message_type.text()),
                 Cell::Number(flag(*granted)),
                 Cell::Number(*from),
                 Cell::Text(votes_name(*result)),
@@ -47,7 +47,7 @@ pub(crate) fn put_event<S: Sink>(sink: &mut S, event: &Event) -> Result<(), Writ
             id,
             message_type,
             from,
-        } => put_named(sink, b"ignored", *id, type_name(*message_type), *from),
+        } => put_named(sink, b"ignored", *id, message_type.text(), *from),
         Event::DroppedProposal { id } => put_of(sink, b"dropped-proposal", *id),
         Event::Conflict { id, index, commit } => {
             put_numbers(sink, b"conflict", *id, *index, *commit)

@@ -6,7 +6,6 @@ ghost use Rattle.rb_page.specs.MessageRows.{append_said, flag, message_row, refu
 ghost use Rattle.rb_page.specs.Rows.{PlainCell, next_text, number, plain_cell, row, text};
 
 use crate::cell::Cell;
-use crate::names::type_name;
 use crate::row::put_further;
 use rb_message::{Append, Message, MessageKind};
 use rb_raftlog::Snapshot;
@@ -31,7 +30,7 @@ pub(crate) fn put_message<S: Sink>(
     let cells = [
         Cell::Number(message.from),
         Cell::Number(message.to),
-        Cell::Text(type_name(message.kind.message_type())),
+        Cell::Text(message.kind.message_type().text()),
         Cell::Number(message.term),
     ];
     put_said(sink, name, &cells, &message.kind)

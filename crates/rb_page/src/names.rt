@@ -3,33 +3,13 @@
 ghost use Rattle.std.specs.Prelude.{◌≡◌};
 ghost use Rattle.rb_texts.specs.Entries.{transition_text};
 ghost use Rattle.rb_texts.specs.Events.{fault_text, no_campaign_text, replaced_text, votes_text};
-ghost use Rattle.rb_texts.specs.Messages.{type_text};
 ghost use Rattle.rb_texts.specs.States.{role_text};
 ghost use Rattle.rb_page.specs.MessageRows.{verb_name};
 
 use rb_change::Transition;
-use rb_message::{MessageType, Role, WhyNoCampaign, WhyReplaced};
+use rb_message::{Role, WhyNoCampaign, WhyReplaced};
 use rb_texts::Verb;
 use rb_tracker::{ChangeFault, VoteResult};
-
-pub(crate) fn type_name(message_type: MessageType) -> &'static [u8]
-    ensures { result.now ≡ type_text message_type }
-{
-    match message_type {
-        MessageType::Vote => b"MsgVote",
-        MessageType::PreVote => b"MsgPreVote",
-        MessageType::VoteResponse => b"MsgVoteResp",
-        MessageType::PreVoteResponse => b"MsgPreVoteResp",
-        MessageType::Append => b"MsgApp",
-        MessageType::AppendResponse => b"MsgAppResp",
-        MessageType::Heartbeat => b"MsgHeartbeat",
-        MessageType::HeartbeatResponse => b"MsgHeartbeatResp",
-        MessageType::Snapshot => b"MsgSnap",
-        MessageType::Proposal => b"MsgProp",
-        MessageType::TransferLeader => b"MsgTransferLeader",
-        MessageType::TimeoutNow => b"MsgTimeoutNow",
-    }
-}
 
 /// What a role is called.
 pub fn role_name(role: Role) -> &'static [u8]

@@ -1,5 +1,5 @@
 -- What a client offers at `initialize`, and what the server can do. (LSP 3.17, "Initialize Request" and "PositionEncodingKind".)
-use Rattle.std.specs.Prelude.{ℕ, Bool, true, false, ◌||◌, List, Option, Some, None, codes, if◌then◌else◌, is_some, option_and_then}
+use Rattle.std.specs.Prelude.{ℕ, Bool, true, false, ◌||◌, List, Option, Some, None, codes, if◌then◌else◌, is_some, option_and_then, unwrap_or}
 use Rattle.std.specs.Str.{bytes_eq}
 use Rattle.serde_json.specs.Data.{Data, array, boolean, item, member, no_items, no_members, number, object, string, unsigned}
 use Rattle.serde_json.specs.Find.{get, at, as_bool, as_str, as_object}
@@ -35,21 +35,13 @@ chosen_encoding d = if offers_bytes d then Utf8 else Utf16
 abbrev pub of_diagnostics : Data → Option Data
 of_diagnostics d = option_and_then (get (codes "publishDiagnostics")) (option_and_then (get (codes "textDocument")) (get (codes "capabilities") d))
 
-abbrev pub is_said : Option Bool → Bool
-is_said None = false
-is_said (Some says) = says
-
--- related information is said to be among that
-abbrev pub says_related : Data → Bool
-says_related d = is_said (option_and_then as_bool (get (codes "relatedInformation") d))
-
-abbrev pub is_related_in : Option Data → Bool
-is_related_in None = false
-is_related_in (Some taken) = says_related taken
+-- whether related information is among that, where it says so
+abbrev pub says_related : Data → Option Bool
+says_related taken = option_and_then as_bool (get (codes "relatedInformation") taken)
 
 -- it takes related information with a diagnostic
 abbrev pub takes_related : Data → Bool
-takes_related d = is_related_in (of_diagnostics d)
+takes_related d = unwrap_or (option_and_then says_related (of_diagnostics d)) false
 
 -- the client that begins so: none, where what is given is no object
 abbrev pub client_of : Option Data → Option Client

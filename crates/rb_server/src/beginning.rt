@@ -66,20 +66,16 @@ fn of_diagnostics(params: &Value) -> Option<&Value>
 fn takes_related(params: &Value) -> bool
     ensures { result ≡ takes_related (view params.now) }
 {
-    match of_diagnostics(params) {
-        Some(taken) => says_related(taken),
-        None => false,
-    }
+    of_diagnostics(params)
+        .and_then(says_related)
+        .unwrap_or(false)
 }
 
-// Whether that is said to be among what is taken of them.
-fn says_related(taken: &Value) -> bool
+// Whether that is among what is taken of them, where the client says so.
+fn says_related(taken: &Value) -> Option<bool>
     ensures { result ≡ says_related (view taken.now) }
 {
-    match taken.get("relatedInformation").and_then(Value::as_bool) {
-        Some(says) => says,
-        None => false,
-    }
+    taken.get("relatedInformation").and_then(Value::as_bool)
 }
 
 // Whether the name at a place is that of bytes.

@@ -14,17 +14,16 @@ use Rattle.rb_step.specs.Node.{PlainNode}
 use Rattle.rb_tracker.specs.Progresses.{PlainProgress}
 use Rattle.rb_tracker.specs.Trackers.{has_view}
 use Rattle.rb_texts.specs.Configs.{config_text}
-use Rattle.rb_texts.specs.States.{role_text, progress_state_text}
-use Rattle.rb_raftlog.specs.Content.{content_end}
+use Rattle.rb_texts.specs.States.{progress_state_text}
 use Rattle.rb_page.specs.Kept.{texts_of}
 use Rattle.rb_page.specs.Rows.{Row, row, number, text, next_text}
-use Rattle.rb_steps.specs.Changes.{one_unless, numbers_of, has_same_numbers, has_same_config, view_numbers, is_same_view, views_changed, views_gone, log_change, parts_changed, whole, node_change, state_change}
+use Rattle.rb_steps.specs.Changes.{one_unless, has_same_numbers, has_same_config, view_numbers, is_same_view, views_changed, views_gone, log_change, parts_changed, whole, node_change, state_change}
 use Rattle.rb_steps.specs.Logs.{is_same_log, log_changes, log_from, stays}
 use Rattle.rb_steps.specs.Rows.{has_text, new_row, new_rows}
 use Rattle.rb_steps.specs.States.{added_rows, changed_rows, config_row, gone_of, gone_rows, no_view_row, node_row, standing, state_rows, view_row, view_rows}
 use Rattle.rb_steps.proofs.KeepLaws.{both}
 use Rattle.rb_steps.proofs.LogLaws.{entries_count, own_same}
-use Rattle.rb_steps.proofs.StateLaws.{AreViewed, few_changes, here, own_viewed, there, views_count}
+use Rattle.rb_steps.proofs.StateLaws.{AreViewed, here, own_viewed, there, views_count}
 
 -- ---- what is the same has the same row
 
@@ -33,20 +32,6 @@ equal a b e = (bytes_eq-Decides a b).0 e
 
 itself : (a : List ℕ) → bytes_eq a a ≡ true
 itself a = (bytes_eq-Decides a a).1 refl
-
-node_of : (numbers role content : List ℕ) → Row
-node_of numbers role content = row (codes "node")
-    (number (slice_index numbers 0) ∷ text role ∷ number (slice_index numbers 1) ∷ number (slice_index numbers 2) ∷ number (slice_index numbers 3)
-    ∷ number (slice_index numbers 4) ∷ number (slice_index numbers 5) ∷ number (slice_index numbers 6) ∷ number (length content) ∷ text (content_end content) ∷ [])
-
-same_numbers : (a b : PlainNode) → has_same_numbers a b ≡ true → node_row a ≡ node_row b
-unfolding node_of
-same_numbers a b e =
-    let all = and_parts (bytes_eq (numbers_of a) (numbers_of b) && bytes_eq (role_text a.role) (role_text b.role)) (bytes_eq a.content b.content) e in
-    let first = and_parts (bytes_eq (numbers_of a) (numbers_of b)) (bytes_eq (role_text a.role) (role_text b.role)) all.0 in
-    ap (λ (l : List ℕ). node_of l (role_text a.role) a.content) (equal (numbers_of a) (numbers_of b) first.0)
-    ∙ ap (λ (l : List ℕ). node_of (numbers_of b) l a.content) (equal (role_text a.role) (role_text b.role) first.1)
-    ∙ ap (λ (l : List ℕ). node_of (numbers_of b) (role_text b.role) l) (equal a.content b.content all.1)
 
 same_config : (a b : PlainNode) → a.id ≡ b.id → has_same_config a b ≡ true → config_row a ≡ config_row b
 same_config a b id e =
@@ -64,6 +49,9 @@ same_view id a b e =
     both (view_of id) (equal (view_numbers a) (view_numbers b) all.0) (equal (progress_state_text a.1.state) (progress_state_text b.1.state) all.1)
 
 -- ---- such a row is there
+
+text_there : (olds : List Line) (a b : List ℕ) → bytes_eq a b ≡ true → has_text (a ∷ olds) b ≡ true
+text_there olds a b e = ap (λ (t : List ℕ). has_text (t ∷ olds) b) (equal a b e) ∙ here olds b
 
 same_there : (olds : List Line) (a b : Row) → a ≡ b → has_text (next_text a ∷ olds) (next_text b) ≡ true
 same_there olds a b e = ap (λ (r : Row). has_text (next_text r ∷ olds) (next_text b)) e ∙ here olds (next_text b)
@@ -117,6 +105,16 @@ gone_few id (v ∷ vs) news =
       gone_few id vs news,
     )
 
+-- no more of them are new, or gone, than there are
+views_all : (vs : List (ℕ × PlainProgress)) → views_changed [] vs ≡ length vs
+views_all [] = refl
+views_all (v ∷ vs) = omega (arith, sum_by-cons (λ (w : ℕ × PlainProgress). one_unless (list_any (is_same_view w) [])) v vs, views_all vs)
+
+gone_most : (vs news : List (ℕ × PlainProgress)) → views_gone vs news ≤ length vs
+gone_most [] news = omega arith
+gone_most (v ∷ vs) news =
+    omega (arith, sum_by-cons (λ (w : ℕ × PlainProgress). one_unless (has_view news w.0)) v vs, one_at_most (has_view news v.0), gone_most vs news)
+
 log_by : (t : Bool) (rs : List Row) (most : ℕ) → length rs ≤ most → length (if t then [] else rs) ≤ (if t then 0 else most)
 log_by true rs most le = omega arith
 log_by false rs most le = le
@@ -126,13 +124,20 @@ log_few id old new =
     let index = stays old new in
     log_by (is_same_log old new) (log_from id new index) (1 + length (entries_after new index)) (omega (arith, entries_count (index + 1) (entries_after new index)))
 
+log_most : (t : Bool) (most : ℕ) → (if t then 0 else most) ≤ most
+log_most true most = omega arith
+log_most false most = omega arith
+
 -- ---- nodes
 
-parts_few : (old new : PlainNode) → old.id ≡ new.id → length (changed_rows old new) ≤ parts_changed old new
-parts_few old new same =
+-- a node whose numbers, configuration and views are those of before where these tests pass
+parts_by : (numbers config : Bool) (views : List (ℕ × PlainProgress)) (old new : PlainNode)
+    → (numbers ≡ true → has_text (texts_of (standing old)) (next_text (node_row new)) ≡ true)
+    → (config ≡ true → has_text (texts_of (standing old)) (next_text (config_row new)) ≡ true)
+    → ((v : ℕ × PlainProgress) → list_any (is_same_view v) views ≡ true → has_text (texts_of (standing old)) (next_text (view_row new.id v)) ≡ true)
+    → length (changed_rows old new) ≤ one_unless numbers + one_unless config + views_changed views new.tracker.views + views_gone old.tracker.views new.tracker.views + log_change old.log new.log
+parts_by numbers config views old new has_numbers has_config has_views =
     let olds = texts_of (standing old) in
-    let more = texts_of (config_row old ∷ view_rows old.id old.tracker.views) in
-    let views = texts_of (view_rows old.id old.tracker.views) in
     let news = view_rows new.id new.tracker.views in
     let gone = gone_rows new.id old.tracker.views new.tracker.views in
     let log = log_changes new.id old.log new.log in
@@ -142,18 +147,40 @@ parts_few old new same =
       length-append gone log,
       length-append (new_row olds (node_row new)) (new_row olds (config_row new) ++ flat_map (new_row olds) news),
       length-append (new_row olds (config_row new)) (flat_map (new_row olds) news),
-      one_new (has_same_numbers old new) olds (node_row new) (λ e. same_there more (node_row old) (node_row new) (same_numbers old new e)),
-      one_new (has_same_config old new) olds (config_row new) (λ e. there more (next_text (node_row old)) (next_text (config_row new)) (same_there views (config_row old) (config_row new) (same_config old new same e))),
-      views_new new.id olds old.tracker.views new.tracker.views (λ v e.
-          subst (λ (id : ℕ). has_text olds (next_text (view_row id v)) ≡ true) same
-          (there more (next_text (node_row old)) (next_text (view_row old.id v)) (there views (next_text (config_row old)) (next_text (view_row old.id v)) (view_there old.id v old.tracker.views e)))),
+      one_new numbers olds (node_row new) has_numbers,
+      one_new config olds (config_row new) has_config,
+      views_new new.id olds views new.tracker.views has_views,
       gone_few new.id old.tracker.views new.tracker.views,
       log_few new.id old.log new.log,
     )
 
+parts_few : (old new : PlainNode) → old.id ≡ new.id → length (changed_rows old new) ≤ parts_changed old new
+parts_few old new same =
+    let olds = texts_of (standing old) in
+    let more = texts_of (config_row old ∷ view_rows old.id old.tracker.views) in
+    let views = texts_of (view_rows old.id old.tracker.views) in
+    parts_by (has_same_numbers old new) (has_same_config old new) old.tracker.views old new
+    (text_there more (next_text (node_row old)) (next_text (node_row new)))
+    (λ e. there more (next_text (node_row old)) (next_text (config_row new)) (same_there views (config_row old) (config_row new) (same_config old new same e)))
+    (λ v e.
+    subst (λ (id : ℕ). has_text olds (next_text (view_row id v)) ≡ true) same
+    (there more (next_text (node_row old)) (next_text (view_row old.id v)) (there views (next_text (config_row old)) (next_text (view_row old.id v)) (view_there old.id v old.tracker.views e))))
+
+-- one in another's place, of whose rows each may be new
+others_few : (old new : PlainNode) → length (changed_rows old new) ≤ whole new + length old.tracker.views
+others_few old new =
+    omega (
+      arith,
+      parts_by false false [] old new (λ e. absurd cc) (λ e. absurd cc) (λ v e. absurd cc),
+      views_all new.tracker.views,
+      gone_most old.tracker.views new.tracker.views,
+      log_most (is_same_log old.log new.log) (1 + length (entries_after new.log (stays old.log new.log))),
+      length-drop (stays old.log new.log - new.log.base) new.log.entries,
+    )
+
 node_by : (t : Bool) (old new : PlainNode) → (old.id == new.id) ≡ t → length (changed_rows old new) ≤ (if t then parts_changed old new else whole new + length old.tracker.views)
 node_by true old new e = parts_few old new ((Decides-eqb old.id new.id).0 e)
-node_by false old new e = omega (arith, few_changes old new, length-drop (stays old.log new.log - new.log.base) new.log.entries)
+node_by false old new e = others_few old new
 
 node_few : (old new : PlainNode) → length (changed_rows old new) ≤ node_change old new
 node_few old new = node_by (old.id == new.id) old new refl
@@ -217,8 +244,7 @@ none_left (v ∷ vs) news are =
 parts_still : (n : PlainNode) → parts_changed n n ≡ 0
 parts_still n =
     let vs = n.tracker.views in
-    let numbers : one_unless (has_same_numbers n n) ≡ 0 =
-    ap one_unless (both (λ (s t : Bool). s && t) (both (λ (s t : Bool). s && t) (itself (numbers_of n)) (itself (role_text n.role))) (itself n.content)) in
+    let numbers : one_unless (has_same_numbers n n) ≡ 0 = ap one_unless (itself (next_text (node_row n))) in
     let config : one_unless (has_same_config n n) ≡ 0 = ap one_unless (itself (config_text n.tracker.config)) in
     let log : log_change n.log n.log ≡ 0 = ap (λ (t : Bool). if t then 0 else 1 + length (entries_after n.log (stays n.log n.log))) (own_same n.log) in
     omega (arith, numbers, config, none_changed vs vs (own_same_views vs), none_left vs vs (own_viewed vs), log)
@@ -234,10 +260,6 @@ states_still [] = refl
 states_still (n ∷ ns) = state_still n ns ns ∙ states_still ns
 
 -- ---- at the most
-
-log_most : (t : Bool) (most : ℕ) → (if t then 0 else most) ≤ most
-log_most true most = omega arith
-log_most false most = omega arith
 
 pub node_most : (old new : PlainNode) → old.id ≡ new.id
     → node_change old new ≤ 3 + views_changed old.tracker.views new.tracker.views + views_gone old.tracker.views new.tracker.views + length (entries_after new.log (stays old.log new.log))

@@ -5,12 +5,15 @@ use Rattle.std.specs.List.{range_with_len}
 use Rattle.std.specs.Option.{option_or}
 use Rattle.rb_script.specs.Directive.{PlainDirective}
 use Rattle.rb_level.specs.declared.directive_error.DirectiveError.{DirectiveError}
+use Rattle.rb_directive.specs.declared.act.Act.{Act}
+use Rattle.rb_directive.specs.declared.act.Act.TheVariants as does
+use Rattle.rb_directive.specs.declared.act_with.ActWith.TheVariants as withs
 use Rattle.rb_directive.specs.declared.asking.AddNodes.{AddNodes}
 use Rattle.rb_directive.specs.declared.asking.DeliverMsgs.{DeliverMsgs}
 use Rattle.rb_directive.specs.declared.asking.Request.{Request}
 use Rattle.rb_directive.specs.declared.asking.Request.TheVariants as requests
 use Rattle.rb_directive.specs.declared.build.Asked.{Asked}
-use Rattle.rb_directive.specs.declared.message_type.TypeSet.{TypeSet}
+use Rattle.rb_directive.specs.declared.type_set.TypeSet.{TypeSet}
 use Rattle.rb_directive.specs.Changes.{input_words}
 use Rattle.rb_directive.specs.Requests.{request, nodes_of}
 use Rattle.rb_raftlog.specs.declared.entry.Body.TheVariants as bodies
@@ -22,14 +25,14 @@ use Rattle.rb_message.specs.declared.message.Message.{Message}
 use Rattle.rb_step.specs.declared.limits.TheConstants.{ELECTION_TICKS}
 use Rattle.rb_step.specs.declared.options.Options.{Options}
 use Rattle.rb_step.specs.Node.{PlainNode, Turn, turn, started}
-use Rattle.rb_node.specs.Calls.{leader_forgotten, node_started, reported}
+use Rattle.rb_node.specs.Calls.{node_started, reported}
 use Rattle.rb_node.specs.Readying.{handed, has_ready}
 use Rattle.rb_node.specs.Ticking.{ticked}
 use Rattle.rb_node_laws.specs.Calling.{Call, Step, Campaign, Propose, Transfer, Tick, Advance, ForgetLeader, ReportUnreachable, SetTimeout, Compact, compacted_unless, after}
 use Rattle.rb_node_laws.specs.Sound.{IsSound}
 use Rattle.rb_node_laws.proofs.CallLaws.{calls}
 use Rattle.rb_machine.specs.declared.screen.Form.TheVariants as forms
-use Rattle.rb_machine.specs.Acts.{ticked_times}
+use Rattle.rb_machine.specs.Acts.{act, ticked_times}
 use Rattle.rb_machine.specs.AddNodes.{added_each, began, nodes_added, options, start}
 use Rattle.rb_machine.specs.Changes.{words_of}
 use Rattle.rb_machine.specs.Cluster.{Cluster, empty, node_at, changed_by}
@@ -142,6 +145,12 @@ acts olds x id call all = acts_by olds x id call (node_at x.cluster id) refl all
 ticks : (olds : List PlainNode) (x : Scene) (id times : ℕ) (o : Option PlainNode) → node_at x.cluster id ≡ o → HaveGoneOn olds x.cluster.nodes → HaveGoneOn olds (acted_by o x id (ticked_times times)).cluster.nodes
 ticks olds x id times None at all = all
 ticks olds x id times (Some n) at all = set_on olds x.cluster.nodes (id - 1) n (ticked_times times (turn n [])).node at (ticked_on times (turn n [])) all
+
+act_on : (olds : List PlainNode) (what : Act) (x : Scene) (id : ℕ) → HaveGoneOn olds x.cluster.nodes → HaveGoneOn olds (act what id x).cluster.nodes
+act_on olds does.Campaign x id all = acts olds x id Campaign all
+act_on olds does.TickElection x id all = ticks olds x id ELECTION_TICKS (node_at x.cluster id) refl all
+act_on olds does.TickHeartbeat x id all = acts olds x id Tick all
+act_on olds does.ForgetLeader x id all = acts olds x id ForgetLeader all
 
 changes : (olds : List PlainNode) (c : Cluster) (id : ℕ) (call : Call) (change : PlainNode → PlainNode) (o : Option PlainNode) → ((n : PlainNode) → (after call (turn n [])).node ≡ change n) → node_at c id ≡ o → HaveGoneOn olds c.nodes → HaveGoneOn olds (changed_by o c id change).nodes
 changes olds c id call change None is at all = all
@@ -279,19 +288,16 @@ has_effect : (olds : List PlainNode) (r : Request) (x : Scene) → own_fault r x
 unfolding compact_error
 has_effect olds (requests.AddNodes asked) x may all = adds olds asked x all
 has_effect olds (requests.ProposeConfChange asked) x may all = acts olds x asked.id (Propose (bodies.Change asked.transition (words_of (input_words asked.inputs)))) all
-has_effect olds (requests.Campaign id) x may all = acts olds x id Campaign all
+has_effect olds (requests.Act what id) x may all = act_on olds what x id all
 has_effect olds (requests.Propose id payload) x may all = acts olds x id (Propose (bodies.Payload payload)) all
 has_effect olds (requests.ProcessReady ids) x may all = readies_each olds x ids all
 has_effect olds (requests.DeliverMsgs asked) x may all = delivers_msgs olds asked x all
 has_effect olds (requests.Stabilize ids rounds) x may all = settles olds rounds rounds x (chosen ids x.cluster.nodes) all
-has_effect olds (requests.TickElection id) x may all = ticks olds x id ELECTION_TICKS (node_at x.cluster id) refl all
-has_effect olds (requests.TickHeartbeat id) x may all = acts olds x id Tick all
-has_effect olds (requests.SetRandomizedElectionTimeout id timeout) x may all = changes olds x.cluster id (SetTimeout timeout) (λ (n : PlainNode). record n { timeout = timeout }) (node_at x.cluster id) (λ n. refl) refl all
-has_effect olds (requests.TransferLeadership from to) x may all = acts olds x from (Transfer to) all
-has_effect olds (requests.ForgetLeader id) x may all = changes olds x.cluster id ForgetLeader leader_forgotten (node_at x.cluster id) (λ n. refl) refl all
-has_effect olds (requests.ReportUnreachable id peer) x may all = changes olds x.cluster id (ReportUnreachable peer) (λ (n : PlainNode). reported n peer) (node_at x.cluster id) (λ n. refl) refl all
-has_effect olds (requests.SendSnapshot from to) x may all = sends_snapshot olds x from to (node_at x.cluster from) all
-has_effect olds (requests.Compact id index) x may all = compacts olds x id index (node_at x.cluster id) refl may all
+has_effect olds (requests.ActWith withs.SetRandomizedElectionTimeout id timeout) x may all = changes olds x.cluster id (SetTimeout timeout) (λ (n : PlainNode). record n { timeout = timeout }) (node_at x.cluster id) (λ n. refl) refl all
+has_effect olds (requests.ActWith withs.TransferLeadership from to) x may all = acts olds x from (Transfer to) all
+has_effect olds (requests.ActWith withs.ReportUnreachable id peer) x may all = changes olds x.cluster id (ReportUnreachable peer) (λ (n : PlainNode). reported n peer) (node_at x.cluster id) (λ n. refl) refl all
+has_effect olds (requests.ActWith withs.SendSnapshot from to) x may all = sends_snapshot olds x from to (node_at x.cluster from) all
+has_effect olds (requests.ActWith withs.Compact id index) x may all = compacts olds x id index (node_at x.cluster id) refl may all
 has_effect olds (requests.LogLevel level) x may all = all
 has_effect olds (requests.RaftLog id) x may all = shows_log olds x (node_at x.cluster id) all
 has_effect olds (requests.Status id) x may all = shows_status olds x (node_at x.cluster id) all

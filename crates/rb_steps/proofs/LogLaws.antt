@@ -21,7 +21,7 @@ use Rattle.rb_script.specs.Lines.{Line}
 use Rattle.rb_texts.specs.Entries.{transition_text, letter}
 use Rattle.rb_page.specs.ItemRows.{entry_row}
 use Rattle.rb_page.specs.Kept.{texts_of}
-use Rattle.rb_page.specs.Rows.{Row, next_text}
+use Rattle.rb_page.specs.Rows.{next_text}
 use Rattle.rb_page.proofs.KeptLaws.{left_some}
 use Rattle.rb_steps.proofs.KeepLaws.{both, one_part}
 use Rattle.rb_steps.specs.Committed.{IsKept}
@@ -281,12 +281,3 @@ log_still id v = ap (λ (t : Bool). if t then [] else log_from id v (stays v v))
 pub entries_count : (index : ℕ) (es : List Entry) → length (entry_rows index es) ≡ length es
 entries_count index [] = refl
 entries_count index (e ∷ es) = ap (λ (k : ℕ). suc k) (entries_count (index + 1) es)
-
-log_by : (t : Bool) (rs : List Row) → length (if t then [] else rs) ≤ length rs
-log_by true rs = omega arith
-log_by false rs = omega arith
-
-pub few_log : (id : ℕ) (old new : LogValue) → length (log_changes id old new) ≤ 1 + length (entries_after new (stays old new))
-few_log id old new =
-    let index = stays old new in
-    omega (arith, log_by (is_same_log old new) (log_from id new index), entries_count (index + 1) (entries_after new index))

@@ -1,35 +1,28 @@
 -- The rows of steps are of bytes.
-use Rattle.std.proofs.Common.{◌≡◌, ◌∙◌, ℕ, zero, suc, ◌+◌, Bool, true, false, List, [], ◌∷◌, ◌++◌, drop, refl, sym, arith, codes}
+use Rattle.std.proofs.Common.{◌≡◌, ℕ, zero, suc, ◌+◌, Bool, true, false, List, [], ◌∷◌, ◌++◌, drop, refl, arith, codes}
 use Rattle.std.specs.Prelude.{◌&&◌, not, nat_le, if◌then◌else◌}
 use Rattle.std.specs.List.{flat_map, list_all}
 use Rattle.std.proofs.lemmas.Bool.{and_from, and_parts, leb-true, lt-ltb}
-use Rattle.std.proofs.lemmas.List.Folds.{list_all-append}
 use Rattle.rb_level.specs.declared.directive_error.DirectiveError.{DirectiveError}
+use Rattle.rb_level.specs.declared.message_type.MessageType.{MessageType}
+use Rattle.rb_level.specs.MessageTypes.{type_text}
 use Rattle.rb_message.specs.declared.event.Event.{Event}
 use Rattle.rb_message.specs.declared.event.Event.TheVariants as events
 use Rattle.rb_message.specs.declared.event.WhyNoCampaign.{WhyNoCampaign}
-use Rattle.rb_message.specs.declared.event.WhyNoCampaign.TheVariants as no_campaign
 use Rattle.rb_message.specs.declared.event.WhyReplaced.{WhyReplaced}
-use Rattle.rb_message.specs.declared.event.WhyReplaced.TheVariants as replaced
 use Rattle.rb_message.specs.declared.kind.MessageKind.{MessageKind}
 use Rattle.rb_message.specs.declared.kind.MessageKind.TheVariants as kinds
 use Rattle.rb_message.specs.declared.message.Message.{Message}
-use Rattle.rb_message.specs.declared.message_type.MessageType.{MessageType}
-use Rattle.rb_message.specs.declared.message_type.MessageType.TheVariants as types
 use Rattle.rb_message.specs.declared.role.Role.{Role}
-use Rattle.rb_message.specs.declared.role.Role.TheVariants as roles
 use Rattle.rb_message.specs.Messages.{type_of}
 use Rattle.rb_raftlog.specs.declared.entry.Body.{Body}
 use Rattle.rb_raftlog.specs.declared.entry.Entry.{Entry}
 use Rattle.rb_raftlog.specs.Content.{content_end}
 use Rattle.rb_raftlog.specs.Log.{LogValue, entries_after}
 use Rattle.rb_tracker.specs.declared.changes.ChangeFault.{ChangeFault}
-use Rattle.rb_tracker.specs.declared.changes.ChangeFault.TheVariants as faults
 use Rattle.rb_tracker.specs.declared.config.Config.{Config}
 use Rattle.rb_tracker.specs.declared.progress.ProgressState.{ProgressState}
-use Rattle.rb_tracker.specs.declared.progress.ProgressState.TheVariants as states
 use Rattle.rb_tracker.specs.declared.votes.VoteResult.{VoteResult}
-use Rattle.rb_tracker.specs.declared.votes.VoteResult.TheVariants as votes
 use Rattle.rb_tracker.specs.Progresses.{PlainProgress}
 use Rattle.rb_tracker.specs.Trackers.{has_view}
 use Rattle.rb_step.specs.Node.{PlainNode}
@@ -38,16 +31,16 @@ use Rattle.rb_script.specs.Marks.{is_blank, is_rule}
 use Rattle.rb_texts.specs.declared.item.Verb.{Verb}
 use Rattle.rb_texts.specs.declared.item.Verb.TheVariants as verbs
 use Rattle.rb_texts.specs.Configs.{config_text}
-use Rattle.rb_texts.specs.Entries.{place_text, body_text, entry_text}
+use Rattle.rb_texts.specs.Entries.{body_text}
 use Rattle.rb_texts.specs.Errors.{error_text}
 use Rattle.rb_texts.specs.Events.{fault_text, no_campaign_text, replaced_text, votes_text}
 use Rattle.rb_texts.specs.Items.{PlainItem}
 use Rattle.rb_texts.specs.Items as items
-use Rattle.rb_texts.specs.Messages.{type_text}
 use Rattle.rb_texts.specs.Quoted.{is_printable}
 use Rattle.rb_texts.specs.Shapes.{is_one_line, is_solid}
 use Rattle.rb_texts.specs.States.{role_text, progress_state_text}
-use Rattle.rb_texts.proofs.OneLineLaws.{config_one_line, entry_one_line, error_one_line}
+use Rattle.rb_texts.proofs.KindLaws.{flat_of, joined_of, wider}
+use Rattle.rb_texts.proofs.OneLineLaws.{body_one_line, config_one_line, error_one_line, fault_one_line, no_campaign_one_line, progress_state_one_line, replaced_one_line, role_one_line, type_one_line, votes_one_line}
 use Rattle.rb_machine.specs.Outcome.{is_output}
 use Rattle.rb_replay.specs.Report.{same_lines}
 use Rattle.rb_page.specs.EventRows.{event_row}
@@ -69,44 +62,12 @@ printable_byte : (b : ℕ) → is_printable b ≡ true → is_byte b ≡ true
 printable_byte b h = lt-ltb b 256 (omega (arith, leb-true b 126 (and_parts (nat_le 32 b) (nat_le b 126) h).1))
 
 line_bytes : (line : List ℕ) → is_one_line line ≡ true → of_bytes line ≡ true
-line_bytes [] h = refl
-line_bytes (b ∷ line) h =
-    let p = and_parts (is_printable b) (is_one_line line) h in
-    and_from (is_byte b) (of_bytes line) (printable_byte b p.0) (line_bytes line p.1)
-
--- the back of a text in one line
-back_bytes : (a b : List ℕ) → is_one_line (a ++ b) ≡ true → of_bytes b ≡ true
-back_bytes a b h = line_bytes b (and_parts (is_one_line a) (is_one_line b) (sym (list_all-append is_printable a b) ∙ h)).1
+line_bytes line h = wider is_printable is_byte printable_byte line h
 
 dropped_bytes : (k : ℕ) (text : List ℕ) → of_bytes text ≡ true → of_bytes (drop k text) ≡ true
 dropped_bytes zero text h = h
 dropped_bytes (suc k) [] h = refl
 dropped_bytes (suc k) (b ∷ text) h = dropped_bytes k text (and_parts (is_byte b) (of_bytes text) h).1
-
-role_bytes : (x : Role) → of_bytes (role_text x) ≡ true
-role_bytes roles.Follower = refl
-role_bytes roles.Precandidate = refl
-role_bytes roles.Candidate = refl
-role_bytes roles.Leader = refl
-
-state_bytes : (x : ProgressState) → of_bytes (progress_state_text x) ≡ true
-state_bytes states.Probe = refl
-state_bytes states.Replicate = refl
-state_bytes states.Snapshot = refl
-
-type_bytes : (x : MessageType) → of_bytes (type_text x) ≡ true
-type_bytes types.Vote = refl
-type_bytes types.PreVote = refl
-type_bytes types.VoteResponse = refl
-type_bytes types.PreVoteResponse = refl
-type_bytes types.Append = refl
-type_bytes types.AppendResponse = refl
-type_bytes types.Heartbeat = refl
-type_bytes types.HeartbeatResponse = refl
-type_bytes types.Snapshot = refl
-type_bytes types.Proposal = refl
-type_bytes types.TransferLeader = refl
-type_bytes types.TimeoutNow = refl
 
 verb_bytes : (x : Verb) → of_bytes (verb_name x) ≡ true
 verb_bytes verbs.Deliver = refl
@@ -114,37 +75,32 @@ verb_bytes verbs.Drop = refl
 verb_bytes verbs.Queue = refl
 verb_bytes verbs.NoRoomFor = refl
 
+role_bytes : (x : Role) → of_bytes (role_text x) ≡ true
+role_bytes x = line_bytes (role_text x) (role_one_line x)
+
+state_bytes : (x : ProgressState) → of_bytes (progress_state_text x) ≡ true
+state_bytes x = line_bytes (progress_state_text x) (progress_state_one_line x)
+
+type_bytes : (x : MessageType) → of_bytes (type_text x) ≡ true
+type_bytes x = line_bytes (type_text x) (type_one_line x)
+
 no_campaign_bytes : (x : WhyNoCampaign) → of_bytes (no_campaign_text x) ≡ true
-no_campaign_bytes no_campaign.Leader = refl
-no_campaign_bytes no_campaign.NotAVoter = refl
-no_campaign_bytes no_campaign.SnapshotPending = refl
-no_campaign_bytes no_campaign.ChangePending = refl
-no_campaign_bytes no_campaign.TermLimit = refl
+no_campaign_bytes x = line_bytes (no_campaign_text x) (no_campaign_one_line x)
 
 replaced_bytes : (x : WhyReplaced) → of_bytes (replaced_text x) ≡ true
-replaced_bytes replaced.Unapplied = refl
-replaced_bytes replaced.Joint = refl
-replaced_bytes replaced.NotJoint = refl
+replaced_bytes x = line_bytes (replaced_text x) (replaced_one_line x)
 
 votes_bytes : (x : VoteResult) → of_bytes (votes_text x) ≡ true
-votes_bytes votes.Won = refl
-votes_bytes votes.Lost = refl
-votes_bytes votes.Pending = refl
+votes_bytes x = line_bytes (votes_text x) (votes_one_line x)
 
 fault_bytes : (x : ChangeFault) → of_bytes (fault_text x) ≡ true
-fault_bytes faults.AlreadyJoint = refl
-fault_bytes faults.NotJoint = refl
-fault_bytes faults.SimpleWhileJoint = refl
-fault_bytes faults.MoreThanOneVoter = refl
-fault_bytes faults.NoVoters = refl
-fault_bytes faults.OutOfMemory = refl
+fault_bytes x = line_bytes (fault_text x) (fault_one_line x)
 
 config_bytes : (c : Config) → of_bytes (config_text c) ≡ true
 config_bytes c = line_bytes (config_text c) (config_one_line c)
 
 body_bytes : (body : Body) → of_bytes (body_text body) ≡ true
-unfolding entry_text
-body_bytes body = back_bytes (place_text 0 0 ++ codes " ") (body_text body) (entry_one_line 0 (record { term = 0; body = body }))
+body_bytes body = line_bytes (body_text body) (body_one_line body)
 
 -- one text, where the others are constants
 alone : (t : List ℕ) → of_bytes t ≡ true → (of_bytes t && true) ≡ true
@@ -221,19 +177,15 @@ item_bytes (items.event e) = one_row (event_row e) (event_bytes e)
 item_bytes (items.error e) = one_row (error_row e) (alone (drop 7 (error_text e)) (error_bytes e))
 
 pub all_both : (a b : List Row) → list_all has_bytes a ≡ true → list_all has_bytes b ≡ true → list_all has_bytes (a ++ b) ≡ true
-all_both a b p q = list_all-append has_bytes a b ∙ and_from (list_all has_bytes a) (list_all has_bytes b) p q
+all_both a b p q = joined_of has_bytes a b p q
 
 pub items_bytes : (is : List PlainItem) → list_all has_bytes (flat_map item_rows is) ≡ true
-items_bytes [] = refl
-items_bytes (i ∷ is) = all_both (item_rows i) (flat_map item_rows is) (item_bytes i) (items_bytes is)
+items_bytes is = flat_of has_bytes item_rows item_bytes is
 
 -- ---- where a directive stands, and what it printed
 
 solid_bytes : (ls : List Line) → list_all is_solid ls ≡ true → list_all of_bytes ls ≡ true
-solid_bytes [] h = refl
-solid_bytes (line ∷ ls) h =
-    let p = and_parts (is_solid line) (list_all is_solid ls) h in
-    and_from (of_bytes line) (list_all of_bytes ls) (line_bytes line (and_parts (not (is_blank line) && not (is_rule line)) (is_one_line line) p.0).1) (solid_bytes ls p.1)
+solid_bytes ls h = wider is_solid of_bytes (λ line p. line_bytes line (and_parts (not (is_blank line) && not (is_rule line)) (is_one_line line) p).1) ls h
 
 output_bytes : (ls : List Line) → is_output ls ≡ true → list_all of_bytes ls ≡ true
 unfolding is_output
@@ -276,9 +228,8 @@ new_bytes olds (r ∷ rs) h =
     all_both (new_row olds r) (flat_map (new_row olds) rs) (if_rows (has_text olds (next_text r)) (r ∷ []) (one_row r p.0)) (new_bytes olds rs p.1)
 
 gone_bytes : (id : ℕ) (vs news : List (ℕ × PlainProgress)) → list_all has_bytes (gone_rows id vs news) ≡ true
-gone_bytes id [] news = refl
-gone_bytes id (v ∷ vs) news =
-    all_both (gone_of id news v.0) (gone_rows id vs news) (if_rows (has_view news v.0) (no_view_row id v.0 ∷ []) refl) (gone_bytes id vs news)
+gone_bytes id vs news =
+    flat_of has_bytes (λ (v : ℕ × PlainProgress). gone_of id news v.0) (λ v. if_rows (has_view news v.0) (no_view_row id v.0 ∷ []) refl) vs
 
 entries_bytes : (index : ℕ) (es : List Entry) → list_all has_bytes (entry_rows index es) ≡ true
 entries_bytes index [] = refl

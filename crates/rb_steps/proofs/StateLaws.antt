@@ -1,5 +1,5 @@
 -- Nodes that are compared one by one.
-use Rattle.std.proofs.Common.{◌≡◌, ◌∙◌, ℕ, suc, ◌+◌, ◌≤◌, Bool, true, false, List, [], ◌∷◌, ◌++◌, length, drop, Option, Some, None, Result, Ok, Err, refl, ap, sym, arith, append-nil, length-append}
+use Rattle.std.proofs.Common.{◌≡◌, ◌∙◌, ℕ, suc, ◌+◌, ◌≤◌, Bool, true, false, List, [], ◌∷◌, ◌++◌, length, drop, Option, Some, None, Result, Ok, Err, refl, ap, sym, arith, append-nil}
 use Rattle.std.specs.Prelude.{◌||◌, OnOk, cond, if◌then◌else◌, is_some, nat_eq, slice_get}
 use Rattle.std.specs.List.{flat_map}
 use Rattle.std.specs.Str.{bytes_eq}
@@ -7,19 +7,17 @@ use Rattle.std.proofs.lemmas.Slice.Eq.{bytes_eq-Decides}
 use Rattle.std.proofs.lemmas.List.{drop_all}
 use Rattle.std.specs.Map.{lookup}
 use Rattle.std.proofs.lemmas.Bool.Decides.{Decides-eqb}
-use Rattle.rb_raftlog.specs.Log.{entries_after}
 use Rattle.rb_step.specs.Node.{PlainNode}
 use Rattle.rb_tracker.specs.Progresses.{PlainProgress}
 use Rattle.rb_tracker.specs.Trackers.{has_view}
 use Rattle.rb_script.specs.Lines.{Line}
 use Rattle.rb_page.specs.Kept.{texts_of}
 use Rattle.rb_page.specs.Rows.{Row, next_text}
-use Rattle.rb_steps.specs.Rows.{has_text, new_row, new_rows}
+use Rattle.rb_steps.specs.Rows.{has_text, new_row}
 use Rattle.rb_page.proofs.KeptLaws.{left_some}
 use Rattle.rb_steps.specs.States.{added_rows, changed_rows, gone_rows, no_view_row, node_rows, standing, state_rows, view_rows}
-use Rattle.rb_steps.specs.Logs.{log_changes, stays}
 use Rattle.rb_steps.proofs.KeepLaws.{both}
-use Rattle.rb_steps.proofs.LogLaws.{past_all, log_still, few_log}
+use Rattle.rb_steps.proofs.LogLaws.{past_all, log_still}
 
 -- one node more
 pub state_more : (olds news : List PlainNode) (i : ℕ) (n : PlainNode) (old : Option PlainNode) → slice_get news i ≡ Some n → old ≡ slice_get olds i
@@ -120,36 +118,6 @@ pub all_still : (ns : List PlainNode) → state_rows ns ns ≡ []
 all_still [] = refl
 all_still (n ∷ ns) = both (λ (a b : List Row). a ++ b) (still n) (all_still ns)
 
--- ---- how many rows there are
-
-new_by : (t : Bool) (r : Row) (rest : List Row) (most : ℕ) → length rest ≤ most → length ((if t then [] else r ∷ []) ++ rest) ≤ most + 1
-new_by true r rest most le = omega (arith, le)
-new_by false r rest most le = omega (arith, le)
-
-few_new : (olds : List Line) (rs : List Row) → length (flat_map (new_row olds) rs) ≤ length rs
-few_new olds [] = omega arith
-few_new olds (r ∷ rs) = omega (arith, new_by (has_text olds (next_text r)) r (flat_map (new_row olds) rs) (length rs) (few_new olds rs))
-
-few_gone : (id : ℕ) (vs news : List (ℕ × PlainProgress)) → length (gone_rows id vs news) ≤ length vs
-few_gone id [] news = omega arith
-few_gone id (v ∷ vs) news = omega (arith, new_by (has_view news v.0) (no_view_row id v.0) (gone_rows id vs news) (length vs) (few_gone id vs news))
-
 pub views_count : (id : ℕ) (vs : List (ℕ × PlainProgress)) → length (view_rows id vs) ≡ length vs
 views_count id [] = refl
 views_count id (v ∷ vs) = ap (λ (k : ℕ). suc k) (views_count id vs)
-
--- a node's rows are at most its numbers, its configuration, its views and those of before, and what is new of its log
-pub few_changes : (old new : PlainNode) → length (changed_rows old new) ≤ 3 + length new.tracker.views + length old.tracker.views + length (entries_after new.log (stays old.log new.log))
-few_changes old new =
-    let news = new_rows (standing old) (standing new) in
-    let gone = gone_rows new.id old.tracker.views new.tracker.views in
-    let log = log_changes new.id old.log new.log in
-    omega (
-      arith,
-      length-append news (gone ++ log),
-      length-append gone log,
-      few_new (texts_of (standing old)) (standing new),
-      views_count new.id new.tracker.views,
-      few_gone new.id old.tracker.views new.tracker.views,
-      few_log new.id old.log new.log,
-    )

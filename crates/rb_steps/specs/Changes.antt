@@ -7,9 +7,11 @@ use Rattle.rb_step.specs.Node.{PlainNode}
 use Rattle.rb_tracker.specs.Progresses.{PlainProgress}
 use Rattle.rb_tracker.specs.Trackers.{has_view}
 use Rattle.rb_texts.specs.Configs.{config_text}
-use Rattle.rb_texts.specs.States.{role_text, progress_state_text}
+use Rattle.rb_texts.specs.States.{progress_state_text}
 use Rattle.rb_page.specs.MessageRows.{flag}
+use Rattle.rb_page.specs.Rows.{next_text}
 use Rattle.rb_steps.specs.Logs.{is_same_log, stays}
+use Rattle.rb_steps.specs.States.{node_row}
 
 -- nothing for what is as it was
 abbrev pub one_unless : Bool → ℕ
@@ -17,12 +19,9 @@ one_unless same = if same then 0 else 1
 
 -- ---- a node's numbers, and its configuration
 
-abbrev pub numbers_of : PlainNode → List ℕ
-numbers_of n = n.id ∷ n.term ∷ n.vote ∷ n.lead ∷ n.commit ∷ n.applied ∷ n.log.durable ∷ []
-
--- the same numbers, role and content
+-- the same numbers and role, and as much content with the same end: the same row
 abbrev pub has_same_numbers : PlainNode → PlainNode → Bool
-has_same_numbers a b = bytes_eq (numbers_of a) (numbers_of b) && bytes_eq (role_text a.role) (role_text b.role) && bytes_eq a.content b.content
+has_same_numbers a b = bytes_eq (next_text (node_row a)) (next_text (node_row b))
 
 -- the same configuration, as it is shown
 abbrev pub has_same_config : PlainNode → PlainNode → Bool

@@ -52,12 +52,6 @@ pub fn what_stands_still_has_no_row()
     ensures { (nodes : List PlainNode) → state_rows nodes nodes ≡ [] }
 {}
 
-/// A node that was there has at most the row of its numbers, of its configuration and of its log, one for each view that it has or had, and
-/// one for each entry that its log didn't have.
-pub fn changes_have_few_rows()
-    ensures { (old new : PlainNode) → length (changed_rows old new) ≤ 3 + length new.tracker.views + length old.tracker.views + length (entries_after new.log (stays old.log new.log)) }
-{}
-
 /// There are at most as many rows as parts that differ, over all nodes. A node that is as it was adds nothing, wherever it stands, and neither
 /// does a view; one that differs adds at most a row for its numbers, its configuration and its log, one for each view that differs or is gone,
 /// and one for each entry that its log didn't have.

@@ -17,7 +17,7 @@ mod step;
 mod steps;
 
 pub use laws::{
-    changes_grow_with_what_differs, changes_have_few_rows, committed_entries_stay, logs_read_back,
+    changes_grow_with_what_differs, committed_entries_stay, logs_read_back,
     pages_grow_with_what_happens, steps_are_inert, steps_are_json, steps_are_rows,
     what_is_not_written_stood, what_stands_still_has_no_row,
 };

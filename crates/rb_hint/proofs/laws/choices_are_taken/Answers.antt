@@ -1,7 +1,7 @@
 use Rattle.std.proofs.Common.{refl}
 use Rattle.rb_level.specs.Levels.{level_of}
+use Rattle.rb_level.specs.MessageTypes.{type_of}
 use Rattle.rb_directive.specs.Forms.{flag_of, transition_of}
-use Rattle.rb_directive.specs.MessageTypes.{type_of}
 use Rattle.rb_hint.proofs.laws.choices_are_taken.Goals as goal
 
 pub returns-clause-levels : goal.returns-clause-levels

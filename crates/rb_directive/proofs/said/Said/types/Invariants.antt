@@ -1,7 +1,7 @@
 -- The types so far, and those that are left.
 use Rattle.std.proofs.Common.{◌≡◌, drop, Some}
 use Rattle.rb_directive.specs.Reading.{words_said}
-use Rattle.rb_directive.specs.MessageTypes.{with_types, no_types}
+use Rattle.rb_directive.specs.TypeSets.{with_types, no_types}
 use Rattle.rb_directive.proofs.said.Said.types.Given as goal
 
 abbrev pub invariant-loop-at : goal.invariant-loop-at

@@ -1,0 +1,73 @@
+//! Which words and options of a directive are ids of nodes: the table says.
+
+ghost use Rattle.std.specs.Prelude.{◌≡◌, ◌+◌, ◌≤◌};
+ghost use Rattle.rb_directive.specs.Ids.{is_id, has_ids, with_word, ids_of, id_words, takes_id};
+
+use crate::argument::{Argument, Number};
+use crate::limits::MAX_IDS;
+use crate::table::{Row, option_of, row_of};
+
+// Whether the number is an id.
+fn is_id(number: Number) -> bool
+    ensures { result ≡ is_id number }
+{
+    match number {
+        Number::Id | Number::Peer | Number::From | Number::To => true,
+        _ => false,
+    }
+}
+
+// Whether the argument is an id, or some.
+fn has_ids(argument: Argument) -> bool
+    ensures { result ≡ has_ids argument }
+{
+    match argument {
+        Argument::Number(number, _, _) => is_id(number),
+        Argument::Ids(_, _) => true,
+        _ => false,
+    }
+}
+
+// A word that is an id, and those behind it.
+fn with_word(word: Option<Argument>, behind: usize) -> usize
+    requires { behind ≤ 1 }
+    ensures exact { result ≡ with_word word behind }
+    ensures within { result ≤ 1 + behind }
+{
+    match word {
+        Some(argument) => { if has_ids(argument) { 1 + behind } else { 0 } }
+        None => 0,
+    }
+}
+
+// How many of the first words are ids.
+fn ids_of(row: &Row) -> usize
+    ensures { result ≡ ids_of row.now }
+{
+    if row.takes_ids {
+        return MAX_IDS;
+    }
+    with_word(row.first, with_word(row.second, 0))
+}
+
+/// How many of the first words of the directive with this name are ids: as many as it may have arguments, where it takes any number.
+#[tactic(auto, unfolding(crate::specs::Ids::id_words))]
+pub fn id_words(name: &[u8]) -> usize
+    ensures { result ≡ id_words name.now }
+{
+    match row_of(name) {
+        Some(row) => ids_of(row),
+        None => 0,
+    }
+}
+
+/// Whether the values of the option with this key are ids, where the directive of this name takes it.
+#[tactic(auto, unfolding(crate::specs::Ids::takes_id))]
+pub fn takes_id(name: &[u8], key: &[u8]) -> bool
+    ensures { result ≡ takes_id name.now key.now }
+{
+    match option_of(name, key) {
+        Some(option) => has_ids(option),
+        None => false,
+    }
+}

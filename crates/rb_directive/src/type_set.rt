@@ -1,0 +1,66 @@
+//! Some of the types of messages.
+
+ghost use Rattle.std.specs.Prelude.{◌≡◌, ◌<◌};
+ghost use Rattle.rb_directive.specs.TypeSets.{type_place, no_types, with_type, has_type};
+
+use rb_level::MessageType;
+
+/// How many types there are.
+const TYPES: usize = 13;
+
+// The place of a type in a set.
+fn place(message_type: MessageType) -> usize
+    ensures place { result ≡ type_place message_type }
+    ensures within { result < 13 }
+{
+    match message_type {
+        MessageType::Vote => 0,
+        MessageType::PreVote => 1,
+        MessageType::VoteResponse => 2,
+        MessageType::PreVoteResponse => 3,
+        MessageType::Append => 4,
+        MessageType::AppendResponse => 5,
+        MessageType::Heartbeat => 6,
+        MessageType::HeartbeatResponse => 7,
+        MessageType::Snapshot => 8,
+        MessageType::Proposal => 9,
+        MessageType::TransferLeader => 10,
+        MessageType::TimeoutNow => 11,
+        MessageType::Unreachable => 12,
+    }
+}
+
+/// Some of the types of messages.
+#[derive(Clone, Copy)]
+pub struct TypeSet {
+    // for each type, by its place, whether it is one of them
+    has: [bool; TYPES],
+}
+
+impl TypeSet {
+    /// No types.
+    #[tactic(auto, unfolding(crate::specs::TypeSets::no_types))]
+    pub(crate) fn new() -> TypeSet
+        ensures { result ≡ no_types }
+    {
+        TypeSet {
+            has: [false; TYPES],
+        }
+    }
+
+    /// These types, and this one.
+    pub(crate) fn with(self, added: MessageType) -> TypeSet
+        ensures { result ≡ with_type added self }
+    {
+        let mut has = self.has;
+        has[place(added)] = true;
+        TypeSet { has }
+    }
+
+    /// Whether the type is one of these.
+    pub fn has(&self, wanted: MessageType) -> bool
+        ensures { result ≡ has_type self.now wanted }
+    {
+        self.has[place(wanted)]
+    }
+}
