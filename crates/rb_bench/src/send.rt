@@ -11,7 +11,7 @@ use crate::names::{edit_fault_name, script_fault_line, script_fault_name};
 use crate::outlet::Outlet;
 use crate::reply::Reply;
 use crate::starting::BenchSession;
-use rb_number::put_number;
+use rb_text::put_number;
 use rb_replay::Changed;
 use rb_script::{Lines, ScriptFault, Sink, WriteFault};
 

@@ -8,7 +8,7 @@ use Rattle.rb_script.specs.Lines.{Line, text_of}
 use Rattle.rb_script.specs.Marks.{is_lead, is_separator, continues, rule}
 use Rattle.rb_script.specs.Script.{PlainBlock}
 use Rattle.rb_script.specs.Reading.{directive_of, block_of}
-use Rattle.rb_words.specs.Words.{words}
+use Rattle.rb_text.specs.Words.{words}
 use Rattle.rb_directive.specs.declared.name.Name.TheVariants.{ProposeConfChange}
 use Rattle.rb_directive.specs.Names.{name_text}
 use Rattle.rb_directive.specs.Table.{is_name}

@@ -2,10 +2,10 @@
 
 ghost use Rattle.std.specs.Prelude.{◌≡◌};
 ghost use Rattle.rb_checked.specs.Doubts.{begins_with_name, first_of};
-ghost use Rattle.rb_words.specs.Words.{words};
+ghost use Rattle.rb_text.specs.Words.{words};
 
 use rb_directive::is_name;
-use rb_words::first_word;
+use rb_text::first_word;
 
 fn word_of(line: &[u8]) -> &[u8]
     ensures { result.now ≡ first_of (words line.now) }

@@ -10,8 +10,8 @@ use Rattle.rb_command.specs.declared.command.Command.{Command}
 use Rattle.rb_command.specs.declared.command.Command.TheVariants.{Blank, Bad, Given, Remove, Accept, Show, Report, Script, Rewrite}
 use Rattle.rb_command.specs.declared.command.Purpose.{Purpose}
 use Rattle.rb_command.specs.declared.command.Purpose.TheVariants.{Insert, Replace, Expect}
-use Rattle.rb_words.specs.Words.{words}
-use Rattle.rb_number.specs.Numbers.{number_of}
+use Rattle.rb_text.specs.Words.{words}
+use Rattle.rb_text.specs.Numbers.{number_of}
 use Rattle.rb_command.specs.Commands.{alone, placed, purpose_of, given, spelled, command_of}
 use Rattle.rb_command.specs.Spelling.{purpose_name, Spells}
 

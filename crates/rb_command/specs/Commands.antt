@@ -7,8 +7,8 @@ use Rattle.rb_command.specs.declared.command.Command.{Command}
 use Rattle.rb_command.specs.declared.command.Command.TheVariants.{Blank, Bad, Given, Remove, Accept, Show, Report, Script, Rewrite}
 use Rattle.rb_command.specs.declared.command.Purpose.{Purpose}
 use Rattle.rb_command.specs.declared.command.Purpose.TheVariants.{Insert, Replace, Expect}
-use Rattle.rb_words.specs.Words.{words}
-use Rattle.rb_number.specs.Numbers.{number_of}
+use Rattle.rb_text.specs.Words.{words}
+use Rattle.rb_text.specs.Numbers.{number_of}
 
 -- a command of one word
 abbrev pub alone : Line → Command

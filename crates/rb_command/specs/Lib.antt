@@ -1,4 +1,4 @@
-pub use Rattle.rb_number.specs.Numbers
-pub use Rattle.rb_words.specs.Words
+pub use Rattle.rb_text.specs.Numbers
+pub use Rattle.rb_text.specs.Words
 pub mod Commands
 pub mod Spelling

@@ -6,7 +6,7 @@ use Rattle.rb_command.specs.declared.command.Command.{Command}
 use Rattle.rb_command.specs.declared.command.Command.TheVariants.{Blank, Bad, Given, Remove, Accept, Show, Report, Script, Rewrite}
 use Rattle.rb_command.specs.declared.command.Purpose.{Purpose}
 use Rattle.rb_command.specs.declared.command.Purpose.TheVariants.{Insert, Replace, Expect}
-use Rattle.rb_number.specs.Numbers.{number_of}
+use Rattle.rb_text.specs.Numbers.{number_of}
 
 abbrev pub purpose_name : Purpose → Line
 purpose_name Insert = codes "insert"

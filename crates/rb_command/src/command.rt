@@ -2,14 +2,13 @@
 
 ghost use Rattle.std.specs.Prelude.{◌≡◌, ◌≢◌};
 ghost use Rattle.std.specs.Str.{bytes_eq};
-ghost use Rattle.rb_number.specs.Numbers.{number_of};
-ghost use Rattle.rb_words.specs.Words.{words};
+ghost use Rattle.rb_text.specs.Numbers.{number_of};
+ghost use Rattle.rb_text.specs.Words.{words};
 ghost use Rattle.rb_command.specs.Spelling.{Spells};
 ghost use Rattle.rb_command.specs.declared.command.Command.{Command};
 ghost use Rattle.rb_command.specs.Commands.{command_of, alone, placed, given, purpose_of};
 
-use rb_number::number_of;
-use rb_words::first_word;
+use rb_text::{first_word, number_of};
 
 /// How many lines a command may take after its own.
 pub const MAX_GIVEN: usize = 65_536;

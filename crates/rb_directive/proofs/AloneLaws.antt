@@ -2,7 +2,7 @@
 use Rattle.std.proofs.Common.{◌≡◌, ℕ, Bool, true, false, List, [], ◌∷◌, length, Option, Some, None, Ok, Err, IfSome, slice_index_or, refl, ap, sym, ◌∙◌, subst, arith}
 use Rattle.std.specs.Prelude.{Result, if◌then◌else◌}
 use Rattle.std.specs.Option.{option_map, option_and_then}
-use Rattle.rb_number.specs.Numbers.{number_of}
+use Rattle.rb_text.specs.Numbers.{number_of}
 use Rattle.rb_script.specs.Lines.{Line}
 use Rattle.rb_script.specs.Directive.{PlainArgument, PlainDirective, no_argument, plain_argument}
 use Rattle.rb_level.specs.declared.directive_error.DirectiveError.{DirectiveError}

@@ -8,7 +8,7 @@ use Rattle.std.proofs.lemmas.List.{length-append}
 use Rattle.std.proofs.lemmas.List.Elements.{All-nil, All-cons, All-append}
 use Rattle.rb_script.specs.Lines.{Line}
 use Rattle.rb_script.specs.Directive.{PlainDirective}
-use Rattle.rb_number.specs.Numbers.{number_of}
+use Rattle.rb_text.specs.Numbers.{number_of}
 use Rattle.rb_level.specs.declared.directive_error.DirectiveError.{DirectiveError}
 use Rattle.rb_directive.specs.declared.act_with.ActWith.{ActWith}
 use Rattle.rb_directive.specs.declared.act_with.ActWith.TheVariants as withs

@@ -3,7 +3,7 @@ use Rattle.std.proofs.Common.{◌≡◌, ℕ, ◌+◌, ◌<◌, List, [], ◌++�
 use Rattle.std.specs.List.{flat_map}
 use Rattle.rb_script.specs.Lines.{Line}
 use Rattle.rb_script.specs.Directive.{without_empty}
-use Rattle.rb_words.specs.Words.{parts, words}
+use Rattle.rb_text.specs.Words.{parts, words}
 use Rattle.rb_directive.specs.Forms.{Word}
 use Rattle.rb_directive.specs.Changes.{words_left, input_words}
 use Rattle.rb_directive.proofs.ListLaws.{left_more}

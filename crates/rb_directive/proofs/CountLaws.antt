@@ -4,7 +4,7 @@ use Rattle.std.specs.Prelude.{if◌then◌else◌}
 use Rattle.std.specs.List.{list_all}
 use Rattle.std.specs.Option.{option_map}
 use Rattle.rb_script.specs.Directive.{PlainArgument, PlainDirective}
-use Rattle.rb_number.specs.Numbers.{number_of}
+use Rattle.rb_text.specs.Numbers.{number_of}
 use Rattle.rb_directive.specs.declared.argument.Argument.{Argument}
 use Rattle.rb_directive.specs.declared.argument.Argument.TheVariants as arguments
 use Rattle.rb_directive.specs.declared.argument.Bytes.TheVariants as texts

@@ -2,7 +2,7 @@
 use Rattle.std.specs.Prelude.{ℕ, Bool, true, false, ◌==◌, ◌&&◌, ◌||◌, not, is_none, if◌then◌else◌, List, [], ◌∷◌, ◌++◌, drop, Option, Some, None}
 use Rattle.std.specs.List.{flat_map}
 use Rattle.rb_script.specs.Lines.{Line}
-use Rattle.rb_words.specs.Words.{words}
+use Rattle.rb_text.specs.Words.{words}
 use Rattle.rb_level.specs.declared.directive_error.DirectiveError.{DirectiveError}
 use Rattle.rb_level.specs.declared.directive_error.DirectiveError.TheVariants as errors
 use Rattle.rb_change.specs.declared.change.Word as change

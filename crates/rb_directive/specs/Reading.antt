@@ -2,7 +2,7 @@
 use Rattle.std.specs.Prelude.{ℕ, Bool, if◌then◌else◌, List, [], ◌∷◌, length, Option, Some, None, Result, Ok, Err}
 use Rattle.std.specs.Option.{option_map, option_and_then}
 use Rattle.rb_script.specs.Directive.{PlainArgument}
-use Rattle.rb_number.specs.Numbers.{number_of}
+use Rattle.rb_text.specs.Numbers.{number_of}
 use Rattle.rb_level.specs.Levels.{level_of}
 use Rattle.rb_level.specs.declared.level.Level.{Level}
 use Rattle.rb_change.specs.declared.change.Transition.{Transition}

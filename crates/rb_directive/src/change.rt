@@ -11,7 +11,7 @@ use crate::form::id_of;
 use rb_change::{Transition, WordKind};
 use rb_level::{DirectiveError, Word};
 use rb_script::DirectiveRef;
-use rb_words::first_word;
+use rb_text::first_word;
 use std::marker::Model;
 
 /// The input lines of a directive. In contracts it is the list of the lines.

@@ -1,13 +1,13 @@
 //! What a word of a directive can say: a number, a choice, a transition.
 
 ghost use Rattle.std.specs.Prelude.{◌≡◌, ◌<◌, IfSome};
-ghost use Rattle.rb_number.specs.Numbers.{number_of};
+ghost use Rattle.rb_text.specs.Numbers.{number_of};
 ghost use Rattle.rb_directive.specs.Forms.{within, flag_of, transition_of};
 ghost use Rattle.rb_directive.specs.IdLists.{id_of};
 
 use crate::limits::MAX_ID;
 use rb_change::Transition;
-use rb_number::number_of;
+use rb_text::number_of;
 
 /// The number that a word is, where it is from `low` to `high`.
 pub(crate) fn number_within(word: &[u8], low: u64, high: u64) -> Option<u64>

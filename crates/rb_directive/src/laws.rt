@@ -4,7 +4,7 @@ ghost use Rattle.std.specs.Prelude.{◌≡◌, ◌≢◌, ◌<◌, ◌≤◌, �
 ghost use Rattle.std.specs.Option.{option_map, unwrap_or};
 ghost use Rattle.std.specs.List.{list_all};
 ghost use Rattle.rb_script.specs.Directive.{PlainArgument, PlainDirective};
-ghost use Rattle.rb_number.specs.Numbers.{number_of};
+ghost use Rattle.rb_text.specs.Numbers.{number_of};
 ghost use Rattle.rb_level.specs.declared.directive_error.DirectiveError.TheVariants as errors;
 ghost use Rattle.rb_directive.specs.declared.name.Name.{Name};
 ghost use Rattle.rb_directive.specs.declared.asking.AddNodes.{AddNodes};

@@ -17,7 +17,7 @@ use Rattle.rb_script.specs.Marks.{is_blank, is_space}
 use Rattle.rb_script.specs.Reads.{IsDirective, ReadsSome}
 use Rattle.rb_script.specs.Script.{PlainBlock}
 use Rattle.rb_script.proofs.GrammarLaws.{head_complete, only_derived}
-use Rattle.rb_number.specs.Numbers.{number_of}
+use Rattle.rb_text.specs.Numbers.{number_of}
 use Rattle.rb_directive.specs.declared.act.Act.{Act}
 use Rattle.rb_directive.specs.declared.act.Act.TheVariants as acts
 use Rattle.rb_directive.specs.declared.act_with.ActWith.{ActWith}

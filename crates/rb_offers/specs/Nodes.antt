@@ -5,7 +5,7 @@ use Rattle.std.specs.Str.{bytes_eq}
 use Rattle.rb_script.specs.declared.limits.TheConstants.{MAX_ARGUMENTS}
 use Rattle.rb_script.specs.Lines.{Line, lines}
 use Rattle.rb_script.specs.Marks.{is_lead, continues}
-use Rattle.rb_number.specs.Numbers.{number_of}
+use Rattle.rb_text.specs.Numbers.{number_of}
 use Rattle.rb_offers.specs.declared.ids.TheConstants.{MAX_IDS}
 use Rattle.rb_offers.specs.declared.part.Part.{Part}
 use Rattle.rb_offers.specs.declared.part.Part.TheVariants.{Lead, Head, Input, First, Plain, Double, Closing}

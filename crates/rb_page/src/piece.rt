@@ -5,7 +5,7 @@ ghost use Rattle.rb_script.specs.Writes.{Writes};
 ghost use Rattle.rb_page.specs.Pieces.{piece_text, pieces_text};
 
 use crate::escape::put_escaped;
-use rb_number::put_number;
+use rb_text::put_number;
 use rb_script::{Sink, WriteFault};
 
 /// A piece of a row.

@@ -6,7 +6,7 @@ use crate::page::name_of;
 use crate::refusal::Refusal;
 use rb_bench::{BenchFault, Outlet, Status};
 use rb_line::Source;
-use rb_number::number_of;
+use rb_text::number_of;
 use rb_pages::chart_over;
 use std::alloc::Global;
 use std::rt::Files;

@@ -1,10 +1,10 @@
 //! The number behind `--every`.
 
 ghost use Rattle.std.specs.Prelude.{◌≡◌, MatchOption, Some};
-ghost use Rattle.rb_number.specs.Numbers.{number_of};
+ghost use Rattle.rb_text.specs.Numbers.{number_of};
 
 use rb_bench::USUAL_SPACING;
-use rb_number::number_of;
+use rb_text::number_of;
 
 /// The number that the word says. It may still be outside what a session takes.
 pub(crate) fn spacing(word: Option<&str>) -> Option<u64>

@@ -1,6 +1,6 @@
 //! What the PATHs of `check` name, and FILE:LINE.
 
-use rb_number::number_of;
+use rb_text::number_of;
 use rb_suite::Target;
 use std::alloc::{AllocError, Global};
 use std::fs;

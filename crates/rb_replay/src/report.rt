@@ -8,7 +8,7 @@ ghost use Rattle.rb_replay.specs.Report.{marked, mismatch_line, total_line};
 use crate::blocks::block_at;
 use crate::session::Session;
 use rb_machine::Machine;
-use rb_number::put_number;
+use rb_text::put_number;
 use rb_script::{Lines, Sink, WriteFault};
 
 /// Writes a line after a mark.

@@ -9,7 +9,7 @@ use Rattle.std.proofs.lemmas.Str.Parse.{IsNumeralModel, numerals_by_value}
 use Rattle.std.proofs.lemmas.Fmt.{digits_decimal, digits_value-decimal, length-decimal-le, decimal_nonempty}
 use Rattle.httparse.specs.Grammar.{Field, crlf, IsField, IsToken, AllPass, print_section, is_token_byte, is_value_byte, is_ows, skip_ows, trim_ows}
 use Rattle.httparse.proofs.TrimLemmas.{trim_ows_space, AllPass-reverse}
-use Rattle.rb_number.specs.Numbers.{number_of}
+use Rattle.rb_text.specs.Numbers.{number_of}
 use Rattle.rb_rpc.specs.declared.limits.TheConstants.{MAX_BODY}
 use Rattle.rb_rpc.specs.Messages.{IsMessage, frame}
 

@@ -4,7 +4,7 @@ use Rattle.std.specs.Prelude.{◌≡◌, ℕ, ◌+◌, ◌<◌, ◌≤◌, Bool,
 use Rattle.std.specs.Str.{str_eq_ignore_ascii_case}
 use Rattle.httparse.specs.Grammar.{Field, LineEnd, ReadsSection, print_section}
 use Rattle.httparse.specs.Spans.{name_and_value}
-use Rattle.rb_number.specs.Numbers.{number_of}
+use Rattle.rb_text.specs.Numbers.{number_of}
 use Rattle.rb_rpc.specs.declared.limits.TheConstants.{MAX_FIELDS, MAX_HEAD, MAX_BODY}
 use Rattle.rb_rpc.specs.declared.head.Found.{Found}
 use Rattle.rb_rpc.specs.declared.head.Found.TheVariants as found

@@ -9,7 +9,7 @@ ghost use Rattle.rb_rpc.specs.Heads.{IsHead};
 use crate::limits::{MAX_BODY, MAX_FIELDS, MAX_HEAD};
 use httparse::Status;
 use httparse::spans::{EMPTY_HEADER_SPAN, HeaderSpan, parse_headers};
-use rb_number::number_of;
+use rb_text::number_of;
 
 /// What stands at the front of bytes.
 #[derive(Clone, Copy, Debug, PartialEq, Eq)]

@@ -14,7 +14,7 @@ use rb_check::{
 use rb_checked::{Picked, Told, Warning, is_picked};
 use rb_files::Trouble;
 use rb_formats::{Format, Kind, notice};
-use rb_number::put_number;
+use rb_text::put_number;
 use rb_script::{ScriptFault, Sink, Through, WriteFault};
 use std::alloc::{AllocError, Global};
 use std::io;

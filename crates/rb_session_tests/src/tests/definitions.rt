@@ -3,7 +3,7 @@
 use super::{is, is_text};
 use rb_command::{Command, command_of};
 use rb_message::{Event, WhyNoCampaign};
-use rb_number::put_number;
+use rb_text::put_number;
 use rb_script::{Lines, Through};
 use rb_texts::{DirectiveError, Item, Level, Word, level_of, put};
 use std::alloc::Global;

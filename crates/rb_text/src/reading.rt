@@ -1,7 +1,7 @@
 //! The number that a word is.
 
 ghost use Rattle.std.specs.Prelude.{◌≡◌, ◌+◌, ℕ};
-ghost use Rattle.rb_number.specs.Numbers.{number_of};
+ghost use Rattle.rb_text.specs.Numbers.{number_of};
 
 const MAX_DIGITS: usize = 10;
 

@@ -1,7 +1,7 @@
 use Rattle.std.proofs.Common.{◌∙◌, arith}
 use Rattle.std.proofs.lemmas.Bool.Decides.{nat_tests}
-use Rattle.rb_words.proofs.WordLaws.{words_behind, begins_behind, words_nil, words_at, words_none}
-use Rattle.rb_words.proofs.words.first_word.Goals as goal
+use Rattle.rb_text.proofs.WordLaws.{words_behind, begins_behind, words_nil, words_at, words_none}
+use Rattle.rb_text.proofs.words.first_word.Goals as goal
 
 pub returns-then-is_empty : goal.returns-then-is_empty
 returns-then-is_empty c =

@@ -2,7 +2,7 @@
 
 ghost use Rattle.std.specs.Prelude.{◌≡◌, ◌∷◌, [], ◌<◌, ℕ, true, false, length, slice_index, IfSome, IfNone, MatchOption};
 ghost use Rattle.rb_script.specs.Marks.{is_space};
-ghost use Rattle.rb_words.specs.Words.{words};
+ghost use Rattle.rb_text.specs.Words.{words};
 
 use rb_script::{is_space, without_front};
 

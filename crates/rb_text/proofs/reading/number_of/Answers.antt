@@ -2,8 +2,8 @@ use Rattle.std.proofs.Common.{◌≡◌, get_or, sym, ◌∙◌, arith}
 use Rattle.std.specs.Char.{digit_value}
 use Rattle.std.proofs.lemmas.Int.Digits.{digits_value_more}
 use Rattle.std.proofs.lemmas.Bool.Decides.{nat_tests}
-use Rattle.rb_number.proofs.NumberLaws.{few_digits, more_digits}
-use Rattle.rb_number.proofs.reading.number_of.Goals as goal
+use Rattle.rb_text.proofs.NumberLaws.{few_digits, more_digits}
+use Rattle.rb_text.proofs.reading.number_of.Goals as goal
 
 pub overflow_mul-number : goal.overflow_mul-number
 overflow_mul-number c =

@@ -5,7 +5,7 @@ use Rattle.rb_script.specs.Lines.{Line}
 use Rattle.rb_script.specs.Marks.{is_space, without_front}
 use Rattle.rb_script.specs.Directive.{in_piece, without_empty}
 use Rattle.rb_script.specs.Heads.{begins_space}
-use Rattle.rb_words.specs.Words.{parts, words}
+use Rattle.rb_text.specs.Words.{parts, words}
 
 -- a blank at the front is of no word
 words_space : (b : ℕ) (line : Line) → is_space b ≡ true → words (b ∷ line) ≡ words line
