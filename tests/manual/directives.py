@@ -1,7 +1,7 @@
-"""Makes the texts of rb_manual of docs/DIRECTIVES.md: its table as an overview, and a page for each directive.
+"""Makes the texts of rb_help of docs/DIRECTIVES.md: its table as an overview, and a page for each directive.
 
 A page has the directive's usage, what the document says of it, what each argument may be, and an example: of the blocks in the document's
-scripts that are this directive, the one that shows most. The texts go into crates/rb_manual/src/pages.rt, and the keys of options into
+scripts that are this directive, the one that shows most. The texts go into crates/rb_help/src/pages.rt, and the keys of options into
 keys.rt.
 """
 import dataclasses
@@ -11,7 +11,7 @@ import textwrap
 
 TOP = pathlib.Path(__file__).resolve().parents[2]
 DOCUMENT = TOP / "docs/DIRECTIVES.md"
-SOURCES = TOP / "crates/rb_manual/src"
+SOURCES = TOP / "crates/rb_help/src"
 WIDTH = 80
 CODE = re.compile(r"`([^`]*)`")
 MORE = "raftbench-directives(7) has the lines that are shown, and the errors."

@@ -11,7 +11,7 @@ use Rattle.rb_check.specs.Heads.{head_text}
 use Rattle.rb_check.specs.Headings.{mismatch_text, note_text}
 use Rattle.rb_check.specs.Steps.{run_text}
 use Rattle.rb_check.specs.Briefs.{brief_text}
-use Rattle.rb_hint.specs.Suggestions.{suggested}
+use Rattle.rb_help.specs.Suggestions.{suggested}
 use Rattle.rb_checked.specs.declared.view.Shown.{Shown}
 use Rattle.rb_checked.specs.declared.view.Shown.TheVariants as shown
 use Rattle.rb_checked.specs.Errors.{first_line, is_error, is_unexpected}

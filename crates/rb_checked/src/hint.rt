@@ -4,7 +4,7 @@ ghost use Rattle.std.specs.Prelude.{◌≡◌};
 ghost use Rattle.rb_checked.specs.Checked.{hint_of};
 
 use crate::errors::is_error;
-use rb_hint::suggested;
+use rb_help::suggested;
 use rb_script::{Block, Lines};
 
 /// The word that was probably meant, where the output is an error and there is a near one; else none.

@@ -7,9 +7,9 @@ use Rattle.rb_directive.specs.declared.table.Row.{Row}
 use Rattle.rb_directive.specs.declared.table.OptionRow.{OptionRow}
 use Rattle.rb_directive.specs.Names.{argument_text, name_text}
 use Rattle.rb_directive.specs.Table.{directives, options as table_options}
-use Rattle.rb_manual.specs.Manual.{Key, Page, keys, pages}
-use Rattle.rb_hint.specs.Choices.{choices_of}
-use Rattle.rb_hint.specs.Nearest.{keys_of}
+use Rattle.rb_help.specs.Manual.{Key, Page, keys, pages}
+use Rattle.rb_help.specs.Choices.{choices_of}
+use Rattle.rb_help.specs.Nearest.{keys_of}
 use Rattle.rb_offers.specs.Laws.{words}
 use Rattle.rb_offers.specs.Offers.{PlainOffer, begins_with, chosen, key_offer, keyed, line_of, named, options, takes, values}
 

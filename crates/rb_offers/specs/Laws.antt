@@ -8,9 +8,9 @@ use Rattle.rb_directive.specs.declared.table.Row.{Row}
 use Rattle.rb_directive.specs.declared.table.OptionRow.{OptionRow}
 use Rattle.rb_directive.specs.Names.{argument_text, name_text}
 use Rattle.rb_directive.specs.Table.{directives, options as table_options}
-use Rattle.rb_manual.specs.Manual.{pages}
-use Rattle.rb_hint.specs.Choices.{choices_of}
-use Rattle.rb_hint.specs.Nearest.{keys_of}
+use Rattle.rb_help.specs.Manual.{pages}
+use Rattle.rb_help.specs.Choices.{choices_of}
+use Rattle.rb_help.specs.Nearest.{keys_of}
 use Rattle.rb_document.specs.declared.position.Encoding.{Encoding}
 use Rattle.rb_document.specs.Places.{begins}
 use Rattle.rb_document.specs.Tables.{start_of}

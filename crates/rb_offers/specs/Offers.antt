@@ -2,8 +2,8 @@
 use Rattle.std.specs.Prelude.{ℕ, Bool, ◌&&◌, ◌||◌, if◌then◌else◌, List, [], ◌∷◌, ◌++◌, codes, filter, length, map, take}
 use Rattle.std.specs.List.{list_any}
 use Rattle.std.specs.Str.{bytes_eq}
-use Rattle.rb_manual.specs.Manual.{Key, Page, keys, pages}
-use Rattle.rb_hint.specs.Choices.{choices_of}
+use Rattle.rb_help.specs.Manual.{Key, Page, keys, pages}
+use Rattle.rb_help.specs.Choices.{choices_of}
 use Rattle.rb_offers.specs.declared.offer.Kind.{Kind}
 use Rattle.rb_offers.specs.declared.offer.Kind.TheVariants as kinds
 use Rattle.rb_offers.specs.declared.unfinished.Wish.{Wish}

@@ -10,7 +10,7 @@ use crate::offer::{Offer, add_chosen, line_of};
 use crate::unfinished::{Wanted, Wish, name_of};
 use crate::words::{arguments_of, words_before};
 use rb_directive::{id_words, takes_id};
-use rb_hint::Known;
+use rb_help::Known;
 use std::alloc::{AllocError, Global};
 
 /// How many ids there are.

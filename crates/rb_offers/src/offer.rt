@@ -4,8 +4,7 @@ ghost use Rattle.std.specs.Prelude.{◌≡◌, ◌++◌, IfOk, OnOk, map};
 ghost use Rattle.rb_offers.specs.Offers.{begins_with, chosen, has_key, if_kept, is_key, keyed, line_in, line_of, named, offers, options, takes};
 
 use crate::unfinished::{Wanted, Wish};
-use rb_hint::{Known, choices_of};
-use rb_manual::{KEYS, PAGES};
+use rb_help::{KEYS, Known, PAGES, choices_of};
 use std::alloc::{AllocError, Global};
 use std::marker::Model;
 
@@ -87,7 +86,7 @@ fn line_in(name: &[u8], pages: &[(Known, Known, Known)]) -> Known
 }
 
 /// The line of the manual on the directive with this name.
-#[tactic(auto, unfolding(rb_manual::specs::Manual::pages, crate::specs::Offers::line_of))]
+#[tactic(auto, unfolding(rb_help::specs::Manual::pages, crate::specs::Offers::line_of))]
 pub(crate) fn line_of(name: &[u8]) -> Known
     ensures { result.now ≡ line_of name.now }
 {
@@ -107,7 +106,7 @@ pub(crate) fn has_key(name: &[u8], key: &[u8], keys: &[(Known, Known)]) -> bool
 }
 
 // Whether the directive with this name takes an option with this key.
-#[tactic(auto, unfolding(rb_manual::specs::Manual::keys, crate::specs::Offers::takes))]
+#[tactic(auto, unfolding(rb_help::specs::Manual::keys, crate::specs::Offers::takes))]
 fn takes(name: &[u8], key: &[u8]) -> bool
     ensures { result ≡ takes name.now key.now }
 {
@@ -147,7 +146,7 @@ fn keyed(
 }
 
 // The keys of the options that the directive with this name takes, and that begin so.
-#[tactic(auto, unfolding(rb_manual::specs::Manual::keys, crate::specs::Offers::options))]
+#[tactic(auto, unfolding(rb_help::specs::Manual::keys, crate::specs::Offers::options))]
 fn options(alloc: Global, name: &[u8], prefix: &[u8]) -> Result<Vec<Offer>, AllocError>
     ensures { IfOk result (λ list. list.items ≡ options name.now prefix.now) }
 {
@@ -198,7 +197,7 @@ fn chosen(
 }
 
 /// The words that a head with this name can go on with, where this is what it ends in.
-#[tactic(auto, unfolding(rb_manual::specs::Manual::pages, crate::specs::Offers::offers))]
+#[tactic(auto, unfolding(rb_help::specs::Manual::pages, crate::specs::Offers::offers))]
 pub(crate) fn offers(
     alloc: Global,
     name: &[u8],

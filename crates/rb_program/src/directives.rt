@@ -3,8 +3,7 @@
 use crate::misuse::Misuse;
 use crate::refusal::Refusal;
 use rb_bench::Status;
-use rb_hint::nearest_name;
-use rb_manual::{page_of, put_manual};
+use rb_help::{nearest_name, page_of, put_manual};
 use rb_script::{Sink, Through, WriteFault};
 use std::alloc::Global;
 use std::io;

@@ -1,8 +1,7 @@
-//! Numbers in decimal digits: what a word says, and what is written.
+//! What lines are made of: words, which blanks part, and numbers in decimal digits.
 //!
-//! [`number_of`] reads the numbers of directives, of commands and of the command line, which all have one to ten
-//! digits. [`put_number`] writes one.
-//! Words of a line: what blanks part. Commands of a session and the input of a directive are made of them.
+//! [`first_word`] parts a line: commands of a session and the input of a directive are made of words. [`number_of`] reads the numbers of
+//! directives, of commands and of the command line, which all have one to ten digits, and [`put_number`] writes one.
 #![tactic(auto)]
 
 mod reading;

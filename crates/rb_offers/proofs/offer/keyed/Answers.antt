@@ -1,5 +1,5 @@
 use Rattle.std.proofs.Common.{◌∙◌, sym}
-use Rattle.rb_manual.specs.Manual.{Key}
+use Rattle.rb_help.specs.Manual.{Key}
 use Rattle.rb_offers.specs.Offers.{is_key, key_offer, keyed}
 use Rattle.rb_offers.proofs.OfferLaws.{none_left, one_seen}
 use Rattle.rb_offers.proofs.offer.keyed.Goals as goal

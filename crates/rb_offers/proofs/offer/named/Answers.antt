@@ -1,5 +1,5 @@
 use Rattle.std.proofs.Common.{◌∙◌, sym}
-use Rattle.rb_manual.specs.Manual.{Page}
+use Rattle.rb_help.specs.Manual.{Page}
 use Rattle.rb_offers.specs.Offers.{begins_with, name_offer, named}
 use Rattle.rb_offers.proofs.OfferLaws.{none_left, one_seen}
 use Rattle.rb_offers.proofs.offer.named.Goals as goal

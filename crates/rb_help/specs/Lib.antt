@@ -1,0 +1,5 @@
+pub mod Choices
+pub mod Distance
+pub mod Manual
+pub mod Nearest
+pub mod Suggestions

@@ -1,0 +1,45 @@
+-- Which word was probably meant in a directive that is refused. (This project's.)
+use Rattle.std.specs.Prelude.{Bool, if◌then◌else◌, List, [], ◌∷◌, ◌++◌, codes, Option, None, Result, Ok, Err}
+use Rattle.std.specs.List.{list_any}
+use Rattle.std.specs.Str.{bytes_eq}
+use Rattle.rb_script.specs.Directive.{PlainArgument, PlainDirective}
+use Rattle.rb_level.specs.declared.directive_error.DirectiveError.{DirectiveError}
+use Rattle.rb_level.specs.declared.directive_error.DirectiveError.TheVariants as errors
+use Rattle.rb_directive.specs.declared.build.Asked.{Asked}
+use Rattle.rb_directive.specs.Requests.{request}
+use Rattle.rb_help.specs.Manual.{pages, keys}
+use Rattle.rb_help.specs.Choices.{levels, choices_of}
+use Rattle.rb_help.specs.Distance.{Word}
+use Rattle.rb_help.specs.Nearest.{names_of, keys_of, nearest}
+
+-- the word is one of these
+abbrev pub is_among : Word → List Word → Bool
+is_among word cs = list_any (λ c. bytes_eq c word) cs
+
+-- the first of the values that is none of the choices, and the choice that is nearest to it
+abbrev pub of_values : List Word → List Word → Option Word
+of_values cs [] = None
+of_values cs (v ∷ vs) = if is_among v cs then of_values cs vs else nearest v cs
+
+-- an option is wrong by a value; a word can be the name of a level only
+abbrev pub of_argument : PlainArgument → Option Word
+of_argument a = if a.has_equals then of_values (choices_of a.key) a.values else nearest a.key levels
+
+-- the first of the arguments with this key
+abbrev pub of_arguments : Word → List PlainArgument → Option Word
+of_arguments key [] = None
+of_arguments key (a ∷ args) = if bytes_eq a.key key then of_argument a else of_arguments key args
+
+-- what is meant by the name, by the key of an option, or by an argument
+abbrev pub of_fault : PlainDirective → DirectiveError → Option Word
+of_fault d (errors.UnknownDirective name) = nearest name (names_of pages)
+of_fault d (errors.UnsupportedOption key) = nearest key (keys_of d.name keys ++ codes "log-level" ∷ [])
+of_fault d (errors.BadArgument key) = of_arguments key d.args
+of_fault d other = None
+
+abbrev pub of_reading : PlainDirective → Result Asked DirectiveError → Option Word
+of_reading d (Ok asked) = None
+of_reading d (Err fault) = of_fault d fault
+
+unfoldable pub suggested : PlainDirective → Option Word
+suggested d = of_reading d (request d)

@@ -1,4 +1,0 @@
-pub mod Distance
-pub mod Choices
-pub mod Nearest
-pub mod Suggestions
