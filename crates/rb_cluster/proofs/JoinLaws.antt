@@ -2,7 +2,7 @@
 use Rattle.std.proofs.Common.{◌≡◌, ℕ, ◌+◌, ◌-◌, ◌<◌, List, [], ap, sym, ◌∙◌}
 use Rattle.std.specs.List.{range_with_len}
 use Rattle.rb_raftlog.specs.declared.snapshot.Snapshot.{Snapshot}
-use Rattle.rb_step.specs.declared.options.Options.{Options}
+use Rattle.rb_node.specs.declared.options.Options.{Options}
 use Rattle.rb_node.specs.Calls.{node_started}
 use Rattle.rb_machine.specs.AddNodes.{began, added_each}
 use Rattle.rb_machine.specs.Scenes.{Scene}

@@ -5,7 +5,7 @@ use Rattle.std.proofs.lemmas.List.{at_drop_more}
 use Rattle.std.specs.List.{filter, list_any}
 use Rattle.rb_directive.specs.declared.type_set.TypeSet.{TypeSet}
 use Rattle.rb_message.specs.declared.message.Message.{Message}
-use Rattle.rb_step.specs.Node.{PlainNode, Turn}
+use Rattle.rb_node.specs.Node.{PlainNode, Turn}
 use Rattle.rb_machine.specs.Cluster.{node_at}
 use Rattle.rb_machine.specs.Deliveries.{left_by, received, all_received, delivered, delivered_each}
 use Rattle.rb_machine.specs.Pending.{is_for, mail, other_mail, with_pending}

@@ -20,8 +20,8 @@ use Rattle.rb_directive.specs.declared.limits.TheConstants.{MAX_NODES}
 use Rattle.rb_directive.specs.Requests.{request, nodes_of, IsWithin}
 use Rattle.rb_raftlog.specs.declared.limits.TheConstants.{MAX_INDEX}
 use Rattle.rb_raftlog.specs.declared.snapshot.Snapshot.{Snapshot}
-use Rattle.rb_step.specs.declared.options.Options.{Options}
-use Rattle.rb_step.specs.Node.{PlainNode}
+use Rattle.rb_node.specs.declared.options.Options.{Options}
+use Rattle.rb_node.specs.Node.{PlainNode}
 use Rattle.rb_node.specs.Calls.{node_started}
 use Rattle.rb_texts.specs.Items.{nothing_else, error}
 use Rattle.rb_texts.specs.Shapes.{is_solid}

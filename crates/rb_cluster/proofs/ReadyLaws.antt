@@ -1,7 +1,7 @@
 -- What is ready at a node: entries printed one more at a time, and what is done.
 use Rattle.std.proofs.Common.{◌≡◌, ◌+◌, ℕ, List, drop, refl, ap, sym, ◌∙◌, arith, slice_get, Some, true, false, cond}
 use Rattle.rb_raftlog.specs.declared.entry.Entry.{Entry}
-use Rattle.rb_step.specs.Node.{PlainNode}
+use Rattle.rb_node.specs.Node.{PlainNode}
 use Rattle.rb_node.specs.Readying.{has_ready}
 use Rattle.rb_texts.specs.Items.{PlainItem}
 use Rattle.rb_texts.specs.Items as items

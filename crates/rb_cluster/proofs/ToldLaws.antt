@@ -19,10 +19,10 @@ use Rattle.rb_level.specs.declared.directive_error.DirectiveError.{DirectiveErro
 use Rattle.rb_message.specs.declared.kind.MessageKind.TheVariants as kinds
 use Rattle.rb_message.specs.declared.message.Message.{Message}
 use Rattle.rb_raftlog.specs.declared.snapshot.Snapshot.{Snapshot}
-use Rattle.rb_step.specs.declared.options.Options.{Options}
-use Rattle.rb_step.specs.Node.{PlainNode, Turn, turn, message}
-use Rattle.rb_step.specs.Sends.{snapshot_of}
-use Rattle.rb_step.specs.Step.{stepped}
+use Rattle.rb_node.specs.declared.options.Options.{Options}
+use Rattle.rb_node.specs.Node.{PlainNode, Turn, turn, message}
+use Rattle.rb_node.specs.Sends.{snapshot_of}
+use Rattle.rb_node.specs.Step.{stepped}
 use Rattle.rb_node.specs.Calls.{called, node_started}
 use Rattle.rb_node.specs.Readying.{has_ready, handed, advanced}
 use Rattle.rb_texts.specs.Items.{PlainItem, error, event, moved, no_messages, nothing_ready, stopped}

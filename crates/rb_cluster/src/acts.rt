@@ -2,7 +2,7 @@
 
 ghost use Rattle.std.specs.Prelude.{◌≡◌, OnOk};
 ghost use Rattle.rb_message.specs.declared.kind.MessageKind.TheVariants.{TransferLeader};
-ghost use Rattle.rb_step.specs.Node.{turn, message};
+ghost use Rattle.rb_node.specs.Node.{turn, message};
 ghost use Rattle.rb_machine.specs.Acts.{ticked_times, turn_by, act, propose, set_timeout, transfer, report_unreachable};
 ghost use Rattle.rb_machine.specs.Scenes.{scene};
 
@@ -12,9 +12,8 @@ use rb_directive::Act;
 use rb_level::Word;
 use rb_machine::Screen;
 use rb_message::{Event, Message, MessageKind};
-use rb_node::Node;
+use rb_node::{ELECTION_TICKS, Node};
 use rb_raftlog::RaftLog;
-use rb_step::ELECTION_TICKS;
 use rb_why::reason;
 use std::alloc::AllocError;
 

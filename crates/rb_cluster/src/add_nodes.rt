@@ -15,9 +15,8 @@ use rb_change::{ConfState, Shared};
 use rb_directive::{AddNodes, IdList, MAX_ID, MAX_NODES};
 use rb_level::{DirectiveError, Word};
 use rb_machine::Screen;
-use rb_node::Node;
+use rb_node::{Node, Options};
 use rb_raftlog::{Content, RaftLog, Snapshot};
-use rb_step::Options;
 use std::alloc::{AllocError, Global};
 
 // Whether something is asked for that needs an index.

@@ -13,7 +13,7 @@ ghost use Rattle.rb_directive.specs.declared.build.Asked.{Asked};
 ghost use Rattle.rb_directive.specs.declared.asking.AddNodes.{AddNodes};
 ghost use Rattle.rb_directive.specs.declared.asking.Request.TheVariants as requests;
 ghost use Rattle.rb_directive.specs.Requests.{request};
-ghost use Rattle.rb_step.specs.Node.{PlainNode};
+ghost use Rattle.rb_node.specs.Node.{PlainNode};
 ghost use Rattle.rb_machine.specs.declared.screen.Form.TheVariants as forms;
 ghost use Rattle.rb_machine.specs.Cluster.{Cluster};
 ghost use Rattle.rb_machine.specs.Outcome.{outcome, happened, refusal, explanation, refused, level_set, is_output};

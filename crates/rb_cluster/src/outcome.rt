@@ -6,7 +6,7 @@
 ghost use Rattle.std.specs.Prelude.{◌≡◌, IfOk, OnOk, None};
 ghost use Rattle.rb_script.specs.Tokens.{plain};
 ghost use Rattle.rb_directive.specs.Requests.{request, IsWithin};
-ghost use Rattle.rb_step.specs.Node.{PlainNode};
+ghost use Rattle.rb_node.specs.Node.{PlainNode};
 ghost use Rattle.rb_texts.specs.Items.{error};
 ghost use Rattle.rb_machine.specs.Cluster.{is_node};
 ghost use Rattle.rb_machine.specs.Outcome.{absent, first_absent, missing_node, with_fault, own_fault, fault, act_with, effect, level_set, unless_refused, refused, outcome_of, outcome, happened, explanation, way_of};

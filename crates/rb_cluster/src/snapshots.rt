@@ -3,8 +3,8 @@
 ghost use Rattle.std.specs.Prelude.{◌≡◌, IfOk, OnOk};
 ghost use Rattle.rb_message.specs.declared.kind.MessageKind.TheVariants as kinds;
 ghost use Rattle.rb_raftlog.specs.Log.{compact_fault};
-ghost use Rattle.rb_step.specs.Node.{message};
-ghost use Rattle.rb_step.specs.Sends.{snapshot_of};
+ghost use Rattle.rb_node.specs.Node.{message};
+ghost use Rattle.rb_node.specs.Sends.{snapshot_of};
 ghost use Rattle.rb_machine.specs.Snapshots.{queued, snapshot_sent, error_of, compact_error, compact};
 ghost use Rattle.rb_machine.specs.Scenes.{scene};
 

@@ -9,9 +9,8 @@ ghost use Rattle.rb_machine.specs.Views.{log_line, held_item, log_items, log_sho
 use crate::cluster::Cluster;
 use crate::shared_node::SharedNode;
 use rb_machine::Screen;
-use rb_node::Node;
+use rb_node::{Node, State};
 use rb_raftlog::RaftLog;
-use rb_step::State;
 use rb_texts::{Item, LogLine, NodeLine};
 use rb_tracker::Tracker;
 use std::alloc::AllocError;

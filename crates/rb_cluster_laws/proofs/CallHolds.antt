@@ -24,13 +24,12 @@ use Rattle.rb_message.specs.declared.kind.MessageKind.TheVariants as kind
 use Rattle.rb_message.specs.declared.message.Message.{Message}
 use Rattle.rb_message.specs.declared.role.Role.{Role}
 use Rattle.rb_message.specs.declared.role.Role.TheVariants as role
-use Rattle.rb_step.specs.declared.limits.TheConstants.{ELECTION_TICKS}
-use Rattle.rb_step.specs.Node.{PlainNode, Turn, told, with_node, message, is_leader}
-use Rattle.rb_step.specs.Campaigns.{campaigned}
-use Rattle.rb_step.specs.Changing.{body_applied, applied_one, applied_all, leaves_joint, joint_left}
-use Rattle.rb_step.specs.Step.{stepped}
-use Rattle.rb_step.specs.Transferring.{transfer_ended}
-use Rattle.rb_node.specs.declared.ticking.TheConstants.{HEARTBEAT_TICKS}
+use Rattle.rb_node.specs.declared.limits.TheConstants.{ELECTION_TICKS, HEARTBEAT_TICKS}
+use Rattle.rb_node.specs.Node.{PlainNode, Turn, told, with_node, message, is_leader}
+use Rattle.rb_node.specs.Campaigns.{campaigned}
+use Rattle.rb_node.specs.Changing.{body_applied, applied_one, applied_all, leaves_joint, joint_left}
+use Rattle.rb_node.specs.Step.{stepped}
+use Rattle.rb_node.specs.Transferring.{transfer_ended}
 use Rattle.rb_node.specs.Calls.{forgotten_by, reported_with, reported_at, reported}
 use Rattle.rb_node.specs.Readying.{applying, saved, own_stepped, advanced}
 use Rattle.rb_node.specs.Ticking.{counted as counted_tick, beat_to, beat_each, heartbeats_due, has_lost_quorum, looked_anew, quorum_looked_at, leader_counted, counted_up, leader_ticked, is_due, other_ticked, ticked_by}

@@ -13,8 +13,8 @@ use Rattle.rb_directive.specs.Requests.{request}
 use Rattle.rb_change.specs.declared.conf_state.ConfState.{ConfState}
 use Rattle.rb_raftlog.specs.declared.snapshot.Snapshot.{Snapshot}
 use Rattle.rb_raftlog.specs.Laws.{AreMatching}
-use Rattle.rb_step.specs.declared.options.Options.{Options}
-use Rattle.rb_step.specs.Node.{PlainNode, started}
+use Rattle.rb_node.specs.declared.options.Options.{Options}
+use Rattle.rb_node.specs.Node.{PlainNode, started}
 use Rattle.rb_node.specs.Calls.{node_started}
 use Rattle.rb_machine.specs.declared.screen.Form.TheVariants as forms
 use Rattle.rb_machine.specs.AddNodes.{start, options, began, added_each, nodes_added}

@@ -9,7 +9,7 @@ use Rattle.rb_directive.specs.declared.type_set.TypeSet.{TypeSet}
 use Rattle.rb_tracker.proofs.SetLaws.{if_both}
 use Rattle.rb_message.specs.Messages.{type_of}
 use Rattle.rb_message.specs.declared.message.Message.{Message}
-use Rattle.rb_step.specs.Node.{PlainNode, Turn, turn}
+use Rattle.rb_node.specs.Node.{PlainNode, Turn, turn}
 use Rattle.rb_node.specs.Readying.{has_ready, handed, others}
 use Rattle.rb_node.specs.Ticking.{ticked}
 use Rattle.rb_node_laws.specs.Calling.{Call, Step, Tick, Advance, after}

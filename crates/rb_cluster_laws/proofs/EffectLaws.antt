@@ -22,9 +22,9 @@ use Rattle.rb_tracker.specs.Configs.{config_of, state_of}
 use Rattle.rb_tracker.specs.declared.config.Config.{Config}
 use Rattle.rb_message.specs.declared.kind.MessageKind.TheVariants as kind
 use Rattle.rb_message.specs.declared.message.Message.{Message}
-use Rattle.rb_step.specs.declared.limits.TheConstants.{ELECTION_TICKS}
-use Rattle.rb_step.specs.Node.{PlainNode, turn, message}
-use Rattle.rb_step.specs.Sends.{snapshot_of}
+use Rattle.rb_node.specs.declared.limits.TheConstants.{ELECTION_TICKS}
+use Rattle.rb_node.specs.Node.{PlainNode, turn, message}
+use Rattle.rb_node.specs.Sends.{snapshot_of}
 use Rattle.rb_node.specs.Calls.{reported}
 use Rattle.rb_node_laws.specs.Calling.{Call, Campaign, Propose, Transfer, Tick, ForgetLeader, ReportUnreachable, SetTimeout, Compact, compacted_unless, after}
 use Rattle.rb_machine.specs.declared.screen.Form.TheVariants as forms

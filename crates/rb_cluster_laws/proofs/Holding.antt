@@ -13,7 +13,7 @@ use Rattle.rb_message.specs.declared.kind.MessageKind.TheVariants as kind
 use Rattle.rb_message.specs.declared.message.Message.{Message}
 use Rattle.rb_message.specs.declared.role.Role.{Role}
 use Rattle.rb_message.specs.declared.role.Role.TheVariants as role
-use Rattle.rb_step.specs.Node.{PlainNode}
+use Rattle.rb_node.specs.Node.{PlainNode}
 use Rattle.rb_node_laws.specs.Words.{IsYes}
 use Rattle.rb_node_laws.proofs.Saying.{with_sent, with_waiting}
 use Rattle.rb_cluster_laws.specs.Honesty.{IsPlain, KeepsBy, Keeps}

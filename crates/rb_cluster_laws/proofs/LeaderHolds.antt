@@ -18,16 +18,16 @@ use Rattle.rb_message.specs.declared.event.Event.TheVariants.{Became}
 use Rattle.rb_message.specs.declared.kind.MessageKind.TheVariants as kind
 use Rattle.rb_message.specs.declared.message.Message.{Message}
 use Rattle.rb_message.specs.declared.role.Role.TheVariants as role
-use Rattle.rb_step.specs.declared.sends.Mode.{Mode}
-use Rattle.rb_step.specs.declared.sends.Mode.TheVariants as mode
-use Rattle.rb_step.specs.declared.sends.Sending.{Sending}
-use Rattle.rb_step.specs.declared.sends.Sending.TheVariants as sending
-use Rattle.rb_step.specs.Node.{PlainNode, Turn, told, with_node, message}
-use Rattle.rb_step.specs.Sends.{is_news as is_news_of, is_ping, takes_nothing, is_window_full, term_or_0, sending_of, append_of, snapshot_of, viewed, snapshot_to, empty_to, entries_to, sends_by, sends_with, sends_at, sends, tells, told_all}
-use Rattle.rb_step.specs.Leading.{with_own, is_log_full, appended, with_view_of, with_views, in_lead, leading, led, can_commit}
-use Rattle.rb_step.specs.Acknowledging.{heard_of, handed_to, commit_or_sent, mode_after, accepted_news, accepted_old, accepted_by, accepted_with, accepted_at, accepted, refused_with, refused_at, append_refused, lags, beat_answered_with, beat_answered_at, beat_answered}
-use Rattle.rb_step.specs.Proposing.{put_in, takes_none, proposed}
-use Rattle.rb_step.specs.Transferring.{cannot_take_lead, older_ended, urged, transfer_started, transferred, transfer_ended}
+use Rattle.rb_node.specs.declared.sends.Mode.{Mode}
+use Rattle.rb_node.specs.declared.sends.Mode.TheVariants as mode
+use Rattle.rb_node.specs.declared.sends.Sending.{Sending}
+use Rattle.rb_node.specs.declared.sends.Sending.TheVariants as sending
+use Rattle.rb_node.specs.Node.{PlainNode, Turn, told, with_node, message}
+use Rattle.rb_node.specs.Sends.{is_news as is_news_of, is_ping, takes_nothing, is_window_full, term_or_0, sending_of, append_of, snapshot_of, viewed, snapshot_to, empty_to, entries_to, sends_by, sends_with, sends_at, sends, tells, told_all}
+use Rattle.rb_node.specs.Leading.{with_own, is_log_full, appended, with_view_of, with_views, in_lead, leading, led, can_commit}
+use Rattle.rb_node.specs.Acknowledging.{heard_of, handed_to, commit_or_sent, mode_after, accepted_news, accepted_old, accepted_by, accepted_with, accepted_at, accepted, refused_with, refused_at, append_refused, lags, beat_answered_with, beat_answered_at, beat_answered}
+use Rattle.rb_node.specs.Proposing.{put_in, takes_none, proposed}
+use Rattle.rb_node.specs.Transferring.{cannot_take_lead, older_ended, urged, transfer_started, transferred, transfer_ended}
 use Rattle.rb_cluster_laws.specs.Honesty.{IsPlain}
 use Rattle.rb_cluster_laws.proofs.LinkedLogs.{log_from, none_linked, rest_linked}
 use Rattle.rb_cluster_laws.proofs.Holding.{World, IsElect, Holds, says, waits, leader_stands}

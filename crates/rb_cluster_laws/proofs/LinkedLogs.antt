@@ -12,7 +12,7 @@ use Rattle.rb_raftlog.proofs.TermLaws.{term_base, term_past, entry_past, slice_g
 use Rattle.rb_raftlog.proofs.AppendLaws.{put, put_size, put_term_below, put_entry_below, put_term, put_entry, held_before, in_place, by_append}
 use Rattle.rb_raftlog.proofs.PlaceLaws.{ok_is, own-last, own-held, own-term_held}
 use Rattle.rb_raftlog.proofs.VoteLaws.{compacted-term, compacted-entry}
-use Rattle.rb_step.specs.Sends.{term_or_0}
+use Rattle.rb_node.specs.Sends.{term_or_0}
 use Rattle.rb_cluster_laws.proofs.Links.{Link, HasLink, IsLinked, err_ok, held_term, past_base}
 
 -- the entries of an append, as a log that begins at the entry before them

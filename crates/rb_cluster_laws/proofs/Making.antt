@@ -9,8 +9,8 @@ use Rattle.rb_message.specs.declared.kind.MessageKind.{MessageKind}
 use Rattle.rb_message.specs.declared.kind.MessageKind.TheVariants as kind
 use Rattle.rb_message.specs.declared.message.Message.{Message}
 use Rattle.rb_message.specs.declared.role.Role.TheVariants as role
-use Rattle.rb_step.specs.Leading.{in_lead}
-use Rattle.rb_step.specs.Node.{PlainNode}
+use Rattle.rb_node.specs.Leading.{in_lead}
+use Rattle.rb_node.specs.Node.{PlainNode}
 use Rattle.rb_cluster_laws.specs.Honesty.{IsPlain}
 use Rattle.rb_cluster_laws.proofs.Links.{Link, link, Extends, still_linked, held_term, push_extends, push_single}
 use Rattle.rb_cluster_laws.proofs.LinkedLogs.{log_from, own_linked}

@@ -4,7 +4,7 @@ use Rattle.std.specs.Prelude.{slice_get}
 use Rattle.rb_change.specs.declared.conf_state.ConfState.{ConfState}
 use Rattle.rb_raftlog.specs.Laws.{AreMatching}
 use Rattle.rb_tracker.specs.Configs.{config_of}
-use Rattle.rb_step.specs.Node.{PlainNode}
+use Rattle.rb_node.specs.Node.{PlainNode}
 use Rattle.rb_cluster_laws.specs.Honesty.{AreHonest, AreGenuine}
 use Rattle.rb_cluster_laws.specs.Network.{Network, Happening, run, IsBegun}
 use Rattle.rb_cluster_laws.proofs.Links.{still_linked, linked_match}

@@ -9,7 +9,7 @@ use Rattle.rb_message.specs.declared.kind.MessageKind.TheVariants as kind
 use Rattle.rb_message.specs.declared.message.Message.{Message}
 use Rattle.rb_message.specs.declared.role.Role.TheVariants as role
 use Rattle.rb_raftlog.specs.Log.{last}
-use Rattle.rb_step.specs.Node.{PlainNode, Turn, turn}
+use Rattle.rb_node.specs.Node.{PlainNode, Turn, turn}
 use Rattle.rb_node_laws.specs.Calling.{Call, Step, Propose, Advance, after}
 use Rattle.rb_node_laws.specs.Sound.{IsSound}
 use Rattle.rb_node_laws.specs.Words.{IsYes, IsPromised, HasPromises}

@@ -9,8 +9,8 @@ use Rattle.rb_tracker.proofs.SetLaws.{set_of_ascending, ascending_set_of}
 use Rattle.rb_tracker.specs.Configs.{config_of, state_of}
 use Rattle.rb_tracker.specs.Sets.{set_of}
 use Rattle.rb_message.specs.declared.message.Message.{Message}
-use Rattle.rb_step.specs.declared.options.Options.{Options}
-use Rattle.rb_step.specs.Node.{PlainNode, started}
+use Rattle.rb_node.specs.declared.options.Options.{Options}
+use Rattle.rb_node.specs.Node.{PlainNode, started}
 use Rattle.rb_node_laws.proofs.PromiseLaws.{Kept, NoYes}
 use Rattle.rb_cluster_laws.specs.Honesty.{IsPlain, Keeps, AreHonest}
 use Rattle.rb_cluster_laws.specs.Network.{Network, Happening, run, IsStarted, IsBegun, Leads}

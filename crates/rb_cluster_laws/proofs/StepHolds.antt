@@ -26,12 +26,12 @@ use Rattle.rb_message.specs.declared.kind.MessageKind.TheVariants as kind
 use Rattle.rb_message.specs.declared.message.Message.{Message}
 use Rattle.rb_message.specs.declared.role.Role.{Role}
 use Rattle.rb_message.specs.declared.role.Role.TheVariants as role
-use Rattle.rb_step.specs.Node.{PlainNode, Turn, with_node, ignored, message, is_leader}
-use Rattle.rb_step.specs.Terms.{followed, raised, raised_by, lowered, lowered_by, shown_term, answers_earlier, is_disturbed_by}
-use Rattle.rb_step.specs.Campaigns.{asked_one, asked, candidate, precandidate, stood, sounded_out, why_no_campaign, campaigned_unless, campaigned, stood_unless, stood_up}
-use Rattle.rb_step.specs.Votes.{grants, voted_for, vote_answered, pre_vote_answered, count_of, counted, decided, pre_decided}
-use Rattle.rb_step.specs.Following.{heard, beaten, commits_to, after_log, with_appended, append_taken, restored_to, with_match, snapshot_taken, proposal_passed, transfer_passed}
-use Rattle.rb_step.specs.Step.{as_follower, given_in, as_precandidate, as_candidate, as_leader, by_role_of, at_term_by, at_term, stepped}
+use Rattle.rb_node.specs.Node.{PlainNode, Turn, with_node, ignored, message, is_leader}
+use Rattle.rb_node.specs.Terms.{followed, raised, raised_by, lowered, lowered_by, shown_term, answers_earlier, is_disturbed_by}
+use Rattle.rb_node.specs.Campaigns.{asked_one, asked, candidate, precandidate, stood, sounded_out, why_no_campaign, campaigned_unless, campaigned, stood_unless, stood_up}
+use Rattle.rb_node.specs.Votes.{grants, voted_for, vote_answered, pre_vote_answered, count_of, counted, decided, pre_decided}
+use Rattle.rb_node.specs.Following.{heard, beaten, commits_to, after_log, with_appended, append_taken, restored_to, with_match, snapshot_taken, proposal_passed, transfer_passed}
+use Rattle.rb_node.specs.Step.{as_follower, given_in, as_precandidate, as_candidate, as_leader, by_role_of, at_term_by, at_term, stepped}
 use Rattle.rb_cluster_laws.specs.Honesty.{IsPlain, KeepsBy}
 use Rattle.rb_cluster_laws.specs.Votes.{IsCast}
 use Rattle.rb_cluster_laws.proofs.Links.{Link, still_linked}

@@ -4,7 +4,7 @@ use Rattle.std.specs.Prelude.{All, Contains, slice_get, slice_set}
 use Rattle.std.proofs.lemmas.List.Elements.{All-weaker, Contains-append_right}
 use Rattle.rb_message.specs.declared.kind.MessageKind.TheVariants as kind
 use Rattle.rb_message.specs.declared.message.Message.{Message}
-use Rattle.rb_step.specs.Node.{PlainNode, Turn}
+use Rattle.rb_node.specs.Node.{PlainNode, Turn}
 use Rattle.rb_node_laws.specs.Calling.{Call, after}
 use Rattle.rb_machine.specs.Cluster.{Cluster, node_at, with_node}
 use Rattle.rb_cluster_laws.specs.Honesty.{Keeps, IsHonestCall, AreHonest, IsNoAppend, IsGenuineCall, AreGenuine}

@@ -8,7 +8,7 @@ ghost use Rattle.rb_directive.specs.Requests.{request};
 ghost use Rattle.rb_change.specs.declared.conf_state.ConfState.{ConfState};
 ghost use Rattle.rb_raftlog.specs.Laws.{AreMatching};
 ghost use Rattle.rb_tracker.specs.Configs.{config_of};
-ghost use Rattle.rb_step.specs.Node.{PlainNode};
+ghost use Rattle.rb_node.specs.Node.{PlainNode};
 ghost use Rattle.rb_machine.specs.AddNodes.{start};
 ghost use Rattle.rb_machine.specs.Cluster.{Cluster, empty};
 ghost use Rattle.rb_machine.specs.Outcome.{outcome};

@@ -4,9 +4,9 @@ use Rattle.rb_directive.specs.declared.act.Act.{Act}
 use Rattle.rb_directive.specs.declared.act.Act.TheVariants as acts
 use Rattle.rb_message.specs.declared.kind.MessageKind.TheVariants as kinds
 use Rattle.rb_raftlog.specs.declared.entry.Body.TheVariants as bodies
-use Rattle.rb_step.specs.declared.limits.TheConstants.{ELECTION_TICKS}
-use Rattle.rb_step.specs.Node.{Turn, with_node, message}
-use Rattle.rb_step.specs.Campaigns.{campaigned}
+use Rattle.rb_node.specs.declared.limits.TheConstants.{ELECTION_TICKS}
+use Rattle.rb_node.specs.Node.{Turn, with_node, message}
+use Rattle.rb_node.specs.Campaigns.{campaigned}
 use Rattle.rb_node.specs.Calls.{called, leader_forgotten, reported}
 use Rattle.rb_node.specs.Ticking.{ticked}
 use Rattle.rb_machine.specs.Cluster.{Cluster, changed}

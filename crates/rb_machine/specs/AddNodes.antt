@@ -9,8 +9,8 @@ use Rattle.rb_directive.specs.declared.limits.TheConstants.{MAX_ID, MAX_NODES}
 use Rattle.rb_directive.specs.IdLists.{holds}
 use Rattle.rb_change.specs.declared.conf_state.ConfState.{ConfState}
 use Rattle.rb_raftlog.specs.declared.snapshot.Snapshot.{Snapshot}
-use Rattle.rb_step.specs.declared.options.Options.{Options}
-use Rattle.rb_step.specs.Node.{PlainNode, Turn}
+use Rattle.rb_node.specs.declared.options.Options.{Options}
+use Rattle.rb_node.specs.Node.{PlainNode, Turn}
 use Rattle.rb_node.specs.Calls.{node_started}
 use Rattle.rb_machine.specs.Scenes.{Scene, events_shown, with_cluster}
 

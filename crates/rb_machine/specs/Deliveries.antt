@@ -5,7 +5,7 @@ use Rattle.std.specs.List.{list_any}
 use Rattle.rb_directive.specs.declared.asking.DeliverMsgs.{DeliverMsgs}
 use Rattle.rb_directive.specs.declared.type_set.TypeSet.{TypeSet}
 use Rattle.rb_message.specs.declared.message.Message.{Message}
-use Rattle.rb_step.specs.Step.{stepped}
+use Rattle.rb_node.specs.Step.{stepped}
 use Rattle.rb_texts.specs.Items.{PlainItem, moved, no_messages}
 use Rattle.rb_texts.specs.declared.item.Verb.TheVariants as verbs
 use Rattle.rb_machine.specs.Pending.{is_for, mail, other_mail, with_pending}

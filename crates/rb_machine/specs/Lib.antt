@@ -7,7 +7,7 @@ pub use Rattle.rb_texts.specs.Texts
 pub use Rattle.rb_texts.specs.Shapes
 pub use Rattle.rb_directive.specs.IdLists
 pub use Rattle.rb_directive.specs.Requests
-pub use Rattle.rb_step.specs.Node
+pub use Rattle.rb_node.specs.Node
 pub mod Cluster
 pub mod Scenes
 pub mod Entries

@@ -15,7 +15,7 @@ use Rattle.rb_directive.specs.declared.asking.Named.{Named}
 use Rattle.rb_directive.specs.declared.asking.Named.TheVariants as named
 use Rattle.rb_directive.specs.declared.build.Asked.{Asked}
 use Rattle.rb_directive.specs.Requests.{request, nodes_of}
-use Rattle.rb_step.specs.Node.{PlainNode}
+use Rattle.rb_node.specs.Node.{PlainNode}
 use Rattle.rb_texts.specs.Items.{nothing_else, error}
 use Rattle.rb_texts.specs.Shapes.{is_solid}
 use Rattle.rb_machine.specs.declared.screen.Screen.{Screen}

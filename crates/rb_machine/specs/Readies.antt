@@ -1,7 +1,7 @@
 -- `process-ready`: what is ready at a node is printed and done. (etcd raft documentation, "Ready"; its interaction tests have the directive.)
 use Rattle.std.specs.Prelude.{ℕ, ◌+◌, List, [], ◌∷◌, ◌++◌, map, if◌then◌else◌, Option, Some, None}
 use Rattle.rb_message.specs.declared.hard_state.HardState.{HardState}
-use Rattle.rb_step.specs.Node.{PlainNode, Turn, turn}
+use Rattle.rb_node.specs.Node.{PlainNode, Turn, turn}
 use Rattle.rb_node.specs.Readying.{ready, has_ready, handed, advanced}
 use Rattle.rb_texts.specs.Items.{PlainItem}
 use Rattle.rb_texts.specs.Items as items

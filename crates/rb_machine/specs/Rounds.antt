@@ -4,7 +4,7 @@ use Rattle.std.specs.Prelude.{ℕ, zero, suc, Bool, true, false, ◌||◌, if◌
 use Rattle.std.specs.List.{list_any, range_with_len}
 use Rattle.rb_directive.specs.IdLists.{holds}
 use Rattle.rb_message.specs.declared.message.Message.{Message}
-use Rattle.rb_step.specs.Node.{PlainNode}
+use Rattle.rb_node.specs.Node.{PlainNode}
 use Rattle.rb_node.specs.Readying.{has_ready}
 use Rattle.rb_texts.specs.Items.{stopped}
 use Rattle.rb_machine.specs.Cluster.{Cluster, node_at}

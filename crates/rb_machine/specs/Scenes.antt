@@ -6,7 +6,7 @@ use Rattle.rb_message.specs.declared.event.Event.{Event}
 use Rattle.rb_message.specs.declared.message.Message.{Message}
 use Rattle.rb_page.specs.ItemRows.{item_text}
 use Rattle.rb_script.specs.Lines.{Line}
-use Rattle.rb_step.specs.Node.{PlainNode, Turn, turn}
+use Rattle.rb_node.specs.Node.{PlainNode, Turn, turn}
 use Rattle.rb_texts.specs.Items.{PlainItem, event}
 use Rattle.rb_texts.specs.Texts.{line_of}
 use Rattle.rb_why.specs.declared.why.Reason.{Reason}

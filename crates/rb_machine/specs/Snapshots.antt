@@ -7,8 +7,8 @@ use Rattle.rb_message.specs.declared.message.Message.{Message}
 use Rattle.rb_raftlog.specs.declared.raft_log.CompactFault.{CompactFault}
 use Rattle.rb_raftlog.specs.declared.raft_log.CompactFault.TheVariants as faults
 use Rattle.rb_raftlog.specs.Log.{compact_fault, compacted, term_at}
-use Rattle.rb_step.specs.Node.{PlainNode, message}
-use Rattle.rb_step.specs.Sends.{snapshot_of}
+use Rattle.rb_node.specs.Node.{PlainNode, message}
+use Rattle.rb_node.specs.Sends.{snapshot_of}
 use Rattle.rb_texts.specs.Items.{moved}
 use Rattle.rb_texts.specs.declared.item.Verb.TheVariants as verbs
 use Rattle.rb_machine.specs.Cluster.{Cluster, node_at, with_node}

@@ -2,7 +2,7 @@
 use Rattle.std.specs.Prelude.{ℕ, ◌+◌, List, ◌∷◌, length, map, nat_lt, Option, Some, None}
 use Rattle.rb_raftlog.specs.Content.{content_end}
 use Rattle.rb_raftlog.specs.declared.entry.Entry.{Entry}
-use Rattle.rb_step.specs.Node.{PlainNode}
+use Rattle.rb_node.specs.Node.{PlainNode}
 use Rattle.rb_tracker.specs.Progresses.{PlainProgress}
 use Rattle.rb_texts.specs.declared.item.LogLine.{LogLine}
 use Rattle.rb_texts.specs.Items.{PlainItem, PlainNodeLine}

@@ -10,10 +10,10 @@ use Rattle.rb_message.specs.declared.event.Event.TheVariants.{Started}
 use Rattle.rb_message.specs.declared.kind.MessageKind.{MessageKind}
 use Rattle.rb_message.specs.declared.role.Role.{Role}
 use Rattle.rb_message.specs.declared.role.Role.TheVariants as role
-use Rattle.rb_step.specs.declared.options.Options.{Options}
-use Rattle.rb_step.specs.Node.{PlainNode, Turn, turn, message, is_leader, started}
-use Rattle.rb_step.specs.Sends.{viewed, is_replicating}
-use Rattle.rb_step.specs.Step.{stepped}
+use Rattle.rb_node.specs.declared.options.Options.{Options}
+use Rattle.rb_node.specs.Node.{PlainNode, Turn, turn, message, is_leader, started}
+use Rattle.rb_node.specs.Sends.{viewed, is_replicating}
+use Rattle.rb_node.specs.Step.{stepped}
 
 -- a node starts, and shows where and with which configuration
 abbrev pub node_started : ℕ → Snapshot → Options → List Event → Turn

@@ -4,9 +4,9 @@ use Rattle.rb_raftlog.specs.declared.entry.Entry.{Entry}
 use Rattle.rb_raftlog.specs.Log.{last, between, not_durable, made_durable}
 use Rattle.rb_message.specs.declared.hard_state.HardState.{HardState}
 use Rattle.rb_message.specs.declared.message.Message.{Message}
-use Rattle.rb_step.specs.Node.{PlainNode, Turn, with_node}
-use Rattle.rb_step.specs.Changing.{applied_all, joint_left}
-use Rattle.rb_step.specs.Step.{stepped}
+use Rattle.rb_node.specs.Node.{PlainNode, Turn, with_node}
+use Rattle.rb_node.specs.Changing.{applied_all, joint_left}
+use Rattle.rb_node.specs.Step.{stepped}
 
 abbrev pub hard_state : PlainNode → HardState
 hard_state n = record { term = n.term; vote = n.vote; commit = n.commit }

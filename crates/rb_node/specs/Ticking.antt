@@ -9,12 +9,11 @@ use Rattle.rb_message.specs.declared.event.Event.TheVariants.{LostQuorum}
 use Rattle.rb_message.specs.declared.kind.MessageKind.TheVariants as kind
 use Rattle.rb_message.specs.declared.role.Role.{Role}
 use Rattle.rb_message.specs.declared.role.Role.TheVariants as role
-use Rattle.rb_step.specs.declared.limits.TheConstants.{ELECTION_TICKS}
-use Rattle.rb_step.specs.Node.{PlainNode, Turn, told, with_node, posted}
-use Rattle.rb_step.specs.Terms.{followed}
-use Rattle.rb_step.specs.Campaigns.{campaigned}
-use Rattle.rb_step.specs.Transferring.{transfer_ended}
-use Rattle.rb_node.specs.declared.ticking.TheConstants.{MAX_TICKS, HEARTBEAT_TICKS}
+use Rattle.rb_node.specs.declared.limits.TheConstants.{ELECTION_TICKS, HEARTBEAT_TICKS, MAX_TICKS}
+use Rattle.rb_node.specs.Node.{PlainNode, Turn, told, with_node, posted}
+use Rattle.rb_node.specs.Terms.{followed}
+use Rattle.rb_node.specs.Campaigns.{campaigned}
+use Rattle.rb_node.specs.Transferring.{transfer_ended}
 
 -- a counter, which stops at the greatest timeout: beyond it no comparison sees more
 abbrev pub counted : ℕ → ℕ

@@ -5,15 +5,15 @@
 
 ghost use Rattle.std.specs.Prelude.{◌≡◌, ◌+◌, ◌≤◌, ◌++◌, [], length, OnOk, IfOk};
 ghost use Rattle.rb_raftlog.specs.declared.limits.TheConstants.{MAX_INDEX};
-ghost use Rattle.rb_step.specs.Node.{turn};
-ghost use Rattle.rb_step.specs.Changing.{applied_all};
+ghost use Rattle.rb_node.specs.Node.{turn};
+ghost use Rattle.rb_node.specs.Changing.{applied_all};
 ghost use Rattle.rb_node.specs.Readying.{applying, others, handed, saved, own_stepped, advanced};
 
 use crate::node::Node;
 use crate::ready::{applying_entry, applying_len, hard_state};
+use crate::state::State;
 use rb_message::{Event, Message};
 use rb_raftlog::{Entry, RaftLog};
-use rb_step::State;
 use std::alloc::AllocError;
 
 // What was sent, and what waited.

@@ -4,17 +4,17 @@ ghost use Rattle.std.specs.Prelude.{◌≡◌, ◌≤◌, IfOk, OnOk, false};
 ghost use Rattle.rb_raftlog.specs.declared.limits.TheConstants.{MAX_INDEX};
 ghost use Rattle.rb_message.specs.declared.kind.MessageKind.TheVariants.{Proposal, TransferLeader};
 ghost use Rattle.rb_raftlog.specs.declared.entry.Body.TheVariants.{Payload, Change};
-ghost use Rattle.rb_step.specs.Node.{turn};
-ghost use Rattle.rb_step.specs.Campaigns.{campaigned};
-ghost use Rattle.rb_step.specs.Sends.{snapshot_of};
-ghost use Rattle.rb_step.specs.Step.{stepped};
+ghost use Rattle.rb_node.specs.Node.{turn};
+ghost use Rattle.rb_node.specs.Campaigns.{campaigned};
+ghost use Rattle.rb_node.specs.Sends.{snapshot_of};
+ghost use Rattle.rb_node.specs.Step.{stepped};
 ghost use Rattle.rb_node.specs.Calls.{called, leader_forgotten, reported, IsCompactedTo};
 
 use crate::node::Node;
+use crate::state::State;
 use rb_change::{Shared, Transition, Word};
 use rb_message::{Event, Message, MessageKind, Role};
 use rb_raftlog::{Body, CompactFault, RaftLog, Snapshot};
-use rb_step::State;
 use rb_tracker::ProgressState;
 use std::alloc::AllocError;
 

@@ -3,13 +3,14 @@
 ghost use Rattle.std.specs.Prelude.{◌≡◌, ◌≤◌, ◌↔◌, [], ◌∷◌, ◌++◌, IsTrue, IfOk, OnOk};
 ghost use Rattle.rb_raftlog.specs.declared.limits.TheConstants.{MAX_INDEX};
 ghost use Rattle.rb_message.specs.declared.event.Event.TheVariants.{Started};
-ghost use Rattle.rb_step.specs.Node.{PlainNode, turn};
-ghost use Rattle.rb_step.specs.Comparing.{HaveSameNumbers};
+ghost use Rattle.rb_node.specs.Node.{PlainNode, turn};
+ghost use Rattle.rb_node.specs.Comparing.{HaveSameNumbers};
 ghost use Rattle.rb_node.specs.Calls.{node_started};
 
+use crate::options::Options;
+use crate::state::State;
 use rb_message::Event;
 use rb_raftlog::{RaftLog, Snapshot};
-use rb_step::{Options, State};
 use rb_tracker::Config;
 use std::alloc::{AllocError, Global};
 use std::marker::Model;
@@ -21,7 +22,7 @@ pub struct Node<L: RaftLog> {
 }
 
 impl<L: RaftLog> Model for Node<L> {
-    ghost use Rattle.rb_step.specs.Node.{PlainNode};
+    ghost use Rattle.rb_node.specs.Node.{PlainNode};
 
     ghost Value = { PlainNode };
 

@@ -8,9 +8,9 @@ ghost use Rattle.rb_raftlog.specs.Log.{entry_at};
 ghost use Rattle.rb_node.specs.Readying.{ready, hard_state, is_saved, has_ready, applying};
 
 use crate::node::Node;
+use crate::state::State;
 use rb_message::{HardState, Mail};
 use rb_raftlog::{Entry, Pieces, RaftLog};
-use rb_step::State;
 use std::marker::Model;
 
 /// What is ready, on loan from the node. Contracts see the node that it is of.
@@ -20,7 +20,7 @@ pub struct ReadyView<'a, L: RaftLog> {
 }
 
 impl<'a, L: RaftLog> Model for ReadyView<'a, L> {
-    ghost use Rattle.rb_step.specs.Node.{PlainNode};
+    ghost use Rattle.rb_node.specs.Node.{PlainNode};
 
     ghost Value = { PlainNode };
 

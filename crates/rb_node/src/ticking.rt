@@ -5,27 +5,16 @@
 //! (Ongaro's thesis, sections 3.4, 3.10 and 6.2).
 
 ghost use Rattle.std.specs.Prelude.{◌≡◌, OnOk};
-ghost use Rattle.rb_step.specs.Node.{turn};
-ghost use Rattle.rb_node.specs.declared.ticking.TheConstants.{MAX_TICKS, HEARTBEAT_TICKS};
+ghost use Rattle.rb_node.specs.Node.{turn};
+ghost use Rattle.rb_node.specs.declared.limits.TheConstants.{MAX_TICKS, HEARTBEAT_TICKS};
 ghost use Rattle.rb_node.specs.Ticking.{counted, beat_to, beat_each, all_beat, heartbeats_due, has_lost_quorum, looked_anew, quorum_looked_at, leader_counted, counted_up, leader_ticked, is_due, timed_out, other_ticked, ticked};
 
+use crate::limits::{ELECTION_TICKS, HEARTBEAT_TICKS, MAX_TICKS};
 use crate::node::Node;
+use crate::state::State;
 use rb_message::{Event, MessageKind, Role};
 use rb_raftlog::RaftLog;
-use rb_step::{ELECTION_TICKS, State};
 use std::alloc::AllocError;
-
-/// The greatest timeout, at which counters stop.
-pub const MAX_TICKS: u64 = 1_000;
-
-/// After so many ticks a leader sends heartbeats.
-pub const HEARTBEAT_TICKS: u64 = 1;
-
-/// The limits that definitions name are these numbers.
-pub fn limits_are()
-    ensures most { MAX_TICKS ≡ 1000 }
-    ensures heartbeat { HEARTBEAT_TICKS ≡ 1 }
-{}
 
 // A counter, one tick later.
 fn counted(count: u64) -> u64

@@ -6,9 +6,9 @@ use Rattle.std.proofs.Common.{inl, inr, ◌≡◌, ℕ, ◌+◌, ◌-◌, ◌≤
 use Rattle.rb_raftlog.specs.Log.{last}
 use Rattle.rb_tracker.proofs.SetLaws.{if_both}
 use Rattle.rb_message.specs.declared.message.Message.{Message}
-use Rattle.rb_step.specs.Node.{PlainNode, Turn, with_node}
-use Rattle.rb_step.specs.Step.{stepped}
-use Rattle.rb_step.specs.Changing.{applied_all, joint_left}
+use Rattle.rb_node.specs.Node.{PlainNode, Turn, with_node}
+use Rattle.rb_node.specs.Step.{stepped}
+use Rattle.rb_node.specs.Changing.{applied_all, joint_left}
 use Rattle.rb_node.specs.Readying.{applying, saved, own_stepped, advanced}
 use Rattle.rb_node.proofs.Between.{between_sizes}
 use Rattle.rb_node_laws.proofs.Goes.{Ways, core, Keeps, self, and_then}

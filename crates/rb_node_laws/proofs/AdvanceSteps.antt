@@ -5,9 +5,9 @@ use Rattle.std.proofs.lemmas.List.Elements.{All-weaker, All-head, All-tail}
 use Rattle.rb_raftlog.specs.declared.entry.Entry.{Entry}
 use Rattle.rb_tracker.proofs.SetLaws.{if_both}
 use Rattle.rb_message.specs.declared.message.Message.{Message}
-use Rattle.rb_step.specs.Node.{PlainNode, Turn, with_node}
-use Rattle.rb_step.specs.Changing.{applied_one, applied_all, joint_left}
-use Rattle.rb_step.specs.Step.{stepped}
+use Rattle.rb_node.specs.Node.{PlainNode, Turn, with_node}
+use Rattle.rb_node.specs.Changing.{applied_one, applied_all, joint_left}
+use Rattle.rb_node.specs.Step.{stepped}
 use Rattle.rb_node.specs.Readying.{applying, saved, own_stepped, advanced}
 use Rattle.rb_node_laws.specs.Sound.{IsSound}
 use Rattle.rb_node_laws.proofs.Goes.{core, Goes, anyone, goes_then}

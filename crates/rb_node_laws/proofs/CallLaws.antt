@@ -10,7 +10,7 @@ use Rattle.rb_tracker.specs.Progresses.{PlainProgress}
 use Rattle.rb_tracker.specs.Trackers.{place, view_at}
 use Rattle.rb_message.specs.declared.role.Role.{Role}
 use Rattle.rb_message.specs.declared.role.Role.TheVariants as role
-use Rattle.rb_step.specs.Node.{PlainNode, Turn, message, is_leader}
+use Rattle.rb_node.specs.Node.{PlainNode, Turn, message, is_leader}
 use Rattle.rb_node.specs.Calls.{forgotten_by, reported_with, reported_at, reported, IsCompactedTo}
 use Rattle.rb_node_laws.specs.Calling.{Call, Step, Campaign, Propose, Transfer, Tick, Advance, ForgetLeader, ReportUnreachable, SetTimeout, Compact, compacted_unless, compacted_to, after, run}
 use Rattle.rb_message.specs.Messages.{has_term}

@@ -14,9 +14,9 @@ use Rattle.rb_tracker.specs.Trackers.{ids_of, configured}
 use Rattle.rb_tracker.specs.declared.config.Config.{Config}
 use Rattle.rb_tracker.specs.declared.changes.ChangeFault.{ChangeFault}
 use Rattle.rb_message.specs.declared.event.Event.TheVariants.{Switched}
-use Rattle.rb_step.specs.Node.{PlainNode, Turn, told, with_node, is_leader}
-use Rattle.rb_step.specs.Leading.{is_log_full, with_views, can_commit, checked_commit, appended_change}
-use Rattle.rb_step.specs.Changing.{without_stranger, without_strangers, missing, stranger_given_up, joined_by, revised, steps_down, led_on, switched, change_applied, body_applied, applied_one, applied_all, leaves_joint, joint_left}
+use Rattle.rb_node.specs.Node.{PlainNode, Turn, told, with_node, is_leader}
+use Rattle.rb_node.specs.Leading.{is_log_full, with_views, can_commit, checked_commit, appended_change}
+use Rattle.rb_node.specs.Changing.{without_stranger, without_strangers, missing, stranger_given_up, joined_by, revised, steps_down, led_on, switched, change_applied, body_applied, applied_one, applied_all, leaves_joint, joint_left}
 use Rattle.rb_node_laws.specs.Choices.{bytes_of, payloads}
 use Rattle.rb_node_laws.proofs.Goes.{Ways, anyone, Core, core, Goes, Keeps, self, same, and_then}
 use Rattle.rb_node_laws.proofs.Turns.{filled, applied_to}

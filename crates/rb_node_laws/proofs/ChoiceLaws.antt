@@ -23,16 +23,16 @@ use Rattle.rb_message.specs.declared.kind.MessageKind.TheVariants as kind
 use Rattle.rb_message.specs.declared.message.Message.{Message}
 use Rattle.rb_message.specs.declared.role.Role.{Role}
 use Rattle.rb_message.specs.declared.role.Role.TheVariants as role
-use Rattle.rb_step.specs.declared.limits.TheConstants.{ELECTION_TICKS}
-use Rattle.rb_step.specs.Node.{PlainNode, Turn, told, with_node, ignored, message, is_leader}
-use Rattle.rb_step.specs.Terms.{raised, lowered, hears_leader, is_disturbed_by}
-use Rattle.rb_step.specs.Campaigns.{why_no_campaign, campaigned_unless, campaigned, stood_unless, stood_up}
-use Rattle.rb_step.specs.Changing.{steps_down, led_on, switched, change_applied}
-use Rattle.rb_step.specs.Leading.{is_log_full, appended, all_told}
-use Rattle.rb_step.specs.Proposing.{why_replaced, change_put, put_in, takes_none, proposed}
-use Rattle.rb_step.specs.Step.{as_leader, at_term, by_role_of, stepped}
+use Rattle.rb_node.specs.declared.limits.TheConstants.{ELECTION_TICKS}
+use Rattle.rb_node.specs.Node.{PlainNode, Turn, told, with_node, ignored, message, is_leader}
+use Rattle.rb_node.specs.Terms.{raised, lowered, hears_leader, is_disturbed_by}
+use Rattle.rb_node.specs.Campaigns.{why_no_campaign, campaigned_unless, campaigned, stood_unless, stood_up}
+use Rattle.rb_node.specs.Changing.{steps_down, led_on, switched, change_applied}
+use Rattle.rb_node.specs.Leading.{is_log_full, appended, all_told}
+use Rattle.rb_node.specs.Proposing.{why_replaced, change_put, put_in, takes_none, proposed}
+use Rattle.rb_node.specs.Step.{as_leader, at_term, by_role_of, stepped}
 use Rattle.rb_node.specs.Ticking.{counted, has_lost_quorum, quorum_looked_at, leader_counted, counted_up, leader_ticked, ticked_by, ticked}
-use Rattle.rb_step.specs.Transferring.{cannot_take_lead, transferred}
+use Rattle.rb_node.specs.Transferring.{cannot_take_lead, transferred}
 use Rattle.rb_node_laws.specs.Choices.{MayCampaign, MayTakeLead, PutsChange, StepsDown}
 use Rattle.rb_node_laws.proofs.Goes.{Core}
 use Rattle.rb_node_laws.proofs.LeaderLaws.{all_told_same}

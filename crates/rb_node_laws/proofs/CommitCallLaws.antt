@@ -13,12 +13,12 @@ use Rattle.rb_message.specs.declared.kind.MessageKind.TheVariants as kind
 use Rattle.rb_message.specs.declared.message.Message.{Message}
 use Rattle.rb_message.specs.declared.role.Role.{Role}
 use Rattle.rb_message.specs.declared.role.Role.TheVariants as role
-use Rattle.rb_step.specs.declared.limits.TheConstants.{ELECTION_TICKS}
-use Rattle.rb_step.specs.Node.{PlainNode, Turn, with_node, message}
-use Rattle.rb_step.specs.Campaigns.{why_no_campaign, campaigned_unless, campaigned}
-use Rattle.rb_step.specs.Changing.{body_applied, applied_one, joint_left}
-use Rattle.rb_step.specs.Transferring.{transfer_ended}
-use Rattle.rb_step.specs.Step.{stepped}
+use Rattle.rb_node.specs.declared.limits.TheConstants.{ELECTION_TICKS}
+use Rattle.rb_node.specs.Node.{PlainNode, Turn, with_node, message}
+use Rattle.rb_node.specs.Campaigns.{why_no_campaign, campaigned_unless, campaigned}
+use Rattle.rb_node.specs.Changing.{body_applied, applied_one, joint_left}
+use Rattle.rb_node.specs.Transferring.{transfer_ended}
+use Rattle.rb_node.specs.Step.{stepped}
 use Rattle.rb_node.specs.Calls.{reported}
 use Rattle.rb_node.specs.Readying.{saved, advanced}
 use Rattle.rb_node.specs.Ticking.{has_lost_quorum, looked_anew, quorum_looked_at, leader_counted, counted_up, leader_ticked, ticked_by}

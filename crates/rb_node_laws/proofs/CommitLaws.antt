@@ -23,16 +23,16 @@ use Rattle.rb_message.specs.declared.kind.MessageKind.TheVariants as kind
 use Rattle.rb_message.specs.declared.message.Message.{Message}
 use Rattle.rb_message.specs.declared.role.Role.{Role}
 use Rattle.rb_message.specs.declared.role.Role.TheVariants as role
-use Rattle.rb_step.specs.declared.sends.Mode.{Mode}
-use Rattle.rb_step.specs.Node.{PlainNode, Turn, told, with_node, ignored, is_leader}
-use Rattle.rb_step.specs.Sends.{viewed, told_all}
-use Rattle.rb_step.specs.Terms.{raised, raised_by, lowered, is_disturbed_by}
-use Rattle.rb_step.specs.Votes.{grants}
-use Rattle.rb_step.specs.Leading.{is_log_full, appended, with_views, can_commit, checked_commit}
-use Rattle.rb_step.specs.Acknowledging.{heard_of, handed_to, commit_or_sent, mode_after, accepted_news, accepted_old, accepted_by, accepted_with, accepted_at, accepted}
-use Rattle.rb_step.specs.Proposing.{why_replaced, change_put, put_in, takes_none, proposed}
-use Rattle.rb_step.specs.Changing.{without_strangers, missing, stranger_given_up, joined_by, revised, steps_down, led_on, switched, change_applied}
-use Rattle.rb_step.specs.Step.{as_leader, by_role_of, at_term_by, at_term, stepped}
+use Rattle.rb_node.specs.declared.sends.Mode.{Mode}
+use Rattle.rb_node.specs.Node.{PlainNode, Turn, told, with_node, ignored, is_leader}
+use Rattle.rb_node.specs.Sends.{viewed, told_all}
+use Rattle.rb_node.specs.Terms.{raised, raised_by, lowered, is_disturbed_by}
+use Rattle.rb_node.specs.Votes.{grants}
+use Rattle.rb_node.specs.Leading.{is_log_full, appended, with_views, can_commit, checked_commit}
+use Rattle.rb_node.specs.Acknowledging.{heard_of, handed_to, commit_or_sent, mode_after, accepted_news, accepted_old, accepted_by, accepted_with, accepted_at, accepted}
+use Rattle.rb_node.specs.Proposing.{why_replaced, change_put, put_in, takes_none, proposed}
+use Rattle.rb_node.specs.Changing.{without_strangers, missing, stranger_given_up, joined_by, revised, steps_down, led_on, switched, change_applied}
+use Rattle.rb_node.specs.Step.{as_leader, by_role_of, at_term_by, at_term, stepped}
 use Rattle.rb_node_laws.specs.Sound.{IsSound}
 use Rattle.rb_node_laws.proofs.Goes.{Core, core, Keeps, anyone}
 use Rattle.rb_node_laws.proofs.SendLaws.{sends_same, tells_same, told_all_same}

@@ -10,9 +10,9 @@ use Rattle.rb_message.specs.declared.kind.MessageKind.TheVariants as kind
 use Rattle.rb_message.specs.declared.message.Message.{Message}
 use Rattle.rb_message.specs.declared.role.Role.{Role}
 use Rattle.rb_message.specs.declared.role.Role.TheVariants as role
-use Rattle.rb_step.specs.Node.{PlainNode, Turn, message}
-use Rattle.rb_step.specs.Changing.{applied_one, joint_left}
-use Rattle.rb_step.specs.Step.{stepped}
+use Rattle.rb_node.specs.Node.{PlainNode, Turn, message}
+use Rattle.rb_node.specs.Changing.{applied_one, joint_left}
+use Rattle.rb_node.specs.Step.{stepped}
 use Rattle.rb_node.specs.Readying.{saved, advanced}
 use Rattle.rb_node_laws.specs.Calling.{Call, Step, Campaign, Propose, Transfer, Tick, Advance, ForgetLeader, ReportUnreachable, SetTimeout, Compact, after, run}
 use Rattle.rb_node_laws.specs.Elections.{Elected}

@@ -30,19 +30,18 @@ use Rattle.rb_message.specs.declared.kind.MessageKind.TheVariants as kind
 use Rattle.rb_message.specs.declared.message.Message.{Message}
 use Rattle.rb_message.specs.declared.role.Role.{Role}
 use Rattle.rb_message.specs.declared.role.Role.TheVariants as role
-use Rattle.rb_step.specs.declared.limits.TheConstants.{ELECTION_TICKS}
-use Rattle.rb_step.specs.Node.{Turn, told, with_node, ignored, message, is_leader}
-use Rattle.rb_step.specs.Terms.{followed, raised, raised_by, lowered, lowered_by, shown_term, answers_earlier, is_disturbed_by}
-use Rattle.rb_step.specs.Campaigns.{why_no_campaign, campaigned_unless, campaigned, stood_unless, stood_up}
-use Rattle.rb_step.specs.Votes.{count_of, counted, decided, pre_decided}
-use Rattle.rb_step.specs.Following.{heard, with_appended, after_log, append_taken, new_snapshot_taken, snapshot_taken, proposal_passed, transfer_passed}
-use Rattle.rb_step.specs.Leading.{is_log_full, appended, appended_change, with_views, leading, led}
-use Rattle.rb_step.specs.Acknowledging.{heard_of, accepted_at, accepted, refused_with, refused_at, append_refused, beat_answered_at, beat_answered}
-use Rattle.rb_step.specs.Proposing.{why_replaced, change_put, put_in, takes_none, proposed}
-use Rattle.rb_step.specs.Transferring.{cannot_take_lead, older_ended, transfer_started, transferred, transfer_ended}
-use Rattle.rb_step.specs.Changing.{without_strangers, missing, stranger_given_up, revised, steps_down, led_on, switched, change_applied, body_applied, applied_one, applied_all, leaves_joint, joint_left}
-use Rattle.rb_step.specs.Step.{as_follower, given_in, as_precandidate, as_candidate, as_leader, by_role_of, at_term_by, at_term, stepped}
-use Rattle.rb_node.specs.declared.ticking.TheConstants.{HEARTBEAT_TICKS}
+use Rattle.rb_node.specs.declared.limits.TheConstants.{ELECTION_TICKS, HEARTBEAT_TICKS}
+use Rattle.rb_node.specs.Node.{Turn, told, with_node, ignored, message, is_leader}
+use Rattle.rb_node.specs.Terms.{followed, raised, raised_by, lowered, lowered_by, shown_term, answers_earlier, is_disturbed_by}
+use Rattle.rb_node.specs.Campaigns.{why_no_campaign, campaigned_unless, campaigned, stood_unless, stood_up}
+use Rattle.rb_node.specs.Votes.{count_of, counted, decided, pre_decided}
+use Rattle.rb_node.specs.Following.{heard, with_appended, after_log, append_taken, new_snapshot_taken, snapshot_taken, proposal_passed, transfer_passed}
+use Rattle.rb_node.specs.Leading.{is_log_full, appended, appended_change, with_views, leading, led}
+use Rattle.rb_node.specs.Acknowledging.{heard_of, accepted_at, accepted, refused_with, refused_at, append_refused, beat_answered_at, beat_answered}
+use Rattle.rb_node.specs.Proposing.{why_replaced, change_put, put_in, takes_none, proposed}
+use Rattle.rb_node.specs.Transferring.{cannot_take_lead, older_ended, transfer_started, transferred, transfer_ended}
+use Rattle.rb_node.specs.Changing.{without_strangers, missing, stranger_given_up, revised, steps_down, led_on, switched, change_applied, body_applied, applied_one, applied_all, leaves_joint, joint_left}
+use Rattle.rb_node.specs.Step.{as_follower, given_in, as_precandidate, as_candidate, as_leader, by_role_of, at_term_by, at_term, stepped}
 use Rattle.rb_node.specs.Readying.{applying, saved, own_stepped, advanced}
 use Rattle.rb_node.specs.Ticking.{counted as counted_tick, heartbeats_due, has_lost_quorum, looked_anew, quorum_looked_at, leader_counted, counted_up, leader_ticked, is_due, other_ticked, ticked_by}
 use Rattle.rb_node_laws.specs.Calling.{Call, Step, Campaign, Propose, Transfer, Tick, Advance, ForgetLeader, ReportUnreachable, SetTimeout, Compact, after, run}

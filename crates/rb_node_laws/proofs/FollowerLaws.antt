@@ -13,8 +13,8 @@ use Rattle.rb_message.specs.Appends.{PlainAppend}
 use Rattle.rb_message.specs.declared.kind.MessageKind.{MessageKind}
 use Rattle.rb_message.specs.declared.message.Message.{Message}
 use Rattle.rb_message.specs.declared.role.Role.TheVariants as role
-use Rattle.rb_step.specs.Node.{PlainNode, Turn, with_node}
-use Rattle.rb_step.specs.Following.{beaten, after_log, with_appended, append_taken, snapshot_taken, proposal_passed, transfer_passed}
+use Rattle.rb_node.specs.Node.{PlainNode, Turn, with_node}
+use Rattle.rb_node.specs.Following.{beaten, after_log, with_appended, append_taken, snapshot_taken, proposal_passed, transfer_passed}
 use Rattle.rb_node_laws.proofs.Goes.{Ways, core, Keeps, self, and_then}
 use Rattle.rb_node_laws.proofs.Turns.{committed, with_append, with_snapshot, append_size}
 

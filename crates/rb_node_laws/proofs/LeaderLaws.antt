@@ -14,14 +14,14 @@ use Rattle.rb_message.specs.declared.event.Event.TheVariants.{Became, ReplacedCh
 use Rattle.rb_message.specs.declared.event.WhyReplaced.{WhyReplaced}
 use Rattle.rb_message.specs.declared.message.Message.{Message}
 use Rattle.rb_message.specs.declared.role.Role.TheVariants as role
-use Rattle.rb_step.specs.declared.sends.Mode.{Mode}
-use Rattle.rb_step.specs.declared.sends.Mode.TheVariants as mode
-use Rattle.rb_step.specs.Node.{PlainNode, Turn, told, with_node}
-use Rattle.rb_step.specs.Sends.{viewed}
-use Rattle.rb_step.specs.Leading.{is_log_full, appended, appended_change, with_view_of, with_views, in_lead, leading, all_told, led, can_commit, checked_commit}
-use Rattle.rb_step.specs.Acknowledging.{heard_of, handed_to, commits_or_sends, commit_or_sent, mode_after, accepted_news, accepted_old, accepted_by, accepted_with, accepted_at, accepted, refused_with, refused_at, append_refused, lags, beat_answered_with, beat_answered_at, beat_answered}
-use Rattle.rb_step.specs.Proposing.{why_replaced, change_put, put_in, takes_none, proposed}
-use Rattle.rb_step.specs.Transferring.{cannot_take_lead, older_ended, urged, transfer_started, transferred, transfer_ended}
+use Rattle.rb_node.specs.declared.sends.Mode.{Mode}
+use Rattle.rb_node.specs.declared.sends.Mode.TheVariants as mode
+use Rattle.rb_node.specs.Node.{PlainNode, Turn, told, with_node}
+use Rattle.rb_node.specs.Sends.{viewed}
+use Rattle.rb_node.specs.Leading.{is_log_full, appended, appended_change, with_view_of, with_views, in_lead, leading, all_told, led, can_commit, checked_commit}
+use Rattle.rb_node.specs.Acknowledging.{heard_of, handed_to, commits_or_sends, commit_or_sent, mode_after, accepted_news, accepted_old, accepted_by, accepted_with, accepted_at, accepted, refused_with, refused_at, append_refused, lags, beat_answered_with, beat_answered_at, beat_answered}
+use Rattle.rb_node.specs.Proposing.{why_replaced, change_put, put_in, takes_none, proposed}
+use Rattle.rb_node.specs.Transferring.{cannot_take_lead, older_ended, urged, transfer_started, transferred, transfer_ended}
 use Rattle.rb_node_laws.proofs.Goes.{Ways, core, Keeps, self, same, and_then}
 use Rattle.rb_node_laws.proofs.Turns.{turned, committed, with_entry}
 use Rattle.rb_node_laws.proofs.SendLaws.{sends_same, tells_same, told_all_same}

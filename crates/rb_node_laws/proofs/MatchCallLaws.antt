@@ -22,13 +22,12 @@ use Rattle.rb_tracker.specs.declared.changes.ChangeFault.{ChangeFault}
 use Rattle.rb_message.specs.declared.event.Event.TheVariants.{Switched}
 use Rattle.rb_message.specs.declared.role.Role.{Role}
 use Rattle.rb_message.specs.declared.role.Role.TheVariants as role
-use Rattle.rb_step.specs.declared.limits.TheConstants.{ELECTION_TICKS}
-use Rattle.rb_step.specs.Node.{PlainNode, Turn, told, with_node, is_leader}
-use Rattle.rb_step.specs.Sends.{is_replicating, told_all}
-use Rattle.rb_step.specs.Leading.{is_log_full, appended_change, with_views, can_commit, checked_commit}
-use Rattle.rb_step.specs.Changing.{without_stranger, without_strangers, missing, stranger_given_up, joined_by, revised, steps_down, led_on, switched, change_applied, body_applied, applied_one, leaves_joint, joint_left}
-use Rattle.rb_step.specs.Transferring.{transfer_ended}
-use Rattle.rb_node.specs.declared.ticking.TheConstants.{HEARTBEAT_TICKS}
+use Rattle.rb_node.specs.declared.limits.TheConstants.{ELECTION_TICKS, HEARTBEAT_TICKS}
+use Rattle.rb_node.specs.Node.{PlainNode, Turn, told, with_node, is_leader}
+use Rattle.rb_node.specs.Sends.{is_replicating, told_all}
+use Rattle.rb_node.specs.Leading.{is_log_full, appended_change, with_views, can_commit, checked_commit}
+use Rattle.rb_node.specs.Changing.{without_stranger, without_strangers, missing, stranger_given_up, joined_by, revised, steps_down, led_on, switched, change_applied, body_applied, applied_one, leaves_joint, joint_left}
+use Rattle.rb_node.specs.Transferring.{transfer_ended}
 use Rattle.rb_node.specs.Calls.{forgotten_by, unreachable, reported_with, reported_at, reported}
 use Rattle.rb_node.specs.Ticking.{counted as counted_tick, beat_to, beat_each, heartbeats_due, has_lost_quorum, looked_anew, quorum_looked_at, leader_counted, counted_up, leader_ticked, is_due, other_ticked, ticked_by}
 use Rattle.rb_node_laws.specs.Calling.{compacted_unless}

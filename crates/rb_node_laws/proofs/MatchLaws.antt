@@ -19,18 +19,18 @@ use Rattle.rb_message.specs.declared.kind.MessageKind.TheVariants as kind
 use Rattle.rb_message.specs.declared.message.Message.{Message}
 use Rattle.rb_message.specs.declared.role.Role.{Role}
 use Rattle.rb_message.specs.declared.role.Role.TheVariants as role
-use Rattle.rb_step.specs.declared.sends.Mode.TheVariants as mode
-use Rattle.rb_step.specs.Node.{PlainNode, Turn, told, with_node, ignored}
-use Rattle.rb_step.specs.Terms.{followed, raised, raised_by, lowered, lowered_by, answers_earlier, is_disturbed_by}
-use Rattle.rb_step.specs.Campaigns.{candidate, precandidate, stood, sounded_out, why_no_campaign, campaigned_unless, campaigned, stood_unless, stood_up}
-use Rattle.rb_step.specs.Sends.{viewed, told_all}
-use Rattle.rb_step.specs.Leading.{is_log_full, appended, appended_change, in_lead, leading, led}
-use Rattle.rb_step.specs.Votes.{grants, vote_answered, pre_vote_answered, count_of, counted, decided, pre_decided}
-use Rattle.rb_step.specs.Following.{heard, append_taken, snapshot_taken}
-use Rattle.rb_step.specs.Acknowledging.{heard_of, handed_to, commit_or_sent, mode_after, accepted_news, accepted_old, accepted_by, accepted_with, accepted_at, accepted, refused_with, refused_at, append_refused, lags, beat_answered_with, beat_answered_at, beat_answered}
-use Rattle.rb_step.specs.Proposing.{why_replaced, change_put, put_in, takes_none, proposed}
-use Rattle.rb_step.specs.Transferring.{cannot_take_lead, older_ended, urged, transferred}
-use Rattle.rb_step.specs.Step.{as_follower, given_in, as_precandidate, as_candidate, as_leader, by_role_of, at_term_by, at_term, stepped}
+use Rattle.rb_node.specs.declared.sends.Mode.TheVariants as mode
+use Rattle.rb_node.specs.Node.{PlainNode, Turn, told, with_node, ignored}
+use Rattle.rb_node.specs.Terms.{followed, raised, raised_by, lowered, lowered_by, answers_earlier, is_disturbed_by}
+use Rattle.rb_node.specs.Campaigns.{candidate, precandidate, stood, sounded_out, why_no_campaign, campaigned_unless, campaigned, stood_unless, stood_up}
+use Rattle.rb_node.specs.Sends.{viewed, told_all}
+use Rattle.rb_node.specs.Leading.{is_log_full, appended, appended_change, in_lead, leading, led}
+use Rattle.rb_node.specs.Votes.{grants, vote_answered, pre_vote_answered, count_of, counted, decided, pre_decided}
+use Rattle.rb_node.specs.Following.{heard, append_taken, snapshot_taken}
+use Rattle.rb_node.specs.Acknowledging.{heard_of, handed_to, commit_or_sent, mode_after, accepted_news, accepted_old, accepted_by, accepted_with, accepted_at, accepted, refused_with, refused_at, append_refused, lags, beat_answered_with, beat_answered_at, beat_answered}
+use Rattle.rb_node.specs.Proposing.{why_replaced, change_put, put_in, takes_none, proposed}
+use Rattle.rb_node.specs.Transferring.{cannot_take_lead, older_ended, urged, transferred}
+use Rattle.rb_node.specs.Step.{as_follower, given_in, as_precandidate, as_candidate, as_leader, by_role_of, at_term_by, at_term, stepped}
 use Rattle.rb_node_laws.specs.Matches.{RestsOn}
 use Rattle.rb_node_laws.proofs.Goes.{Core, core}
 use Rattle.rb_node_laws.proofs.LeaderLaws.{with_views_same}

@@ -15,14 +15,14 @@ use Rattle.rb_tracker.specs.Sets.{rank}
 use Rattle.rb_tracker.specs.Trackers.{place, view_at, has_view, with_new, ids_of}
 use Rattle.rb_tracker.specs.declared.progress.ProgressState.{ProgressState}
 use Rattle.rb_tracker.specs.declared.progress.ProgressState.TheVariants as state
-use Rattle.rb_step.specs.declared.sends.Mode.{Mode}
-use Rattle.rb_step.specs.declared.sends.Mode.TheVariants as mode
-use Rattle.rb_step.specs.declared.sends.Sending.{Sending}
-use Rattle.rb_step.specs.declared.sends.Sending.TheVariants as sending
-use Rattle.rb_step.specs.Node.{PlainNode}
-use Rattle.rb_step.specs.Sends.{snapshot_to, empty_to, entries_to, sends_by, sending_of, sends_with, sends_at, sends, tells, told_all}
-use Rattle.rb_step.specs.Leading.{new_view, with_view_of, with_views, can_commit}
-use Rattle.rb_step.specs.Acknowledging.{heard_of, handed_to, commit_or_sent}
+use Rattle.rb_node.specs.declared.sends.Mode.{Mode}
+use Rattle.rb_node.specs.declared.sends.Mode.TheVariants as mode
+use Rattle.rb_node.specs.declared.sends.Sending.{Sending}
+use Rattle.rb_node.specs.declared.sends.Sending.TheVariants as sending
+use Rattle.rb_node.specs.Node.{PlainNode}
+use Rattle.rb_node.specs.Sends.{snapshot_to, empty_to, entries_to, sends_by, sending_of, sends_with, sends_at, sends, tells, told_all}
+use Rattle.rb_node.specs.Leading.{new_view, with_view_of, with_views, can_commit}
+use Rattle.rb_node.specs.Acknowledging.{heard_of, handed_to, commit_or_sent}
 use Rattle.rb_node_laws.proofs.Goes.{Core, core}
 use Rattle.rb_node_laws.proofs.LeaderLaws.{with_view_same}
 use Rattle.rb_node_laws.proofs.QuorumLaws.{same_match, sent_match}

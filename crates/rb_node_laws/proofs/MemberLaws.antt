@@ -12,9 +12,9 @@ use Rattle.rb_tracker.specs.Progresses.{PlainProgress, marked}
 use Rattle.rb_tracker.specs.Sets.{has, union, rank, AreAbove}
 use Rattle.rb_tracker.specs.Trackers.{has_view, ids_of, AreInOrder}
 use Rattle.rb_tracker.specs.declared.config.Config.{Config}
-use Rattle.rb_step.specs.Changing.{without_stranger, without_strangers, missing}
-use Rattle.rb_step.specs.Leading.{new_view, with_view_of, with_views}
-use Rattle.rb_step.specs.Node.{PlainNode}
+use Rattle.rb_node.specs.Changing.{without_stranger, without_strangers, missing}
+use Rattle.rb_node.specs.Leading.{new_view, with_view_of, with_views}
+use Rattle.rb_node.specs.Node.{PlainNode}
 
 -- ---- the ids that have views
 

@@ -18,16 +18,16 @@ use Rattle.rb_message.specs.declared.kind.MessageKind.TheVariants as kind
 use Rattle.rb_message.specs.declared.message.Message.{Message}
 use Rattle.rb_message.specs.declared.role.Role.{Role}
 use Rattle.rb_message.specs.declared.role.Role.TheVariants as role
-use Rattle.rb_step.specs.declared.sends.Mode.{Mode}
-use Rattle.rb_step.specs.declared.sends.Mode.TheVariants as mode
-use Rattle.rb_step.specs.declared.sends.Sending.{Sending}
-use Rattle.rb_step.specs.declared.sends.Sending.TheVariants as sending
-use Rattle.rb_step.specs.Node.{PlainNode, Turn, told, with_node, posted}
-use Rattle.rb_step.specs.Sends.{viewed, snapshot_of, snapshot_to, empty_to, entries_to, sends_by, sending_of, sends_with, sends_at, sends, tells, told_all}
-use Rattle.rb_step.specs.Leading.{is_log_full, appended, appended_change, with_view_of, with_views, in_lead, leading, led, can_commit, checked_commit}
-use Rattle.rb_step.specs.Acknowledging.{heard_of, handed_to, commit_or_sent, mode_after, accepted_news, accepted_old, accepted_by, accepted_with, accepted_at, accepted, refused_with, refused_at, append_refused, lags, beat_answered_with, beat_answered_at, beat_answered}
-use Rattle.rb_step.specs.Proposing.{why_replaced, change_put, put_in, takes_none, proposed}
-use Rattle.rb_step.specs.Transferring.{cannot_take_lead, older_ended, urged, transferred, transfer_ended}
+use Rattle.rb_node.specs.declared.sends.Mode.{Mode}
+use Rattle.rb_node.specs.declared.sends.Mode.TheVariants as mode
+use Rattle.rb_node.specs.declared.sends.Sending.{Sending}
+use Rattle.rb_node.specs.declared.sends.Sending.TheVariants as sending
+use Rattle.rb_node.specs.Node.{PlainNode, Turn, told, with_node, posted}
+use Rattle.rb_node.specs.Sends.{viewed, snapshot_of, snapshot_to, empty_to, entries_to, sends_by, sending_of, sends_with, sends_at, sends, tells, told_all}
+use Rattle.rb_node.specs.Leading.{is_log_full, appended, appended_change, with_view_of, with_views, in_lead, leading, led, can_commit, checked_commit}
+use Rattle.rb_node.specs.Acknowledging.{heard_of, handed_to, commit_or_sent, mode_after, accepted_news, accepted_old, accepted_by, accepted_with, accepted_at, accepted, refused_with, refused_at, append_refused, lags, beat_answered_with, beat_answered_at, beat_answered}
+use Rattle.rb_node.specs.Proposing.{why_replaced, change_put, put_in, takes_none, proposed}
+use Rattle.rb_node.specs.Transferring.{cannot_take_lead, older_ended, urged, transferred, transfer_ended}
 use Rattle.rb_node_laws.specs.Sound.{AreOfMembers, HasViewsOfMembers}
 use Rattle.rb_node_laws.proofs.MemberLaws.{ids_set, with_views_seen, with_views_in_order, with_views_config, member_is}
 

@@ -6,10 +6,10 @@ use Rattle.rb_message.specs.declared.event.WhyNoCampaign.{WhyNoCampaign}
 use Rattle.rb_message.specs.declared.kind.MessageKind.{MessageKind}
 use Rattle.rb_message.specs.declared.kind.MessageKind.TheVariants as kind
 use Rattle.rb_message.specs.declared.message.Message.{Message}
-use Rattle.rb_step.specs.Node.{PlainNode, Turn, ignored}
-use Rattle.rb_step.specs.Terms.{raised, raised_by, lowered, is_disturbed_by}
-use Rattle.rb_step.specs.Campaigns.{why_no_campaign, campaigned_unless, campaigned, stood, sounded_out}
-use Rattle.rb_step.specs.Step.{at_term_by, at_term, stepped}
+use Rattle.rb_node.specs.Node.{PlainNode, Turn, ignored}
+use Rattle.rb_node.specs.Terms.{raised, raised_by, lowered, is_disturbed_by}
+use Rattle.rb_node.specs.Campaigns.{why_no_campaign, campaigned_unless, campaigned, stood, sounded_out}
+use Rattle.rb_node.specs.Step.{at_term_by, at_term, stepped}
 use Rattle.rb_node_laws.specs.Sound.{HasSameVote}
 use Rattle.rb_node_laws.proofs.Goes.{Core, core}
 use Rattle.rb_node_laws.proofs.TermLaws.{sounded_out_core, lowered_same}

@@ -4,7 +4,7 @@ use Rattle.std.specs.Prelude.{All, Contains}
 use Rattle.std.proofs.lemmas.List.Elements.{All-nil, All-push, All-weaker, All-append, All-filter, All-contains}
 use Rattle.rb_message.specs.declared.kind.MessageKind.{MessageKind}
 use Rattle.rb_message.specs.declared.message.Message.{Message}
-use Rattle.rb_step.specs.Node.{PlainNode, Turn}
+use Rattle.rb_node.specs.Node.{PlainNode, Turn}
 use Rattle.rb_node.specs.Readying.{saved, handed, others}
 use Rattle.rb_node_laws.specs.Calling.{Call, run}
 use Rattle.rb_node_laws.specs.Sound.{IsSound}

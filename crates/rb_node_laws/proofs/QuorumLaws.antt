@@ -11,12 +11,12 @@ use Rattle.rb_tracker.specs.Trackers.{PlainTracker, place, view_at, with_view, i
 use Rattle.rb_tracker.specs.Windows.{is_full}
 use Rattle.rb_tracker.specs.declared.progress.ProgressState.{ProgressState}
 use Rattle.rb_tracker.specs.declared.progress.ProgressState.TheVariants as state
-use Rattle.rb_step.specs.declared.sends.Mode.{Mode}
-use Rattle.rb_step.specs.declared.sends.Mode.TheVariants as mode
-use Rattle.rb_step.specs.declared.sends.Sending.{Sending}
-use Rattle.rb_step.specs.declared.sends.Sending.TheVariants as sending
-use Rattle.rb_step.specs.Node.{PlainNode}
-use Rattle.rb_step.specs.Sends.{snapshot_to, empty_to, entries_to, sends_by, sending_of, sends_with, sends_at, sends, tells, told_all}
+use Rattle.rb_node.specs.declared.sends.Mode.{Mode}
+use Rattle.rb_node.specs.declared.sends.Mode.TheVariants as mode
+use Rattle.rb_node.specs.declared.sends.Sending.{Sending}
+use Rattle.rb_node.specs.declared.sends.Sending.TheVariants as sending
+use Rattle.rb_node.specs.Node.{PlainNode}
+use Rattle.rb_node.specs.Sends.{snapshot_to, empty_to, entries_to, sends_by, sending_of, sends_with, sends_at, sends, tells, told_all}
 
 -- ---- a view that is written with the same match
 

@@ -5,8 +5,8 @@ use Rattle.rb_raftlog.specs.declared.entry.Entry.{Entry}
 use Rattle.rb_raftlog.specs.Log.{last}
 use Rattle.rb_message.specs.declared.hard_state.HardState.{HardState}
 use Rattle.rb_message.specs.declared.message.Message.{Message}
-use Rattle.rb_step.specs.Node.{PlainNode, Turn, with_node}
-use Rattle.rb_step.specs.Changing.{applied_all}
+use Rattle.rb_node.specs.Node.{PlainNode, Turn, with_node}
+use Rattle.rb_node.specs.Changing.{applied_all}
 use Rattle.rb_node.specs.Readying.{hard_state, is_saved, has_ready, applying, saved}
 use Rattle.rb_node.proofs.Between.{between_sizes}
 use Rattle.rb_node_laws.specs.Sound.{IsSound}

@@ -28,13 +28,12 @@ use Rattle.rb_message.specs.declared.kind.MessageKind.TheVariants as kind
 use Rattle.rb_message.specs.declared.message.Message.{Message}
 use Rattle.rb_message.specs.declared.role.Role.{Role}
 use Rattle.rb_message.specs.declared.role.Role.TheVariants as role
-use Rattle.rb_step.specs.declared.limits.TheConstants.{ELECTION_TICKS}
-use Rattle.rb_step.specs.Terms.{followed, raised, raised_by, lowered, lowered_by, shown_term, answers_earlier, is_disturbed_by}
-use Rattle.rb_step.specs.Leading.{with_views, appended_change}
-use Rattle.rb_step.specs.Changing.{without_stranger, without_strangers, missing, stranger_given_up, joined_by, revised, steps_down, led_on, switched, change_applied, body_applied, applied_one, applied_all, leaves_joint, joint_left}
-use Rattle.rb_step.specs.Transferring.{transfer_ended}
-use Rattle.rb_step.specs.Step.{as_follower, given_in, as_precandidate, as_candidate, as_leader, by_role_of, at_term_by, at_term, stepped}
-use Rattle.rb_node.specs.declared.ticking.TheConstants.{HEARTBEAT_TICKS}
+use Rattle.rb_node.specs.declared.limits.TheConstants.{ELECTION_TICKS, HEARTBEAT_TICKS}
+use Rattle.rb_node.specs.Terms.{followed, raised, raised_by, lowered, lowered_by, shown_term, answers_earlier, is_disturbed_by}
+use Rattle.rb_node.specs.Leading.{with_views, appended_change}
+use Rattle.rb_node.specs.Changing.{without_stranger, without_strangers, missing, stranger_given_up, joined_by, revised, steps_down, led_on, switched, change_applied, body_applied, applied_one, applied_all, leaves_joint, joint_left}
+use Rattle.rb_node.specs.Transferring.{transfer_ended}
+use Rattle.rb_node.specs.Step.{as_follower, given_in, as_precandidate, as_candidate, as_leader, by_role_of, at_term_by, at_term, stepped}
 use Rattle.rb_node.specs.Calls.{forgotten_by, reported_with, reported_at, reported}
 use Rattle.rb_node.specs.Readying.{applying, saved, own_stepped, advanced}
 use Rattle.rb_node.specs.Ticking.{counted as counted_tick, beat_to, beat_each, heartbeats_due, has_lost_quorum, looked_anew, quorum_looked_at, leader_counted, counted_up, leader_ticked, is_due, other_ticked, ticked_by}
@@ -43,10 +42,10 @@ use Rattle.std.proofs.Common.{◌≡◌, ℕ, ◌+◌, ◌≤◌, Bool, true, fa
 use Rattle.std.proofs.lemmas.Bool.{ltb-false, leb-false, false≢true}
 use Rattle.rb_raftlog.proofs.TermLaws.{is_term_is, held_in}
 use Rattle.rb_tracker.specs.Commits.{match_of}
-use Rattle.rb_step.specs.Node.{PlainNode, Turn, told, with_node, ignored, message, is_leader}
-use Rattle.rb_step.specs.Campaigns.{asked_one, asked, candidate, precandidate, stood, sounded_out, why_no_campaign, campaigned_unless, campaigned, stood_unless, stood_up}
-use Rattle.rb_step.specs.Votes.{grants, voted_for, vote_answered, pre_vote_answered, count_of, counted, decided, pre_decided}
-use Rattle.rb_step.specs.Following.{heard, beaten, commits_to, after_log, with_appended, append_taken, restored_to, with_match, snapshot_taken, proposal_passed, transfer_passed}
+use Rattle.rb_node.specs.Node.{PlainNode, Turn, told, with_node, ignored, message, is_leader}
+use Rattle.rb_node.specs.Campaigns.{asked_one, asked, candidate, precandidate, stood, sounded_out, why_no_campaign, campaigned_unless, campaigned, stood_unless, stood_up}
+use Rattle.rb_node.specs.Votes.{grants, voted_for, vote_answered, pre_vote_answered, count_of, counted, decided, pre_decided}
+use Rattle.rb_node.specs.Following.{heard, beaten, commits_to, after_log, with_appended, append_taken, restored_to, with_match, snapshot_taken, proposal_passed, transfer_passed}
 use Rattle.rb_node_laws.specs.Sound.{IsSound}
 use Rattle.rb_node_laws.specs.Words.{Sends, Answers}
 use Rattle.rb_node_laws.proofs.Goes.{Core, core, Goes, anyone}

@@ -3,12 +3,12 @@ use Rattle.std.proofs.Common.{◌≡◌, ℕ, List, [], ◌∷◌, Option, Some,
 use Rattle.rb_tracker.proofs.SetLaws.{if_both}
 use Rattle.rb_tracker.specs.Progresses.{PlainProgress}
 use Rattle.rb_tracker.specs.Trackers.{place, view_at, ids_of}
-use Rattle.rb_step.specs.declared.sends.Mode.{Mode}
-use Rattle.rb_step.specs.declared.sends.Mode.TheVariants as mode
-use Rattle.rb_step.specs.declared.sends.Sending.{Sending}
-use Rattle.rb_step.specs.declared.sends.Sending.TheVariants as sending
-use Rattle.rb_step.specs.Node.{PlainNode}
-use Rattle.rb_step.specs.Sends.{snapshot_to, empty_to, entries_to, sends_by, sending_of, sends_with, sends_at, sends, tells, told_all}
+use Rattle.rb_node.specs.declared.sends.Mode.{Mode}
+use Rattle.rb_node.specs.declared.sends.Mode.TheVariants as mode
+use Rattle.rb_node.specs.declared.sends.Sending.{Sending}
+use Rattle.rb_node.specs.declared.sends.Sending.TheVariants as sending
+use Rattle.rb_node.specs.Node.{PlainNode}
+use Rattle.rb_node.specs.Sends.{snapshot_to, empty_to, entries_to, sends_by, sending_of, sends_with, sends_at, sends, tells, told_all}
 use Rattle.rb_node_laws.proofs.Goes.{core}
 
 snapshot_to_same : (o : Option PlainProgress) (n : PlainNode) (i to : ℕ) → core (snapshot_to o n i to) ≡ core n

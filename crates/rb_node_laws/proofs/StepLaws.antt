@@ -8,14 +8,14 @@ use Rattle.rb_message.specs.declared.kind.MessageKind.TheVariants as kind
 use Rattle.rb_message.specs.declared.message.Message.{Message}
 use Rattle.rb_message.specs.declared.role.Role.{Role}
 use Rattle.rb_message.specs.declared.role.Role.TheVariants as role
-use Rattle.rb_step.specs.Node.{Turn, with_node, ignored}
-use Rattle.rb_step.specs.Terms.{followed, raised, raised_by, lowered, is_disturbed_by}
-use Rattle.rb_step.specs.Votes.{count_of}
+use Rattle.rb_node.specs.Node.{Turn, with_node, ignored}
+use Rattle.rb_node.specs.Terms.{followed, raised, raised_by, lowered, is_disturbed_by}
+use Rattle.rb_node.specs.Votes.{count_of}
 use Rattle.rb_raftlog.specs.Log.{LogValue, is_up_to_date}
 use Rattle.rb_tracker.specs.declared.votes.VoteResult.TheVariants.{Won}
 use Rattle.rb_node_laws.specs.Elections.{IsGranted, IsElected}
-use Rattle.rb_step.specs.Following.{heard}
-use Rattle.rb_step.specs.Step.{as_follower, given_in, as_precandidate, as_candidate, as_leader, by_role_of, at_term_by, at_term, stepped}
+use Rattle.rb_node.specs.Following.{heard}
+use Rattle.rb_node.specs.Step.{as_follower, given_in, as_precandidate, as_candidate, as_leader, by_role_of, at_term_by, at_term, stepped}
 use Rattle.rb_node_laws.proofs.Goes.{Ways, core, Keeps, self, same, and_then}
 use Rattle.rb_node_laws.proofs.TermLaws.{follows, raises, lowered_same, campaigns}
 use Rattle.rb_node_laws.proofs.VoteLaws.{answers_vote, pre_vote_same, votes_taken, pre_votes_taken}

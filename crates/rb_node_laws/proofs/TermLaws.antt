@@ -9,9 +9,9 @@ use Rattle.rb_message.specs.declared.kind.MessageKind.{MessageKind}
 use Rattle.rb_message.specs.declared.kind.MessageKind.TheVariants as kind
 use Rattle.rb_message.specs.declared.message.Message.{Message}
 use Rattle.rb_message.specs.declared.role.Role.TheVariants as role
-use Rattle.rb_step.specs.Node.{PlainNode, Turn}
-use Rattle.rb_step.specs.Terms.{followed, raised_by, lowered_by, shown_term, answers_earlier}
-use Rattle.rb_step.specs.Campaigns.{asked_one, asked, candidate, precandidate, stood, sounded_out, why_no_campaign, campaigned_unless, campaigned, stood_unless, stood_up}
+use Rattle.rb_node.specs.Node.{PlainNode, Turn}
+use Rattle.rb_node.specs.Terms.{followed, raised_by, lowered_by, shown_term, answers_earlier}
+use Rattle.rb_node.specs.Campaigns.{asked_one, asked, candidate, precandidate, stood, sounded_out, why_no_campaign, campaigned_unless, campaigned, stood_unless, stood_up}
 use Rattle.rb_node_laws.proofs.Goes.{Ways, Voted, core, Keeps, self, same, and_then}
 use Rattle.rb_node_laws.proofs.Turns.{turned}
 

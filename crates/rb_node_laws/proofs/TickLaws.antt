@@ -5,10 +5,9 @@ use Rattle.rb_tracker.specs.Trackers.{ids_of}
 use Rattle.rb_message.specs.declared.event.Event.TheVariants.{LostQuorum}
 use Rattle.rb_message.specs.declared.role.Role.{Role}
 use Rattle.rb_message.specs.declared.role.Role.TheVariants as role
-use Rattle.rb_step.specs.declared.limits.TheConstants.{ELECTION_TICKS}
-use Rattle.rb_step.specs.Node.{PlainNode, Turn, told, with_node}
-use Rattle.rb_step.specs.Transferring.{transfer_ended}
-use Rattle.rb_node.specs.declared.ticking.TheConstants.{HEARTBEAT_TICKS}
+use Rattle.rb_node.specs.declared.limits.TheConstants.{ELECTION_TICKS, HEARTBEAT_TICKS}
+use Rattle.rb_node.specs.Node.{PlainNode, Turn, told, with_node}
+use Rattle.rb_node.specs.Transferring.{transfer_ended}
 use Rattle.rb_node.specs.Ticking.{counted, beat_to, beat_each, heartbeats_due, has_lost_quorum, looked_anew, quorum_looked_at, leader_counted, counted_up, leader_ticked, is_due, other_ticked, ticked_by}
 use Rattle.rb_node_laws.proofs.Goes.{Ways, core, Keeps, self, same}
 use Rattle.rb_node_laws.proofs.TermLaws.{follows, campaigns}

@@ -7,8 +7,8 @@ use Rattle.rb_tracker.specs.declared.votes.VoteResult.{VoteResult}
 use Rattle.rb_tracker.specs.declared.votes.VoteResult.TheVariants as vote
 use Rattle.rb_message.specs.declared.message.Message.{Message}
 use Rattle.rb_message.specs.declared.role.Role.TheVariants as role
-use Rattle.rb_step.specs.Node.{PlainNode, Turn}
-use Rattle.rb_step.specs.Votes.{can_vote_for, grants, voted_for, vote_answered, pre_vote_answered, count_of, counted, decided, pre_decided, vote_taken, pre_vote_taken}
+use Rattle.rb_node.specs.Node.{PlainNode, Turn}
+use Rattle.rb_node.specs.Votes.{can_vote_for, grants, voted_for, vote_answered, pre_vote_answered, count_of, counted, decided, pre_decided, vote_taken, pre_vote_taken}
 use Rattle.rb_node_laws.proofs.Goes.{Ways, core, Keeps, self}
 use Rattle.rb_node_laws.proofs.Turns.{turned}
 use Rattle.rb_node_laws.proofs.TermLaws.{follows, stands_up}

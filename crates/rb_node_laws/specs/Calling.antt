@@ -5,9 +5,9 @@ use Rattle.rb_raftlog.specs.declared.raft_log.CompactFault.{CompactFault}
 use Rattle.rb_raftlog.specs.declared.entry.Body.{Body}
 use Rattle.rb_message.specs.declared.kind.MessageKind.TheVariants.{Proposal, TransferLeader}
 use Rattle.rb_message.specs.declared.message.Message.{Message}
-use Rattle.rb_step.specs.Node.{PlainNode, Turn, with_node}
-use Rattle.rb_step.specs.Campaigns.{campaigned}
-use Rattle.rb_step.specs.Step.{stepped}
+use Rattle.rb_node.specs.Node.{PlainNode, Turn, with_node}
+use Rattle.rb_node.specs.Campaigns.{campaigned}
+use Rattle.rb_node.specs.Step.{stepped}
 use Rattle.rb_node.specs.Calls.{called, leader_forgotten, reported}
 use Rattle.rb_node.specs.Readying.{advanced}
 use Rattle.rb_node.specs.Ticking.{ticked}

@@ -7,7 +7,7 @@ use Rattle.rb_raftlog.specs.declared.entry.Entry.{Entry}
 use Rattle.rb_raftlog.specs.Log.{own, has_change}
 use Rattle.rb_tracker.specs.Configs.{is_voter}
 use Rattle.rb_message.specs.declared.role.Role.TheVariants.{Follower, Leader}
-use Rattle.rb_step.specs.Node.{PlainNode}
+use Rattle.rb_node.specs.Node.{PlainNode}
 use Rattle.rb_node.specs.Readying.{ready}
 
 -- a voter that doesn't lead, whose restored snapshot is saved, and that has applied each change that is committed

@@ -6,9 +6,9 @@ use Rattle.rb_tracker.specs.declared.votes.VoteResult.TheVariants.{Won}
 use Rattle.rb_message.specs.declared.kind.MessageKind.TheVariants.{Vote, VoteResponse}
 use Rattle.rb_message.specs.declared.message.Message.{Message}
 use Rattle.rb_message.specs.declared.role.Role.TheVariants.{Candidate, Leader}
-use Rattle.rb_step.specs.Node.{PlainNode, Turn, with_node}
-use Rattle.rb_step.specs.Changing.{applied_all, joint_left}
-use Rattle.rb_step.specs.Step.{stepped}
+use Rattle.rb_node.specs.Node.{PlainNode, Turn, with_node}
+use Rattle.rb_node.specs.Changing.{applied_all, joint_left}
+use Rattle.rb_node.specs.Step.{stepped}
 use Rattle.rb_node.specs.Readying.{applying, saved}
 use Rattle.rb_node_laws.specs.Calling.{Call, Step, Advance}
 

@@ -5,7 +5,7 @@ use Rattle.rb_tracker.specs.Commits.{match_of, is_held}
 use Rattle.rb_message.specs.declared.kind.MessageKind.TheVariants.{AppendResponse}
 use Rattle.rb_message.specs.declared.message.Message.{Message}
 use Rattle.rb_message.specs.declared.role.Role.TheVariants.{Candidate, Leader}
-use Rattle.rb_step.specs.Node.{PlainNode, Turn}
+use Rattle.rb_node.specs.Node.{PlainNode, Turn}
 use Rattle.rb_node_laws.specs.Calling.{Call, Step, after}
 use Rattle.rb_node_laws.specs.Words.{IsLater}
 

@@ -8,7 +8,7 @@ use Rattle.rb_tracker.specs.declared.config.Config.{Config}
 use Rattle.rb_message.specs.declared.role.Role.{Role}
 use Rattle.rb_message.specs.declared.role.Role.TheVariants.{Leader}
 use Rattle.rb_raftlog.specs.Log.{LogValue, last, term_at, entry_at}
-use Rattle.rb_step.specs.Node.{PlainNode}
+use Rattle.rb_node.specs.Node.{PlainNode}
 
 -- What is compacted was applied; what is applied is durable and was committed; what is committed is held. No index is durable that
 -- isn't held.

@@ -22,9 +22,9 @@ use Rattle.rb_raftlog.specs.declared.snapshot.Snapshot.{Snapshot}
 use Rattle.rb_raftlog.specs.Log.{compact_fault}
 use Rattle.rb_tracker.proofs.SetLaws.{if_both}
 use Rattle.rb_message.specs.declared.message.Message.{Message}
-use Rattle.rb_step.specs.declared.limits.TheConstants.{ELECTION_TICKS}
-use Rattle.rb_step.specs.declared.options.Options.{Options}
-use Rattle.rb_step.specs.Node.{PlainNode, Turn, turn, started}
+use Rattle.rb_node.specs.declared.limits.TheConstants.{ELECTION_TICKS}
+use Rattle.rb_node.specs.declared.options.Options.{Options}
+use Rattle.rb_node.specs.Node.{PlainNode, Turn, turn, started}
 use Rattle.rb_node.specs.Calls.{node_started, reported}
 use Rattle.rb_node.specs.Readying.{handed, has_ready}
 use Rattle.rb_node.specs.Ticking.{ticked}

@@ -8,7 +8,7 @@ use Rattle.std.proofs.lemmas.List.{take-append-drop, take_all}
 use Rattle.std.proofs.lemmas.List.Elements.{Contains-append_left, Contains-append_right}
 use Rattle.rb_raftlog.specs.declared.entry.Entry.{Entry}
 use Rattle.rb_raftlog.specs.Log.{LogValue, entries_after, last}
-use Rattle.rb_step.specs.Node.{PlainNode}
+use Rattle.rb_node.specs.Node.{PlainNode}
 use Rattle.rb_tracker.specs.Progresses.{PlainProgress}
 use Rattle.rb_tracker.specs.Trackers.{has_view}
 use Rattle.rb_script.specs.Lines.{Line}

@@ -25,7 +25,7 @@ use Rattle.rb_tracker.specs.declared.progress.ProgressState.{ProgressState}
 use Rattle.rb_tracker.specs.declared.votes.VoteResult.{VoteResult}
 use Rattle.rb_tracker.specs.Progresses.{PlainProgress}
 use Rattle.rb_tracker.specs.Trackers.{has_view}
-use Rattle.rb_step.specs.Node.{PlainNode}
+use Rattle.rb_node.specs.Node.{PlainNode}
 use Rattle.rb_script.specs.Lines.{Line}
 use Rattle.rb_script.specs.Marks.{is_blank, is_rule}
 use Rattle.rb_texts.specs.declared.item.Verb.{Verb}

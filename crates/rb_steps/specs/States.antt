@@ -3,7 +3,7 @@
 use Rattle.std.specs.Prelude.{ℕ, codes, if◌then◌else◌, List, [], ◌∷◌, ◌++◌, length, map, Option, Some, None}
 use Rattle.std.specs.List.{flat_map}
 use Rattle.rb_raftlog.specs.Content.{content_end}
-use Rattle.rb_step.specs.Node.{PlainNode}
+use Rattle.rb_node.specs.Node.{PlainNode}
 use Rattle.rb_tracker.specs.Progresses.{PlainProgress}
 use Rattle.rb_tracker.specs.Trackers.{has_view}
 use Rattle.rb_texts.specs.Configs.{config_text}

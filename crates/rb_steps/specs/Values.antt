@@ -4,7 +4,7 @@ use Rattle.std.specs.List.{AllByRecursion, flat_map, list_all}
 use Rattle.rb_raftlog.specs.Content.{content_end}
 use Rattle.rb_script.specs.Reading.{directive_of}
 use Rattle.rb_script.specs.Script.{PlainBlock, PlainScript}
-use Rattle.rb_step.specs.Node.{PlainNode}
+use Rattle.rb_node.specs.Node.{PlainNode}
 use Rattle.rb_texts.specs.Items.{PlainItem}
 use Rattle.rb_page.specs.ItemRows.{item_rows}
 use Rattle.rb_page.specs.Json.{is_byte}

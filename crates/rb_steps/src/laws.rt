@@ -9,7 +9,7 @@ ghost use Rattle.rb_script.specs.Script.{PlainScript};
 ghost use Rattle.rb_raftlog.specs.Log.{LogValue, entries_after};
 ghost use Rattle.rb_tracker.specs.Progresses.{PlainProgress};
 ghost use Rattle.rb_tracker.specs.Trackers.{has_view};
-ghost use Rattle.rb_step.specs.Node.{PlainNode};
+ghost use Rattle.rb_node.specs.Node.{PlainNode};
 ghost use Rattle.rb_texts.specs.Items.{PlainItem};
 ghost use Rattle.rb_machine.specs.Cluster.{Cluster, empty};
 ghost use Rattle.rb_machine.specs.Outcome.{happened, outcome};

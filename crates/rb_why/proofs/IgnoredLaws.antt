@@ -29,18 +29,18 @@ use Rattle.rb_message.specs.declared.kind.MessageKind.TheVariants as kind
 use Rattle.rb_message.specs.declared.message.Message.{Message}
 use Rattle.rb_message.specs.declared.role.Role.{Role}
 use Rattle.rb_message.specs.declared.role.Role.TheVariants as role
-use Rattle.rb_step.specs.Node.{PlainNode, Turn, turn, told, with_node, answered_with, ignored}
-use Rattle.rb_step.specs.Terms.{followed, raised, raised_by, lowered, lowered_by, shown_term, answers_earlier, is_disturbed_by}
-use Rattle.rb_step.specs.Campaigns.{why_no_campaign, campaigned_unless, campaigned, stood_unless, stood_up}
-use Rattle.rb_step.specs.Votes.{can_vote_for, count_of, counted, decided, pre_decided}
-use Rattle.rb_step.specs.Following.{heard, with_appended, after_log, append_taken, new_snapshot_taken, snapshot_taken, proposal_passed, transfer_passed, passed_on}
-use Rattle.rb_step.specs.Leading.{is_log_full, appended, appended_change, leading, led}
-use Rattle.rb_step.specs.declared.sends.Mode.TheVariants as mode
-use Rattle.rb_step.specs.Sends.{sends, viewed}
-use Rattle.rb_step.specs.Acknowledging.{accepted_at, accepted, refused_with, refused_at, append_refused, beat_answered_at, beat_answered}
-use Rattle.rb_step.specs.Proposing.{why_replaced, change_put, put_in, takes_none, proposed}
-use Rattle.rb_step.specs.Transferring.{older_ended, transfer_started, transferred}
-use Rattle.rb_step.specs.Step.{as_follower, as_precandidate, as_candidate, as_leader, by_role_of, at_term_by, at_term, stepped}
+use Rattle.rb_node.specs.Node.{PlainNode, Turn, turn, told, with_node, answered_with, ignored}
+use Rattle.rb_node.specs.Terms.{followed, raised, raised_by, lowered, lowered_by, shown_term, answers_earlier, is_disturbed_by}
+use Rattle.rb_node.specs.Campaigns.{why_no_campaign, campaigned_unless, campaigned, stood_unless, stood_up}
+use Rattle.rb_node.specs.Votes.{can_vote_for, count_of, counted, decided, pre_decided}
+use Rattle.rb_node.specs.Following.{heard, with_appended, after_log, append_taken, new_snapshot_taken, snapshot_taken, proposal_passed, transfer_passed, passed_on}
+use Rattle.rb_node.specs.Leading.{is_log_full, appended, appended_change, leading, led}
+use Rattle.rb_node.specs.declared.sends.Mode.TheVariants as mode
+use Rattle.rb_node.specs.Sends.{sends, viewed}
+use Rattle.rb_node.specs.Acknowledging.{accepted_at, accepted, refused_with, refused_at, append_refused, beat_answered_at, beat_answered}
+use Rattle.rb_node.specs.Proposing.{why_replaced, change_put, put_in, takes_none, proposed}
+use Rattle.rb_node.specs.Transferring.{older_ended, transfer_started, transferred}
+use Rattle.rb_node.specs.Step.{as_follower, as_precandidate, as_candidate, as_leader, by_role_of, at_term_by, at_term, stepped}
 use Rattle.rb_why.specs.declared.why.Reason.{Reason}
 use Rattle.rb_why.specs.declared.why.Reason.TheVariants as reasons
 use Rattle.rb_why.specs.declared.why.WhyIgnored.TheVariants as why

@@ -13,10 +13,10 @@ use Rattle.rb_message.specs.declared.kind.MessageKind.TheVariants as kind
 use Rattle.rb_message.specs.declared.message.Message.{Message}
 use Rattle.rb_message.specs.declared.role.Role.{Role}
 use Rattle.rb_message.specs.declared.role.Role.TheVariants as role
-use Rattle.rb_step.specs.Node.{PlainNode, turn, message, answered_with, ignored}
-use Rattle.rb_step.specs.Terms.{followed, raised, lowered, answers_earlier, is_disturbed_by}
-use Rattle.rb_step.specs.Votes.{can_vote_for, voted_for, vote_answered, pre_vote_answered}
-use Rattle.rb_step.specs.Step.{at_term, stepped}
+use Rattle.rb_node.specs.Node.{PlainNode, turn, message, answered_with, ignored}
+use Rattle.rb_node.specs.Terms.{followed, raised, lowered, answers_earlier, is_disturbed_by}
+use Rattle.rb_node.specs.Votes.{can_vote_for, voted_for, vote_answered, pre_vote_answered}
+use Rattle.rb_node.specs.Step.{at_term, stepped}
 use Rattle.rb_why.specs.declared.why.Reason.{Reason}
 use Rattle.rb_why.specs.declared.why.Reason.TheVariants as reasons
 use Rattle.rb_why.specs.declared.why.WhyIgnored.TheVariants as why

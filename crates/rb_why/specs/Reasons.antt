@@ -1,4 +1,4 @@
--- Why a node does nothing with a message, and why it refuses a vote. The rules that do so are rb_step's (Step, Terms, Votes, Following,
+-- Why a node does nothing with a message, and why it refuses a vote. The rules that do so are rb_node's (Step, Terms, Votes, Following,
 -- Acknowledging, Transferring), each after the section that is named here; the reason is what of the node the rule looks at.
 use Rattle.std.specs.Prelude.{ℕ, ◌-◌, Bool, true, false, ◌||◌, not, Option, Some, None, if◌then◌else◌, nat_lt, ◌==◌}
 use Rattle.rb_raftlog.specs.Log.{last, last_term, is_up_to_date}
@@ -13,9 +13,9 @@ use Rattle.rb_message.specs.declared.kind.MessageKind.TheVariants as kind
 use Rattle.rb_message.specs.declared.message.Message.{Message}
 use Rattle.rb_message.specs.declared.role.Role.{Role}
 use Rattle.rb_message.specs.declared.role.Role.TheVariants as role
-use Rattle.rb_step.specs.Node.{PlainNode}
-use Rattle.rb_step.specs.Terms.{answers_earlier, is_disturbed_by}
-use Rattle.rb_step.specs.Votes.{can_vote_for}
+use Rattle.rb_node.specs.Node.{PlainNode}
+use Rattle.rb_node.specs.Terms.{answers_earlier, is_disturbed_by}
+use Rattle.rb_node.specs.Votes.{can_vote_for}
 use Rattle.rb_why.specs.declared.why.Reason.{Reason}
 use Rattle.rb_why.specs.declared.why.Reason.TheVariants.{Ignored, Refused}
 use Rattle.rb_why.specs.declared.why.WhyIgnored.{WhyIgnored}

@@ -6,8 +6,8 @@ use Rattle.rb_message.specs.declared.event.Event.TheVariants as event
 use Rattle.rb_message.specs.declared.kind.MessageKind.{MessageKind}
 use Rattle.rb_message.specs.declared.kind.MessageKind.TheVariants as kind
 use Rattle.rb_message.specs.declared.message.Message.{Message}
-use Rattle.rb_step.specs.Node.{PlainNode, turn}
-use Rattle.rb_step.specs.Step.{stepped}
+use Rattle.rb_node.specs.Node.{PlainNode, turn}
+use Rattle.rb_node.specs.Step.{stepped}
 use Rattle.rb_why.specs.declared.why.Reason.{Reason}
 use Rattle.rb_why.specs.declared.why.Reason.TheVariants.{Ignored, Refused}
 

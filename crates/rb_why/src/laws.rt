@@ -2,7 +2,7 @@
 
 ghost use Rattle.std.specs.Prelude.{◌≡◌};
 ghost use Rattle.rb_message.specs.declared.message.Message.{Message};
-ghost use Rattle.rb_step.specs.Node.{PlainNode};
+ghost use Rattle.rb_node.specs.Node.{PlainNode};
 ghost use Rattle.rb_why.specs.Reasons.{reason};
 ghost use Rattle.rb_why.specs.Telling.{ignores, refuses, is_of_ignored, is_of_refused};
 

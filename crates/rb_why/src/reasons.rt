@@ -1,18 +1,18 @@
 //! Why nothing comes of a message.
 //!
-//! One function a rule, as in rb_step, and each beside the definition of the rule's reason (`specs/Reasons`). Nothing is changed, copied or
+//! One function a rule, as in rb_node, and each beside the definition of the rule's reason (`specs/Reasons`). Nothing is changed, copied or
 //! kept: a later term, which a step takes up first, is seen here by what it would leave.
 
 ghost use Rattle.std.specs.Prelude.{◌≡◌};
 ghost use Rattle.rb_tracker.specs.Trackers.{place};
-ghost use Rattle.rb_step.specs.Terms.{hears_leader, is_disturbed_by};
-ghost use Rattle.rb_step.specs.Votes.{can_vote_for};
+ghost use Rattle.rb_node.specs.Terms.{hears_leader, is_disturbed_by};
+ghost use Rattle.rb_node.specs.Votes.{can_vote_for};
 ghost use Rattle.rb_why.specs.Reasons.{why_no_vote, log_reason, vote_reason, no_use, follower_reason, precandidate_reason, candidate_reason, answer_reason, why_old, view_reason, refusal_reason, transfer_reason, leader_reason, role_reason, term_reason, earlier, leader_earlier, earlier_reason, later_reason, reason};
 
 use crate::why::{Reason, WhyIgnored, WhyRefused};
 use rb_message::{Message, MessageKind, Role};
 use rb_raftlog::RaftLog;
-use rb_step::{ELECTION_TICKS, State};
+use rb_node::{ELECTION_TICKS, State};
 use rb_tracker::{Progress, ProgressState};
 
 fn can_vote_for<L: RaftLog>(state: &State<L>, message: &Message, pre_vote: bool) -> bool

@@ -1,6 +1,6 @@
 use Rattle.std.proofs.Common.{◌≡◌, ◌+◌, drop}
-use Rattle.rb_step.specs.Node.{turn}
-use Rattle.rb_step.specs.Changing.{applied_all}
+use Rattle.rb_node.specs.Node.{turn}
+use Rattle.rb_node.specs.Changing.{applied_all}
 use Rattle.rb_node.proofs.advancing.apply_all.Given as goal
 
 abbrev pub invariant-loop-entry : goal.invariant-loop-entry

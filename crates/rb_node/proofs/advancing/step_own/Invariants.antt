@@ -1,5 +1,5 @@
 use Rattle.std.proofs.Common.{◌≡◌, drop}
-use Rattle.rb_step.specs.Node.{turn}
+use Rattle.rb_node.specs.Node.{turn}
 use Rattle.rb_node.specs.Readying.{own_stepped}
 use Rattle.rb_node.proofs.advancing.step_own.Given as goal
 

@@ -1,6 +1,6 @@
 use Rattle.std.proofs.lemmas.List.Elements.{All-nil}
 use Rattle.rb_raftlog.specs.Log.{last}
-use Rattle.rb_step.specs.Node.{started}
+use Rattle.rb_node.specs.Node.{started}
 use Rattle.rb_node_laws.specs.Matches.{IsOwnAnswer}
 use Rattle.rb_node_laws.proofs.CountLaws.{run_owns, run_rises}
 use Rattle.rb_node_laws.proofs.laws.members_are_counted_by_their_answers.Goals as goal

@@ -1,5 +1,5 @@
 use Rattle.std.proofs.lemmas.List.Elements.{All-nil}
-use Rattle.rb_step.specs.Node.{started}
+use Rattle.rb_node.specs.Node.{started}
 use Rattle.rb_node_laws.proofs.PromiseLaws.{Kept, NoYes, run_promises, one_vote}
 use Rattle.rb_node_laws.proofs.laws.promises_are_kept.Goals as goal
 

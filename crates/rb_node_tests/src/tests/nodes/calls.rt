@@ -4,9 +4,8 @@ use super::making::{Player, played};
 use super::moves::{ALONE, FOLLOWS, LEADS, Move, START, Says};
 use super::seen::Said;
 use crate::tests::{is, is_in_row};
-use rb_node::{HEARTBEAT_TICKS, MAX_TICKS, limits_are};
+use rb_node::{ELECTION_TICKS, HEARTBEAT_TICKS, MAX_TICKS, limits_are};
 use rb_raftlog::CompactFault;
-use rb_step::ELECTION_TICKS;
 use std::alloc::Global;
 use std::process::Abort;
 

@@ -1,5 +1,5 @@
 use Rattle.std.proofs.Common.{◌∙◌, ◌++◌, List, subst}
-use Rattle.rb_step.specs.Node.{PlainNode}
+use Rattle.rb_node.specs.Node.{PlainNode}
 use Rattle.rb_page.specs.Kept.{texts_of}
 use Rattle.rb_steps.specs.States.{state_rows}
 use Rattle.rb_steps.specs.Values.{ShowBytes}

@@ -1,0 +1,75 @@
+-- Campaigns (Ongaro's thesis, section 3.4, and section 9.6 for the question before the vote)
+use Rattle.std.specs.Prelude.{ℕ, ◌+◌, Bool, true, false, ◌&&◌, not, List, [], ◌∷◌, ◌++◌, Option, Some, None, if◌then◌else◌, nat_le, ◌==◌}
+use Rattle.rb_raftlog.specs.declared.limits.TheConstants.{MAX_TERM}
+use Rattle.rb_raftlog.specs.Log.{last, last_term, has_change}
+use Rattle.rb_tracker.specs.Ballots.{no_votes}
+use Rattle.rb_tracker.specs.Configs.{voters, is_voter}
+use Rattle.rb_message.specs.declared.event.WhyNoCampaign.{WhyNoCampaign}
+use Rattle.rb_message.specs.declared.event.WhyNoCampaign.TheVariants as why
+use Rattle.rb_message.specs.declared.event.Event.TheVariants.{Became, CannotCampaign}
+use Rattle.rb_message.specs.declared.kind.MessageKind.{MessageKind}
+use Rattle.rb_message.specs.declared.kind.MessageKind.TheVariants as kind
+use Rattle.rb_message.specs.declared.role.Role.TheVariants as role
+use Rattle.rb_node.specs.declared.limits.TheConstants.{ELECTION_TICKS}
+use Rattle.rb_node.specs.Node.{PlainNode, Turn, told, with_node, message, answered_with, is_leader}
+use Rattle.rb_node.specs.Terms.{reset}
+
+-- why the node can't campaign: the first that holds (this project's order)
+abbrev pub why_no_campaign : PlainNode → Option WhyNoCampaign
+why_no_campaign n =
+    if is_leader n.role then Some why.Leader
+    else (if not (is_voter n.tracker.config n.id) then Some why.NotAVoter
+    else (if n.restored then Some why.SnapshotPending
+    else (if has_change n.log n.applied n.commit then Some why.ChangePending
+    else (if nat_le MAX_TERM n.term then Some why.TermLimit
+    else None))))
+
+-- a voter is asked; in place of a question to itself the node answers itself, once what is ready is durable
+abbrev pub asked_one : PlainNode → ℕ → ℕ → MessageKind → MessageKind → PlainNode
+asked_one n to term question answer =
+    if to == n.id then answered_with n to term answer
+    else record n { sent = n.sent ++ message n.id to term question ∷ [] }
+
+abbrev pub asked : PlainNode → List ℕ → ℕ → MessageKind → MessageKind → PlainNode
+asked n [] term question answer = n
+asked n (id ∷ ids) term question answer = asked (asked_one n id term question answer) ids term question answer
+
+abbrev pub asked_for_votes : PlainNode → Bool → PlainNode
+asked_for_votes n transfer =
+    asked n (voters n.tracker.config) n.term (kind.Vote (last_term n.log) (last n.log) transfer) (kind.VoteResponse true)
+
+abbrev pub asked_for_pre_votes : PlainNode → PlainNode
+asked_for_pre_votes n =
+    asked n (voters n.tracker.config) (n.term + 1) (kind.PreVote (last_term n.log) (last n.log)) (kind.PreVoteResponse true)
+
+-- a candidate of the next term votes for itself
+abbrev pub candidate : PlainNode → PlainNode
+candidate n = record (reset n (n.term + 1)) { vote = n.id; role = role.Candidate }
+
+abbrev pub stood : Turn → Bool → Turn
+stood t transfer =
+    told (with_node t (asked_for_votes (candidate t.node) transfer)) (Became t.node.id role.Candidate (t.node.term + 1))
+
+-- a precandidate changes no term and no vote
+abbrev pub precandidate : PlainNode → PlainNode
+precandidate n = record n { role = role.Precandidate; votes = no_votes; lead = 0; timeout = ELECTION_TICKS }
+
+abbrev pub sounded_out : Turn → Turn
+sounded_out t =
+    told (with_node t (asked_for_pre_votes (precandidate t.node))) (Became t.node.id role.Precandidate t.node.term)
+
+-- a campaign, of itself or because the leader hands the lead over, which leaves the question before the vote out
+abbrev pub campaigned_unless : Option WhyNoCampaign → Turn → Bool → Turn
+campaigned_unless (Some reason) t transfer = told t (CannotCampaign t.node.id reason)
+campaigned_unless None t transfer = if t.node.options.pre_vote && not transfer then sounded_out t else stood t transfer
+
+unfoldable pub campaigned : Turn → Bool → Turn
+campaigned t transfer = campaigned_unless (why_no_campaign t.node) t transfer
+
+-- the campaign that a won question before the vote leads to
+abbrev pub stood_unless : Option WhyNoCampaign → Turn → Turn
+stood_unless (Some reason) t = told t (CannotCampaign t.node.id reason)
+stood_unless None t = stood t false
+
+unfoldable pub stood_up : Turn → Turn
+stood_up t = stood_unless (why_no_campaign t.node) t

@@ -1,0 +1,86 @@
+-- What a follower does with what its leader says, and with what is for its leader (Ongaro's thesis, sections 3.5, 5.3 and 6.2)
+use Rattle.std.specs.Prelude.{ℕ, ◌≤◌, true, [], ◌∷◌, ◌++◌, max, min, if◌then◌else◌, nat_le, ◌==◌}
+use Rattle.rb_raftlog.specs.Log.{last, term_at, is_term, appended, answer, restored}
+use Rattle.rb_raftlog.specs.declared.raft_log.Appended.{Appended}
+use Rattle.rb_raftlog.specs.declared.raft_log.Appended.TheVariants.{Matched, Refused, BelowCommit}
+use Rattle.rb_raftlog.specs.declared.limits.TheConstants.{MAX_INDEX}
+use Rattle.rb_raftlog.specs.declared.snapshot.Snapshot.{Snapshot}
+use Rattle.rb_tracker.specs.Configs.{config_of}
+use Rattle.rb_tracker.specs.Trackers.{configured}
+use Rattle.rb_message.specs.Appends.{PlainAppend}
+use Rattle.rb_message.specs.declared.event.Event.TheVariants.{DroppedProposal, Conflict, Restored}
+use Rattle.rb_message.specs.declared.kind.MessageKind.{MessageKind}
+use Rattle.rb_message.specs.declared.kind.MessageKind.TheVariants as kind
+use Rattle.rb_message.specs.declared.message.Message.{Message}
+use Rattle.rb_node.specs.Node.{PlainNode, Turn, told, with_node, ignored, message, posted, answered_with}
+
+-- the sender leads, and was heard of
+abbrev pub heard : PlainNode → ℕ → PlainNode
+heard n from = record n { lead = from; elapsed = 0 }
+
+-- the commit never falls
+abbrev pub commits_to : PlainNode → ℕ → PlainNode
+commits_to n i = record n { commit = max n.commit i }
+
+-- a heartbeat: what is committed and held is known to be committed; the answer goes out at once
+abbrev pub beaten : PlainNode → ℕ → ℕ → PlainNode
+beaten n from commit = posted (commits_to (heard n from) (min commit (last n.log))) from kind.HeartbeatResponse
+
+-- a matched index is within the limits
+abbrev pub HasLimits : Appended → Type 0
+HasLimits (Matched i) = i ≤ MAX_INDEX
+HasLimits (Refused i) = Unit {0}
+HasLimits (BelowCommit i) = Unit {0}
+
+-- an append: what follows from what the log has answered
+abbrev pub after_log : Appended → Turn → ℕ → PlainAppend → Turn
+after_log (Matched i) t from append =
+    with_node t (answered_with (commits_to t.node (min append.commit i)) from t.node.term (kind.AppendResponse i))
+after_log (Refused hint) t from append = with_node t (answered_with t.node from t.node.term (kind.AppendRefusal append.prev hint))
+after_log (BelowCommit i) t from append = told t (Conflict t.node.id i t.node.commit)
+
+abbrev pub with_appended : PlainNode → ℕ → PlainAppend → PlainNode
+with_appended n from append =
+    record (heard n from) { log = appended n.log append.prev append.prev_term append.entries n.commit }
+
+unfoldable pub append_taken : Turn → ℕ → PlainAppend → Turn
+append_taken t from append =
+    after_log (answer t.node.log append.prev append.prev_term append.entries t.node.commit) (with_node t (with_appended t.node from append)) from append
+
+-- a snapshot: log, content and configuration are the snapshot's
+abbrev pub restored_to : PlainNode → Snapshot → PlainNode
+restored_to n snapshot =
+    record n {
+      log = restored snapshot;
+      commit = snapshot.index;
+      applied = snapshot.index;
+      content = snapshot.content;
+      tracker = configured n.tracker (config_of snapshot.config);
+      restored = true;
+    }
+
+-- all up to the commit is held as the leader has it
+abbrev pub with_match : PlainNode → ℕ → PlainNode
+with_match n from = answered_with n from n.term (kind.AppendResponse n.commit)
+
+abbrev pub new_snapshot_taken : Turn → ℕ → Snapshot → Turn
+new_snapshot_taken t from snapshot =
+    told (with_node t (with_match (restored_to t.node snapshot) from)) (Restored t.node.id snapshot.term snapshot.index)
+
+-- one that is behind the commit is answered with the commit; one whose entry is held only shows that it is committed
+unfoldable pub snapshot_taken : Turn → ℕ → Snapshot → Turn
+snapshot_taken t from snapshot =
+    if nat_le snapshot.index t.node.commit then with_node t (with_match t.node from)
+    else (if is_term (term_at t.node.log snapshot.index) snapshot.term
+    then with_node t (with_match (record t.node { commit = snapshot.index }) from)
+    else new_snapshot_taken t from snapshot)
+
+-- what is for the leader is sent on, from the node itself and of no term
+abbrev pub passed_on : PlainNode → MessageKind → PlainNode
+passed_on n what = record n { sent = n.sent ++ message n.id n.lead 0 what ∷ [] }
+
+abbrev pub proposal_passed : Turn → MessageKind → Turn
+proposal_passed t what = if t.node.lead == 0 then told t (DroppedProposal t.node.id) else with_node t (passed_on t.node what)
+
+abbrev pub transfer_passed : Turn → MessageKind → Message → Turn
+transfer_passed t what m = if t.node.lead == 0 then ignored t m else with_node t (passed_on t.node what)

@@ -1,0 +1,66 @@
+-- Votes (Ongaro's thesis, sections 3.4 and 3.6.1): granting, and counting answers
+use Rattle.std.specs.Prelude.{ℕ, Bool, true, false, ◌&&◌, ◌||◌, if◌then◌else◌, nat_lt, ◌==◌}
+use Rattle.rb_raftlog.specs.Log.{is_up_to_date}
+use Rattle.rb_tracker.specs.Ballots.{answered, vote_result}
+use Rattle.rb_tracker.specs.declared.votes.VoteResult.{VoteResult}
+use Rattle.rb_tracker.specs.declared.votes.VoteResult.TheVariants as vote
+use Rattle.rb_message.specs.Messages.{type_of}
+use Rattle.rb_message.specs.declared.event.Event.TheVariants.{VoteCounted}
+use Rattle.rb_message.specs.declared.kind.MessageKind.TheVariants as kind
+use Rattle.rb_message.specs.declared.message.Message.{Message}
+use Rattle.rb_node.specs.Node.{PlainNode, Turn, told, with_node, answered_with}
+use Rattle.rb_node.specs.Terms.{followed}
+use Rattle.rb_node.specs.Campaigns.{stood_up}
+use Rattle.rb_node.specs.Leading.{led}
+
+-- A vote once given stays; who has given none and knows of no leader is free. A question before the vote binds nobody, so one of a later
+-- term is always open.
+abbrev pub can_vote_for : PlainNode → Message → Bool → Bool
+can_vote_for n m pre_vote = n.vote == m.from || (n.vote == 0 && n.lead == 0) || (pre_vote && nat_lt n.term m.term)
+
+-- and the candidate's log has to be as up to date as the voter's
+abbrev pub grants : PlainNode → Message → ℕ → ℕ → Bool → Bool
+grants n m last_term last_index pre_vote = can_vote_for n m pre_vote && is_up_to_date n.log last_index last_term
+
+abbrev pub voted_for : PlainNode → ℕ → PlainNode
+voted_for n id = record n { vote = id; elapsed = 0 }
+
+-- yes is of the term that was asked for, no of the node's own
+abbrev pub vote_answered : PlainNode → Message → ℕ → ℕ → PlainNode
+vote_answered n m last_term last_index =
+    if grants n m last_term last_index false
+    then answered_with (voted_for n m.from) m.from m.term (kind.VoteResponse true)
+    else answered_with n m.from n.term (kind.VoteResponse false)
+
+abbrev pub pre_vote_answered : PlainNode → Message → ℕ → ℕ → PlainNode
+pre_vote_answered n m last_term last_index =
+    if grants n m last_term last_index true
+    then answered_with n m.from m.term (kind.PreVoteResponse true)
+    else answered_with n m.from n.term (kind.PreVoteResponse false)
+
+-- the first answer of each voter counts
+abbrev pub count_of : PlainNode → ℕ → Bool → VoteResult
+count_of n from granted = vote_result n.tracker.config (answered n.votes from granted)
+
+abbrev pub counted : Turn → Message → Bool → Turn
+counted t m granted =
+    told (with_node t (record t.node { votes = answered t.node.votes m.from granted }))
+    (VoteCounted t.node.id (type_of m.kind) granted m.from (count_of t.node m.from granted))
+
+-- what a candidate does by what the answers come to
+abbrev pub decided : VoteResult → Turn → Turn
+decided vote.Won t = led t
+decided vote.Pending t = t
+decided vote.Lost t = followed t t.node.term 0
+
+-- a precandidate that could win campaigns
+abbrev pub pre_decided : VoteResult → Turn → Turn
+pre_decided vote.Won t = stood_up t
+pre_decided vote.Pending t = t
+pre_decided vote.Lost t = followed t t.node.term 0
+
+abbrev pub vote_taken : Turn → Message → Bool → Turn
+vote_taken t m granted = decided (count_of t.node m.from granted) (counted t m granted)
+
+abbrev pub pre_vote_taken : Turn → Message → Bool → Turn
+pre_vote_taken t m granted = pre_decided (count_of t.node m.from granted) (counted t m granted)

@@ -1,0 +1,233 @@
+//! Following.
+//!
+//! A follower takes its leader's entries where they follow one that it holds, and refuses them else with a hint where the logs may
+//! agree (Ongaro's thesis, section 3.5). A leader that has no more what it lacks sends its state (section 5.3). What is for the
+//! leader is sent on to it (section 6.2).
+
+ghost use Rattle.std.specs.Prelude.{◌≡◌, ◌<◌, ◌≤◌, IfOk, OnOk};
+ghost use Rattle.rb_raftlog.specs.Log.{last, is_term, term_at, hint, answer};
+ghost use Rattle.rb_raftlog.specs.declared.raft_log.Appended.TheVariants.{Refused};
+ghost use Rattle.rb_raftlog.specs.declared.limits.TheConstants.{MAX_INDEX};
+ghost use Rattle.rb_message.specs.declared.kind.MessageKind.TheVariants.{Proposal, TransferLeader};
+ghost use Rattle.rb_node.specs.Node.{turn};
+ghost use Rattle.rb_node.specs.Following.{HasLimits, heard, beaten, after_log, with_appended, append_taken, restored_to, with_match, new_snapshot_taken, snapshot_taken, passed_on, proposal_passed, transfer_passed};
+
+use crate::state::State;
+use rb_message::{Append, Event, Install, Message, MessageKind};
+use rb_raftlog::{Appended, MAX_INDEX, RaftLog, Snapshot};
+use rb_tracker::Config;
+use std::alloc::AllocError;
+
+impl<L: RaftLog> State<L> {
+    // The sender leads, and was heard of.
+    pub(crate) fn hear(&mut self, from: u64)
+        ensures { self.new ≡ heard self.old from }
+    {
+        self.lead = from;
+        self.elapsed = 0;
+    }
+
+    pub(crate) fn take_heartbeat(&mut self, from: u64, commit: u64) -> Result<(), AllocError>
+        ensures { OnOk result (self.new ≡ beaten self.old from commit) }
+    {
+        self.hear(from);
+        let last = self.log.last_index();
+        self.commit = self.commit.max(commit.min(last));
+        self.post(from, MessageKind::HeartbeatResponse)
+    }
+
+    // Past the limit of indexes the log holds nothing.
+    fn refuse_past(&self, append: &Append) -> Appended
+        requires { MAX_INDEX < append.now.prev }
+        ensures refused { result ≡ Refused (hint self.now.log append.now.prev append.now.prev_term) }
+        ensures past { last self.now.log < append.now.prev }
+        ensures committed { self.now.commit ≤ append.now.prev }
+    {
+        let _last = self.log.last_index();
+        let _commit = self.commit;
+        Appended::Refused(self.log.hint(append.prev(), append.prev_term()))
+    }
+
+    // What the log makes of an append.
+    #[tactic(auto, using(crate::proofs::Past::appended_past, crate::proofs::Past::answer_past))]
+    fn append_after(&mut self, from: u64, append: &Append) -> Result<Appended, AllocError>
+        ensures node { OnOk result (self.new ≡ with_appended self.old from append.now) }
+        ensures answer { IfOk result (λ told. told ≡ answer self.old.log append.now.prev append.now.prev_term append.now.entries self.old.commit) }
+        ensures fits { IfOk result (λ told. HasLimits told) }
+    {
+        self.hear(from);
+        let prev = append.prev();
+        if prev > MAX_INDEX {
+            return Ok(self.refuse_past(append));
+        }
+        self.log
+            .append_shared(prev, append.prev_term(), append.entries(), self.commit)
+    }
+
+    fn after_log(
+        &mut self,
+        appended: Appended,
+        from: u64,
+        append: &Append,
+        events: &mut Vec<Event>,
+    ) -> Result<(), AllocError>
+        requires { HasLimits appended }
+        ensures { OnOk result (turn self.new events.new.items ≡ after_log appended (turn self.old events.old.items) from append.now) }
+    {
+        match appended {
+            Appended::Matched(index) => {
+                self.commit = self.commit.max(append.commit().min(index));
+                self.answer(
+                    from,
+                    self.term,
+                    MessageKind::AppendResponse { matched: index },
+                )
+            }
+            Appended::Refused(hint) => {
+                let refused = append.prev();
+                self.answer(
+                    from,
+                    self.term,
+                    MessageKind::AppendRefusal { refused, hint },
+                )
+            }
+            Appended::BelowCommit(index) => {
+                events.push(Event::Conflict {
+                    id: self.id,
+                    index,
+                    commit: self.commit,
+                })?;
+                Ok(())
+            }
+        }
+    }
+
+    // An append of the leader.
+    #[tactic(auto, unfolding(crate::specs::Following::append_taken))]
+    pub(crate) fn take_append(
+        &mut self,
+        from: u64,
+        append: &Append,
+        events: &mut Vec<Event>,
+    ) -> Result<(), AllocError>
+        ensures { OnOk result (turn self.new events.new.items ≡ append_taken (turn self.old events.old.items) from append.now) }
+    {
+        let appended = self.append_after(from, append)?;
+        self.after_log(appended, from, append, events)
+    }
+
+    // Log, content and configuration are the snapshot's.
+    fn restore(&mut self, snapshot: &Snapshot) -> Result<(), AllocError>
+        requires { snapshot.now.index ≤ MAX_INDEX }
+        ensures { OnOk result (self.new ≡ restored_to self.old snapshot.now) }
+    {
+        let content = snapshot.content.try_copy()?;
+        let config = Config::of_state(self.alloc, &snapshot.config)?;
+        self.log.restore(snapshot);
+        self.commit = snapshot.index;
+        self.applied = snapshot.index;
+        self.content = content;
+        self.tracker.set_config(config);
+        self.restored = true;
+        Ok(())
+    }
+
+    // All up to the commit is held as the leader has it.
+    fn answer_match(&mut self, from: u64) -> Result<(), AllocError>
+        ensures { OnOk result (self.new ≡ with_match self.old from) }
+    {
+        let matched = self.commit;
+        self.answer(from, self.term, MessageKind::AppendResponse { matched })
+    }
+
+    fn take_new_snapshot(
+        &mut self,
+        from: u64,
+        snapshot: &Snapshot,
+        events: &mut Vec<Event>,
+    ) -> Result<(), AllocError>
+        requires { snapshot.now.index ≤ MAX_INDEX }
+        ensures { OnOk result (turn self.new events.new.items ≡ new_snapshot_taken (turn self.old events.old.items) from snapshot.now) }
+    {
+        self.restore(snapshot)?;
+        events.push(Event::Restored {
+            id: self.id,
+            term: snapshot.term,
+            index: snapshot.index,
+        })?;
+        self.answer_match(from)
+    }
+
+    // Whether the entry at an index is held, and of this term.
+    fn has_entry(&self, index: u64, term: u64) -> bool
+        ensures { result ≡ is_term (term_at self.now.log index) term }
+    {
+        match self.log.term_at(index) {
+            Ok(held) => held == term,
+            Err(_) => false,
+        }
+    }
+
+    // A snapshot of the leader, which was heard of.
+    #[tactic(auto, unfolding(crate::specs::Following::snapshot_taken))]
+    pub(crate) fn take_snapshot(
+        &mut self,
+        from: u64,
+        install: &Install,
+        events: &mut Vec<Event>,
+    ) -> Result<(), AllocError>
+        ensures { OnOk result (turn self.new events.new.items ≡ snapshot_taken (turn self.old events.old.items) from install.now) }
+    {
+        let snapshot = install.snapshot();
+        if snapshot.index <= self.commit {
+            return self.answer_match(from);
+        }
+        if self.has_entry(snapshot.index, snapshot.term) {
+            self.commit = snapshot.index;
+            return self.answer_match(from);
+        }
+        self.take_new_snapshot(from, snapshot, events)
+    }
+
+    // Sends it on to the leader, from the node itself and of no term.
+    fn pass_on(&mut self, kind: MessageKind) -> Result<(), AllocError>
+        ensures { OnOk result (self.new ≡ passed_on self.old kind) }
+    {
+        let from = self.id;
+        let to = self.lead;
+        self.sent.push(Message {
+            from,
+            to,
+            term: 0,
+            kind,
+        })?;
+        Ok(())
+    }
+
+    pub(crate) fn pass_proposal(
+        &mut self,
+        kind: MessageKind,
+        events: &mut Vec<Event>,
+    ) -> Result<(), AllocError>
+        ensures { OnOk result (turn self.new events.new.items ≡ proposal_passed (turn self.old events.old.items) kind) }
+    {
+        if self.lead == 0 {
+            return self.drop_proposal(events);
+        }
+        self.pass_on(kind)
+    }
+
+    pub(crate) fn pass_transfer(
+        &mut self,
+        kind: MessageKind,
+        message: &Message,
+        events: &mut Vec<Event>,
+    ) -> Result<(), AllocError>
+        ensures { OnOk result (turn self.new events.new.items ≡ transfer_passed (turn self.old events.old.items) kind message.now) }
+    {
+        if self.lead == 0 {
+            return self.ignore(message, events);
+        }
+        self.pass_on(kind)
+    }
+}

@@ -1,0 +1,163 @@
+//! Copies of a state, and comparison.
+
+ghost use Rattle.std.specs.Prelude.{◌≡◌, ◌↔◌, IsTrue, IfOk};
+ghost use Rattle.rb_node.specs.Comparing.{HaveSameRole, HaveSameIndexes, HaveSameCounters, HaveSameLengths, HaveSameNumbers, HaveSameLists};
+
+use super::State;
+use rb_message::Mail;
+use rb_raftlog::{Content, RaftLog};
+use rb_tracker::{Tracker, Votes};
+use std::alloc::AllocError;
+
+// What is sent, and what waits.
+#[derive(Drop)]
+struct Outgoing {
+    sent: Mail,
+    waiting: Mail,
+}
+
+// What it holds.
+#[derive(Drop)]
+struct Held<L: RaftLog> {
+    log: L,
+    content: Content,
+}
+
+// Who decides with it, and how.
+#[derive(Drop)]
+struct Ballots {
+    votes: Votes,
+    tracker: Tracker,
+}
+
+impl<L: RaftLog> State<L> {
+    fn copy_outgoing(&self) -> Result<Outgoing, AllocError>
+        ensures { IfOk result (λ outgoing. outgoing ≡ record { sent = self.now.sent; waiting = self.now.waiting }) }
+    {
+        Ok(Outgoing {
+            sent: self.sent.try_copy()?,
+            waiting: self.waiting.try_copy()?,
+        })
+    }
+
+    fn copy_held(&self) -> Result<Held<L>, AllocError>
+        ensures log { IfOk result (λ held. L.plain held.log ≡ self.now.log) }
+        ensures content { IfOk result (λ held. held.content ≡ self.now.content) }
+    {
+        Ok(Held {
+            log: self.log.try_copy()?,
+            content: self.content.try_copy()?,
+        })
+    }
+
+    fn copy_ballots(&self) -> Result<Ballots, AllocError>
+        ensures { IfOk result (λ ballots. ballots ≡ record { tracker = self.now.tracker; votes = self.now.votes }) }
+    {
+        Ok(Ballots {
+            votes: self.votes.try_copy()?,
+            tracker: self.tracker.try_copy()?,
+        })
+    }
+
+    /// The same state once more. It costs pointers, and a view of each member where it leads.
+    pub(crate) fn try_copy(&self) -> Result<State<L>, AllocError>
+        ensures { IfOk result (λ copy. copy ≡ self.now) }
+    {
+        let outgoing = self.copy_outgoing()?;
+        let held = self.copy_held()?;
+        let ballots = self.copy_ballots()?;
+        Ok(State {
+            id: self.id,
+            term: self.term,
+            vote: self.vote,
+            lead: self.lead,
+            role: self.role,
+            log: held.log,
+            commit: self.commit,
+            applied: self.applied,
+            content: held.content,
+            tracker: ballots.tracker,
+            votes: ballots.votes,
+            elapsed: self.elapsed,
+            heartbeat_elapsed: self.heartbeat_elapsed,
+            timeout: self.timeout,
+            transferee: self.transferee,
+            pending_change: self.pending_change,
+            saved: self.saved,
+            restored: self.restored,
+            sent: outgoing.sent,
+            waiting: outgoing.waiting,
+            options: self.options,
+            alloc: self.alloc,
+        })
+    }
+
+    fn same_role(&self, other: &State<L>) -> bool
+        ensures { IsTrue result ↔ HaveSameRole self.now other.now }
+    {
+        self.id == other.id
+            && self.term == other.term
+            && self.vote == other.vote
+            && self.lead == other.lead
+            && self.role == other.role
+    }
+
+    fn same_indexes(&self, other: &State<L>) -> bool
+        ensures { IsTrue result ↔ HaveSameIndexes self.now other.now }
+    {
+        self.commit == other.commit
+            && self.applied == other.applied
+            && self.transferee == other.transferee
+            && self.pending_change == other.pending_change
+            && self.restored == other.restored
+    }
+
+    fn same_counters(&self, other: &State<L>) -> bool
+        ensures { IsTrue result ↔ HaveSameCounters self.now other.now }
+    {
+        self.elapsed == other.elapsed
+            && self.heartbeat_elapsed == other.heartbeat_elapsed
+            && self.timeout == other.timeout
+            && self.saved == other.saved
+            && self.options == other.options
+    }
+
+    fn same_lengths(&self, other: &State<L>) -> bool
+        ensures { IsTrue result ↔ HaveSameLengths self.now other.now }
+    {
+        self.sent.len() == other.sent.len()
+            && self.waiting.len() == other.waiting.len()
+            && self.content.len() == other.content.len()
+            && self.log.last_index() == other.log.last_index()
+            && self.content.sum() == other.content.sum()
+    }
+
+    /// Whether both have the same numbers, lists of the same lengths, and contents of the same sum. It costs the same however long
+    /// these are, so who compares many nodes asks for this of all of them first.
+    pub(crate) fn has_numbers_of(&self, other: &State<L>) -> bool
+        ensures { IsTrue result ↔ HaveSameNumbers self.now other.now }
+    {
+        self.same_role(other)
+            && self.same_indexes(other)
+            && self.same_counters(other)
+            && self.same_lengths(other)
+    }
+
+    fn same_lists(&self, other: &State<L>) -> bool
+        ensures { IsTrue result ↔ HaveSameLists self.now other.now }
+    {
+        self.votes.same(&other.votes)
+            && self.tracker.same(&other.tracker)
+            && self.sent.same(&other.sent)
+            && self.waiting.same(&other.waiting)
+            && self.log.same(&other.log)
+            && self.content.same(&other.content)
+    }
+
+    /// Whether both are the same in all that a node knows. Numbers are looked at first, then lists. It takes no memory.
+    pub(crate) fn same(&self, other: &State<L>) -> bool
+        ensures { IsTrue result ↔ (self.now ≡ other.now) }
+    {
+        self.has_numbers_of(other) && self.same_lists(other)
+    }
+}

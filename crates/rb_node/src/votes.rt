@@ -1,0 +1,138 @@
+//! Votes.
+//!
+//! A node gives one vote a term, to the first that asks with a log as up to date as its own (Ongaro's thesis, sections 3.4 and 3.6.1),
+//! and the answer waits until the vote is durable. A candidate counts the first answer of each voter.
+
+ghost use Rattle.std.specs.Prelude.{◌≡◌, OnOk, IfOk, true, false};
+ghost use Rattle.rb_node.specs.Node.{turn};
+ghost use Rattle.rb_node.specs.Votes.{can_vote_for, grants, vote_answered, pre_vote_answered, count_of, counted, vote_taken, pre_vote_taken};
+
+use crate::state::State;
+use rb_message::{Event, Message, MessageKind};
+use rb_raftlog::RaftLog;
+use rb_tracker::VoteResult;
+use std::alloc::AllocError;
+
+impl<L: RaftLog> State<L> {
+    fn can_vote_for(&self, message: &Message, pre_vote: bool) -> bool
+        ensures { result ≡ can_vote_for self.now message.now pre_vote }
+    {
+        self.vote == message.from
+            || (self.vote == 0 && self.lead == 0)
+            || (pre_vote && self.term < message.term)
+    }
+
+    fn grants(&self, message: &Message, last_term: u64, last_index: u64, pre_vote: bool) -> bool
+        ensures { result ≡ grants self.now message.now last_term last_index pre_vote }
+    {
+        self.can_vote_for(message, pre_vote) && self.log.is_up_to_date(last_index, last_term)
+    }
+
+    // Answers a candidate.
+    pub(crate) fn answer_vote(
+        &mut self,
+        message: &Message,
+        last_term: u64,
+        last_index: u64,
+    ) -> Result<(), AllocError>
+        ensures { OnOk result (self.new ≡ vote_answered self.old message.now last_term last_index) }
+    {
+        if self.grants(message, last_term, last_index, false) {
+            self.vote = message.from;
+            self.elapsed = 0;
+            return self.answer(
+                message.from,
+                message.term,
+                MessageKind::VoteResponse { granted: true },
+            );
+        }
+        self.answer(
+            message.from,
+            self.term,
+            MessageKind::VoteResponse { granted: false },
+        )
+    }
+
+    // Answers a precandidate.
+    pub(crate) fn answer_pre_vote(
+        &mut self,
+        message: &Message,
+        last_term: u64,
+        last_index: u64,
+    ) -> Result<(), AllocError>
+        ensures { OnOk result (self.new ≡ pre_vote_answered self.old message.now last_term last_index) }
+    {
+        if self.grants(message, last_term, last_index, true) {
+            return self.answer(
+                message.from,
+                message.term,
+                MessageKind::PreVoteResponse { granted: true },
+            );
+        }
+        self.answer(
+            message.from,
+            self.term,
+            MessageKind::PreVoteResponse { granted: false },
+        )
+    }
+
+    // Counts an answer, the first of each sender.
+    fn count_vote(
+        &mut self,
+        message: &Message,
+        granted: bool,
+        events: &mut Vec<Event>,
+    ) -> Result<VoteResult, AllocError>
+        ensures turn { OnOk result (turn self.new events.new.items ≡ counted (turn self.old events.old.items) message.now granted) }
+        ensures result { IfOk result (λ count. count ≡ count_of self.old message.now.from granted) }
+    {
+        self.votes.answer(message.from, granted)?;
+        let result = self.votes.result(self.tracker.config());
+        events.push(Event::VoteCounted {
+            id: self.id,
+            message_type: message.kind.message_type(),
+            granted,
+            from: message.from,
+            result,
+        })?;
+        Ok(result)
+    }
+
+    // An answer to a candidate.
+    pub(crate) fn take_vote(
+        &mut self,
+        message: &Message,
+        granted: bool,
+        events: &mut Vec<Event>,
+    ) -> Result<(), AllocError>
+        ensures { OnOk result (turn self.new events.new.items ≡ vote_taken (turn self.old events.old.items) message.now granted) }
+    {
+        match self.count_vote(message, granted, events)? {
+            VoteResult::Won => self.become_leader(events),
+            VoteResult::Pending => Ok(()),
+            VoteResult::Lost => {
+                let term = self.term;
+                self.follow(term, 0, events)
+            }
+        }
+    }
+
+    // An answer to a precandidate.
+    pub(crate) fn take_pre_vote(
+        &mut self,
+        message: &Message,
+        granted: bool,
+        events: &mut Vec<Event>,
+    ) -> Result<(), AllocError>
+        ensures { OnOk result (turn self.new events.new.items ≡ pre_vote_taken (turn self.old events.old.items) message.now granted) }
+    {
+        match self.count_vote(message, granted, events)? {
+            VoteResult::Won => self.stand_up(events),
+            VoteResult::Pending => Ok(()),
+            VoteResult::Lost => {
+                let term = self.term;
+                self.follow(term, 0, events)
+            }
+        }
+    }
+}
