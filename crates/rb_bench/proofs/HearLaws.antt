@@ -6,8 +6,8 @@ use Rattle.std.specs.Io.KnownBytes.{IsAtEnd}
 use Rattle.std.proofs.lemmas.Bool.Decides.{nat_tests}
 use Rattle.rb_script.specs.declared.limits.TheConstants.{MAX_LINE}
 use Rattle.rb_script.specs.Lines.{Line, lines, cut}
-use Rattle.rb_command.specs.declared.command.Command.{Command}
-use Rattle.rb_command.specs.Commands.{command_of}
+use Rattle.rb_bench.specs.declared.command.Command.{Command}
+use Rattle.rb_bench.specs.Commands.{command_of}
 use Rattle.rb_line.specs.declared.source.InputFault.{InputFault}
 use Rattle.rb_line.specs.Given.{LosesLine, LosesLong, IsFirstLong}
 use Rattle.rb_bench.specs.declared.given.Given.{Given}

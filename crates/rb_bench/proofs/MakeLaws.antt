@@ -13,8 +13,8 @@ use Rattle.rb_script.specs.Script.{PlainBlock, PlainScript}
 use Rattle.rb_script.specs.Reading.{block_of, Fails, capped}
 use Rattle.rb_script.specs.Edits.{edited}
 use Rattle.rb_script.proofs.ResultLaws.{fails_through}
-use Rattle.rb_command.specs.declared.command.Purpose.{Purpose}
-use Rattle.rb_command.specs.declared.command.Purpose.TheVariants.{Insert, Replace, Expect}
+use Rattle.rb_bench.specs.declared.command.Purpose.{Purpose}
+use Rattle.rb_bench.specs.declared.command.Purpose.TheVariants.{Insert, Replace, Expect}
 use Rattle.rb_replay.specs.Run.{outputs}
 use Rattle.rb_replay.specs.Holding.{Holding}
 use Rattle.rb_bench.specs.Names.{edit_name}

@@ -11,9 +11,9 @@ use Rattle.rb_script.specs.declared.edit.Edit.TheVariants as edits
 use Rattle.rb_script.specs.Lines.{Line, text_of}
 use Rattle.rb_script.specs.Script.{PlainScript}
 use Rattle.rb_script.specs.Edits.{edited}
-use Rattle.rb_command.specs.declared.command.Command.{Command}
-use Rattle.rb_command.specs.declared.command.Command.TheVariants as commands
-use Rattle.rb_command.specs.Commands.{command_of}
+use Rattle.rb_bench.specs.declared.command.Command.{Command}
+use Rattle.rb_bench.specs.declared.command.Command.TheVariants as commands
+use Rattle.rb_bench.specs.Commands.{command_of}
 use Rattle.rb_replay.specs.Run.{state, outputs}
 use Rattle.rb_replay.specs.Report.{mismatches}
 use Rattle.rb_replay.specs.Holding.{Holding, IsFresh}

@@ -5,8 +5,8 @@ use Rattle.std.specs.List.{list_any, flat_map}
 use Rattle.std.specs.Io.KnownBytes.{Appends, Consumes}
 use Rattle.rb_script.specs.declared.limits.TheConstants.{MAX_LINE}
 use Rattle.rb_script.specs.Lines.{Line, lines, without_returns}
-use Rattle.rb_command.specs.declared.command.Command.{Command}
-use Rattle.rb_command.specs.Commands.{command_of}
+use Rattle.rb_bench.specs.declared.command.Command.{Command}
+use Rattle.rb_bench.specs.Commands.{command_of}
 use Rattle.rb_replay.specs.Holding.{Holding}
 use Rattle.rb_line.specs.declared.line_reader.LineReader.{LineReader}
 use Rattle.rb_line.specs.declared.source.InputFault.{InputFault}

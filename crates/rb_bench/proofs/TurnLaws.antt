@@ -8,7 +8,7 @@ use Rattle.rb_script.specs.Writes.{AppendsFront}
 use Rattle.rb_bench.specs.declared.status.Status.{Status}
 use Rattle.rb_bench.specs.declared.fault.BenchFault.{BenchFault}
 use Rattle.rb_script.specs.Lines.{Line, lines}
-use Rattle.rb_command.specs.declared.command.Command.{Command}
+use Rattle.rb_bench.specs.declared.command.Command.{Command}
 use Rattle.rb_replay.specs.Holding.{Holding}
 use Rattle.rb_bench.specs.declared.given.Given.{Given}
 use Rattle.rb_bench.specs.declared.hear.Heard.{Heard}

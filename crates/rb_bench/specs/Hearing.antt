@@ -4,8 +4,8 @@ use Rattle.std.specs.List.{list_any}
 use Rattle.rb_script.specs.declared.limits.TheConstants.{MAX_SCRIPT}
 use Rattle.rb_script.specs.Lines.{Line, text_of}
 use Rattle.rb_script.specs.Reading.{capped}
-use Rattle.rb_command.specs.declared.command.Command.{Command}
-use Rattle.rb_command.specs.Commands.{command_of}
+use Rattle.rb_bench.specs.declared.command.Command.{Command}
+use Rattle.rb_bench.specs.Commands.{command_of}
 use Rattle.rb_bench.specs.declared.given.Given.{Given}
 use Rattle.rb_bench.specs.declared.hear.Heard.{Heard}
 use Rattle.rb_bench.specs.declared.hear.Heard.TheVariants as heards

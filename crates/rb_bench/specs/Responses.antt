@@ -10,10 +10,10 @@ use Rattle.rb_script.specs.Lines.{Line, line_text, text_of}
 use Rattle.rb_script.specs.Script.{PlainBlock, PlainScript, text}
 use Rattle.rb_script.specs.Reading.{block_of}
 use Rattle.rb_script.specs.Edits.{edited}
-use Rattle.rb_command.specs.declared.command.Command.{Command}
-use Rattle.rb_command.specs.declared.command.Command.TheVariants as commands
-use Rattle.rb_command.specs.declared.command.Purpose.{Purpose}
-use Rattle.rb_command.specs.declared.command.Purpose.TheVariants.{Insert, Replace, Expect}
+use Rattle.rb_bench.specs.declared.command.Command.{Command}
+use Rattle.rb_bench.specs.declared.command.Command.TheVariants as commands
+use Rattle.rb_bench.specs.declared.command.Purpose.{Purpose}
+use Rattle.rb_bench.specs.declared.command.Purpose.TheVariants.{Insert, Replace, Expect}
 use Rattle.rb_replay.specs.declared.session.Changed.{Changed}
 use Rattle.rb_replay.specs.Run.{outputs, output_at}
 use Rattle.rb_replay.specs.Report.{report, rewritten}

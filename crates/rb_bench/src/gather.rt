@@ -7,9 +7,9 @@ ghost use Rattle.rb_bench.specs.Talk.{given_count};
 ghost use Rattle.rb_bench.specs.Hearing.{GathersOf};
 ghost use Rattle.rb_bench.specs.Stopping.{AreTooFew, StopsBehind, TakesHeard};
 
+use crate::command::Command;
 use crate::given::Given;
 use crate::hear::Heard;
-use rb_command::Command;
 use rb_line::{InputFault, LineReader, Next, Source};
 use std::alloc::Global;
 

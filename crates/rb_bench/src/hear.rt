@@ -6,9 +6,9 @@ ghost use Rattle.rb_line.specs.Asked.{GoesOn, HasCallsFor, Stops, size_of};
 ghost use Rattle.rb_bench.specs.Hearing.{HearsOf, IsCommand};
 ghost use Rattle.rb_bench.specs.Stopping.{IsUnfinished, StopsBehind, TakesHeard};
 
+use crate::command::{Command, command_of};
 use crate::gather::gather;
 use crate::given::Given;
-use rb_command::{Command, command_of};
 use rb_line::{InputFault, LineReader, Next, Source};
 use std::alloc::Global;
 

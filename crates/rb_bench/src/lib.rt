@@ -2,8 +2,12 @@
 //!
 //! [`run_over`] runs a script once, and [`run_bytes`] one that was read. [`serve`] holds a session: commands come in, one a line, and each is answered
 //! before the next is read.
+//!
+//! [`command_of`] says which command a line is. A line that is none is [`Command::Bad`], and a blank one
+//! [`Command::Blank`]: there is no failure, and nothing is allocated.
 #![tactic(auto)]
 
+mod command;
 mod fault;
 mod gather;
 mod given;
@@ -20,12 +24,13 @@ mod session;
 mod starting;
 mod status;
 
+pub use command::{Command, Purpose, command_of};
 pub use fault::BenchFault;
 pub use laws::{
     conversations_answer_as_one_run, conversations_are_one, names_are_distinct, runs_are_one,
     sessions_start_as_one,
 };
-pub use limits::{MAX_READS, USUAL_SPACING, limits_are};
+pub use limits::{MAX_GIVEN, MAX_READS, USUAL_SPACING, limits_are};
 pub use names::{edit_fault_name, script_fault_line, script_fault_name};
 pub use outlet::Outlet;
 pub use running::{Mode, run_bytes, run_over};

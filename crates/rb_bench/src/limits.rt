@@ -1,8 +1,10 @@
 //! Limits of the program, and what is usual.
 
 ghost use Rattle.std.specs.Prelude.{◌≡◌, ◌^◌};
-ghost use Rattle.rb_command.specs.declared.command.TheConstants.{MAX_GIVEN};
-ghost use Rattle.rb_bench.specs.declared.limits.TheConstants.{MAX_READS, USUAL_SPACING};
+ghost use Rattle.rb_bench.specs.declared.limits.TheConstants.{MAX_GIVEN, MAX_READS, USUAL_SPACING};
+
+/// How many lines a command may take after its own.
+pub const MAX_GIVEN: usize = 65_536;
 
 /// How many calls of its source a session may make.
 pub const MAX_READS: u64 = 1 << 40;

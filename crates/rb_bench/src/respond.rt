@@ -9,6 +9,7 @@ ghost use Rattle.rb_bench.specs.Hearing.{IsCommand, IsGiven, Hears};
 ghost use Rattle.rb_bench.specs.Replies.{reply_text};
 ghost use Rattle.rb_bench.specs.Turns.{IsTurn};
 
+use crate::command::{Command, Purpose};
 use crate::given::Given;
 use crate::hear::Heard;
 use crate::reply::Reply;
@@ -16,7 +17,6 @@ use crate::running::{Mode, status};
 use crate::starting::BenchSession;
 use crate::status::Status;
 use rb_cluster::Meter;
-use rb_command::{Command, Purpose};
 use rb_script::{Block, Edit, EditFault, Lines, MAX_SCRIPT, ScriptFault};
 use std::alloc::Global;
 

@@ -11,9 +11,9 @@ use crate::names::{edit_fault_name, script_fault_line, script_fault_name};
 use crate::outlet::Outlet;
 use crate::reply::Reply;
 use crate::starting::BenchSession;
-use rb_text::put_number;
 use rb_replay::Changed;
 use rb_script::{Lines, ScriptFault, Sink, WriteFault};
+use rb_text::put_number;
 
 // Writes at which line it is, where there is one.
 fn put_line_number<S: Sink>(sink: &mut S, line: Option<usize>) -> Result<(), WriteFault>

@@ -1,7 +1,7 @@
 //! Outside examples of definitions that no script, command or line of input reaches.
 
 use super::{is, is_text};
-use rb_command::{Command, command_of};
+use rb_bench::{Command, command_of};
 use rb_message::{Event, WhyNoCampaign};
 use rb_text::put_number;
 use rb_script::{Lines, Through};

@@ -5,15 +5,15 @@ use Rattle.std.specs.Str.{bytes_eq}
 use Rattle.std.proofs.lemmas.Slice.Eq.{bytes_eq-Decides}
 use Rattle.std.proofs.lemmas.Bool.Decides.{nat_tests}
 use Rattle.rb_script.specs.Lines.{Line}
-use Rattle.rb_command.specs.declared.command.TheConstants.{MAX_GIVEN}
-use Rattle.rb_command.specs.declared.command.Command.{Command}
-use Rattle.rb_command.specs.declared.command.Command.TheVariants.{Blank, Bad, Given, Remove, Accept, Show, Report, Script, Rewrite}
-use Rattle.rb_command.specs.declared.command.Purpose.{Purpose}
-use Rattle.rb_command.specs.declared.command.Purpose.TheVariants.{Insert, Replace, Expect}
+use Rattle.rb_bench.specs.declared.limits.TheConstants.{MAX_GIVEN}
+use Rattle.rb_bench.specs.declared.command.Command.{Command}
+use Rattle.rb_bench.specs.declared.command.Command.TheVariants.{Blank, Bad, Given, Remove, Accept, Show, Report, Script, Rewrite}
+use Rattle.rb_bench.specs.declared.command.Purpose.{Purpose}
+use Rattle.rb_bench.specs.declared.command.Purpose.TheVariants.{Insert, Replace, Expect}
 use Rattle.rb_text.specs.Words.{words}
 use Rattle.rb_text.specs.Numbers.{number_of}
-use Rattle.rb_command.specs.Commands.{alone, placed, purpose_of, given, spelled, command_of}
-use Rattle.rb_command.specs.Spelling.{purpose_name, Spells}
+use Rattle.rb_bench.specs.Commands.{alone, placed, purpose_of, given, spelled, command_of}
+use Rattle.rb_bench.specs.Spelling.{purpose_name, Spells}
 
 -- one of two commands
 one_of : (P : Command → Type 0) (b : Bool) (c rest : Command) → (b ≡ true → P c) → (rest ≢ Bad → P rest) → cond b c rest ≢ Bad → P (cond b c rest)

@@ -2,11 +2,11 @@
 use Rattle.std.specs.Prelude.{ℕ, nat_lt, if◌then◌else◌, List, [], ◌∷◌, Option, Some, None, codes}
 use Rattle.std.specs.Str.{bytes_eq}
 use Rattle.rb_script.specs.Lines.{Line}
-use Rattle.rb_command.specs.declared.command.TheConstants.{MAX_GIVEN}
-use Rattle.rb_command.specs.declared.command.Command.{Command}
-use Rattle.rb_command.specs.declared.command.Command.TheVariants.{Blank, Bad, Given, Remove, Accept, Show, Report, Script, Rewrite}
-use Rattle.rb_command.specs.declared.command.Purpose.{Purpose}
-use Rattle.rb_command.specs.declared.command.Purpose.TheVariants.{Insert, Replace, Expect}
+use Rattle.rb_bench.specs.declared.limits.TheConstants.{MAX_GIVEN}
+use Rattle.rb_bench.specs.declared.command.Command.{Command}
+use Rattle.rb_bench.specs.declared.command.Command.TheVariants.{Blank, Bad, Given, Remove, Accept, Show, Report, Script, Rewrite}
+use Rattle.rb_bench.specs.declared.command.Purpose.{Purpose}
+use Rattle.rb_bench.specs.declared.command.Purpose.TheVariants.{Insert, Replace, Expect}
 use Rattle.rb_text.specs.Words.{words}
 use Rattle.rb_text.specs.Numbers.{number_of}
 

@@ -1,5 +1,5 @@
-use Rattle.rb_command.proofs.SpellingLaws.{command_means, command_only}
-use Rattle.rb_command.proofs.command.command_of.Goals as goal
+use Rattle.rb_bench.proofs.SpellingLaws.{command_means, command_only}
+use Rattle.rb_bench.proofs.command.command_of.Goals as goal
 
 pub returns-clause-means : goal.returns-clause-means
 returns-clause-means c = command_means c.args.line.now c.spelled.result c.spelled.ensures

@@ -4,19 +4,12 @@ ghost use Rattle.std.specs.Prelude.{◌≡◌, ◌≢◌};
 ghost use Rattle.std.specs.Str.{bytes_eq};
 ghost use Rattle.rb_text.specs.Numbers.{number_of};
 ghost use Rattle.rb_text.specs.Words.{words};
-ghost use Rattle.rb_command.specs.Spelling.{Spells};
-ghost use Rattle.rb_command.specs.declared.command.Command.{Command};
-ghost use Rattle.rb_command.specs.Commands.{command_of, alone, placed, given, purpose_of};
+ghost use Rattle.rb_bench.specs.Spelling.{Spells};
+ghost use Rattle.rb_bench.specs.declared.command.Command.{Command};
+ghost use Rattle.rb_bench.specs.Commands.{command_of, alone, placed, given, purpose_of};
 
+use crate::limits::MAX_GIVEN;
 use rb_text::{first_word, number_of};
-
-/// How many lines a command may take after its own.
-pub const MAX_GIVEN: usize = 65_536;
-
-/// How many they are, in numbers: definitions name the constant, and take any value of it.
-pub fn limits_are()
-    ensures { MAX_GIVEN ≡ 65536 }
-{}
 
 /// What a command does with the lines that follow it.
 #[derive(Clone, Copy, Debug, PartialEq, Eq)]

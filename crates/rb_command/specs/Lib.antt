@@ -1,4 +1,0 @@
-pub use Rattle.rb_text.specs.Numbers
-pub use Rattle.rb_text.specs.Words
-pub mod Commands
-pub mod Spelling
