@@ -13,19 +13,19 @@ use Rattle.rb_check.specs.Pieces.{count_text, noun}
 use Rattle.rb_check.specs.Statuses.{code_of}
 
 abbrev pub nothing : Totals
-nothing = record { scripts = 0; directives = 0; mismatches = 0; accepted = 0; errors = 0; refused = 0; failed = 0; starved = 0 }
+nothing = record { scripts = 0; directives = 0; mismatches = 0; accepted = 0; errors = 0; refused = 0; failed = 0; without_memory = 0 }
 
 -- a script that ran
 abbrev pub one_run : ℕ → ℕ → ℕ → ℕ → Totals
 one_run directives mismatches accepted errors =
-    record { scripts = 1; directives = directives; mismatches = mismatches; accepted = accepted; errors = errors; refused = 0; failed = 0; starved = 0 }
+    record { scripts = 1; directives = directives; mismatches = mismatches; accepted = accepted; errors = errors; refused = 0; failed = 0; without_memory = 0 }
 
 abbrev pub one_refusal : Totals
-one_refusal = record { scripts = 1; directives = 0; mismatches = 0; accepted = 0; errors = 0; refused = 1; failed = 0; starved = 0 }
+one_refusal = record { scripts = 1; directives = 0; mismatches = 0; accepted = 0; errors = 0; refused = 1; failed = 0; without_memory = 0 }
 
 -- a failure, for want of memory or not
 abbrev pub one_failure : ℕ → Totals
-one_failure starved = record { scripts = 0; directives = 0; mismatches = 0; accepted = 0; errors = 0; refused = 0; failed = 1; starved = starved }
+one_failure without_memory = record { scripts = 0; directives = 0; mismatches = 0; accepted = 0; errors = 0; refused = 0; failed = 1; without_memory = without_memory }
 
 abbrev pub of_refused : ScriptFault → Totals
 of_refused faults.OutOfMemory = one_failure 1
@@ -54,12 +54,12 @@ together a b = record {
   errors = plus a.errors b.errors;
   refused = plus a.refused b.refused;
   failed = plus a.failed b.failed;
-  starved = plus a.starved b.starved;
+  without_memory = plus a.without_memory b.without_memory;
 }
 
 abbrev pub status_of : Totals → Status
 status_of t =
-    if t.starved == 0
+    if t.without_memory == 0
     then (if t.failed == 0 then (if t.refused == 0 then (if t.mismatches == 0 then statuses.Matched else statuses.Mismatched) else statuses.Refused) else statuses.Failed)
     else statuses.OutOfMemory
 

@@ -4,8 +4,8 @@ ghost use Rattle.std.specs.Prelude.{◌≡◌, IsOk, decimal};
 ghost use Rattle.rb_script.specs.Writes.{Writes};
 ghost use Rattle.rb_check.specs.Pieces.{count_text, noun, piece_text, pieces_text};
 
-use rb_text::put_number;
 use rb_script::{Sink, WriteFault};
+use rb_text::put_number;
 
 /// A piece of a text.
 #[derive(Clone, Copy)]

@@ -28,7 +28,7 @@ pub struct Totals {
     /// The files and folders that failed, with those that found no memory.
     pub failed: u64,
     /// Those that found no memory.
-    pub starved: u64,
+    pub without_memory: u64,
 }
 
 impl Totals {
@@ -44,7 +44,7 @@ impl Totals {
             errors: 0,
             refused: 0,
             failed: 0,
-            starved: 0,
+            without_memory: 0,
         }
     }
 
@@ -61,12 +61,12 @@ impl Totals {
         }
     }
 
-    fn one_failure(starved: u64) -> Totals
-        ensures { result ≡ one_failure starved }
+    fn one_failure(without_memory: u64) -> Totals
+        ensures { result ≡ one_failure without_memory }
     {
         Totals {
             failed: 1,
-            starved,
+            without_memory,
             ..Totals::new()
         }
     }
@@ -121,7 +121,7 @@ impl Totals {
             errors: self.errors.saturating_add(one.errors),
             refused: self.refused.saturating_add(one.refused),
             failed: self.failed.saturating_add(one.failed),
-            starved: self.starved.saturating_add(one.starved),
+            without_memory: self.without_memory.saturating_add(one.without_memory),
         };
     }
 
@@ -129,7 +129,7 @@ impl Totals {
     pub fn status(&self) -> Status
         ensures { result ≡ status_of self.now }
     {
-        if self.starved != 0 {
+        if self.without_memory != 0 {
             Status::OutOfMemory
         } else if self.failed != 0 {
             Status::Failed

@@ -3,9 +3,9 @@
 ghost use Rattle.std.specs.Prelude.{◌≡◌, ◌-◌, ◌↔◌, IsTrue};
 ghost use Rattle.rb_machine.specs.Cluster.{empty};
 
-use crate::letter::Letter;
 use crate::lists::{copies_of, have_numbers_of, same_list};
 use crate::meter::Meter;
+use crate::shared_message::SharedMessage;
 use crate::shared_node::SharedNode;
 use rb_level::Level;
 use rb_machine::Machine;
@@ -20,7 +20,7 @@ use std::marker::Model;
 pub struct Cluster<L: RaftLog> {
     /// By id, from 1 on. A copy shares them.
     pub(crate) nodes: Vec<SharedNode<L>>,
-    pub(crate) pending: Vec<Letter>,
+    pub(crate) pending: Vec<SharedMessage>,
     pub(crate) level: Level,
     pub(crate) alloc: Global,
 }

@@ -6,8 +6,8 @@ ghost use Rattle.rb_machine.specs.Deliveries.{received, all_received, delivered,
 ghost use Rattle.rb_machine.specs.Scenes.{scene, showing_all};
 
 use crate::cluster::{Cluster, place_of};
-use crate::letter::Letter;
 use crate::pending::{is_for, split};
+use crate::shared_message::SharedMessage;
 use rb_directive::{DeliverMsgs, TypeSet};
 use rb_machine::Screen;
 use rb_message::Message;
@@ -18,11 +18,11 @@ use std::alloc::AllocError;
 use std::mem;
 
 // Prints that each of the messages is dropped.
-fn show_dropped(screen: &mut Screen, letters: &[Letter]) -> Result<(), AllocError>
-    ensures { OnOk result (screen.new ≡ showing_all screen.old (map drop_item letters.now)) }
+fn show_dropped(screen: &mut Screen, messages: &[SharedMessage]) -> Result<(), AllocError>
+    ensures { OnOk result (screen.new ≡ showing_all screen.old (map drop_item messages.now)) }
 {
-    for letter in letters {
-        screen.show(&Item::Moved(Verb::Drop, letter.message()))?;
+    for shared in messages {
+        screen.show(&Item::Moved(Verb::Drop, shared.message()))?;
     }
     Ok(())
 }
@@ -40,13 +40,13 @@ fn is_for_any(ids: &[u8], types: &Option<TypeSet>, message: &Message) -> bool
 }
 
 // Whether a pending message is to be delivered or dropped.
-fn meets_any(asked: &DeliverMsgs, pending: &[Letter]) -> bool
+fn meets_any(asked: &DeliverMsgs, pending: &[SharedMessage]) -> bool
     ensures { result ≡ meets_any asked.now pending.now }
 {
     let nodes = asked.nodes.as_slice();
     let dropped = asked.drop.as_slice();
-    for letter in pending {
-        let message = letter.message();
+    for shared in pending {
+        let message = shared.message();
         if is_for_any(nodes, &asked.types, message) || is_for_any(dropped, &asked.types, message) {
             return true;
         }
@@ -75,19 +75,19 @@ impl<L: RaftLog> Cluster<L> {
     fn receive_all(
         &mut self,
         id: u64,
-        letters: &[Letter],
+        messages: &[SharedMessage],
         screen: &mut Screen,
     ) -> Result<(), AllocError>
-        ensures { OnOk result (scene self.new screen.new ≡ all_received (scene self.old screen.old) id letters.now) }
+        ensures { OnOk result (scene self.new screen.new ≡ all_received (scene self.old screen.old) id messages.now) }
     {
-        for letter in letters {
-            self.receive(id, letter.message(), screen)?;
+        for shared in messages {
+            self.receive(id, shared.message(), screen)?;
         }
         Ok(())
     }
 
     // The pending messages, which are none from here on.
-    fn take_pending(&mut self) -> Vec<Letter>
+    fn take_pending(&mut self) -> Vec<SharedMessage>
         ensures value { result.items ≡ self.old.pending }
         ensures none { self.new ≡ with_pending self.old [] }
     {

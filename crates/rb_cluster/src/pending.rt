@@ -7,7 +7,7 @@ ghost use Rattle.rb_machine.specs.Pending.{is_meant, is_for, mail, other_mail, h
 ghost use Rattle.rb_machine.specs.Scenes.{scene};
 
 use crate::cluster::Cluster;
-use crate::letter::Letter;
+use crate::shared_message::SharedMessage;
 use rb_directive::TypeSet;
 use rb_level::MessageType;
 use rb_machine::{MAX_PENDING, Screen};
@@ -34,7 +34,7 @@ pub(crate) fn is_for(id: u64, types: &Option<TypeSet>, message: &Message) -> boo
 }
 
 /// Whether a message more has room.
-pub(crate) fn has_room(pending: &[Letter]) -> bool
+pub(crate) fn has_room(pending: &[SharedMessage]) -> bool
     ensures { result ≡ has_room pending.now }
 {
     pending.len() < MAX_PENDING
@@ -43,14 +43,14 @@ pub(crate) fn has_room(pending: &[Letter]) -> bool
 /// Pending messages, parted: those for a node, and all others, each in their order.
 #[derive(Drop)]
 pub(crate) struct Parted {
-    pub(crate) mail: Vec<Letter>,
-    pub(crate) others: Vec<Letter>,
+    pub(crate) mail: Vec<SharedMessage>,
+    pub(crate) others: Vec<SharedMessage>,
 }
 
 /// Parts the messages of the types for a node from all others.
 pub(crate) fn split(
     alloc: Global,
-    pending: Vec<Letter>,
+    pending: Vec<SharedMessage>,
     id: u64,
     types: &Option<TypeSet>,
 ) -> Result<Parted, AllocError>
@@ -59,11 +59,11 @@ pub(crate) fn split(
 {
     let mut mail = Vec::new(alloc);
     let mut others = Vec::new(alloc);
-    for letter in pending {
-        if is_for(id, types, letter.message()) {
-            mail.push(letter)?;
+    for shared in pending {
+        if is_for(id, types, shared.message()) {
+            mail.push(shared)?;
         } else {
-            others.push(letter)?;
+            others.push(shared)?;
         }
     }
     Ok(Parted { mail, others })
@@ -77,7 +77,7 @@ impl<L: RaftLog> Cluster<L> {
         if !has_room(&self.pending) {
             return screen.show(&Item::Moved(Verb::NoRoomFor, &message));
         }
-        self.pending.push(Letter::new(self.alloc, message)?)?;
+        self.pending.push(SharedMessage::new(self.alloc, message)?)?;
         Ok(())
     }
 

@@ -10,7 +10,7 @@ ghost use Rattle.rb_machine.specs.Scenes.{scene, showing_all};
 
 use crate::cluster::{Cluster, place_of};
 use rb_machine::Screen;
-use rb_message::Mail;
+use rb_message::Outbox;
 use rb_node::{Node, ReadyView};
 use rb_raftlog::RaftLog;
 use rb_texts::Item;
@@ -72,20 +72,20 @@ fn show_applied<L: RaftLog>(screen: &mut Screen, node: &Node<L>) -> Result<(), A
 }
 
 // Prints the messages that go out: those that were sent, and of those that waited the ones for other nodes.
-fn show_sent(screen: &mut Screen, mail: &Mail) -> Result<(), AllocError>
-    ensures { OnOk result (screen.new ≡ showing_all screen.old (map items.send mail.now)) }
+fn show_sent(screen: &mut Screen, outbox: &Outbox) -> Result<(), AllocError>
+    ensures { OnOk result (screen.new ≡ showing_all screen.old (map items.send outbox.now)) }
 {
-    for k in 0..mail.len() {
-        screen.show(&Item::Send(mail.message(k)))?;
+    for k in 0..outbox.len() {
+        screen.show(&Item::Send(outbox.message(k)))?;
     }
     Ok(())
 }
 
-fn show_waited(screen: &mut Screen, id: u64, mail: &Mail) -> Result<(), AllocError>
-    ensures { OnOk result (screen.new ≡ showing_all screen.old (map items.send (others id mail.now))) }
+fn show_waited(screen: &mut Screen, id: u64, outbox: &Outbox) -> Result<(), AllocError>
+    ensures { OnOk result (screen.new ≡ showing_all screen.old (map items.send (others id outbox.now))) }
 {
-    for k in 0..mail.len() {
-        let message = mail.message(k);
+    for k in 0..outbox.len() {
+        let message = outbox.message(k);
         if message.to != id {
             screen.show(&Item::Send(message))?;
         }

@@ -10,7 +10,7 @@ ghost use Rattle.rb_cluster.specs.Marks.{IsMarked, is_marked};
 ghost use Rattle.rb_machine.specs.Scenes.{scene};
 
 use crate::cluster::Cluster;
-use crate::letter::Letter;
+use crate::shared_message::SharedMessage;
 use rb_directive::{IdList, MAX_ID};
 use rb_machine::Screen;
 use rb_raftlog::RaftLog;
@@ -28,12 +28,12 @@ struct Marks {
 
 impl Marks {
     // For whom these messages are.
-    fn of(pending: &[Letter]) -> Marks
+    fn of(pending: &[SharedMessage]) -> Marks
         ensures { IsMarked pending.now result.has }
     {
         let mut has = [false; MARKS];
-        for letter in pending {
-            let to = letter.message().to as usize;
+        for shared in pending {
+            let to = shared.message().to as usize;
             if to < MARKS {
                 has[to] = true;
             }
@@ -50,11 +50,11 @@ impl Marks {
 }
 
 // Whether one of the messages is for this node.
-fn has_mail(pending: &[Letter], id: u64) -> bool
+fn has_mail(pending: &[SharedMessage], id: u64) -> bool
     ensures { result ≡ has_mail pending.now id }
 {
-    for letter in pending {
-        if letter.message().to == id {
+    for shared in pending {
+        if shared.message().to == id {
             return true;
         }
     }

@@ -28,10 +28,10 @@ use Rattle.rb_message.specs.declared.role.Role.{Role}
 use Rattle.rb_message.specs.declared.role.Role.TheVariants as role
 use Rattle.rb_node.specs.Node.{PlainNode, Turn, with_node, ignored, message, is_leader}
 use Rattle.rb_node.specs.Terms.{followed, raised, raised_by, lowered, lowered_by, shown_term, answers_earlier, is_disturbed_by}
-use Rattle.rb_node.specs.Campaigns.{asked_one, asked, candidate, precandidate, stood, sounded_out, why_no_campaign, campaigned_unless, campaigned, stood_unless, stood_up}
+use Rattle.rb_node.specs.Campaigns.{asked_one, asked, candidate, precandidate, stood, pre_vote_started, why_no_campaign, campaigned_unless, campaigned, stood_unless, campaigned_after_pre_vote}
 use Rattle.rb_node.specs.Votes.{grants, voted_for, vote_answered, pre_vote_answered, count_of, counted, decided, pre_decided}
 use Rattle.rb_node.specs.Following.{heard, beaten, commits_to, after_log, with_appended, append_taken, restored_to, with_match, snapshot_taken, proposal_passed, transfer_passed}
-use Rattle.rb_node.specs.Step.{as_follower, given_in, as_precandidate, as_candidate, as_leader, by_role_of, at_term_by, at_term, stepped}
+use Rattle.rb_node.specs.Step.{as_follower, leader_followed, as_precandidate, as_candidate, as_leader, by_role_of, at_term_by, at_term, stepped}
 use Rattle.rb_cluster_laws.specs.Honesty.{IsPlain, KeepsBy}
 use Rattle.rb_cluster_laws.specs.Votes.{IsCast}
 use Rattle.rb_cluster_laws.proofs.Links.{Link, still_linked}
@@ -121,7 +121,7 @@ precandidate_holds n h = record {
   linking = becomes (essence n) (essence (precandidate n)) refl refl refl (omega arith) (λ no. absurd (precandidate_stands no)) (λ no. absurd (precandidate_leads no)) h.linking;
 }
 
-sounded_holds : {w : World} (t : Turn) → Holds w t.node → Holds w (sounded_out t).node
+sounded_holds : {w : World} (t : Turn) → Holds w t.node → Holds w (pre_vote_started t).node
 sounded_holds t h =
     let n = precandidate t.node in
     asked_holds n (voters n.tracker.config) (n.term + 1) (kind.PreVote (last_term n.log) (last n.log)) (kind.PreVoteResponse true) (tt, λ _. tt) (tt, λ _. tt) (precandidate_holds t.node h)
@@ -147,9 +147,9 @@ stood_holds_unless : {w : World} (o : Option WhyNoCampaign) (t : Turn) → why_n
 stood_holds_unless (Some reason) t is h = h
 stood_holds_unless None t is h = stood_holds t false (campaign_votes t.node is) h
 
-stood_up_holds : {w : World} (t : Turn) → Holds w t.node → Holds w (stood_up t).node
-unfolding stood_up
-stood_up_holds t h = stood_holds_unless (why_no_campaign t.node) t refl h
+campaigned_after_pre_vote_holds : {w : World} (t : Turn) → Holds w t.node → Holds w (campaigned_after_pre_vote t).node
+unfolding campaigned_after_pre_vote
+campaigned_after_pre_vote_holds t h = stood_holds_unless (why_no_campaign t.node) t refl h
 
 -- ---- votes
 
@@ -217,7 +217,7 @@ pre_counted_holds t m granted is h = record {
 }
 
 pre_decided_holds : {w : World} (v : VoteResult) (t : Turn) → Holds w t.node → Holds w (pre_decided v t).node
-pre_decided_holds vote.Won t h = stood_up_holds t h
+pre_decided_holds vote.Won t h = campaigned_after_pre_vote_holds t h
 pre_decided_holds vote.Pending t h = h
 pre_decided_holds vote.Lost t h = followed_holds t t.node.term 0 (omega arith) h
 
@@ -304,14 +304,14 @@ follower_holds (kind.TransferLeader target) t m is fine h = transfer_passed_hold
 follower_holds kind.TimeoutNow t m is fine h = campaigned_holds t true h
 follower_holds _ t m is fine h = h
 
-given_in_holds : {w : World} (t : Turn) (m : Message) → IsFine w m.kind → Holds w t.node → Holds w (given_in t m).node
-given_in_holds t m fine h = follower_holds m.kind (followed t t.node.term m.from) m refl fine (followed_holds t t.node.term m.from (omega arith) h)
+leader_followed_holds : {w : World} (t : Turn) (m : Message) → IsFine w m.kind → Holds w t.node → Holds w (leader_followed t m).node
+leader_followed_holds t m fine h = follower_holds m.kind (followed t t.node.term m.from) m refl fine (followed_holds t t.node.term m.from (omega arith) h)
 
 precandidate_holds_by : {w : World} (k : MessageKind) (t : Turn) (m : Message) → t.node.role ≡ role.Precandidate → IsFine w m.kind → Holds w t.node → Holds w (as_precandidate k t m).node
 precandidate_holds_by (kind.PreVoteResponse granted) t m is fine h = pre_decided_holds (count_of t.node m.from granted) (counted t m granted) (pre_counted_holds t m granted is h)
-precandidate_holds_by (kind.Append append) t m is fine h = given_in_holds t m fine h
-precandidate_holds_by (kind.Heartbeat commit) t m is fine h = given_in_holds t m fine h
-precandidate_holds_by (kind.Snapshot snapshot) t m is fine h = given_in_holds t m fine h
+precandidate_holds_by (kind.Append append) t m is fine h = leader_followed_holds t m fine h
+precandidate_holds_by (kind.Heartbeat commit) t m is fine h = leader_followed_holds t m fine h
+precandidate_holds_by (kind.Snapshot snapshot) t m is fine h = leader_followed_holds t m fine h
 precandidate_holds_by _ t m is fine h = h
 
 -- an answer that gives a vote to the node in its term was cast
@@ -321,9 +321,9 @@ IsTaken w k t m = (granted : Bool) → k ≡ kind.VoteResponse granted → grant
 candidate_holds_by : {w : World} (k : MessageKind) (t : Turn) (m : Message) → t.node.role ≡ role.Candidate → IsTaken w k t m → IsFine w m.kind → Holds w t.node → Holds w (as_candidate k t m).node
 candidate_holds_by (kind.VoteResponse granted) t m is taken fine h =
     decided_holds (count_of t.node m.from granted) (counted t m granted) is refl (counted_holds t m granted (taken granted refl) h)
-candidate_holds_by (kind.Append append) t m is taken fine h = given_in_holds t m fine h
-candidate_holds_by (kind.Heartbeat commit) t m is taken fine h = given_in_holds t m fine h
-candidate_holds_by (kind.Snapshot snapshot) t m is taken fine h = given_in_holds t m fine h
+candidate_holds_by (kind.Append append) t m is taken fine h = leader_followed_holds t m fine h
+candidate_holds_by (kind.Heartbeat commit) t m is taken fine h = leader_followed_holds t m fine h
+candidate_holds_by (kind.Snapshot snapshot) t m is taken fine h = leader_followed_holds t m fine h
 candidate_holds_by _ t m is taken fine h = h
 
 leader_holds : {w : World} (k : MessageKind) (t : Turn) (m : Message) → t.node.role ≡ role.Leader → IsFine w k → Holds w t.node → Holds w (as_leader k t m).node

@@ -5,7 +5,7 @@ use Rattle.std.proofs.lemmas.List.Elements.{All-nil, All-push}
 use Rattle.std.specs.declared.alloc.Global.{Global}
 use Rattle.rb_files.specs.declared.finding.Found.{Found}
 use Rattle.rb_files.specs.declared.finding.Lost.{Lost}
-use Rattle.rb_files.specs.Troubles.{IsOfReading}
+use Rattle.rb_files.specs.PathErrors.{IsOfReading}
 use Rattle.rb_files.specs.Finds.{AreTold, IsFound, IsKept}
 
 pub still_found : (words : List (String Global)) (old new : Found) → IsFound words old → new.scripts ≡ old.scripts → (AreTold old.lost.items → AreTold new.lost.items) → IsFound words new
@@ -13,11 +13,11 @@ still_found words old new h e t = record { kept = rw e h.kept; told = t h.told }
 
 pub nothing_told : AreTold []
 unfolding AreTold
-nothing_told = All-nil (λ l. IsOfReading l.trouble)
+nothing_told = All-nil (λ l. IsOfReading l.error)
 
-pub one_more_told : (lost : List Lost) (one : Lost) → AreTold lost → IsOfReading one.trouble → AreTold (lost ++ one ∷ [])
+pub one_more_told : (lost : List Lost) (one : Lost) → AreTold lost → IsOfReading one.error → AreTold (lost ++ one ∷ [])
 unfolding AreTold
-one_more_told lost one h t = All-push (λ l. IsOfReading l.trouble) lost one h t
+one_more_told lost one h t = All-push (λ l. IsOfReading l.error) lost one h t
 
 pub one_more_kept : (words : List (String Global)) (old : Found) (path : String Global) (scripts : Vec (String Global) Global) → IsFound words old → IsKept words (string_bytes path) → scripts.items ≡ old.scripts.items ++ path ∷ [] → IsFound words (record old { scripts = scripts })
 one_more_kept words old path scripts h kept e = record {

@@ -1,6 +1,6 @@
 -- What stands in a place after the calls that replace its text.
 use Rattle.std.proofs.Common.{◌≡◌, ◌∙◌, ℕ, List, Option, Some, None, Result, Ok, Err, IfSome, is_ok, is_some, option_map, unwrap_or, true, ap, refl, subst}
-use Rattle.rb_files.specs.declared.trouble.Trouble.{Trouble}
+use Rattle.rb_files.specs.declared.path_error.PathError.{PathError}
 use Rattle.rb_files.specs.Places.{Standing, Written, Fills, FailsAtText, LeavesOld, Removes, Turns, IsFresh, created, empty, extended, failed, put, removed, renamed, replaced, settled, stored}
 
 -- what stands there after a call, where it is known what stood there before
@@ -19,7 +19,7 @@ placed : (s : Standing) (text : List ℕ) → s.new ≡ Some empty → renamed (
 placed s text e = ap (λ (n : Option Written). record s { file = unwrap_or (option_map stored (option_map (extended text) n)) s.file; new = None }) e
 
 -- filling, once the bytes are put and the new file is settled
-pub fills : {X : Type 0} (text : List ℕ) (r : Result X Trouble) (old a b new : Option Standing) → IfSome old (λ s. a ≡ Some (put text s)) → IfSome a (λ s. b ≡ Some (settled s)) → Turns renamed r b new → Fills text r old new
+pub fills : {X : Type 0} (text : List ℕ) (r : Result X PathError) (old a b new : Option Standing) → IfSome old (λ s. a ≡ Some (put text s)) → IfSome a (λ s. b ≡ Some (settled s)) → Turns renamed r b new → Fills text r old new
 fills text (Ok x) None a b new p q t = tt
 fills text (Err e) None a b new p q t = tt
 fills text (Ok x) (Some s) a b new p q t = λ h. next renamed (settled (put text s)) b new (next settled (put text s) a b p q) t ∙ ap (λ (n : Standing). Some n) (placed s text h)
@@ -28,12 +28,12 @@ fills text (Err e) (Some s) a b new p q t =
     (w, next (failed e) (settled (put text s)) b new (next settled (put text s) a b p q) t, is_some-map stored (option_map (extended text) s.new) ∙ is_some-map (extended text) s.new)
 
 -- creating fails
-pub leaves_uncreated : (e : Trouble) (old new : Option Standing) → IsFresh old → IfSome old (λ s. new ≡ Some (failed e s)) → IfSome old (λ s. LeavesOld (record { trouble = e; is_removed = true }) s new)
+pub leaves_uncreated : (e : PathError) (old new : Option Standing) → IsFresh old → IfSome old (λ s. new ≡ Some (failed e s)) → IfSome old (λ s. LeavesOld (record { error = e; is_removed = true }) s new)
 leaves_uncreated e None new f p = tt
 leaves_uncreated e (Some s) new f p = p ∙ ap (λ (n : Option Written). Some (record (failed e s) { new = n })) f.0
 
 -- filling fails, and the new file is removed or not
-pub leaves_old : {X : Type 0} (e : Trouble) (r : Result X Trouble) (old a b new : Option Standing) → IfSome old (λ s. a ≡ Some (created s)) → IfSome a (λ s. FailsAtText e s b) → Removes r b new → IfSome old (λ s. LeavesOld (record { trouble = e; is_removed = is_ok r }) s new)
+pub leaves_old : {X : Type 0} (e : PathError) (r : Result X PathError) (old a b new : Option Standing) → IfSome old (λ s. a ≡ Some (created s)) → IfSome a (λ s. FailsAtText e s b) → Removes r b new → IfSome old (λ s. LeavesOld (record { error = e; is_removed = is_ok r }) s new)
 leaves_old e r None a b new p q t = tt
 leaves_old e (Ok x) (Some s) a b new p q t =
     let f : FailsAtText e (created s) b = subst (λ (o : Option Standing). IfSome o (λ s. FailsAtText e s b)) p q in

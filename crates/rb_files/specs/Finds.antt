@@ -3,11 +3,11 @@ use Rattle.std.specs.Prelude.{◌≡◌, ℕ, List, ◌∷◌, String, map, stri
 use Rattle.std.specs.List.{All}
 use Rattle.std.specs.Str.Iter.{HasSubslice}
 use Rattle.std.specs.declared.alloc.Global.{Global}
-use Rattle.rb_files.specs.Troubles.{IsOfReading}
+use Rattle.rb_files.specs.PathErrors.{IsOfReading}
 use Rattle.rb_files.specs.declared.finding.Found.{Found}
 use Rattle.rb_files.specs.declared.finding.Lost.{Lost}
 use Rattle.rb_files.specs.declared.finding.Waiting.{Waiting}
-use Rattle.rb_files.specs.declared.trouble.Trouble.{Trouble}
+use Rattle.rb_files.specs.declared.path_error.PathError.{PathError}
 
 abbrev pub exclamation_mark : ℕ
 exclamation_mark = 33
@@ -23,11 +23,11 @@ IsKept words path = All (λ word. IsMet (string_bytes word) path) words
 
 -- why each of them is lost is what the system said, where it said something
 unfoldable pub AreTold : List Lost → Type 0
-AreTold lost = All (λ l. IsOfReading l.trouble) lost
+AreTold lost = All (λ l. IsOfReading l.error) lost
 
 -- the paths that are lost, and why
-abbrev pub losses : List Lost → List (List ℕ × Trouble)
-losses lost = map (λ l. (l.path.items, l.trouble)) lost
+abbrev pub losses : List Lost → List (List ℕ × PathError)
+losses lost = map (λ l. (l.path.items, l.error)) lost
 
 -- the paths that wait
 abbrev pub paths_of : List Waiting → List (List ℕ)

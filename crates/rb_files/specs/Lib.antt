@@ -1,4 +1,4 @@
 pub mod Finds
 pub mod Ignored
 pub mod Places
-pub mod Troubles
+pub mod PathErrors

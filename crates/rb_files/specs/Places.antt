@@ -1,7 +1,7 @@
 -- A file that has a text, and a new file beside it. (This project's.)
 use Rattle.std.specs.Prelude.{◌≡◌, ℕ, Bool, true, false, List, [], ◌++◌, Option, Some, None, Result, Ok, Err, IfSome, MatchBool, is_some, option_map, unwrap_or}
 use Rattle.rb_files.specs.declared.place.Unreplaced.{Unreplaced}
-use Rattle.rb_files.specs.declared.trouble.Trouble.{Trouble}
+use Rattle.rb_files.specs.declared.path_error.PathError.{PathError}
 
 -- a file's text, and whether the file is settled: stored, with the rights that it is to have
 pub record Written : Type 0 where
@@ -12,24 +12,24 @@ pub record Written : Type 0 where
 pub record Standing : Type 0 where
   pub file : Written
   pub new : Option Written
-  pub told : Option Trouble
+  pub told : Option PathError
   pub is_stuck : Bool
 
 -- what was said first, where this is said now
-abbrev pub told_with : Trouble → Standing → Option Trouble
+abbrev pub told_with : PathError → Standing → Option PathError
 told_with e s = Some (unwrap_or s.told e)
 
 -- a call that failed changes nothing
-abbrev pub failed : Trouble → Standing → Standing
+abbrev pub failed : PathError → Standing → Standing
 failed e s = record s { told = told_with e s }
 
 -- a call that turns what stands there into this, or fails; nothing is said where it isn't known
-abbrev pub Turns : {X : Type 0} → (Standing → Standing) → Result X Trouble → Option Standing → Option Standing → Type 0
+abbrev pub Turns : {X : Type 0} → (Standing → Standing) → Result X PathError → Option Standing → Option Standing → Type 0
 Turns turned (Ok x) old new = IfSome old (λ s. new ≡ Some (turned s))
 Turns turned (Err e) old new = IfSome old (λ s. new ≡ Some (failed e s))
 
 -- a call failed, and but for the text of the new file all is as it was
-abbrev pub FailsAtText : Trouble → Standing → Option Standing → Type 0
+abbrev pub FailsAtText : PathError → Standing → Option Standing → Type 0
 FailsAtText e s new = (w : Option Written) × (new ≡ Some (record { file = s.file; new = w; told = told_with e s; is_stuck = s.is_stuck })) × (is_some w ≡ is_some s.new)
 
 -- with bytes behind its text
@@ -41,7 +41,7 @@ abbrev pub put : List ℕ → Standing → Standing
 put bytes s = record s { new = option_map (extended bytes) s.new }
 
 -- a call that puts bytes behind the new file's text; on a failure that text is any
-abbrev pub Puts : {X : Type 0} → List ℕ → Result X Trouble → Option Standing → Option Standing → Type 0
+abbrev pub Puts : {X : Type 0} → List ℕ → Result X PathError → Option Standing → Option Standing → Type 0
 Puts bytes (Ok x) old new = IfSome old (λ s. new ≡ Some (put bytes s))
 Puts bytes (Err e) old new = IfSome old (λ s. FailsAtText e s new)
 
@@ -70,7 +70,7 @@ abbrev pub removed : Standing → Standing
 removed s = record s { new = None }
 
 -- a call that removes the new file, or fails
-abbrev pub Removes : {X : Type 0} → Result X Trouble → Option Standing → Option Standing → Type 0
+abbrev pub Removes : {X : Type 0} → Result X PathError → Option Standing → Option Standing → Type 0
 Removes (Ok x) old new = IfSome old (λ s. new ≡ Some (removed s))
 Removes (Err e) old new = IfSome old (λ s. new ≡ Some (record (failed e s) { is_stuck = true }))
 
@@ -79,7 +79,7 @@ abbrev pub replaced : List ℕ → Standing → Standing
 replaced text s = record s { file = record { text = text; is_settled = true }; new = None }
 
 -- a new file without a text is given this one, and put in the old one's place
-abbrev pub Fills : {X : Type 0} → List ℕ → Result X Trouble → Option Standing → Option Standing → Type 0
+abbrev pub Fills : {X : Type 0} → List ℕ → Result X PathError → Option Standing → Option Standing → Type 0
 Fills text (Ok x) old new = IfSome old (λ s. s.new ≡ Some empty → new ≡ Some (replaced text s))
 Fills text (Err e) old new = IfSome old (λ s. FailsAtText e s new)
 
@@ -87,8 +87,8 @@ Fills text (Err e) old new = IfSome old (λ s. FailsAtText e s new)
 abbrev pub LeavesOld : Unreplaced → Standing → Option Standing → Type 0
 LeavesOld why s new =
     MatchBool why.is_removed
-    (new ≡ Some (record s { new = None; told = told_with why.trouble s }))
-    ((w : Written) × (new ≡ Some (record { file = s.file; new = Some w; told = told_with why.trouble s; is_stuck = true })))
+    (new ≡ Some (record s { new = None; told = told_with why.error s }))
+    ((w : Written) × (new ≡ Some (record { file = s.file; new = Some w; told = told_with why.error s; is_stuck = true })))
 
 -- what comes of putting a text where no new file was
 abbrev pub Replaces : {X : Type 0} → List ℕ → Result X Unreplaced → Option Standing → Option Standing → Type 0

@@ -1,11 +1,11 @@
 //! The place of a real file.
 
 ghost use Rattle.std.specs.Prelude.{◌≡◌, None, MatchResult, option_map, string_bytes};
-ghost use Rattle.rb_files.specs.Troubles.{IsOfReading};
+ghost use Rattle.rb_files.specs.PathErrors.{IsOfReading};
 
 use crate::entry::{folder_of, followed};
+use crate::path_error::PathError;
 use crate::place::Place;
-use crate::trouble::Trouble;
 use std::fs::{Metadata, OpenFile, OpenOptions};
 use std::io::{ErrorKind, Write};
 use std::os::unix::fs::{MetadataExt, OpenOptionsExt, chown};
@@ -36,7 +36,7 @@ struct NewFile<F: Drop> {
 
 impl<'a, R: Files + AllocGlobal> Beside<'a, R> {
     /// The place of the file at the path, its links followed, which was `seen` when it was read.
-    pub fn new(rt: &'a R, path: &str, seen: Metadata) -> Result<Beside<'a, R>, Trouble>
+    pub fn new(rt: &'a R, path: &str, seen: Metadata) -> Result<Beside<'a, R>, PathError>
         // There is no new file yet.
         ensures { MatchResult result (λ place. place.new ≡ None) IsOfReading }
     {
@@ -132,10 +132,10 @@ fn missing() -> io::Error {
     io::Error::from(ErrorKind::NotFound)
 }
 
-fn answered(outcome: io::Result<()>) -> Result<(), Trouble> {
+fn answered(outcome: io::Result<()>) -> Result<(), PathError> {
     match outcome {
         Ok(()) => Ok(()),
-        Err(error) => Err(Trouble::of_writing(error)),
+        Err(error) => Err(PathError::of_writing(error)),
     }
 }
 
@@ -143,32 +143,32 @@ fn answered(outcome: io::Result<()>) -> Result<(), Trouble> {
 impl<'a, R: Files + AllocGlobal> Place for Beside<'a, R> {
     ghost stands = { λ _. None };
 
-    fn create(&mut self) -> Result<(), Trouble> {
+    fn create(&mut self) -> Result<(), PathError> {
         answered(self.check_rights())?;
         match self.new_file() {
             Ok(new) => {
                 self.new = Some(new);
                 Ok(())
             }
-            Err(error) => Err(Trouble::of_writing(error)),
+            Err(error) => Err(PathError::of_writing(error)),
         }
     }
 
-    fn put(&mut self, text: &[u8]) -> Result<(), Trouble> {
+    fn put(&mut self, text: &[u8]) -> Result<(), PathError> {
         match &mut self.new {
             Some(new) => answered(new.file.write_all(text)),
             None => answered(Err(missing())),
         }
     }
 
-    fn settle(&mut self) -> Result<(), Trouble> {
+    fn settle(&mut self) -> Result<(), PathError> {
         match &self.new {
             Some(new) => answered(new.settle(self.rt, &self.seen)),
             None => answered(Err(missing())),
         }
     }
 
-    fn rename(&mut self) -> Result<(), Trouble> {
+    fn rename(&mut self) -> Result<(), PathError> {
         answered(self.check_unchanged())?;
         let outcome = match &self.new {
             Some(new) => answered(fs::rename(self.rt, new.path.as_str(), self.target.as_str())),
@@ -180,7 +180,7 @@ impl<'a, R: Files + AllocGlobal> Place for Beside<'a, R> {
         outcome
     }
 
-    fn remove(&mut self) -> Result<(), Trouble> {
+    fn remove(&mut self) -> Result<(), PathError> {
         let outcome = match &self.new {
             Some(new) => answered(fs::remove_file(self.rt, new.path.as_str())),
             None => return answered(Err(missing())),

@@ -4,9 +4,9 @@
 //! once, whatever paths and links lead to it. Two names of one file by hard links are two scripts, since each may be given a text of its own.
 
 ghost use Rattle.std.specs.Prelude.{IfErr};
-ghost use Rattle.rb_files.specs.Troubles.{IsOfReading};
+ghost use Rattle.rb_files.specs.PathErrors.{IsOfReading};
 
-use crate::trouble::Trouble;
+use crate::path_error::PathError;
 use rb_check::Failure;
 use std::fs;
 use std::fs::Metadata;
@@ -50,7 +50,7 @@ pub(crate) enum Entry {
 }
 
 /// What stands at the path, its links followed.
-pub(crate) fn entry_at<R: Files + AllocGlobal>(rt: &R, path: &str) -> Result<Entry, Trouble>
+pub(crate) fn entry_at<R: Files + AllocGlobal>(rt: &R, path: &str) -> Result<Entry, PathError>
     ensures { IfErr result IsOfReading }
 {
     if let Some(failure) = no_file_at(rt, path) {
@@ -85,7 +85,7 @@ fn no_file_at<R: Files>(rt: &R, path: &str) -> Option<Failure> {
     }
 }
 
-fn file_id<R: Files + AllocGlobal>(rt: &R, target: &str) -> Result<FileId, Trouble>
+fn file_id<R: Files + AllocGlobal>(rt: &R, target: &str) -> Result<FileId, PathError>
     ensures { IfErr result IsOfReading }
 {
     let folder = FolderId::of(&looked_at(rt, folder_of(target))?);
@@ -94,17 +94,17 @@ fn file_id<R: Files + AllocGlobal>(rt: &R, target: &str) -> Result<FileId, Troub
 }
 
 // The system's answer for what the path names, a link too.
-fn looked_at<R: Files>(rt: &R, path: &str) -> Result<Metadata, Trouble>
+fn looked_at<R: Files>(rt: &R, path: &str) -> Result<Metadata, PathError>
     ensures { IfErr result IsOfReading }
 {
     match fs::symlink_metadata(rt, path) {
         Ok(metadata) => Ok(metadata),
-        Err(error) => Err(Trouble::of_reading(error)),
+        Err(error) => Err(PathError::of_reading(error)),
     }
 }
 
 /// The path that the links at the end of this one lead to.
-pub(crate) fn followed<R: Files + AllocGlobal>(rt: &R, path: &str) -> Result<String, Trouble>
+pub(crate) fn followed<R: Files + AllocGlobal>(rt: &R, path: &str) -> Result<String, PathError>
     ensures { IfErr result IsOfReading }
 {
     let mut target = String::from_str(rt.alloc(), path)?;
@@ -114,11 +114,11 @@ pub(crate) fn followed<R: Files + AllocGlobal>(rt: &R, path: &str) -> Result<Str
         }
         target = next_link(rt, target.as_str())?;
     }
-    Err(Trouble::alone(Failure::LinkLoop))
+    Err(PathError::alone(Failure::LinkLoop))
 }
 
 // Where the link leads: a path that doesn't begin at the root begins at the link's folder.
-fn next_link<R: Files + AllocGlobal>(rt: &R, link: &str) -> Result<String, Trouble>
+fn next_link<R: Files + AllocGlobal>(rt: &R, link: &str) -> Result<String, PathError>
     ensures { IfErr result IsOfReading }
 {
     match fs::read_link(rt, link) {
@@ -127,7 +127,7 @@ fn next_link<R: Files + AllocGlobal>(rt: &R, link: &str) -> Result<String, Troub
                 .join(rt.alloc(), target)?
                 .into_string(),
         ),
-        Err(error) => Err(Trouble::of_reading(error)),
+        Err(error) => Err(PathError::of_reading(error)),
     }
 }
 

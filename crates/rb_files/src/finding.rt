@@ -9,13 +9,13 @@ ghost use Rattle.std.specs.List.{list_any};
 ghost use Rattle.std.specs.Str.{bytes_eq};
 ghost use Rattle.rb_files.specs.Finds.{AreTold, IsFound, losses, paths_of};
 ghost use Rattle.rb_files.specs.Ignored.{ignored_by};
-ghost use Rattle.rb_files.specs.Troubles.{IsOfReading};
+ghost use Rattle.rb_files.specs.PathErrors.{IsOfReading};
 
 use crate::entry::{Entry, FileId, FolderId, entry_at};
 use crate::filter::is_kept;
 use crate::ignored::{IGNORED, ignored_by, ignored_in};
 use crate::listing::{Listing, listed};
-use crate::trouble::Trouble;
+use crate::path_error::PathError;
 use rb_check::Failure;
 use std::alloc::{AllocError, Global};
 use std::collections::BTreeSet;
@@ -30,7 +30,7 @@ pub struct Lost {
     /// The path; what stands after its last `/` may be no text.
     pub path: Vec<u8>,
     /// Why.
-    pub trouble: Trouble,
+    pub error: PathError,
 }
 
 /// What is found.
@@ -137,7 +137,7 @@ impl Search {
     {
         match entry_at(rt, next.path.as_str()) {
             Ok(entry) => self.look_in(rt, next, entry, words),
-            Err(trouble) => self.miss(next, trouble),
+            Err(error) => self.miss(next, error),
         }
     }
 
@@ -158,33 +158,33 @@ impl Search {
             Entry::File(id) if next.is_script => self.take(next.path, id, words),
             Entry::File(_) => Ok(()),
             Entry::Other(failure) if next.is_script => {
-                self.lose(next.path, Trouble::alone(failure))
+                self.lose(next.path, PathError::alone(failure))
             }
             Entry::Other(_) => Ok(()),
         }
     }
 
     // What isn't there, and was no folder and would be no script, is nothing that was lost.
-    fn miss(&mut self, next: Waiting, trouble: Trouble) -> Result<(), AllocError>
+    fn miss(&mut self, next: Waiting, error: PathError) -> Result<(), AllocError>
         ensures scripts { self.new.found.scripts ≡ self.old.found.scripts }
-        ensures told { AreTold self.old.found.lost.items → IsOfReading trouble → AreTold self.new.found.lost.items }
+        ensures told { AreTold self.old.found.lost.items → IsOfReading error → AreTold self.new.found.lost.items }
         ensures lost { (next.is_script || next.is_folder) ≡ true
-            → IfOk result (λ _. losses self.new.found.lost.items ≡ losses self.old.found.lost.items ++ (string_bytes next.path, trouble) ∷ []) }
+            → IfOk result (λ _. losses self.new.found.lost.items ≡ losses self.old.found.lost.items ++ (string_bytes next.path, error) ∷ []) }
     {
-        if !next.is_script && !next.is_folder && trouble.failure == Failure::NotFound {
+        if !next.is_script && !next.is_folder && error.failure == Failure::NotFound {
             return Ok(());
         }
-        self.lose(next.path, trouble)
+        self.lose(next.path, error)
     }
 
     #[tactic(auto, using(crate::proofs::FindLaws::one_more_told))]
-    fn lose(&mut self, path: String, trouble: Trouble) -> Result<(), AllocError>
+    fn lose(&mut self, path: String, error: PathError) -> Result<(), AllocError>
         ensures scripts { self.new.found.scripts ≡ self.old.found.scripts }
-        ensures told { AreTold self.old.found.lost.items → IsOfReading trouble → AreTold self.new.found.lost.items }
-        ensures lost { IfOk result (λ _. losses self.new.found.lost.items ≡ losses self.old.found.lost.items ++ (string_bytes path, trouble) ∷ []) }
+        ensures told { AreTold self.old.found.lost.items → IsOfReading error → AreTold self.new.found.lost.items }
+        ensures lost { IfOk result (λ _. losses self.new.found.lost.items ≡ losses self.old.found.lost.items ++ (string_bytes path, error) ∷ []) }
     {
         let path = path.into_bytes();
-        Ok(self.found.lost.push(Lost { path, trouble })?)
+        Ok(self.found.lost.push(Lost { path, error })?)
     }
 
     fn take(&mut self, path: String, id: FileId, words: &[String]) -> Result<(), AllocError>
@@ -213,11 +213,11 @@ impl Search {
         match ignored_in(rt, folder.as_str()) {
             Ok(Some(text)) => self.ignore(rt.alloc(), folder.as_str(), text.as_str())?,
             Ok(None) => {}
-            Err(trouble) => return self.lose(ignored_path(rt.alloc(), folder.as_str())?, trouble),
+            Err(error) => return self.lose(ignored_path(rt.alloc(), folder.as_str())?, error),
         }
         match listed(rt, folder.as_str()) {
             Ok(listing) => self.wait_for(rt, folder.as_str(), listing),
-            Err(trouble) => self.lose(folder, trouble),
+            Err(error) => self.lose(folder, error),
         }
     }
 
@@ -297,8 +297,8 @@ impl Search {
         let mut path = Vec::from_slice(alloc, folder.as_bytes())?;
         path.push(b'/')?;
         path.extend_from_slice(name)?;
-        let trouble = Trouble::alone(Failure::NotRead);
-        Ok(self.found.lost.push(Lost { path, trouble })?)
+        let error = PathError::alone(Failure::NotRead);
+        Ok(self.found.lost.push(Lost { path, error })?)
     }
 }
 

@@ -4,10 +4,10 @@ ghost use Rattle.std.specs.Prelude.{◌≡◌, IfErr, IfOk, map, option_map, str
 ghost use Rattle.std.specs.Io.BufRead.{strip_last};
 ghost use Rattle.std.specs.Str.Lines.{lines};
 ghost use Rattle.rb_files.specs.Ignored.{ignored_by, named_by, slash};
-ghost use Rattle.rb_files.specs.Troubles.{IsOfReading};
+ghost use Rattle.rb_files.specs.PathErrors.{IsOfReading};
 
 use crate::opening::opened;
-use crate::trouble::Trouble;
+use crate::path_error::PathError;
 use rb_check::Failure;
 use std::alloc::{AllocError, Global};
 use std::io::ErrorKind;
@@ -22,7 +22,7 @@ pub(crate) const IGNORED: &str = ".raftbenchignore";
 pub(crate) fn ignored_in<R: Files + AllocGlobal>(
     rt: &R,
     folder: &str,
-) -> Result<Option<String>, Trouble>
+) -> Result<Option<String>, PathError>
     ensures { IfErr result IsOfReading }
 {
     let path = Path::new(folder).join(rt.alloc(), IGNORED)?;
@@ -37,17 +37,17 @@ fn is_unseen(error: io::Error) -> bool {
     error.kind() == ErrorKind::PermissionDenied
 }
 
-fn text_of<R: Files + AllocGlobal>(rt: &R, path: &str) -> Result<Option<String>, Trouble>
+fn text_of<R: Files + AllocGlobal>(rt: &R, path: &str) -> Result<Option<String>, PathError>
     ensures { IfErr result IsOfReading }
 {
     let file = match opened(rt, path) {
         Ok((file, _)) => file,
-        Err(trouble) if trouble.failure == Failure::NotFound => return Ok(None),
-        Err(trouble) => return Err(trouble),
+        Err(error) if error.failure == Failure::NotFound => return Ok(None),
+        Err(error) => return Err(error),
     };
     match io::read_to_string(rt.alloc(), file) {
         Ok(text) => Ok(Some(text)),
-        Err(error) => Err(Trouble::of_reading(error)),
+        Err(error) => Err(PathError::of_reading(error)),
     }
 }
 

@@ -11,11 +11,11 @@ mod finding;
 mod ignored;
 mod listing;
 mod opening;
+mod path_error;
 mod place;
-mod trouble;
 
 pub use beside::Beside;
 pub use finding::{Found, Lost, find};
 pub use opening::opened;
+pub use path_error::PathError;
 pub use place::{Place, Unreplaced, replace};
-pub use trouble::Trouble;

@@ -1,9 +1,9 @@
 //! The names in a folder.
 
 ghost use Rattle.std.specs.Prelude.{IfErr};
-ghost use Rattle.rb_files.specs.Troubles.{IsOfReading};
+ghost use Rattle.rb_files.specs.PathErrors.{IsOfReading};
 
-use crate::trouble::Trouble;
+use crate::path_error::PathError;
 use std::alloc::{AllocError, Global};
 use std::io::Read;
 use std::rt::Files;
@@ -22,7 +22,7 @@ pub(crate) struct Listing {
 }
 
 /// The names in the folder.
-pub(crate) fn listed<R: Files + AllocGlobal>(rt: &R, folder: &str) -> Result<Listing, Trouble>
+pub(crate) fn listed<R: Files + AllocGlobal>(rt: &R, folder: &str) -> Result<Listing, PathError>
     ensures { IfErr result IsOfReading }
 {
     let alloc = rt.alloc();
@@ -53,14 +53,14 @@ impl Listing {
 }
 
 // The names, each ended by a NUL.
-fn all_names<R: Files + AllocGlobal>(rt: &R, folder: &str) -> Result<Vec<u8>, Trouble>
+fn all_names<R: Files + AllocGlobal>(rt: &R, folder: &str) -> Result<Vec<u8>, PathError>
     ensures { IfErr result IsOfReading }
 {
     let mut path = String::from_str(rt.alloc(), folder)?;
     path.push('/')?;
     let mut folder = match rt.open_dir(path.as_str()) {
         Ok(folder) => folder,
-        Err(error) => return Err(Trouble::of_reading(error)),
+        Err(error) => return Err(PathError::of_reading(error)),
     };
     let mut bytes = Vec::new(rt.alloc());
     for _ in 0..u64::MAX {
@@ -72,7 +72,7 @@ fn all_names<R: Files + AllocGlobal>(rt: &R, folder: &str) -> Result<Vec<u8>, Tr
 }
 
 // Adds what one call gives; whether it gave some.
-fn read_names<D: Read>(folder: &mut D, bytes: &mut Vec<u8>) -> Result<bool, Trouble>
+fn read_names<D: Read>(folder: &mut D, bytes: &mut Vec<u8>) -> Result<bool, PathError>
     ensures { IfErr result IsOfReading }
 {
     let mut chunk = [0u8; CHUNK];
@@ -82,6 +82,6 @@ fn read_names<D: Read>(folder: &mut D, bytes: &mut Vec<u8>) -> Result<bool, Trou
             bytes.extend_from_slice(&chunk[..n])?;
             Ok(true)
         }
-        Err(error) => Err(Trouble::of_reading(error)),
+        Err(error) => Err(PathError::of_reading(error)),
     }
 }

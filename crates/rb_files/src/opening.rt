@@ -2,9 +2,9 @@
 
 ghost use Rattle.std.specs.Prelude.{MatchResult};
 ghost use Rattle.std.specs.Fs.{IsFile, file_type};
-ghost use Rattle.rb_files.specs.Troubles.{IsOfOpening};
+ghost use Rattle.rb_files.specs.PathErrors.{IsOfOpening};
 
-use crate::trouble::Trouble;
+use crate::path_error::PathError;
 use rb_check::Failure;
 use std::fs;
 use std::fs::{File, Metadata, OpenFile};
@@ -18,21 +18,21 @@ use std::rt::Files;
 /// # Errors
 ///
 /// `NoFile` where it is no regular file; else why it couldn't be looked at or opened.
-pub fn opened<R: Files>(rt: &R, path: &str) -> Result<(R::File, Metadata), Trouble>
+pub fn opened<R: Files>(rt: &R, path: &str) -> Result<(R::File, Metadata), PathError>
     ensures { MatchResult result (λ opened. IsFile (file_type opened.1)) IsOfOpening }
 {
     match fs::metadata(rt, path) {
         Ok(metadata) if metadata.is_file() => {}
-        Ok(_) => return Err(Trouble::alone(Failure::NoFile)),
-        Err(error) => return Err(Trouble::of_reading(error)),
+        Ok(_) => return Err(PathError::alone(Failure::NoFile)),
+        Err(error) => return Err(PathError::of_reading(error)),
     }
     let file = match File::open(rt, path) {
         Ok(file) => file,
-        Err(error) => return Err(Trouble::of_reading(error)),
+        Err(error) => return Err(PathError::of_reading(error)),
     };
     match file.metadata() {
         Ok(metadata) if metadata.is_file() => Ok((file, metadata)),
-        Ok(_) => Err(Trouble::alone(Failure::NoFile)),
-        Err(error) => Err(Trouble::of_reading(error)),
+        Ok(_) => Err(PathError::alone(Failure::NoFile)),
+        Err(error) => Err(PathError::of_reading(error)),
     }
 }

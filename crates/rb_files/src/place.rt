@@ -8,7 +8,7 @@
 ghost use Rattle.std.specs.Prelude.{Option};
 ghost use Rattle.rb_files.specs.Places.{Standing, Turns, Puts, Fills, Removes, Replaces, IsFresh, created, settled, renamed};
 
-use crate::trouble::Trouble;
+use crate::path_error::PathError;
 
 /// A file with a text, and the new file beside it, where there is one.
 pub trait Place {
@@ -16,23 +16,23 @@ pub trait Place {
     ghost stands: { Self → Option Standing };
 
     /// Makes the new file, without a text.
-    fn create(&mut self) -> Result<(), Trouble>
+    fn create(&mut self) -> Result<(), PathError>
         ensures { Turns created result (stands self.old) (stands self.new) };
 
     /// Writes behind the new file's text.
-    fn put(&mut self, bytes: &[u8]) -> Result<(), Trouble>
+    fn put(&mut self, bytes: &[u8]) -> Result<(), PathError>
         ensures { Puts bytes.now result (stands self.old) (stands self.new) };
 
     /// Gives the new file the old one's rights, and waits until it is stored.
-    fn settle(&mut self) -> Result<(), Trouble>
+    fn settle(&mut self) -> Result<(), PathError>
         ensures { Turns settled result (stands self.old) (stands self.new) };
 
     /// Puts the new file in the old one's place, if that is still what it was.
-    fn rename(&mut self) -> Result<(), Trouble>
+    fn rename(&mut self) -> Result<(), PathError>
         ensures { Turns renamed result (stands self.old) (stands self.new) };
 
     /// Removes the new file.
-    fn remove(&mut self) -> Result<(), Trouble>
+    fn remove(&mut self) -> Result<(), PathError>
         ensures { Removes result (stands self.old) (stands self.new) };
 }
 
@@ -40,7 +40,7 @@ pub trait Place {
 #[derive(Clone, Copy, Debug)]
 pub struct Unreplaced {
     /// What failed first.
-    pub trouble: Trouble,
+    pub error: PathError,
     /// Whether no new file is left.
     pub is_removed: bool,
 }
@@ -54,26 +54,23 @@ pub struct Unreplaced {
 pub fn replace<P: Place>(place: &mut P, text: &[u8]) -> Result<(), Unreplaced>
     ensures { IsFresh (P.stands place.old) → Replaces text.now result (P.stands place.old) (P.stands place.new) }
 {
-    if let Err(trouble) = place.create() {
+    if let Err(error) = place.create() {
         return Err(Unreplaced {
-            trouble,
+            error,
             is_removed: true,
         });
     }
     match fill(place, text) {
         Ok(()) => Ok(()),
-        Err(trouble) => {
+        Err(error) => {
             let is_removed = place.remove().is_ok();
-            Err(Unreplaced {
-                trouble,
-                is_removed,
-            })
+            Err(Unreplaced { error, is_removed })
         }
     }
 }
 
 // Writes the text into the new file, and puts that in the old one's place.
-fn fill<P: Place>(place: &mut P, text: &[u8]) -> Result<(), Trouble>
+fn fill<P: Place>(place: &mut P, text: &[u8]) -> Result<(), PathError>
     ensures { Fills text.now result (P.stands place.old) (P.stands place.new) }
 {
     place.put(text)?;

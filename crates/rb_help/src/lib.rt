@@ -20,7 +20,9 @@ mod suggest;
 
 pub use choices::choices_of;
 pub use keys::KEYS;
-pub use laws::{choices_are_taken, options_are_those_of_the_table, pages_are_of_the_table, suggestions_are_near};
+pub use laws::{
+    choices_are_taken, options_are_those_of_the_table, pages_are_of_the_table, suggestions_are_near,
+};
 pub use nearest::{Known, nearest_name};
 pub use page::{page_of, put_manual};
 pub use pages::PAGES;

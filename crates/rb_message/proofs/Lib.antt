@@ -1,1 +1,1 @@
-pub mod MailLaws
+pub mod OutboxLaws

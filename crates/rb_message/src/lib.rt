@@ -11,9 +11,9 @@ mod hard_state;
 mod install;
 mod kind;
 mod limits;
-mod mail;
 mod message;
 mod messages;
+mod outbox;
 mod role;
 
 pub use append::Append;
@@ -21,6 +21,6 @@ pub use event::{Event, WhyNoCampaign, WhyReplaced};
 pub use hard_state::HardState;
 pub use install::Install;
 pub use kind::MessageKind;
-pub use mail::Mail;
 pub use message::Message;
+pub use outbox::Outbox;
 pub use role::Role;

@@ -1,6 +1,6 @@
-//! How mail is cut into pages.
+//! How an outbox is cut into pages.
 
-/// How many messages each page has. A copy of mail copies fewer, and shares all others.
+/// How many messages each page has. A copy of an outbox copies fewer, and shares all others.
 pub(crate) const PAGE: usize = 16;
 
 /// How many pages there are at most, so that the messages are always counted in a `usize`.

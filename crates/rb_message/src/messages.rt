@@ -15,7 +15,7 @@ pub(crate) fn push_copies(copies: &mut Vec<Message>, messages: &[Message]) -> Re
     Ok(())
 }
 
-/// The same messages once more, in order. Where there are some there is room for one more: who takes a copy of mail usually puts a message
+/// The same messages once more, in order. Where there are some there is room for one more: who takes a copy of an outbox usually puts a message
 /// behind it, and the room would double then.
 pub(crate) fn copies_of(alloc: Global, messages: &[Message]) -> Result<Vec<Message>, AllocError>
     ensures { IfOk result (λ copies. copies.items ≡ messages.now) }

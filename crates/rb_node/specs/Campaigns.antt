@@ -54,14 +54,14 @@ stood t transfer =
 abbrev pub precandidate : PlainNode → PlainNode
 precandidate n = record n { role = role.Precandidate; votes = no_votes; lead = 0; timeout = ELECTION_TICKS }
 
-abbrev pub sounded_out : Turn → Turn
-sounded_out t =
+abbrev pub pre_vote_started : Turn → Turn
+pre_vote_started t =
     told (with_node t (asked_for_pre_votes (precandidate t.node))) (Became t.node.id role.Precandidate t.node.term)
 
 -- a campaign, of itself or because the leader hands the lead over, which leaves the question before the vote out
 abbrev pub campaigned_unless : Option WhyNoCampaign → Turn → Bool → Turn
 campaigned_unless (Some reason) t transfer = told t (CannotCampaign t.node.id reason)
-campaigned_unless None t transfer = if t.node.options.pre_vote && not transfer then sounded_out t else stood t transfer
+campaigned_unless None t transfer = if t.node.options.pre_vote && not transfer then pre_vote_started t else stood t transfer
 
 unfoldable pub campaigned : Turn → Bool → Turn
 campaigned t transfer = campaigned_unless (why_no_campaign t.node) t transfer
@@ -71,5 +71,5 @@ abbrev pub stood_unless : Option WhyNoCampaign → Turn → Turn
 stood_unless (Some reason) t = told t (CannotCampaign t.node.id reason)
 stood_unless None t = stood t false
 
-unfoldable pub stood_up : Turn → Turn
-stood_up t = stood_unless (why_no_campaign t.node) t
+unfoldable pub campaigned_after_pre_vote : Turn → Turn
+campaigned_after_pre_vote t = stood_unless (why_no_campaign t.node) t

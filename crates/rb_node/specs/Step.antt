@@ -28,22 +28,22 @@ as_follower kind.TimeoutNow t m = campaigned t true
 as_follower _ t m = ignored t m
 
 -- who hears of the leader of its term follows it
-abbrev pub given_in : Turn → Message → Turn
-given_in t m = as_follower m.kind (followed t t.node.term m.from) m
+abbrev pub leader_followed : Turn → Message → Turn
+leader_followed t m = as_follower m.kind (followed t t.node.term m.from) m
 
 abbrev pub as_precandidate : MessageKind → Turn → Message → Turn
 as_precandidate (kind.PreVoteResponse granted) t m = pre_vote_taken t m granted
-as_precandidate (kind.Append append) t m = given_in t m
-as_precandidate (kind.Heartbeat commit) t m = given_in t m
-as_precandidate (kind.Snapshot snapshot) t m = given_in t m
+as_precandidate (kind.Append append) t m = leader_followed t m
+as_precandidate (kind.Heartbeat commit) t m = leader_followed t m
+as_precandidate (kind.Snapshot snapshot) t m = leader_followed t m
 as_precandidate (kind.Proposal body) t m = told t (DroppedProposal t.node.id)
 as_precandidate _ t m = ignored t m
 
 abbrev pub as_candidate : MessageKind → Turn → Message → Turn
 as_candidate (kind.VoteResponse granted) t m = vote_taken t m granted
-as_candidate (kind.Append append) t m = given_in t m
-as_candidate (kind.Heartbeat commit) t m = given_in t m
-as_candidate (kind.Snapshot snapshot) t m = given_in t m
+as_candidate (kind.Append append) t m = leader_followed t m
+as_candidate (kind.Heartbeat commit) t m = leader_followed t m
+as_candidate (kind.Snapshot snapshot) t m = leader_followed t m
 as_candidate (kind.Proposal body) t m = told t (DroppedProposal t.node.id)
 as_candidate _ t m = ignored t m
 

@@ -10,7 +10,7 @@ use Rattle.rb_message.specs.declared.kind.MessageKind.TheVariants as kind
 use Rattle.rb_message.specs.declared.message.Message.{Message}
 use Rattle.rb_node.specs.Node.{PlainNode, Turn, told, with_node, answered_with}
 use Rattle.rb_node.specs.Terms.{followed}
-use Rattle.rb_node.specs.Campaigns.{stood_up}
+use Rattle.rb_node.specs.Campaigns.{campaigned_after_pre_vote}
 use Rattle.rb_node.specs.Leading.{led}
 
 -- A vote once given stays; who has given none and knows of no leader is free. A question before the vote binds nobody, so one of a later
@@ -55,7 +55,7 @@ decided vote.Lost t = followed t t.node.term 0
 
 -- a precandidate that could win campaigns
 abbrev pub pre_decided : VoteResult → Turn → Turn
-pre_decided vote.Won t = stood_up t
+pre_decided vote.Won t = campaigned_after_pre_vote t
 pre_decided vote.Pending t = t
 pre_decided vote.Lost t = followed t t.node.term 0
 

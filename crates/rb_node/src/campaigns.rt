@@ -7,7 +7,7 @@ ghost use Rattle.std.specs.Prelude.{◌≡◌, ◌<◌, OnOk, true};
 ghost use Rattle.rb_message.specs.declared.kind.MessageKind.TheVariants.{Vote, PreVote, VoteResponse, PreVoteResponse};
 ghost use Rattle.rb_raftlog.specs.declared.limits.TheConstants.{MAX_TERM};
 ghost use Rattle.rb_node.specs.Node.{turn};
-ghost use Rattle.rb_node.specs.Campaigns.{why_no_campaign, asked_one, asked_for_votes, asked_for_pre_votes, stood, sounded_out, campaigned, stood_up};
+ghost use Rattle.rb_node.specs.Campaigns.{why_no_campaign, asked_one, asked_for_votes, asked_for_pre_votes, stood, pre_vote_started, campaigned, campaigned_after_pre_vote};
 
 use crate::limits::ELECTION_TICKS;
 use crate::state::State;
@@ -138,9 +138,9 @@ impl<L: RaftLog> State<L> {
     }
 
     // Asks whether it would get the votes.
-    fn sound_out(&mut self, events: &mut Vec<Event>) -> Result<(), AllocError>
+    fn start_pre_vote(&mut self, events: &mut Vec<Event>) -> Result<(), AllocError>
         requires { self.old.term < MAX_TERM }
-        ensures { OnOk result (turn self.new events.new.items ≡ sounded_out (turn self.old events.old.items)) }
+        ensures { OnOk result (turn self.new events.new.items ≡ pre_vote_started (turn self.old events.old.items)) }
     {
         self.role = Role::Precandidate;
         self.votes.clear();
@@ -168,16 +168,19 @@ impl<L: RaftLog> State<L> {
             return Ok(());
         }
         if self.options.pre_vote && !transfer {
-            self.sound_out(events)
+            self.start_pre_vote(events)
         } else {
             self.stand(transfer, events)
         }
     }
 
     // The campaign that a won question before the vote leads to.
-    #[tactic(auto, unfolding(crate::specs::Campaigns::stood_up))]
-    pub(crate) fn stand_up(&mut self, events: &mut Vec<Event>) -> Result<(), AllocError>
-        ensures { OnOk result (turn self.new events.new.items ≡ stood_up (turn self.old events.old.items)) }
+    #[tactic(auto, unfolding(crate::specs::Campaigns::campaigned_after_pre_vote))]
+    pub(crate) fn campaign_after_pre_vote(
+        &mut self,
+        events: &mut Vec<Event>,
+    ) -> Result<(), AllocError>
+        ensures { OnOk result (turn self.new events.new.items ≡ campaigned_after_pre_vote (turn self.old events.old.items)) }
     {
         if let Some(why) = self.why_no_campaign() {
             events.push(Event::CannotCampaign { id: self.id, why })?;

@@ -9,7 +9,7 @@ ghost use Rattle.rb_node.specs.Readying.{ready, hard_state, is_saved, has_ready,
 
 use crate::node::Node;
 use crate::state::State;
-use rb_message::{HardState, Mail};
+use rb_message::{HardState, Outbox};
 use rb_raftlog::{Entry, Pieces, RaftLog};
 use std::marker::Model;
 
@@ -137,7 +137,7 @@ impl<'a, L: RaftLog> ReadyView<'a, L> {
     }
 
     /// The messages that go out first.
-    pub fn sent(&self) -> &'a Mail
+    pub fn sent(&self) -> &'a Outbox
         ensures { result.now ≡ self.now.sent }
     {
         let state = self.state;
@@ -145,7 +145,7 @@ impl<'a, L: RaftLog> ReadyView<'a, L> {
     }
 
     /// The answers that waited. Those to other nodes go out after the sent messages; those to the node itself don't.
-    pub fn waiting(&self) -> &'a Mail
+    pub fn waiting(&self) -> &'a Outbox
         ensures { result.now ≡ self.now.waiting }
     {
         let state = self.state;

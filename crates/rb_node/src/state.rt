@@ -8,7 +8,7 @@ mod copies;
 
 use crate::limits::ELECTION_TICKS;
 use crate::options::Options;
-use rb_message::{Event, HardState, Mail, Message, MessageKind, Role};
+use rb_message::{Event, HardState, Message, MessageKind, Outbox, Role};
 use rb_raftlog::{Content, RaftLog, Snapshot};
 use rb_tracker::{Config, Tracker, Votes};
 use std::alloc::{AllocError, Global};
@@ -51,9 +51,9 @@ pub struct State<L: RaftLog> {
     /// Whether a snapshot was restored that isn't durable.
     pub restored: bool,
     /// Messages that go out with what is ready.
-    pub sent: Mail,
+    pub sent: Outbox,
     /// Answers that wait until what they rest on is durable.
-    pub waiting: Mail,
+    pub waiting: Outbox,
     pub options: Options,
     /// Where its memory comes from.
     pub alloc: Global,
@@ -129,8 +129,8 @@ impl<L: RaftLog> State<L> {
                 commit: index,
             },
             restored: false,
-            sent: Mail::new(alloc),
-            waiting: Mail::new(alloc),
+            sent: Outbox::new(alloc),
+            waiting: Outbox::new(alloc),
             options,
             alloc,
         })

@@ -7,7 +7,7 @@
 ghost use Rattle.std.specs.Prelude.{◌≡◌, OnOk};
 ghost use Rattle.rb_message.specs.declared.event.Event.TheVariants.{DroppedProposal};
 ghost use Rattle.rb_node.specs.Node.{turn, told};
-ghost use Rattle.rb_node.specs.Step.{as_follower, given_in, as_precandidate, as_candidate, as_leader, by_role, at_term, stepped};
+ghost use Rattle.rb_node.specs.Step.{as_follower, leader_followed, as_precandidate, as_candidate, as_leader, by_role, at_term, stepped};
 
 use crate::state::State;
 use rb_message::{Event, Message, MessageKind, Role};
@@ -97,8 +97,12 @@ impl<L: RaftLog> State<L> {
     }
 
     // Who hears of the leader of its term follows it.
-    fn give_in(&mut self, message: &Message, events: &mut Vec<Event>) -> Result<(), AllocError>
-        ensures { OnOk result (turn self.new events.new.items ≡ given_in (turn self.old events.old.items) message.now) }
+    fn follow_leader(
+        &mut self,
+        message: &Message,
+        events: &mut Vec<Event>,
+    ) -> Result<(), AllocError>
+        ensures { OnOk result (turn self.new events.new.items ≡ leader_followed (turn self.old events.old.items) message.now) }
     {
         let term = self.term;
         self.follow(term, message.from, events)?;
@@ -124,7 +128,7 @@ impl<L: RaftLog> State<L> {
                 message, *granted, events,
             ),
             MessageKind::Append(_) | MessageKind::Heartbeat { .. } | MessageKind::Snapshot(_) => {
-                self.give_in(message, events)
+                self.follow_leader(message, events)
             }
             MessageKind::Proposal(_) => self.drop_proposal(events),
             _ => self.ignore(message, events),
@@ -141,7 +145,7 @@ impl<L: RaftLog> State<L> {
         match &message.kind {
             MessageKind::VoteResponse { granted } => self.take_vote(message, *granted, events),
             MessageKind::Append(_) | MessageKind::Heartbeat { .. } | MessageKind::Snapshot(_) => {
-                self.give_in(message, events)
+                self.follow_leader(message, events)
             }
             MessageKind::Proposal(_) => self.drop_proposal(events),
             _ => self.ignore(message, events),

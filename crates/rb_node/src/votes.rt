@@ -127,7 +127,7 @@ impl<L: RaftLog> State<L> {
         ensures { OnOk result (turn self.new events.new.items ≡ pre_vote_taken (turn self.old events.old.items) message.now granted) }
     {
         match self.count_vote(message, granted, events)? {
-            VoteResult::Won => self.stand_up(events),
+            VoteResult::Won => self.campaign_after_pre_vote(events),
             VoteResult::Pending => Ok(()),
             VoteResult::Lost => {
                 let term = self.term;

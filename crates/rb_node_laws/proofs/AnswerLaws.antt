@@ -23,7 +23,7 @@ use Rattle.rb_message.specs.declared.role.Role.TheVariants as role
 use Rattle.rb_node.specs.Node.{PlainNode, Turn, with_node, ignored}
 use Rattle.rb_node.specs.Terms.{followed, raised, raised_by, lowered, lowered_by, shown_term, answers_earlier, is_disturbed_by}
 use Rattle.rb_node.specs.Following.{after_log, with_appended, append_taken}
-use Rattle.rb_node.specs.Step.{as_follower, given_in, as_precandidate, as_candidate, as_leader, by_role_of, at_term_by, at_term, stepped}
+use Rattle.rb_node.specs.Step.{as_follower, leader_followed, as_precandidate, as_candidate, as_leader, by_role_of, at_term_by, at_term, stepped}
 use Rattle.rb_node_laws.specs.Sound.{IsSound}
 use Rattle.rb_node_laws.specs.Words.{HasEntries, IsAnswered}
 
@@ -97,7 +97,7 @@ taken : (t : Turn) (from : ℕ) (append : PlainAppend) → t.node.commit ≤ las
 unfolding append_taken
 taken t from append within = after_taken (answer t.node.log append.prev append.prev_term append.entries t.node.commit) t from append refl within
 
-given_taken : (t : Turn) (m : Message) (append : PlainAppend) → m.kind ≡ kind.Append append → t.node.commit ≤ last t.node.log → Taken t.node.log t.node.commit t.node.waiting m.from append (given_in t m).node
+given_taken : (t : Turn) (m : Message) (append : PlainAppend) → m.kind ≡ kind.Append append → t.node.commit ≤ last t.node.log → Taken t.node.log t.node.commit t.node.waiting m.from append (leader_followed t m).node
 given_taken t m append asks within =
     let u = followed t t.node.term m.from in
     subst (λ (k : MessageKind). Taken t.node.log t.node.commit t.node.waiting m.from append (as_follower k u m).node) (sym asks) (taken u m.from append within)

@@ -26,7 +26,7 @@ use Rattle.rb_message.specs.declared.role.Role.TheVariants as role
 use Rattle.rb_node.specs.declared.limits.TheConstants.{ELECTION_TICKS}
 use Rattle.rb_node.specs.Node.{PlainNode, Turn, told, with_node, ignored, message, is_leader}
 use Rattle.rb_node.specs.Terms.{raised, lowered, hears_leader, is_disturbed_by}
-use Rattle.rb_node.specs.Campaigns.{why_no_campaign, campaigned_unless, campaigned, stood_unless, stood_up}
+use Rattle.rb_node.specs.Campaigns.{why_no_campaign, campaigned_unless, campaigned, stood_unless, campaigned_after_pre_vote}
 use Rattle.rb_node.specs.Changing.{steps_down, led_on, switched, change_applied}
 use Rattle.rb_node.specs.Leading.{is_log_full, appended, all_told}
 use Rattle.rb_node.specs.Proposing.{why_replaced, change_put, put_in, takes_none, proposed}
@@ -69,8 +69,8 @@ stands_unless_may : (o : Option WhyNoCampaign) (t : Turn) → why_no_campaign t.
 stands_unless_may (Some reason) t is = inl refl
 stands_unless_may None t is = inr (no_change_campaigns t.node is)
 
-pub stands_may : (t : Turn) → ((stood_up t).node ≡ t.node) ⊎ MayCampaign t.node
-unfolding stood_up
+pub stands_may : (t : Turn) → ((campaigned_after_pre_vote t).node ≡ t.node) ⊎ MayCampaign t.node
+unfolding campaigned_after_pre_vote
 stands_may t = stands_unless_may (why_no_campaign t.node) t refl
 
 -- ---- one change at a time

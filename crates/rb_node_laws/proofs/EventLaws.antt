@@ -33,7 +33,7 @@ use Rattle.rb_message.specs.declared.role.Role.TheVariants as role
 use Rattle.rb_node.specs.declared.limits.TheConstants.{ELECTION_TICKS, HEARTBEAT_TICKS}
 use Rattle.rb_node.specs.Node.{Turn, told, with_node, ignored, message, is_leader}
 use Rattle.rb_node.specs.Terms.{followed, raised, raised_by, lowered, lowered_by, shown_term, answers_earlier, is_disturbed_by}
-use Rattle.rb_node.specs.Campaigns.{why_no_campaign, campaigned_unless, campaigned, stood_unless, stood_up}
+use Rattle.rb_node.specs.Campaigns.{why_no_campaign, campaigned_unless, campaigned, stood_unless, campaigned_after_pre_vote}
 use Rattle.rb_node.specs.Votes.{count_of, counted, decided, pre_decided}
 use Rattle.rb_node.specs.Following.{heard, with_appended, after_log, append_taken, new_snapshot_taken, snapshot_taken, proposal_passed, transfer_passed}
 use Rattle.rb_node.specs.Leading.{is_log_full, appended, appended_change, with_views, leading, led}
@@ -41,7 +41,7 @@ use Rattle.rb_node.specs.Acknowledging.{heard_of, accepted_at, accepted, refused
 use Rattle.rb_node.specs.Proposing.{why_replaced, change_put, put_in, takes_none, proposed}
 use Rattle.rb_node.specs.Transferring.{cannot_take_lead, older_ended, transfer_started, transferred, transfer_ended}
 use Rattle.rb_node.specs.Changing.{without_strangers, missing, stranger_given_up, revised, steps_down, led_on, switched, change_applied, body_applied, applied_one, applied_all, leaves_joint, joint_left}
-use Rattle.rb_node.specs.Step.{as_follower, given_in, as_precandidate, as_candidate, as_leader, by_role_of, at_term_by, at_term, stepped}
+use Rattle.rb_node.specs.Step.{as_follower, leader_followed, as_precandidate, as_candidate, as_leader, by_role_of, at_term_by, at_term, stepped}
 use Rattle.rb_node.specs.Readying.{applying, saved, own_stepped, advanced}
 use Rattle.rb_node.specs.Ticking.{counted as counted_tick, heartbeats_due, has_lost_quorum, looked_anew, quorum_looked_at, leader_counted, counted_up, leader_ticked, is_due, other_ticked, ticked_by}
 use Rattle.rb_node_laws.specs.Calling.{Call, Step, Campaign, Propose, Transfer, Tick, Advance, ForgetLeader, ReportUnreachable, SetTimeout, Compact, after, run}
@@ -88,9 +88,9 @@ stands_unless : {es : List Event} (o : Option WhyNoCampaign) (t : Turn) → Adds
 stands_unless (Some reason) t h = tells t _ h
 stands_unless None t h = tells t _ h
 
-stands_up : {es : List Event} (t : Turn) → Adds es t → Adds es (stood_up t)
-unfolding stood_up
-stands_up t h = stands_unless (why_no_campaign t.node) t h
+campaigns_after_pre_vote : {es : List Event} (t : Turn) → Adds es t → Adds es (campaigned_after_pre_vote t)
+unfolding campaigned_after_pre_vote
+campaigns_after_pre_vote t h = stands_unless (why_no_campaign t.node) t h
 
 -- ---- the lead
 
@@ -172,7 +172,7 @@ decides vote.Pending t h = h
 decides vote.Lost t h = follows t t.node.term 0 h
 
 pre_decides : {es : List Event} (v : VoteResult) (t : Turn) → Adds es t → Adds es (pre_decided v t)
-pre_decides vote.Won t h = stands_up t h
+pre_decides vote.Won t h = campaigns_after_pre_vote t h
 pre_decides vote.Pending t h = h
 pre_decides vote.Lost t h = follows t t.node.term 0 h
 
@@ -214,21 +214,21 @@ follower_adds (kind.TransferLeader target) t m h = passes_transfer t (kind.Trans
 follower_adds kind.TimeoutNow t m h = campaigns t true h
 follower_adds _ t m h = tells t _ h
 
-gives_in : {es : List Event} (t : Turn) (m : Message) → Adds es t → Adds es (given_in t m)
-gives_in t m h = follower_adds m.kind (followed t t.node.term m.from) m (follows t t.node.term m.from h)
+follows_leader : {es : List Event} (t : Turn) (m : Message) → Adds es t → Adds es (leader_followed t m)
+follows_leader t m h = follower_adds m.kind (followed t t.node.term m.from) m (follows t t.node.term m.from h)
 
 precandidate_adds : {es : List Event} (k : MessageKind) (t : Turn) (m : Message) → Adds es t → Adds es (as_precandidate k t m)
 precandidate_adds (kind.PreVoteResponse granted) t m h = pre_decides (count_of t.node m.from granted) (counted t m granted) (counts t m granted h)
-precandidate_adds (kind.Append append) t m h = gives_in t m h
-precandidate_adds (kind.Heartbeat commit) t m h = gives_in t m h
-precandidate_adds (kind.Snapshot snapshot) t m h = gives_in t m h
+precandidate_adds (kind.Append append) t m h = follows_leader t m h
+precandidate_adds (kind.Heartbeat commit) t m h = follows_leader t m h
+precandidate_adds (kind.Snapshot snapshot) t m h = follows_leader t m h
 precandidate_adds _ t m h = tells t _ h
 
 candidate_adds : {es : List Event} (k : MessageKind) (t : Turn) (m : Message) → Adds es t → Adds es (as_candidate k t m)
 candidate_adds (kind.VoteResponse granted) t m h = decides (count_of t.node m.from granted) (counted t m granted) (counts t m granted h)
-candidate_adds (kind.Append append) t m h = gives_in t m h
-candidate_adds (kind.Heartbeat commit) t m h = gives_in t m h
-candidate_adds (kind.Snapshot snapshot) t m h = gives_in t m h
+candidate_adds (kind.Append append) t m h = follows_leader t m h
+candidate_adds (kind.Heartbeat commit) t m h = follows_leader t m h
+candidate_adds (kind.Snapshot snapshot) t m h = follows_leader t m h
 candidate_adds _ t m h = tells t _ h
 
 leader_adds : {es : List Event} (k : MessageKind) (t : Turn) (m : Message) → Adds es t → Adds es (as_leader k t m)

@@ -22,7 +22,7 @@ use Rattle.rb_message.specs.declared.role.Role.TheVariants as role
 use Rattle.rb_node.specs.declared.sends.Mode.TheVariants as mode
 use Rattle.rb_node.specs.Node.{PlainNode, Turn, told, with_node, ignored}
 use Rattle.rb_node.specs.Terms.{followed, raised, raised_by, lowered, lowered_by, answers_earlier, is_disturbed_by}
-use Rattle.rb_node.specs.Campaigns.{candidate, precandidate, stood, sounded_out, why_no_campaign, campaigned_unless, campaigned, stood_unless, stood_up}
+use Rattle.rb_node.specs.Campaigns.{candidate, precandidate, stood, pre_vote_started, why_no_campaign, campaigned_unless, campaigned, stood_unless, campaigned_after_pre_vote}
 use Rattle.rb_node.specs.Sends.{viewed, told_all}
 use Rattle.rb_node.specs.Leading.{is_log_full, appended, appended_change, in_lead, leading, led}
 use Rattle.rb_node.specs.Votes.{grants, vote_answered, pre_vote_answered, count_of, counted, decided, pre_decided}
@@ -30,7 +30,7 @@ use Rattle.rb_node.specs.Following.{heard, append_taken, snapshot_taken}
 use Rattle.rb_node.specs.Acknowledging.{heard_of, handed_to, commit_or_sent, mode_after, accepted_news, accepted_old, accepted_by, accepted_with, accepted_at, accepted, refused_with, refused_at, append_refused, lags, beat_answered_with, beat_answered_at, beat_answered}
 use Rattle.rb_node.specs.Proposing.{why_replaced, change_put, put_in, takes_none, proposed}
 use Rattle.rb_node.specs.Transferring.{cannot_take_lead, older_ended, urged, transferred}
-use Rattle.rb_node.specs.Step.{as_follower, given_in, as_precandidate, as_candidate, as_leader, by_role_of, at_term_by, at_term, stepped}
+use Rattle.rb_node.specs.Step.{as_follower, leader_followed, as_precandidate, as_candidate, as_leader, by_role_of, at_term_by, at_term, stepped}
 use Rattle.rb_node_laws.specs.Matches.{RestsOn}
 use Rattle.rb_node_laws.proofs.Goes.{Core, core}
 use Rattle.rb_node_laws.proofs.LeaderLaws.{with_views_same}
@@ -99,7 +99,7 @@ campaigned_less_unless None t transfer id =
     let c = candidate t.node in
     let p = precandidate t.node in
     if_both (λ (u : Turn). of u.node id ≤ of t.node id) (t.node.options.pre_vote && not transfer) _ _
-    (λ _. (let e = same_views t.node (sounded_out t).node id (asked_views p (voters p.tracker.config) (p.term + 1) (kind.PreVote (last_term p.log) (last p.log)) (kind.PreVoteResponse true)) in omega (arith, e)))
+    (λ _. (let e = same_views t.node (pre_vote_started t).node id (asked_views p (voters p.tracker.config) (p.term + 1) (kind.PreVote (last_term p.log) (last p.log)) (kind.PreVoteResponse true)) in omega (arith, e)))
     (λ _. none_less t.node (stood t transfer).node id (asked_views c (voters c.tracker.config) c.term (kind.Vote (last_term c.log) (last c.log) transfer) (kind.VoteResponse true)))
 
 pub campaigned_less : (t : Turn) (transfer : Bool) (id : ℕ) → of (campaigned t transfer).node id ≤ of t.node id
@@ -112,9 +112,9 @@ stood_less_unless None t id =
     let c = candidate t.node in
     none_less t.node (stood t false).node id (asked_views c (voters c.tracker.config) c.term (kind.Vote (last_term c.log) (last c.log) false) (kind.VoteResponse true))
 
-stood_up_less : (t : Turn) (id : ℕ) → of (stood_up t).node id ≤ of t.node id
-unfolding stood_up
-stood_up_less t id = stood_less_unless (why_no_campaign t.node) t id
+campaigned_after_pre_vote_less : (t : Turn) (id : ℕ) → of (campaigned_after_pre_vote t).node id ≤ of t.node id
+unfolding campaigned_after_pre_vote
+campaigned_after_pre_vote_less t id = stood_less_unless (why_no_campaign t.node) t id
 
 -- counting changes no match, no role and no log
 by_counted : (t : Turn) (m : Message) (k : MessageKind) (granted : Bool) (new : PlainNode) (id : ℕ) → Rests (counted t m granted) m k new id → Rests t m k new id
@@ -133,7 +133,7 @@ decided_rests vote.Pending t m k granted id = stays t m k (counted t m granted).
 decided_rests vote.Lost t m k granted id = inl (omega arith)
 
 pre_decided_rests : (v : VoteResult) (t : Turn) (m : Message) (k : MessageKind) (granted : Bool) (id : ℕ) → Rests t m k (pre_decided v (counted t m granted)).node id
-pre_decided_rests vote.Won t m k granted id = inl (stood_up_less (counted t m granted) id)
+pre_decided_rests vote.Won t m k granted id = inl (campaigned_after_pre_vote_less (counted t m granted) id)
 pre_decided_rests vote.Pending t m k granted id = stays t m k (counted t m granted).node id refl
 pre_decided_rests vote.Lost t m k granted id = inl (omega arith)
 
@@ -260,9 +260,9 @@ follower_rests (kind.TransferLeader target) t m id = if_both (λ (u : Turn). Res
 follower_rests kind.TimeoutNow t m id = inl (campaigned_less t true id)
 follower_rests _ t m id = inl (omega arith)
 
--- who gives in has no views any more
-given_in_match : (k : MessageKind) (u : Turn) (m : Message) (id : ℕ) → u.node.tracker.views ≡ [] → u.node.role ≡ role.Follower → Rests u m k (as_follower k u m).node id → (of (as_follower k u m).node id ≤ 0) ⊎ ((id ≡ (as_follower k u m).node.id) × (of (as_follower k u m).node id ≤ (as_follower k u m).node.log.durable))
-given_in_match k u m id none follows is =
+-- who follows a leader has no views any more
+leader_followed_match : (k : MessageKind) (u : Turn) (m : Message) (id : ℕ) → u.node.tracker.views ≡ [] → u.node.role ≡ role.Follower → Rests u m k (as_follower k u m).node id → (of (as_follower k u m).node id ≤ 0) ⊎ ((id ≡ (as_follower k u m).node.id) × (of (as_follower k u m).node id ≤ (as_follower k u m).node.log.durable))
+leader_followed_match k u m id none follows is =
     let nothing : of u.node id ≡ 0 = ap (λ (v : List (ℕ × PlainProgress)). match_of v id) none in
     elim is as (λ _. (of (as_follower k u m).node id ≤ 0) ⊎ ((id ≡ (as_follower k u m).node.id) × (of (as_follower k u m).node id ≤ (as_follower k u m).node.log.durable))) [
       | inl less ↦ inl (omega (arith, less, nothing))
@@ -272,26 +272,26 @@ given_in_match k u m id none follows is =
       ]
     ]
 
-given_in_rests : (t : Turn) (m : Message) (k : MessageKind) (id : ℕ) → Rests t m k (given_in t m).node id
-given_in_rests t m k id =
+leader_followed_rests : (t : Turn) (m : Message) (k : MessageKind) (id : ℕ) → Rests t m k (leader_followed t m).node id
+leader_followed_rests t m k id =
     let u = followed t t.node.term m.from in
-    elim (given_in_match m.kind u m id refl refl (follower_rests m.kind u m id)) as (λ _. Rests t m k (given_in t m).node id) [
+    elim (leader_followed_match m.kind u m id refl refl (follower_rests m.kind u m id)) as (λ _. Rests t m k (leader_followed t m).node id) [
       | inl none ↦ inl (omega (arith, none))
       | inr own ↦ inr (inl own)
     ]
 
 precandidate_rests : (k : MessageKind) (t : Turn) (m : Message) (id : ℕ) → Rests t m k (as_precandidate k t m).node id
 precandidate_rests (kind.PreVoteResponse granted) t m id = pre_decided_rests (count_of t.node m.from granted) t m (kind.PreVoteResponse granted) granted id
-precandidate_rests (kind.Append append) t m id = given_in_rests t m (kind.Append append) id
-precandidate_rests (kind.Heartbeat commit) t m id = given_in_rests t m (kind.Heartbeat commit) id
-precandidate_rests (kind.Snapshot snapshot) t m id = given_in_rests t m (kind.Snapshot snapshot) id
+precandidate_rests (kind.Append append) t m id = leader_followed_rests t m (kind.Append append) id
+precandidate_rests (kind.Heartbeat commit) t m id = leader_followed_rests t m (kind.Heartbeat commit) id
+precandidate_rests (kind.Snapshot snapshot) t m id = leader_followed_rests t m (kind.Snapshot snapshot) id
 precandidate_rests _ t m id = inl (omega arith)
 
 candidate_rests : (k : MessageKind) (t : Turn) (m : Message) (id : ℕ) → Rests t m k (as_candidate k t m).node id
 candidate_rests (kind.VoteResponse granted) t m id = decided_rests (count_of t.node m.from granted) t m (kind.VoteResponse granted) granted id
-candidate_rests (kind.Append append) t m id = given_in_rests t m (kind.Append append) id
-candidate_rests (kind.Heartbeat commit) t m id = given_in_rests t m (kind.Heartbeat commit) id
-candidate_rests (kind.Snapshot snapshot) t m id = given_in_rests t m (kind.Snapshot snapshot) id
+candidate_rests (kind.Append append) t m id = leader_followed_rests t m (kind.Append append) id
+candidate_rests (kind.Heartbeat commit) t m id = leader_followed_rests t m (kind.Heartbeat commit) id
+candidate_rests (kind.Snapshot snapshot) t m id = leader_followed_rests t m (kind.Snapshot snapshot) id
 candidate_rests _ t m id = inl (omega arith)
 
 leader_rests : (k : MessageKind) (t : Turn) (m : Message) (id : ℕ) → t.node.role ≡ role.Leader → Rests t m k (as_leader k t m).node id

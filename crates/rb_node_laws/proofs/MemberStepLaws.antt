@@ -35,13 +35,13 @@ use Rattle.rb_message.specs.declared.role.Role.TheVariants as role
 use Rattle.rb_node.specs.declared.limits.TheConstants.{ELECTION_TICKS, HEARTBEAT_TICKS}
 use Rattle.rb_node.specs.Node.{PlainNode, Turn, told, with_node, ignored, message, is_leader}
 use Rattle.rb_node.specs.Terms.{followed, raised, raised_by, lowered, lowered_by, shown_term, answers_earlier, is_disturbed_by}
-use Rattle.rb_node.specs.Campaigns.{asked_one, asked, candidate, precandidate, stood, sounded_out, why_no_campaign, campaigned_unless, campaigned, stood_unless, stood_up}
+use Rattle.rb_node.specs.Campaigns.{asked_one, asked, candidate, precandidate, stood, pre_vote_started, why_no_campaign, campaigned_unless, campaigned, stood_unless, campaigned_after_pre_vote}
 use Rattle.rb_node.specs.Leading.{appended_change, with_views}
 use Rattle.rb_node.specs.Votes.{grants, vote_answered, pre_vote_answered, count_of, counted, decided, pre_decided}
 use Rattle.rb_node.specs.Following.{heard, after_log, with_appended, append_taken, snapshot_taken, restored_to, proposal_passed, transfer_passed}
 use Rattle.rb_node.specs.Changing.{without_stranger, without_strangers, missing, stranger_given_up, revised, steps_down, led_on, switched, change_applied, body_applied, applied_one, applied_all, leaves_joint, joint_left}
 use Rattle.rb_node.specs.Transferring.{transfer_ended}
-use Rattle.rb_node.specs.Step.{as_follower, given_in, as_precandidate, as_candidate, as_leader, by_role_of, at_term_by, at_term, stepped}
+use Rattle.rb_node.specs.Step.{as_follower, leader_followed, as_precandidate, as_candidate, as_leader, by_role_of, at_term_by, at_term, stepped}
 use Rattle.rb_node.specs.Calls.{forgotten_by, unreachable, reported_with, reported_at, reported}
 use Rattle.rb_node.specs.Readying.{applying, saved, own_stepped, advanced}
 use Rattle.rb_node.specs.Ticking.{counted as counted_tick, beat_to, beat_each, heartbeats_due, has_lost_quorum, looked_anew, quorum_looked_at, leader_counted, counted_up, leader_ticked, is_due, other_ticked, ticked_by}
@@ -84,8 +84,8 @@ stood_stays t transfer =
     let none : Stays t.node n = nobody no_candidate refl in
     stays_then {b = n} none (stays (asked_same n (voters n.tracker.config) n.term (kind.Vote (last_term n.log) (last n.log) transfer) (kind.VoteResponse true)))
 
--- who doesn't lead has no views, and sounds out with none
-sounded_stays : (t : Turn) → (t.node.role ≡ role.Leader → ⊥) → Stays t.node (sounded_out t).node
+-- who doesn't lead has no views, and starts a pre-vote with none
+sounded_stays : (t : Turn) → (t.node.role ≡ role.Leader → ⊥) → Stays t.node (pre_vote_started t).node
 sounded_stays t follower =
     let n : PlainNode = precandidate t.node in
     let first : Stays t.node n = record {
@@ -115,9 +115,9 @@ stood_stays_unless : (o : Option WhyNoCampaign) (t : Turn) → Stays t.node (sto
 stood_stays_unless (Some reason) t = stays refl
 stood_stays_unless None t = stood_stays t false
 
-stood_up_stays : (t : Turn) → Stays t.node (stood_up t).node
-unfolding stood_up
-stood_up_stays t = stood_stays_unless (why_no_campaign t.node) t
+campaigned_after_pre_vote_stays : (t : Turn) → Stays t.node (campaigned_after_pre_vote t).node
+unfolding campaigned_after_pre_vote
+campaigned_after_pre_vote_stays t = stood_stays_unless (why_no_campaign t.node) t
 
 -- ---- votes
 
@@ -133,7 +133,7 @@ decided_stays vote.Pending t = stays refl
 decided_stays vote.Lost t = followed_stays t t.node.term 0
 
 pre_decided_stays : (v : VoteResult) (t : Turn) → Stays t.node (pre_decided v t).node
-pre_decided_stays vote.Won t = stood_up_stays t
+pre_decided_stays vote.Won t = campaigned_after_pre_vote_stays t
 pre_decided_stays vote.Pending t = stays refl
 pre_decided_stays vote.Lost t = followed_stays t t.node.term 0
 
@@ -187,23 +187,23 @@ follower_stays (kind.TransferLeader target) t m is = stays (transfer_passed_same
 follower_stays kind.TimeoutNow t m is = campaigned_stays t true
 follower_stays _ t m is = stays refl
 
-given_in_stays : (t : Turn) (m : Message) → Stays t.node (given_in t m).node
-given_in_stays t m =
+leader_followed_stays : (t : Turn) (m : Message) → Stays t.node (leader_followed t m).node
+leader_followed_stays t m =
     let u : Turn = followed t t.node.term m.from in
     stays_then {b = u.node} (followed_stays t t.node.term m.from) (follower_stays m.kind u m refl)
 
 precandidate_stays : (k : MessageKind) (t : Turn) (m : Message) → Stays t.node (as_precandidate k t m).node
 precandidate_stays (kind.PreVoteResponse granted) t m = stays_then {b = (counted t m granted).node} (counted_stays t m granted) (pre_decided_stays (count_of t.node m.from granted) (counted t m granted))
-precandidate_stays (kind.Append append) t m = given_in_stays t m
-precandidate_stays (kind.Heartbeat commit) t m = given_in_stays t m
-precandidate_stays (kind.Snapshot snapshot) t m = given_in_stays t m
+precandidate_stays (kind.Append append) t m = leader_followed_stays t m
+precandidate_stays (kind.Heartbeat commit) t m = leader_followed_stays t m
+precandidate_stays (kind.Snapshot snapshot) t m = leader_followed_stays t m
 precandidate_stays _ t m = stays refl
 
 candidate_stays : (k : MessageKind) (t : Turn) (m : Message) → Stays t.node (as_candidate k t m).node
 candidate_stays (kind.VoteResponse granted) t m = stays_then {b = (counted t m granted).node} (counted_stays t m granted) (decided_stays (count_of t.node m.from granted) (counted t m granted))
-candidate_stays (kind.Append append) t m = given_in_stays t m
-candidate_stays (kind.Heartbeat commit) t m = given_in_stays t m
-candidate_stays (kind.Snapshot snapshot) t m = given_in_stays t m
+candidate_stays (kind.Append append) t m = leader_followed_stays t m
+candidate_stays (kind.Heartbeat commit) t m = leader_followed_stays t m
+candidate_stays (kind.Snapshot snapshot) t m = leader_followed_stays t m
 candidate_stays _ t m = stays refl
 
 leader_stays : (k : MessageKind) (t : Turn) (m : Message) → Stays t.node (as_leader k t m).node

@@ -8,19 +8,19 @@ use Rattle.rb_message.specs.declared.kind.MessageKind.TheVariants as kind
 use Rattle.rb_message.specs.declared.message.Message.{Message}
 use Rattle.rb_node.specs.Node.{PlainNode, Turn, ignored}
 use Rattle.rb_node.specs.Terms.{raised, raised_by, lowered, is_disturbed_by}
-use Rattle.rb_node.specs.Campaigns.{why_no_campaign, campaigned_unless, campaigned, stood, sounded_out}
+use Rattle.rb_node.specs.Campaigns.{why_no_campaign, campaigned_unless, campaigned, stood, pre_vote_started}
 use Rattle.rb_node.specs.Step.{at_term_by, at_term, stepped}
 use Rattle.rb_node_laws.specs.Sound.{HasSameVote}
 use Rattle.rb_node_laws.proofs.Goes.{Core, core}
-use Rattle.rb_node_laws.proofs.TermLaws.{sounded_out_core, lowered_same}
+use Rattle.rb_node_laws.proofs.TermLaws.{pre_vote_started_core, lowered_same}
 use Rattle.rb_node_laws.proofs.VoteLaws.{pre_vote_same}
 
 same_vote_of : (a b : PlainNode) → core b ≡ core a → HasSameVote a b
 same_vote_of a b e = record { term = ap (λ (c : Core). c.term) e; vote = ap (λ (c : Core). c.vote) e; log = ap (λ (c : Core). c.log) e }
 
-sounding_same : (t : Turn) → HasSameVote t.node (sounded_out t).node
-sounding_same t =
-    let e = sounded_out_core t in
+starting_pre_vote_same : (t : Turn) → HasSameVote t.node (pre_vote_started t).node
+starting_pre_vote_same t =
+    let e = pre_vote_started_core t in
     record { term = ap (λ (c : Core). c.term) e; vote = ap (λ (c : Core). c.vote) e; log = ap (λ (c : Core). c.log) e }
 
 itself : (n : PlainNode) → HasSameVote n n
@@ -33,8 +33,8 @@ asks_first false e f = cc
 pre_campaign_unless : (o : Option WhyNoCampaign) (t : Turn) → t.node.options.pre_vote ≡ true → HasSameVote t.node (campaigned_unless o t false).node
 pre_campaign_unless (Some reason) t on = itself t.node
 pre_campaign_unless None t on =
-    if_both (λ (u : Turn). HasSameVote t.node u.node) (t.node.options.pre_vote && not false) (sounded_out t) (stood t false)
-    (λ _. sounding_same t) (λ off. absurd (asks_first t.node.options.pre_vote on off))
+    if_both (λ (u : Turn). HasSameVote t.node u.node) (t.node.options.pre_vote && not false) (pre_vote_started t) (stood t false)
+    (λ _. starting_pre_vote_same t) (λ off. absurd (asks_first t.node.options.pre_vote on off))
 
 pub pre_campaign : (t : Turn) → t.node.options.pre_vote ≡ true → HasSameVote t.node (campaigned t false).node
 unfolding campaigned

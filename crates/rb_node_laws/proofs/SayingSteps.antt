@@ -33,7 +33,7 @@ use Rattle.rb_node.specs.Terms.{followed, raised, raised_by, lowered, lowered_by
 use Rattle.rb_node.specs.Leading.{with_views, appended_change}
 use Rattle.rb_node.specs.Changing.{without_stranger, without_strangers, missing, stranger_given_up, joined_by, revised, steps_down, led_on, switched, change_applied, body_applied, applied_one, applied_all, leaves_joint, joint_left}
 use Rattle.rb_node.specs.Transferring.{transfer_ended}
-use Rattle.rb_node.specs.Step.{as_follower, given_in, as_precandidate, as_candidate, as_leader, by_role_of, at_term_by, at_term, stepped}
+use Rattle.rb_node.specs.Step.{as_follower, leader_followed, as_precandidate, as_candidate, as_leader, by_role_of, at_term_by, at_term, stepped}
 use Rattle.rb_node.specs.Calls.{forgotten_by, reported_with, reported_at, reported}
 use Rattle.rb_node.specs.Readying.{applying, saved, own_stepped, advanced}
 use Rattle.rb_node.specs.Ticking.{counted as counted_tick, beat_to, beat_each, heartbeats_due, has_lost_quorum, looked_anew, quorum_looked_at, leader_counted, counted_up, leader_ticked, is_due, other_ticked, ticked_by}
@@ -43,7 +43,7 @@ use Rattle.std.proofs.lemmas.Bool.{ltb-false, leb-false, false≢true}
 use Rattle.rb_raftlog.proofs.TermLaws.{is_term_is, held_in}
 use Rattle.rb_tracker.specs.Commits.{match_of}
 use Rattle.rb_node.specs.Node.{PlainNode, Turn, told, with_node, ignored, message, is_leader}
-use Rattle.rb_node.specs.Campaigns.{asked_one, asked, candidate, precandidate, stood, sounded_out, why_no_campaign, campaigned_unless, campaigned, stood_unless, stood_up}
+use Rattle.rb_node.specs.Campaigns.{asked_one, asked, candidate, precandidate, stood, pre_vote_started, why_no_campaign, campaigned_unless, campaigned, stood_unless, campaigned_after_pre_vote}
 use Rattle.rb_node.specs.Votes.{grants, voted_for, vote_answered, pre_vote_answered, count_of, counted, decided, pre_decided}
 use Rattle.rb_node.specs.Following.{heard, beaten, commits_to, after_log, with_appended, append_taken, restored_to, with_match, snapshot_taken, proposal_passed, transfer_passed}
 use Rattle.rb_node_laws.specs.Sound.{IsSound}
@@ -120,14 +120,14 @@ stood_says w t transfer =
     next w {b = n} (quiet w (no_more_views (becomes_candidate t.node) refl) refl)
     (asked_says w n (voters n.tracker.config) n.term (kind.Vote (last_term n.log) (last n.log) transfer) (kind.VoteResponse true) (asks_vote n transfer refl))
 
--- who doesn't lead has no views, and sounds out with none
+-- who doesn't lead has no views, and starts a pre-vote with none
 precandidate_views : (n : PlainNode) → (n.role ≡ role.Leader → ⊥) → Views n (precandidate n)
 precandidate_views n follower = record {
   keeps = becomes_precandidate n;
   views = λ s v. record { only_leading = λ _. v.only_leading follower; each = v.each };
 }
 
-sounded_says : {R : PlainNode → PlainNode → Type 0} (w : Allows R) (t : Turn) → (t.node.role ≡ role.Leader → ⊥) → R t.node (sounded_out t).node
+sounded_says : {R : PlainNode → PlainNode → Type 0} (w : Allows R) (t : Turn) → (t.node.role ≡ role.Leader → ⊥) → R t.node (pre_vote_started t).node
 sounded_says w t follower =
     let n = precandidate t.node in
     next w {b = n} (quiet w (precandidate_views t.node follower) refl)
@@ -147,9 +147,9 @@ stood_says_unless : {R : PlainNode → PlainNode → Type 0} (w : Allows R) (o :
 stood_says_unless w (Some reason) t = nothing w t.node
 stood_says_unless w None t = stood_says w t false
 
-stood_up_says : {R : PlainNode → PlainNode → Type 0} (w : Allows R) (t : Turn) → R t.node (stood_up t).node
-unfolding stood_up
-stood_up_says w t = stood_says_unless w (why_no_campaign t.node) t
+campaigned_after_pre_vote_says : {R : PlainNode → PlainNode → Type 0} (w : Allows R) (t : Turn) → R t.node (campaigned_after_pre_vote t).node
+unfolding campaigned_after_pre_vote
+campaigned_after_pre_vote_says w t = stood_says_unless w (why_no_campaign t.node) t
 
 -- ---- votes
 
@@ -173,7 +173,7 @@ decided_says w vote.Pending t stands = nothing w t.node
 decided_says w vote.Lost t stands = followed_says w t t.node.term 0 (omega arith)
 
 pre_decided_says : {R : PlainNode → PlainNode → Type 0} (w : Allows R) (v : VoteResult) (t : Turn) → R t.node (pre_decided v t).node
-pre_decided_says w vote.Won t = stood_up_says w t
+pre_decided_says w vote.Won t = campaigned_after_pre_vote_says w t
 pre_decided_says w vote.Pending t = nothing w t.node
 pre_decided_says w vote.Lost t = followed_says w t t.node.term 0 (omega arith)
 
@@ -254,21 +254,21 @@ follower_says w (kind.TransferLeader target) t m is = transfer_passed_says w t t
 follower_says w kind.TimeoutNow t m is = campaigned_says w t true
 follower_says w _ t m is = nothing w t.node
 
-given_in_says : {R : PlainNode → PlainNode → Type 0} (w : Allows R) (t : Turn) (m : Message) → R t.node (given_in t m).node
-given_in_says w t m = let u = followed t t.node.term m.from in next w (followed_says w t t.node.term m.from (omega arith)) (follower_says w m.kind u m refl)
+leader_followed_says : {R : PlainNode → PlainNode → Type 0} (w : Allows R) (t : Turn) (m : Message) → R t.node (leader_followed t m).node
+leader_followed_says w t m = let u = followed t t.node.term m.from in next w (followed_says w t t.node.term m.from (omega arith)) (follower_says w m.kind u m refl)
 
 precandidate_says : {R : PlainNode → PlainNode → Type 0} (w : Allows R) (k : MessageKind) (t : Turn) (m : Message) → R t.node (as_precandidate k t m).node
 precandidate_says w (kind.PreVoteResponse granted) t m = next w (counted_says w t m granted) (pre_decided_says w (count_of t.node m.from granted) (counted t m granted))
-precandidate_says w (kind.Append append) t m = given_in_says w t m
-precandidate_says w (kind.Heartbeat commit) t m = given_in_says w t m
-precandidate_says w (kind.Snapshot snapshot) t m = given_in_says w t m
+precandidate_says w (kind.Append append) t m = leader_followed_says w t m
+precandidate_says w (kind.Heartbeat commit) t m = leader_followed_says w t m
+precandidate_says w (kind.Snapshot snapshot) t m = leader_followed_says w t m
 precandidate_says w _ t m = nothing w t.node
 
 candidate_says : {R : PlainNode → PlainNode → Type 0} (w : Allows R) (k : MessageKind) (t : Turn) (m : Message) → t.node.role ≡ role.Candidate → R t.node (as_candidate k t m).node
 candidate_says w (kind.VoteResponse granted) t m stands = next w (counted_says w t m granted) (decided_says w (count_of t.node m.from granted) (counted t m granted) stands)
-candidate_says w (kind.Append append) t m stands = given_in_says w t m
-candidate_says w (kind.Heartbeat commit) t m stands = given_in_says w t m
-candidate_says w (kind.Snapshot snapshot) t m stands = given_in_says w t m
+candidate_says w (kind.Append append) t m stands = leader_followed_says w t m
+candidate_says w (kind.Heartbeat commit) t m stands = leader_followed_says w t m
+candidate_says w (kind.Snapshot snapshot) t m stands = leader_followed_says w t m
 candidate_says w _ t m stands = nothing w t.node
 
 leader_says : {R : PlainNode → PlainNode → Type 0} (w : Allows R) (k : MessageKind) (t : Turn) (m : Message) → t.node.role ≡ role.Leader → R t.node (as_leader k t m).node

@@ -15,7 +15,7 @@ use Rattle.rb_raftlog.specs.Log.{LogValue, is_up_to_date}
 use Rattle.rb_tracker.specs.declared.votes.VoteResult.TheVariants.{Won}
 use Rattle.rb_node_laws.specs.Elections.{IsGranted, IsElected}
 use Rattle.rb_node.specs.Following.{heard}
-use Rattle.rb_node.specs.Step.{as_follower, given_in, as_precandidate, as_candidate, as_leader, by_role_of, at_term_by, at_term, stepped}
+use Rattle.rb_node.specs.Step.{as_follower, leader_followed, as_precandidate, as_candidate, as_leader, by_role_of, at_term_by, at_term, stepped}
 use Rattle.rb_node_laws.proofs.Goes.{Ways, core, Keeps, self, same, and_then}
 use Rattle.rb_node_laws.proofs.TermLaws.{follows, raises, lowered_same, campaigns}
 use Rattle.rb_node_laws.proofs.VoteLaws.{answers_vote, pre_vote_same, votes_taken, pre_votes_taken}
@@ -34,21 +34,21 @@ follower_steps (kind.TransferLeader target) t m is = same (transfer_passed_same 
 follower_steps kind.TimeoutNow t m is = campaigns t true
 follower_steps _ t m is = self (core t.node)
 
-gives_in : {w : Ways} (t : Turn) (m : Message) → Keeps w (core t.node) (core (given_in t m).node)
-gives_in t m = let u = followed t t.node.term m.from in and_then (follows t t.node.term m.from (omega arith)) (follower_steps m.kind u m refl)
+follows_leader : {w : Ways} (t : Turn) (m : Message) → Keeps w (core t.node) (core (leader_followed t m).node)
+follows_leader t m = let u = followed t t.node.term m.from in and_then (follows t t.node.term m.from (omega arith)) (follower_steps m.kind u m refl)
 
 precandidate_steps : {w : Ways} (k : MessageKind) (t : Turn) (m : Message) → Keeps w (core t.node) (core (as_precandidate k t m).node)
 precandidate_steps (kind.PreVoteResponse granted) t m = pre_votes_taken t m granted
-precandidate_steps (kind.Append append) t m = gives_in t m
-precandidate_steps (kind.Heartbeat commit) t m = gives_in t m
-precandidate_steps (kind.Snapshot snapshot) t m = gives_in t m
+precandidate_steps (kind.Append append) t m = follows_leader t m
+precandidate_steps (kind.Heartbeat commit) t m = follows_leader t m
+precandidate_steps (kind.Snapshot snapshot) t m = follows_leader t m
 precandidate_steps _ t m = self (core t.node)
 
 candidate_steps : {w : Ways} (k : MessageKind) (t : Turn) (m : Message) → t.node.role ≡ role.Candidate → ((granted : Bool) → k ≡ kind.VoteResponse granted → count_of t.node m.from granted ≡ Won → w.elected t.node.term) → Keeps w (core t.node) (core (as_candidate k t m).node)
 candidate_steps (kind.VoteResponse granted) t m stands elect = votes_taken t m granted stands (elect granted refl)
-candidate_steps (kind.Append append) t m stands elect = gives_in t m
-candidate_steps (kind.Heartbeat commit) t m stands elect = gives_in t m
-candidate_steps (kind.Snapshot snapshot) t m stands elect = gives_in t m
+candidate_steps (kind.Append append) t m stands elect = follows_leader t m
+candidate_steps (kind.Heartbeat commit) t m stands elect = follows_leader t m
+candidate_steps (kind.Snapshot snapshot) t m stands elect = follows_leader t m
 candidate_steps _ t m stands elect = self (core t.node)
 
 leader_steps : {w : Ways} (k : MessageKind) (t : Turn) (m : Message) → Keeps w (core t.node) (core (as_leader k t m).node)

@@ -11,7 +11,7 @@ use Rattle.rb_message.specs.declared.message.Message.{Message}
 use Rattle.rb_message.specs.declared.role.Role.TheVariants as role
 use Rattle.rb_node.specs.Node.{PlainNode, Turn}
 use Rattle.rb_node.specs.Terms.{followed, raised_by, lowered_by, shown_term, answers_earlier}
-use Rattle.rb_node.specs.Campaigns.{asked_one, asked, candidate, precandidate, stood, sounded_out, why_no_campaign, campaigned_unless, campaigned, stood_unless, stood_up}
+use Rattle.rb_node.specs.Campaigns.{asked_one, asked, candidate, precandidate, stood, pre_vote_started, why_no_campaign, campaigned_unless, campaigned, stood_unless, campaigned_after_pre_vote}
 use Rattle.rb_node_laws.proofs.Goes.{Ways, Voted, core, Keeps, self, same, and_then}
 use Rattle.rb_node_laws.proofs.Turns.{turned}
 
@@ -66,21 +66,21 @@ stands t transfer =
     (same (asked_same n (voters n.tracker.config) n.term (kind.Vote (last_term n.log) (last n.log) transfer) (kind.VoteResponse true)))
 
 -- a question before the vote changes no term, no vote and no log
-pub sounded_out_core : (t : Turn) → core (sounded_out t).node ≡ record (core t.node) { role = role.Precandidate }
-sounded_out_core t =
+pub pre_vote_started_core : (t : Turn) → core (pre_vote_started t).node ≡ record (core t.node) { role = role.Precandidate }
+pre_vote_started_core t =
     let n = precandidate t.node in
     asked_same n (voters n.tracker.config) (n.term + 1) (kind.PreVote (last_term n.log) (last n.log)) (kind.PreVoteResponse true)
 
 pub becomes_precandidate : {w : Ways} (n : PlainNode) → Keeps w (core n) (core (precandidate n))
 becomes_precandidate n = turned (core n) n.term n.vote role.Precandidate (omega arith) (λ _ _. refl) (λ r _. cc) (λ r _. cc) (inr (inl (refl, refl))) (λ r. cc)
 
-pub sounds_out : {w : Ways} (t : Turn) → Keeps w (core t.node) (core (sounded_out t).node)
-sounds_out t = and_then (becomes_precandidate t.node) (same (sounded_out_core t))
+pub starts_pre_vote : {w : Ways} (t : Turn) → Keeps w (core t.node) (core (pre_vote_started t).node)
+starts_pre_vote t = and_then (becomes_precandidate t.node) (same (pre_vote_started_core t))
 
 campaigns_unless : {w : Ways} (o : Option WhyNoCampaign) (t : Turn) (transfer : Bool) → Keeps w (core t.node) (core (campaigned_unless o t transfer).node)
 campaigns_unless (Some reason) t transfer = self (core t.node)
 campaigns_unless {w} None t transfer =
-    if_both (λ (u : Turn). Keeps w (core t.node) (core u.node)) (t.node.options.pre_vote && not transfer) _ _ (λ _. sounds_out t) (λ _. stands t transfer)
+    if_both (λ (u : Turn). Keeps w (core t.node) (core u.node)) (t.node.options.pre_vote && not transfer) _ _ (λ _. starts_pre_vote t) (λ _. stands t transfer)
 
 pub campaigns : {w : Ways} (t : Turn) (transfer : Bool) → Keeps w (core t.node) (core (campaigned t transfer).node)
 unfolding campaigned
@@ -90,6 +90,6 @@ stands_unless : {w : Ways} (o : Option WhyNoCampaign) (t : Turn) → Keeps w (co
 stands_unless (Some reason) t = self (core t.node)
 stands_unless None t = stands t false
 
-pub stands_up : {w : Ways} (t : Turn) → Keeps w (core t.node) (core (stood_up t).node)
-unfolding stood_up
-stands_up t = stands_unless (why_no_campaign t.node) t
+pub campaigns_after_pre_vote : {w : Ways} (t : Turn) → Keeps w (core t.node) (core (campaigned_after_pre_vote t).node)
+unfolding campaigned_after_pre_vote
+campaigns_after_pre_vote t = stands_unless (why_no_campaign t.node) t

@@ -35,14 +35,14 @@ use Rattle.rb_message.specs.declared.role.Role.TheVariants as role
 use Rattle.rb_node.specs.declared.limits.TheConstants.{ELECTION_TICKS, HEARTBEAT_TICKS}
 use Rattle.rb_node.specs.Node.{PlainNode, Turn, told, with_node, ignored, message, is_leader}
 use Rattle.rb_node.specs.Terms.{followed, raised, raised_by, lowered, lowered_by, shown_term, answers_earlier, is_disturbed_by}
-use Rattle.rb_node.specs.Campaigns.{asked_one, asked, candidate, precandidate, stood, sounded_out, why_no_campaign, campaigned_unless, campaigned, stood_unless, stood_up}
+use Rattle.rb_node.specs.Campaigns.{asked_one, asked, candidate, precandidate, stood, pre_vote_started, why_no_campaign, campaigned_unless, campaigned, stood_unless, campaigned_after_pre_vote}
 use Rattle.rb_node.specs.Sends.{is_replicating}
 use Rattle.rb_node.specs.Leading.{with_views, appended_change}
 use Rattle.rb_node.specs.Votes.{grants, vote_answered, pre_vote_answered, count_of, counted, decided, pre_decided}
 use Rattle.rb_node.specs.Following.{heard, after_log, with_appended, append_taken, snapshot_taken, proposal_passed, transfer_passed}
 use Rattle.rb_node.specs.Changing.{without_stranger, without_strangers, missing, stranger_given_up, joined_by, revised, steps_down, led_on, switched, change_applied, body_applied, applied_one, applied_all, leaves_joint, joint_left}
 use Rattle.rb_node.specs.Transferring.{transfer_ended}
-use Rattle.rb_node.specs.Step.{as_follower, given_in, as_precandidate, as_candidate, as_leader, by_role_of, at_term_by, at_term, stepped}
+use Rattle.rb_node.specs.Step.{as_follower, leader_followed, as_precandidate, as_candidate, as_leader, by_role_of, at_term_by, at_term, stepped}
 use Rattle.rb_node.specs.Calls.{forgotten_by, unreachable, reported_with, reported_at, reported}
 use Rattle.rb_node.specs.Readying.{applying, saved, own_stepped, advanced}
 use Rattle.rb_node.specs.Ticking.{counted as counted_tick, beat_to, beat_each, heartbeats_due, has_lost_quorum, looked_anew, quorum_looked_at, leader_counted, counted_up, leader_ticked, is_due, other_ticked, ticked_by}
@@ -51,7 +51,7 @@ use Rattle.rb_node_laws.specs.Sound.{IsSound, IsSoundView, AreSoundViews, HasSou
 use Rattle.rb_node_laws.proofs.Goes.{core, Goes, anyone, same}
 use Rattle.rb_node_laws.proofs.Turns.{filled, applied_to}
 use Rattle.rb_node_laws.proofs.ProgressLaws.{sound_probed, sound_removed, sound_unmarked}
-use Rattle.rb_node_laws.proofs.TermLaws.{follows, stands, sounds_out}
+use Rattle.rb_node_laws.proofs.TermLaws.{follows, stands, starts_pre_vote}
 use Rattle.rb_node_laws.proofs.VoteLaws.{answers_vote}
 use Rattle.rb_node_laws.proofs.FollowerLaws.{beats, takes_append, takes_snapshot}
 use Rattle.rb_node_laws.proofs.ChangeLaws.{applied_one_is}
@@ -92,13 +92,13 @@ stood_views t transfer =
     let n = candidate t.node in
     no_more_views (stands t transfer) (asked_views n (voters n.tracker.config) n.term (kind.Vote (last_term n.log) (last n.log) transfer) (kind.VoteResponse true))
 
--- who doesn't lead has no views, and sounds out with none
-sounded_views : (t : Turn) → (t.node.role ≡ role.Leader → ⊥) → Views t.node (sounded_out t).node
+-- who doesn't lead has no views, and starts a pre-vote with none
+sounded_views : (t : Turn) → (t.node.role ≡ role.Leader → ⊥) → Views t.node (pre_vote_started t).node
 sounded_views t follower =
     let n = precandidate t.node in
-    let same_views : (sounded_out t).node.tracker.views ≡ t.node.tracker.views = asked_views n (voters n.tracker.config) (n.term + 1) (kind.PreVote (last_term n.log) (last n.log)) (kind.PreVoteResponse true) in
+    let same_views : (pre_vote_started t).node.tracker.views ≡ t.node.tracker.views = asked_views n (voters n.tracker.config) (n.term + 1) (kind.PreVote (last_term n.log) (last n.log)) (kind.PreVoteResponse true) in
     record {
-      keeps = sounds_out t;
+      keeps = starts_pre_vote t;
       views = λ s v. record { only_leading = λ _. same_views ∙ v.only_leading follower; each = subst AreSoundViews (sym same_views) v.each };
     }
 
@@ -124,9 +124,9 @@ stood_views_unless : (o : Option WhyNoCampaign) (t : Turn) → Views t.node (sto
 stood_views_unless (Some reason) t = unchanged refl refl
 stood_views_unless None t = stood_views t false
 
-stood_up_views : (t : Turn) → Views t.node (stood_up t).node
-unfolding stood_up
-stood_up_views t = stood_views_unless (why_no_campaign t.node) t
+campaigned_after_pre_vote_views : (t : Turn) → Views t.node (campaigned_after_pre_vote t).node
+unfolding campaigned_after_pre_vote
+campaigned_after_pre_vote_views t = stood_views_unless (why_no_campaign t.node) t
 
 -- ---- votes
 
@@ -145,7 +145,7 @@ decided_views vote.Pending t stands = unchanged refl refl
 decided_views vote.Lost t stands = followed_views t t.node.term 0 (omega arith)
 
 pre_decided_views : (v : VoteResult) (t : Turn) → Views t.node (pre_decided v t).node
-pre_decided_views vote.Won t = stood_up_views t
+pre_decided_views vote.Won t = campaigned_after_pre_vote_views t
 pre_decided_views vote.Pending t = unchanged refl refl
 pre_decided_views vote.Lost t = followed_views t t.node.term 0 (omega arith)
 
@@ -212,21 +212,21 @@ follower_views (kind.TransferLeader target) t m is = transfer_passed_views t (ki
 follower_views kind.TimeoutNow t m is = campaigned_views t true
 follower_views _ t m is = unchanged refl refl
 
-given_in_views : (t : Turn) (m : Message) → Views t.node (given_in t m).node
-given_in_views t m = let u = followed t t.node.term m.from in views_then (followed_views t t.node.term m.from (omega arith)) (follower_views m.kind u m refl)
+leader_followed_views : (t : Turn) (m : Message) → Views t.node (leader_followed t m).node
+leader_followed_views t m = let u = followed t t.node.term m.from in views_then (followed_views t t.node.term m.from (omega arith)) (follower_views m.kind u m refl)
 
 precandidate_views : (k : MessageKind) (t : Turn) (m : Message) → Views t.node (as_precandidate k t m).node
 precandidate_views (kind.PreVoteResponse granted) t m = views_then (counted_views t m granted) (pre_decided_views (count_of t.node m.from granted) (counted t m granted))
-precandidate_views (kind.Append append) t m = given_in_views t m
-precandidate_views (kind.Heartbeat commit) t m = given_in_views t m
-precandidate_views (kind.Snapshot snapshot) t m = given_in_views t m
+precandidate_views (kind.Append append) t m = leader_followed_views t m
+precandidate_views (kind.Heartbeat commit) t m = leader_followed_views t m
+precandidate_views (kind.Snapshot snapshot) t m = leader_followed_views t m
 precandidate_views _ t m = unchanged refl refl
 
 candidate_views : (k : MessageKind) (t : Turn) (m : Message) → t.node.role ≡ role.Candidate → Views t.node (as_candidate k t m).node
 candidate_views (kind.VoteResponse granted) t m stands = views_then (counted_views t m granted) (decided_views (count_of t.node m.from granted) (counted t m granted) stands)
-candidate_views (kind.Append append) t m stands = given_in_views t m
-candidate_views (kind.Heartbeat commit) t m stands = given_in_views t m
-candidate_views (kind.Snapshot snapshot) t m stands = given_in_views t m
+candidate_views (kind.Append append) t m stands = leader_followed_views t m
+candidate_views (kind.Heartbeat commit) t m stands = leader_followed_views t m
+candidate_views (kind.Snapshot snapshot) t m stands = leader_followed_views t m
 candidate_views _ t m stands = unchanged refl refl
 
 leader_views : (k : MessageKind) (t : Turn) (m : Message) → Views t.node (as_leader k t m).node

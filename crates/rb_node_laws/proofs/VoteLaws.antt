@@ -11,7 +11,7 @@ use Rattle.rb_node.specs.Node.{PlainNode, Turn}
 use Rattle.rb_node.specs.Votes.{can_vote_for, grants, voted_for, vote_answered, pre_vote_answered, count_of, counted, decided, pre_decided, vote_taken, pre_vote_taken}
 use Rattle.rb_node_laws.proofs.Goes.{Ways, core, Keeps, self}
 use Rattle.rb_node_laws.proofs.Turns.{turned}
-use Rattle.rb_node_laws.proofs.TermLaws.{follows, stands_up}
+use Rattle.rb_node_laws.proofs.TermLaws.{follows, campaigns_after_pre_vote}
 use Rattle.rb_node_laws.proofs.LeaderLaws.{leads}
 
 -- who has voted can vote again for the same alone
@@ -47,7 +47,7 @@ decides vote.Pending t stands elect = self (core t.node)
 decides vote.Lost t stands elect = follows t t.node.term 0 (omega arith)
 
 pre_decides : {w : Ways} (v : VoteResult) (t : Turn) → Keeps w (core t.node) (core (pre_decided v t).node)
-pre_decides vote.Won t = stands_up t
+pre_decides vote.Won t = campaigns_after_pre_vote t
 pre_decides vote.Pending t = self (core t.node)
 pre_decides vote.Lost t = follows t t.node.term 0 (omega arith)
 

@@ -10,7 +10,7 @@ ghost use Rattle.rb_message.specs.Appends.{PlainAppend};
 ghost use Rattle.rb_message.specs.declared.kind.MessageKind.TheVariants.{Append, Vote, PreVote, Proposal, TransferLeader};
 ghost use Rattle.rb_node.specs.declared.options.Options.{Options};
 ghost use Rattle.rb_node.specs.Node.{PlainNode, Turn, turn, started};
-ghost use Rattle.rb_node.specs.Campaigns.{campaigned, stood_up};
+ghost use Rattle.rb_node.specs.Campaigns.{campaigned, campaigned_after_pre_vote};
 ghost use Rattle.rb_node.specs.declared.limits.TheConstants.{ELECTION_TICKS};
 ghost use Rattle.rb_raftlog.specs.declared.entry.Body.{Body};
 ghost use Rattle.rb_raftlog.specs.declared.entry.Body.TheVariants.{Payload, Change};
@@ -196,7 +196,7 @@ pub fn leaders_count_what_they_saved()
 /// Nobody campaigns but a voter that doesn't lead, has saved what it restored, and has applied each change that it knows to be committed.
 pub fn campaigns_are_of_voters()
     ensures asked { (t : Turn) (transfer : Bool) → ((campaigned t transfer).node ≡ t.node) ⊎ MayCampaign t.node }
-    ensures won { (t : Turn) → ((stood_up t).node ≡ t.node) ⊎ MayCampaign t.node }
+    ensures won { (t : Turn) → ((campaigned_after_pre_vote t).node ≡ t.node) ⊎ MayCampaign t.node }
 {}
 
 /// A leader appends a proposed change only where it has applied each change that may be in its log.

@@ -6,8 +6,8 @@ use Rattle.rb_help.specs.Manual.{Key, Page, keys, pages}
 use Rattle.rb_help.specs.Choices.{choices_of}
 use Rattle.rb_offers.specs.declared.offer.Kind.{Kind}
 use Rattle.rb_offers.specs.declared.offer.Kind.TheVariants as kinds
-use Rattle.rb_offers.specs.declared.unfinished.Wish.{Wish}
-use Rattle.rb_offers.specs.declared.unfinished.Wish.TheVariants as wishes
+use Rattle.rb_offers.specs.declared.unfinished.WantedKind.{WantedKind}
+use Rattle.rb_offers.specs.declared.unfinished.WantedKind.TheVariants as wanted_kinds
 use Rattle.rb_offers.specs.Unfinished.{PlainWanted}
 
 pub record PlainOffer : Type 0 where
@@ -72,12 +72,12 @@ chosen prefix documentation cs = map (value_offer documentation) (filter (begins
 abbrev pub values : List ℕ → List ℕ → List ℕ → List PlainOffer
 values name key prefix = if takes name key then chosen prefix (line_of name) (choices_of key) else []
 
-abbrev pub offers_at : Wish → List ℕ → List ℕ → List ℕ → List PlainOffer
-offers_at wishes.Name name key prefix = named prefix pages
-offers_at wishes.Argument name key prefix = options name prefix
-offers_at wishes.Value name key prefix = values name key prefix
-offers_at wishes.Nothing name key prefix = []
+abbrev pub offers_at : WantedKind → List ℕ → List ℕ → List ℕ → List PlainOffer
+offers_at wanted_kinds.Name name key prefix = named prefix pages
+offers_at wanted_kinds.Argument name key prefix = options name prefix
+offers_at wanted_kinds.Value name key prefix = values name key prefix
+offers_at wanted_kinds.Nothing name key prefix = []
 
 -- the words that a head with this name can go on with, by what it ends in
 unfoldable pub offers : List ℕ → PlainWanted → List PlainOffer
-offers name w = offers_at w.wish name w.key w.prefix
+offers name w = offers_at w.kind name w.key w.prefix

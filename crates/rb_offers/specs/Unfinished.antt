@@ -9,8 +9,8 @@ use Rattle.rb_script.specs.Directive.{is_word, is_value, is_inside, is_gap, begi
 use Rattle.rb_script.specs.Heads.{begins_space}
 use Rattle.rb_offers.specs.declared.class.Class.{Class}
 use Rattle.rb_offers.specs.declared.class.Class.TheVariants as classes
-use Rattle.rb_offers.specs.declared.unfinished.Wish.{Wish}
-use Rattle.rb_offers.specs.declared.unfinished.Wish.TheVariants as wishes
+use Rattle.rb_offers.specs.declared.unfinished.WantedKind.{WantedKind}
+use Rattle.rb_offers.specs.declared.unfinished.WantedKind.TheVariants as wanted_kinds
 
 -- the bytes of a class
 abbrev pub is_of : Class → ℕ → Bool
@@ -21,21 +21,21 @@ is_of classes.Inside b = is_inside b
 
 -- what a head ends in: what it is, the key of the option where it is a value, and what stands of it
 pub record PlainWanted : Type 0 where
-  pub wish : Wish
+  pub kind : WantedKind
   pub key : List ℕ
   pub prefix : List ℕ
 
 abbrev pub nothing : PlainWanted
-nothing = record { wish = wishes.Nothing; key = []; prefix = [] }
+nothing = record { kind = wanted_kinds.Nothing; key = []; prefix = [] }
 
 abbrev pub name : List ℕ → PlainWanted
-name prefix = record { wish = wishes.Name; key = []; prefix = prefix }
+name prefix = record { kind = wanted_kinds.Name; key = []; prefix = prefix }
 
 abbrev pub argument : List ℕ → PlainWanted
-argument prefix = record { wish = wishes.Argument; key = []; prefix = prefix }
+argument prefix = record { kind = wanted_kinds.Argument; key = []; prefix = prefix }
 
 abbrev pub value : List ℕ → List ℕ → PlainWanted
-value key prefix = record { wish = wishes.Value; key = key; prefix = prefix }
+value key prefix = record { kind = wanted_kinds.Value; key = key; prefix = prefix }
 
 -- what is left behind an argument, or, where the head ends in it, what is wanted there
 abbrev pub Reach : Type 0

@@ -7,7 +7,7 @@ ghost use Rattle.rb_offers.specs.Ids.{first_ids, id_offers, ids, takes_ids};
 
 use crate::nodes::nodes_at;
 use crate::offer::{Offer, add_chosen, line_of};
-use crate::unfinished::{Wanted, Wish, name_of};
+use crate::unfinished::{Wanted, WantedKind, name_of};
 use crate::words::{arguments_of, words_before};
 use rb_directive::{id_words, takes_id};
 use rb_help::Known;
@@ -26,9 +26,9 @@ static IDS: [&[u8]; 32] = [
 fn takes_ids(head: &[u8], wanted: &Wanted<'_>) -> bool
     ensures { result ≡ takes_ids head.now wanted.now }
 {
-    match wanted.wish {
-        Wish::Argument => words_before(arguments_of(head)) < id_words(name_of(head)),
-        Wish::Value => takes_id(name_of(head), wanted.key),
+    match wanted.kind {
+        WantedKind::Argument => words_before(arguments_of(head)) < id_words(name_of(head)),
+        WantedKind::Value => takes_id(name_of(head), wanted.key),
         _ => false,
     }
 }

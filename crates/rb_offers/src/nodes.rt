@@ -12,8 +12,8 @@ use crate::ids::MAX_IDS;
 use crate::part::{Part, is_lead};
 use crate::unfinished::name_of;
 use crate::words::{arguments_of, first_word};
-use rb_text::number_of;
 use rb_script::{Lines, continues, lines_of};
+use rb_text::number_of;
 use std::alloc::{AllocError, Global};
 
 // Whether a head ends with a line of this part.

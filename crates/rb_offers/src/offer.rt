@@ -3,7 +3,7 @@
 ghost use Rattle.std.specs.Prelude.{◌≡◌, ◌++◌, IfOk, OnOk, map};
 ghost use Rattle.rb_offers.specs.Offers.{begins_with, chosen, has_key, if_kept, is_key, keyed, line_in, line_of, named, offers, options, takes};
 
-use crate::unfinished::{Wanted, Wish};
+use crate::unfinished::{Wanted, WantedKind};
 use rb_help::{KEYS, Known, PAGES, choices_of};
 use std::alloc::{AllocError, Global};
 use std::marker::Model;
@@ -205,10 +205,10 @@ pub(crate) fn offers(
 ) -> Result<Vec<Offer>, AllocError>
     ensures { IfOk result (λ list. list.items ≡ offers name.now wanted.now) }
 {
-    match wanted.wish {
-        Wish::Name => named(alloc, wanted.prefix, &PAGES),
-        Wish::Argument => options(alloc, name, wanted.prefix),
-        Wish::Value if takes(name, wanted.key) => chosen(
+    match wanted.kind {
+        WantedKind::Name => named(alloc, wanted.prefix, &PAGES),
+        WantedKind::Argument => options(alloc, name, wanted.prefix),
+        WantedKind::Value if takes(name, wanted.key) => chosen(
             alloc,
             wanted.prefix,
             line_of(name),

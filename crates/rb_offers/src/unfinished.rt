@@ -12,7 +12,7 @@ use std::marker::Model;
 
 /// What is being written.
 #[derive(Clone, Copy)]
-pub(crate) enum Wish {
+pub(crate) enum WantedKind {
     /// The name of a directive.
     Name,
     /// An argument of a directive.
@@ -27,7 +27,7 @@ pub(crate) enum Wish {
 #[derive(Drop)]
 pub(crate) struct Wanted<'a> {
     /// What it is.
-    pub(crate) wish: Wish,
+    pub(crate) kind: WantedKind,
     /// The key of the option, where it is a value.
     pub(crate) key: &'a [u8],
     /// What stands of it.
@@ -39,7 +39,7 @@ impl<'a> Model for Wanted<'a> {
 
     ghost Value = { PlainWanted };
 
-    ghost view = { λ w. record { wish = w.wish; key = w.key.now; prefix = w.prefix.now } };
+    ghost view = { λ w. record { kind = w.kind; key = w.key.now; prefix = w.prefix.now } };
 }
 
 // What a head ends in that can't be gone on with.
@@ -47,7 +47,7 @@ fn nothing<'a>() -> Wanted<'a>
     ensures { result ≡ nothing }
 {
     Wanted {
-        wish: Wish::Nothing,
+        kind: WantedKind::Nothing,
         key: b"",
         prefix: b"",
     }
@@ -111,7 +111,7 @@ fn list_value<'a>(key: &'a [u8], bytes: &'a [u8]) -> Result<&'a [u8], Wanted<'a>
     let rest = Class::Inside.after(bytes);
     if rest.is_empty() {
         return Err(Wanted {
-            wish: Wish::Value,
+            kind: WantedKind::Value,
             key,
             prefix: last_piece(bytes),
         });
@@ -127,7 +127,7 @@ fn value_at<'a>(key: &'a [u8], bytes: &'a [u8]) -> Result<&'a [u8], Wanted<'a>>
         return list_value(key, &bytes[1..]);
     }
     let wanted = Wanted {
-        wish: Wish::Value,
+        kind: WantedKind::Value,
         key,
         prefix: bytes,
     };
@@ -144,7 +144,7 @@ pub(crate) fn argument_at(bytes: &[u8]) -> Result<&[u8], Wanted<'_>>
         return value_at(Class::Word.front(bytes), &rest[1..]);
     }
     let wanted = Wanted {
-        wish: Wish::Argument,
+        kind: WantedKind::Argument,
         key: b"",
         prefix: bytes,
     };
@@ -183,7 +183,7 @@ pub(crate) fn wanted_of(head: &[u8]) -> Wanted<'_>
     let rest = Class::Word.after(name);
     if rest.is_empty() {
         return Wanted {
-            wish: Wish::Name,
+            kind: WantedKind::Name,
             key: b"",
             prefix: name,
         };

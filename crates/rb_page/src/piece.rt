@@ -5,8 +5,8 @@ ghost use Rattle.rb_script.specs.Writes.{Writes};
 ghost use Rattle.rb_page.specs.Pieces.{piece_text, pieces_text};
 
 use crate::escape::put_escaped;
-use rb_text::put_number;
 use rb_script::{Sink, WriteFault};
+use rb_text::put_number;
 
 /// A piece of a row.
 #[derive(Clone, Copy)]

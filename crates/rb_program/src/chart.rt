@@ -6,8 +6,8 @@ use crate::page::name_of;
 use crate::refusal::Refusal;
 use rb_bench::{BenchFault, Outlet, Status};
 use rb_line::Source;
-use rb_text::number_of;
 use rb_pages::chart_over;
+use rb_text::number_of;
 use std::alloc::Global;
 use std::rt::Files;
 

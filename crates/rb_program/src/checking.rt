@@ -4,7 +4,7 @@ ghost use Rattle.std.specs.Prelude.{IfOk};
 ghost use Rattle.rb_program.specs.Ends.{IsRight};
 
 use crate::clusters::Clusters;
-use crate::colors::{Wish, colors, wish_of};
+use crate::colors::{ColorChoice, color_choice_of, colors};
 use crate::ended::Ended;
 use crate::misuse::{Misuse, misuse_of_every, misused};
 use crate::refusal::Refusal;
@@ -24,7 +24,7 @@ use std::time::Clock;
 // What was found right with the words.
 #[derive(Drop)]
 struct Wanted {
-    wish: Wish,
+    color: ColorChoice,
     style: Style,
     targets: Vec<Target>,
 }
@@ -49,10 +49,10 @@ fn find_wanted<R: Files + AllocGlobal>(
     every: Option<&str>,
     terminals: Terminals,
 ) -> Result<Wanted, Refusal> {
-    let (wish, style) = colors_and_style(rt.alloc(), choice, every, terminals)?;
+    let (color, style) = colors_and_style(rt.alloc(), choice, every, terminals)?;
     let targets = targets(rt, &choice.paths, accepts(choice))?;
     Ok(Wanted {
-        wish,
+        color,
         style,
         targets,
     })
@@ -82,7 +82,7 @@ fn check_wanted<R: Files + Input + Print + Env + Clock + AllocGlobal, E: Write +
         explains: choice.explains && !choice.is_quiet && wanted.style == Style::Text,
         shown: shown(choice, wanted.style),
         format: wanted.style.format(),
-        colors: colors(rt, wanted.wish, terminals.output),
+        colors: colors(rt, wanted.color, terminals.output),
         wants_progress: terminals.errors && !choice.reviews,
     };
     let status = check(rt, &mut Clusters, asked, errors)?;
@@ -95,19 +95,19 @@ fn colors_and_style(
     choice: &CheckChoice,
     every: Option<&str>,
     terminals: Terminals,
-) -> Result<(Wish, Style), Refusal> {
+) -> Result<(ColorChoice, Style), Refusal> {
     if !is_usual(every) {
         return Err(Refusal::OwnUsage(misuse_of_every(alloc, every)));
     }
-    let wish = wish_asked(alloc, choice)?;
+    let color = color_choice_asked(alloc, choice)?;
     let style = style_asked(alloc, choice)?;
     check_review(choice, style, terminals)?;
-    Ok((wish, style))
+    Ok((color, style))
 }
 
-fn wish_asked(alloc: Global, choice: &CheckChoice) -> Result<Wish, Refusal> {
-    match wish_of(choice.color.as_deref()) {
-        Some(wish) => Ok(wish),
+fn color_choice_asked(alloc: Global, choice: &CheckChoice) -> Result<ColorChoice, Refusal> {
+    match color_choice_of(choice.color.as_deref()) {
+        Some(color) => Ok(color),
         None => match misused(alloc, choice.color.as_deref()) {
             Some(text) => Err(Refusal::OwnUsage(Misuse::Color(text))),
             None => Err(Refusal::OutOfMemory),

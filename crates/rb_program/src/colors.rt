@@ -8,29 +8,33 @@ use std::rt::Env;
 
 /// What `--color` asks for.
 #[derive(Clone, Copy)]
-pub(crate) enum Wish {
+pub(crate) enum ColorChoice {
     Auto,
     Always,
     Never,
 }
 
-/// What the word of `--color` asks for; none is no wish.
-pub(crate) fn wish_of(word: Option<&str>) -> Option<Wish> {
+/// What the word of `--color` asks for; none is `auto`.
+pub(crate) fn color_choice_of(word: Option<&str>) -> Option<ColorChoice> {
     match word {
-        None => Some(Wish::Auto),
-        Some(word) if word == "auto" => Some(Wish::Auto),
-        Some(word) if word == "always" => Some(Wish::Always),
-        Some(word) if word == "never" => Some(Wish::Never),
+        None => Some(ColorChoice::Auto),
+        Some(word) if word == "auto" => Some(ColorChoice::Auto),
+        Some(word) if word == "always" => Some(ColorChoice::Always),
+        Some(word) if word == "never" => Some(ColorChoice::Never),
         Some(_) => None,
     }
 }
 
 /// Whether colours are shown, where the report goes to a terminal or not. By itself it shows them on a terminal, where the environment's
 /// NO_COLOR has no text (no-color.org).
-pub(crate) fn colors<R: Env + AllocGlobal>(rt: &R, wish: Wish, is_terminal: bool) -> Colors {
-    match wish {
-        Wish::Always => Colors::On,
-        Wish::Auto if is_terminal && !refuses_colors(rt) => Colors::On,
+pub(crate) fn colors<R: Env + AllocGlobal>(
+    rt: &R,
+    color: ColorChoice,
+    is_terminal: bool,
+) -> Colors {
+    match color {
+        ColorChoice::Always => Colors::On,
+        ColorChoice::Auto if is_terminal && !refuses_colors(rt) => Colors::On,
         _ => Colors::Off,
     }
 }

@@ -1,7 +1,7 @@
 //! What the PATHs of `check` name, and FILE:LINE.
 
-use rb_text::number_of;
 use rb_suite::Target;
+use rb_text::number_of;
 use std::alloc::{AllocError, Global};
 use std::fs;
 use std::rt::Files;

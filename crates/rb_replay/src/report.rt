@@ -8,8 +8,8 @@ ghost use Rattle.rb_replay.specs.Report.{marked, mismatch_line, total_line};
 use crate::blocks::block_at;
 use crate::session::Session;
 use rb_machine::Machine;
-use rb_text::put_number;
 use rb_script::{Lines, Sink, WriteFault};
+use rb_text::put_number;
 
 /// Writes a line after a mark.
 fn put_line<S: Sink>(sink: &mut S, mark: &[u8], line: &[u8]) -> Result<(), WriteFault>

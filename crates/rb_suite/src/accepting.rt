@@ -6,7 +6,7 @@ use crate::report::{Ran, Report};
 use crate::system::{System, Text};
 use rb_check::Failure;
 use rb_checked::{AcceptFault, Accepted, ShowFault, Wanted, accept as accepted, put_left_errors};
-use rb_files::Trouble;
+use rb_files::PathError;
 use rb_machine::Machine;
 use rb_replay::Session;
 use rb_script::WriteFault;
@@ -60,7 +60,7 @@ fn tell_left<M: Machine, W: Write + Drop, E: Write + Drop>(
         Ok(()) => report.wrote(Ok(())),
         Err(ShowFault::Writing) => report.wrote(Err(WriteFault)),
         Err(ShowFault::OutOfMemory) => {
-            report.fail(path.as_bytes(), Trouble::alone(Failure::OutOfMemory));
+            report.fail(path.as_bytes(), PathError::alone(Failure::OutOfMemory));
         }
     }
 }
@@ -78,9 +78,9 @@ fn keep<S: System, W: Write + Drop, E: Write + Drop>(
     }
     match system.write(ran.path, &made.text, seen, report) {
         Ok(()) => report.accepted(system.alloc(), ran, &made.left),
-        Err(trouble) => {
+        Err(error) => {
             report.ran(system.alloc(), ran);
-            report.fail(ran.path.as_bytes(), trouble);
+            report.fail(ran.path.as_bytes(), error);
         }
     }
 }
@@ -96,13 +96,13 @@ fn fail<W: Write + Drop, E: Write + Drop>(
     let path = ran.path.as_bytes();
     match fault {
         AcceptFault::BadOutput(line) => {
-            report.fail(path, Trouble::alone(Failure::NotWritten));
+            report.fail(path, PathError::alone(Failure::NotWritten));
             report.tell_bad_output(ran.path, line);
         }
         AcceptFault::TooLong => {
             let cause = io::Error::other("with its outputs the script would be too long");
-            report.fail(path, Trouble::of_writing(cause));
+            report.fail(path, PathError::of_writing(cause));
         }
-        AcceptFault::OutOfMemory => report.fail(path, Trouble::alone(Failure::OutOfMemory)),
+        AcceptFault::OutOfMemory => report.fail(path, PathError::alone(Failure::OutOfMemory)),
     }
 }

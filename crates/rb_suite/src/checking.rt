@@ -16,7 +16,7 @@ use rb_check::Failure;
 use rb_checked::{
     Picked, ShowFault, Shown, Told, View, Wanted, Warning, is_quiet, put_checked, warnings,
 };
-use rb_files::Trouble;
+use rb_files::PathError;
 use rb_formats::{Format, formatted};
 use rb_machine::Machine;
 use rb_replay::{Session, StartFault};
@@ -35,7 +35,7 @@ pub(crate) fn check_script<T: Runner, S: System, W: Write + Drop, E: Write + Dro
 ) {
     match system.read(path) {
         Ok(text) => run(system, runner, asked, path, &text, review, report),
-        Err(trouble) => report.fail(path.as_bytes(), trouble),
+        Err(error) => report.fail(path.as_bytes(), error),
     }
 }
 
@@ -51,7 +51,7 @@ fn run<T: Runner, S: System, W: Write + Drop, E: Write + Drop>(
     match runner.run(system.alloc(), &text.bytes) {
         Ok(session) => explain(system, runner, asked, path, text, &session, review, report),
         Err(StartFault::Script(fault)) => report.refused(path, fault),
-        Err(_) => report.fail(path.as_bytes(), Trouble::alone(Failure::OutOfMemory)),
+        Err(_) => report.fail(path.as_bytes(), PathError::alone(Failure::OutOfMemory)),
     }
 }
 
@@ -78,7 +78,7 @@ fn explain<T: Runner, S: System, W: Write + Drop, E: Write + Drop>(
             };
             look_at(system, asked, &subject, review, report);
         }
-        Err(_) => report.fail(path.as_bytes(), Trouble::alone(Failure::OutOfMemory)),
+        Err(_) => report.fail(path.as_bytes(), PathError::alone(Failure::OutOfMemory)),
     }
 }
 
@@ -93,7 +93,7 @@ fn look_at<M: Machine, S: System, W: Write + Drop, E: Write + Drop>(
 {
     match answer(system, asked, subject, review, report) {
         Ok(()) => {}
-        Err(trouble) => report.fail(subject.path.as_bytes(), trouble),
+        Err(error) => report.fail(subject.path.as_bytes(), error),
     }
 }
 
@@ -104,7 +104,7 @@ fn answer<M: Machine, S: System, W: Write + Drop, E: Write + Drop>(
     subject: &Subject<'_, M>,
     review: &mut Review,
     report: &mut Report<W, E>,
-) -> Result<(), Trouble>
+) -> Result<(), PathError>
     requires { Reads subject.now.text.now.bytes.items subject.now.session.now.script }
 {
     let alloc = system.alloc();
@@ -149,7 +149,7 @@ fn settle<M: Machine, S: System, W: Write + Drop, E: Write + Drop>(
     subject: &Subject<'_, M>,
     review: &mut Review,
     report: &mut Report<W, E>,
-) -> Result<(), Trouble>
+) -> Result<(), PathError>
     requires { Reads subject.now.text.now.bytes.items subject.now.session.now.script }
 {
     match ending {
@@ -178,7 +178,7 @@ fn accept_reviewed<M: Machine, S: System, W: Write + Drop, E: Write + Drop>(
     subject: &Subject<'_, M>,
     review: &mut Review,
     report: &mut Report<W, E>,
-) -> Result<(), Trouble>
+) -> Result<(), PathError>
     requires { Reads subject.now.text.now.bytes.items subject.now.session.now.script }
 {
     let said = reviewed(system, asked, subject, picked, review, report)?;
@@ -229,7 +229,7 @@ fn show<M: Machine, W: Write + Drop, E: Write + Drop>(
     asked: &Asked<'_>,
     subject: &Subject<'_, M>,
     report: &mut Report<W, E>,
-) -> Result<Told, Trouble>
+) -> Result<Told, PathError>
     requires { Reads subject.now.text.now.bytes.items subject.now.session.now.script }
 {
     let view = View {
@@ -267,7 +267,7 @@ fn show<M: Machine, W: Write + Drop, E: Write + Drop>(
             report.wrote(Err(WriteFault));
             Ok(nothing)
         }
-        Err(ShowFault::OutOfMemory) => Err(Trouble::alone(Failure::OutOfMemory)),
+        Err(ShowFault::OutOfMemory) => Err(PathError::alone(Failure::OutOfMemory)),
     }
 }
 

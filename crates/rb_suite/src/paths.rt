@@ -12,7 +12,7 @@ use crate::runner::Runner;
 use crate::system::{Given, System};
 use rb_check::{Failure, Status};
 use rb_checked::Shown;
-use rb_files::{Found, Trouble, find};
+use rb_files::{Found, PathError, find};
 use std::io;
 use std::io::{ErrorKind, Write};
 use std::rt::Files;
@@ -72,7 +72,7 @@ fn end<W: Write + Drop, E: Write + Drop>(
     report: &mut Report<W, E>,
 ) {
     if scripts == 0 {
-        return report.fail(b"raftbench", Trouble::alone(Failure::NoScripts));
+        return report.fail(b"raftbench", PathError::alone(Failure::NoScripts));
     }
     if scripts > 1 && shown != Shown::Brief {
         report.list_differing();
@@ -103,10 +103,10 @@ fn check_each<T: Runner, S: System, W: Write + Drop, E: Write + Drop>(
 
 fn tell_lost<W: Write + Drop, E: Write + Drop>(found: &Found, report: &mut Report<W, E>) {
     for lost in &found.lost {
-        report.fail(&lost.path, lost.trouble);
+        report.fail(&lost.path, lost.error);
     }
     if found.is_cut {
-        report.fail(b"raftbench", Trouble::alone(Failure::OutOfMemory));
+        report.fail(b"raftbench", PathError::alone(Failure::OutOfMemory));
     }
 }
 

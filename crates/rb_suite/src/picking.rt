@@ -9,7 +9,7 @@ use crate::subject::Subject;
 use crate::target::Target;
 use rb_check::Failure;
 use rb_checked::Picked;
-use rb_files::Trouble;
+use rb_files::PathError;
 use rb_machine::Machine;
 use rb_script::ScriptWithLines;
 use std::alloc::{AllocError, Global};
@@ -23,7 +23,7 @@ pub(crate) fn named_heads<M: Machine, W: Write + Drop, E: Write + Drop>(
     asked: &Asked<'_>,
     subject: &Subject<'_, M>,
     report: &mut Report<W, E>,
-) -> Result<Option<Vec<usize>>, Trouble>
+) -> Result<Option<Vec<usize>>, PathError>
     requires { Reads subject.now.text.now.bytes.items subject.now.session.now.script }
 {
     if asked.accepts {
@@ -46,7 +46,7 @@ fn picked_heads<M: Machine, W: Write + Drop, E: Write + Drop>(
     targets: &[Target],
     subject: &Subject<'_, M>,
     report: &mut Report<W, E>,
-) -> Result<Option<Vec<usize>>, Trouble>
+) -> Result<Option<Vec<usize>>, PathError>
     requires { Reads subject.now.text.now.bytes.items subject.now.session.now.script }
 {
     let lines = match named_lines(alloc, targets, subject.path)? {
@@ -62,10 +62,10 @@ fn heads_of<M: Machine, W: Write + Drop, E: Write + Drop>(
     lines: &[usize],
     subject: &Subject<'_, M>,
     report: &mut Report<W, E>,
-) -> Result<Vec<usize>, Trouble> {
+) -> Result<Vec<usize>, PathError> {
     match ScriptWithLines::read(alloc, &subject.text.bytes) {
         Ok(read) => heads_at(alloc, lines, &read.heads, subject, report),
-        Err(_) => Err(Trouble::alone(Failure::OutOfMemory)),
+        Err(_) => Err(PathError::alone(Failure::OutOfMemory)),
     }
 }
 
@@ -121,7 +121,7 @@ fn heads_at<M: Machine, W: Write + Drop, E: Write + Drop>(
     heads: &[usize],
     subject: &Subject<'_, M>,
     report: &mut Report<W, E>,
-) -> Result<Vec<usize>, Trouble> {
+) -> Result<Vec<usize>, PathError> {
     let mut picked = Vec::new(alloc);
     for line in lines {
         let Some((place, head)) = place_at(heads, *line) else {
@@ -140,6 +140,6 @@ fn push(picked: &mut Vec<usize>, head: usize) -> Result<(), AllocError> {
     Ok(())
 }
 
-fn no_directive() -> Trouble {
-    Trouble::of_writing(io::Error::other("no directive stands at the line or above it"))
+fn no_directive() -> PathError {
+    PathError::of_writing(io::Error::other("no directive stands at the line or above it"))
 }

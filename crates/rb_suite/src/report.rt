@@ -12,10 +12,10 @@ use rb_check::{
     put_brief, put_failure, put_refusal, put_totals, put_unaccepted, put_warning, sentence,
 };
 use rb_checked::{Picked, Told, Warning, is_picked};
-use rb_files::Trouble;
+use rb_files::PathError;
 use rb_formats::{Format, Kind, notice};
-use rb_text::put_number;
 use rb_script::{ScriptFault, Sink, Through, WriteFault};
+use rb_text::put_number;
 use std::alloc::{AllocError, Global};
 use std::io;
 use std::io::{BufWriter, ErrorKind, Write};
@@ -136,7 +136,7 @@ impl<W: Write + Drop, E: Write + Drop> Report<W, E> {
         };
         match notice(self.alloc, format, path, line, kind, message) {
             Ok(text) => self.put(&text),
-            Err(_) => self.starve(path),
+            Err(_) => self.fail_for_memory(path),
         }
     }
 
@@ -149,7 +149,7 @@ impl<W: Write + Drop, E: Write + Drop> Report<W, E> {
     }
 
     // No memory was found for what was to be told.
-    fn starve(&mut self, path: &[u8]) {
+    fn fail_for_memory(&mut self, path: &[u8]) {
         self.totals.add(Outcome::Failed(Failure::OutOfMemory));
         self.clear();
         let _ = put_failure(&mut self.errors, path, Failure::OutOfMemory);
@@ -160,7 +160,7 @@ impl<W: Write + Drop, E: Write + Drop> Report<W, E> {
     pub(crate) fn ran(&mut self, alloc: Global, ran: Ran<'_>) {
         self.totals.add(counted_as(ran, ran.mismatches));
         if self.keep(alloc, ran).is_err() {
-            self.fail(ran.path.as_bytes(), Trouble::alone(Failure::OutOfMemory));
+            self.fail(ran.path.as_bytes(), PathError::alone(Failure::OutOfMemory));
         }
     }
 
@@ -191,7 +191,7 @@ impl<W: Write + Drop, E: Write + Drop> Report<W, E> {
             ..ran
         };
         if self.keep(alloc, now).is_err() {
-            self.fail(ran.path.as_bytes(), Trouble::alone(Failure::OutOfMemory));
+            self.fail(ran.path.as_bytes(), PathError::alone(Failure::OutOfMemory));
         }
         self.tell_accepted(ran.path, accepted);
     }
@@ -201,7 +201,7 @@ impl<W: Write + Drop, E: Write + Drop> Report<W, E> {
             let noun = if accepted == 1 { "output" } else { "outputs" };
             match format!(in self.alloc; "accepted {accepted} {noun}") {
                 Ok(text) => self.notify(path.as_bytes(), None, Kind::Accepted, text.as_bytes()),
-                Err(_) => self.starve(path.as_bytes()),
+                Err(_) => self.fail_for_memory(path.as_bytes()),
             }
             return;
         }
@@ -316,18 +316,18 @@ impl<W: Write + Drop, E: Write + Drop> Report<W, E> {
     }
 
     /// A path of which nothing came. That standard error fails too can be told nowhere; the status tells of the path.
-    pub(crate) fn fail(&mut self, path: &[u8], trouble: Trouble) {
-        self.totals.add(Outcome::Failed(trouble.failure));
+    pub(crate) fn fail(&mut self, path: &[u8], error: PathError) {
+        self.totals.add(Outcome::Failed(error.failure));
         self.clear();
-        let _ = self.tell(path, trouble);
+        let _ = self.tell(path, error);
         let _ = self.errors.0.flush();
-        self.notify(path, None, Kind::Failed, failure_sentence(trouble.failure));
+        self.notify(path, None, Kind::Failed, failure_sentence(error.failure));
     }
 
-    fn tell(&mut self, path: &[u8], trouble: Trouble) -> Result<(), WriteFault> {
-        put_failure(&mut self.errors, path, trouble.failure)?;
-        match trouble.cause {
-            Some(cause) if tells_too_little(trouble.failure) => {
+    fn tell(&mut self, path: &[u8], error: PathError) -> Result<(), WriteFault> {
+        put_failure(&mut self.errors, path, error.failure)?;
+        match error.cause {
+            Some(cause) if tells_too_little(error.failure) => {
                 self.errors.put(path)?;
                 match writeln!(self.errors.0, ": {cause}") {
                     Ok(()) => Ok(()),

@@ -11,7 +11,7 @@ use rb_check::Failure;
 use rb_checked::{
     Layout, Picked, ShowFault, Shown, View, is_picked, is_unexpected, layout_of, put_one_mismatch,
 };
-use rb_files::Trouble;
+use rb_files::PathError;
 use rb_machine::Machine;
 use rb_replay::Session;
 use rb_script::WriteFault;
@@ -72,7 +72,7 @@ pub(crate) fn reviewed<M: Machine, S: System, W: Write + Drop, E: Write + Drop>(
     picked: Picked<'_>,
     review: &mut Review,
     report: &mut Report<W, E>,
-) -> Result<Vec<usize>, Trouble>
+) -> Result<Vec<usize>, PathError>
     requires { Reads subject.now.text.now.bytes.items subject.now.session.now.script }
 {
     let layout = layout_of(system.alloc(), &subject.text.bytes)?;
@@ -91,7 +91,7 @@ fn said_of<M: Machine, S: System, W: Write + Drop, E: Write + Drop>(
     picked: Picked<'_>,
     review: &mut Review,
     report: &mut Report<W, E>,
-) -> Result<Vec<usize>, Trouble>
+) -> Result<Vec<usize>, PathError>
     requires { Reads subject.now.text.now.bytes.items subject.now.session.now.script }
 {
     let mut said = Vec::new(system.alloc());
@@ -111,7 +111,7 @@ fn go_over<M: Machine, S: System, W: Write + Drop, E: Write + Drop>(
     said: &mut Vec<usize>,
     review: &mut Review,
     report: &mut Report<W, E>,
-) -> Result<(), Trouble>
+) -> Result<(), PathError>
     requires { Reads subject.now.text.now.bytes.items subject.now.session.now.script }
 {
     for index in 0..subject.session.len() {
@@ -172,7 +172,7 @@ fn show<M: Machine, W: Write + Drop, E: Write + Drop>(
     subject: &Subject<'_, M>,
     index: usize,
     report: &mut Report<W, E>,
-) -> Result<(), Trouble>
+) -> Result<(), PathError>
     requires reads { Reads subject.now.text.now.bytes.items subject.now.session.now.script }
     requires within { index < length subject.now.session.now.script.blocks }
 {
@@ -195,7 +195,7 @@ fn show<M: Machine, W: Write + Drop, E: Write + Drop>(
     ) {
         Ok(()) => report.wrote(Ok(())),
         Err(ShowFault::Writing) => report.wrote(Err(WriteFault)),
-        Err(ShowFault::OutOfMemory) => return Err(Trouble::alone(Failure::OutOfMemory)),
+        Err(ShowFault::OutOfMemory) => return Err(PathError::alone(Failure::OutOfMemory)),
     }
     Ok(())
 }

@@ -4,7 +4,7 @@ use crate::progress::Progress;
 use crate::report::Report;
 use crate::review::{Heard, answer_of};
 use rb_check::Failure;
-use rb_files::{Beside, Trouble, opened, replace};
+use rb_files::{Beside, PathError, opened, replace};
 use rb_line::{Incoming, ReadFault, read_up_to};
 use rb_script::MAX_SCRIPT;
 use std::alloc::Global;
@@ -30,7 +30,7 @@ pub(crate) trait System {
     fn is_due(&self, progress: &mut Progress) -> bool;
 
     /// The first bytes of a script's file, which is closed again.
-    fn read(&self, path: &str) -> Result<Text, Trouble>;
+    fn read(&self, path: &str) -> Result<Text, PathError>;
 
     /// Puts the text in the place of the file, of which this was seen.
     fn write<W: Write + Drop, E: Write + Drop>(
@@ -39,7 +39,7 @@ pub(crate) trait System {
         text: &[u8],
         seen: &Metadata,
         report: &mut Report<W, E>,
-    ) -> Result<(), Trouble>;
+    ) -> Result<(), PathError>;
 
     /// What comes from the terminal.
     fn hear(&self) -> Heard;
@@ -58,12 +58,12 @@ impl<'a, R: Files + Input + Clock + AllocGlobal> System for Given<'a, R> {
         progress.is_due(self.0)
     }
 
-    fn read(&self, path: &str) -> Result<Text, Trouble> {
+    fn read(&self, path: &str) -> Result<Text, PathError> {
         let (file, seen) = opened(self.0, path)?;
         match read_up_to(self.0.alloc(), &mut Incoming(file), MAX_SCRIPT + 1) {
             Ok(bytes) => Ok(Text { bytes, seen }),
-            Err(ReadFault::Io) => Err(Trouble::alone(Failure::NotRead)),
-            Err(ReadFault::OutOfMemory) => Err(Trouble::alone(Failure::OutOfMemory)),
+            Err(ReadFault::Io) => Err(PathError::alone(Failure::NotRead)),
+            Err(ReadFault::OutOfMemory) => Err(PathError::alone(Failure::OutOfMemory)),
         }
     }
 
@@ -73,7 +73,7 @@ impl<'a, R: Files + Input + Clock + AllocGlobal> System for Given<'a, R> {
         text: &[u8],
         seen: &Metadata,
         report: &mut Report<W, E>,
-    ) -> Result<(), Trouble> {
+    ) -> Result<(), PathError> {
         let mut place = Beside::new(self.0, path, seen.clone()?)?;
         put(&mut place, text, report)
     }
@@ -95,14 +95,14 @@ fn put<R: Files + AllocGlobal, W: Write + Drop, E: Write + Drop>(
     place: &mut Beside<'_, R>,
     text: &[u8],
     report: &mut Report<W, E>,
-) -> Result<(), Trouble> {
+) -> Result<(), PathError> {
     match replace(place, text) {
         Ok(()) => Ok(()),
         Err(why) => {
             if let Some(left) = place.left() {
                 report.tell_left(left);
             }
-            Err(why.trouble)
+            Err(why.error)
         }
     }
 }

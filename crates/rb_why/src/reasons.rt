@@ -11,8 +11,8 @@ ghost use Rattle.rb_why.specs.Reasons.{why_no_vote, log_reason, vote_reason, no_
 
 use crate::why::{Reason, WhyIgnored, WhyRefused};
 use rb_message::{Message, MessageKind, Role};
-use rb_raftlog::RaftLog;
 use rb_node::{ELECTION_TICKS, State};
+use rb_raftlog::RaftLog;
 use rb_tracker::{Progress, ProgressState};
 
 fn can_vote_for<L: RaftLog>(state: &State<L>, message: &Message, pre_vote: bool) -> bool

@@ -4,7 +4,7 @@ ghost use Rattle.std.specs.Prelude.{◌≡◌, ◌↔◌, IsTrue, IfOk};
 ghost use Rattle.rb_node.specs.Comparing.{HaveSameRole, HaveSameIndexes, HaveSameCounters, HaveSameLengths, HaveSameNumbers, HaveSameLists};
 
 use super::State;
-use rb_message::Mail;
+use rb_message::Outbox;
 use rb_raftlog::{Content, RaftLog};
 use rb_tracker::{Tracker, Votes};
 use std::alloc::AllocError;
@@ -12,8 +12,8 @@ use std::alloc::AllocError;
 // What is sent, and what waits.
 #[derive(Drop)]
 struct Outgoing {
-    sent: Mail,
-    waiting: Mail,
+    sent: Outbox,
+    waiting: Outbox,
 }
 
 // What it holds.

@@ -3,8 +3,8 @@
 use super::{is, is_text};
 use rb_bench::{Command, command_of};
 use rb_message::{Event, WhyNoCampaign};
-use rb_text::put_number;
 use rb_script::{Lines, Through};
+use rb_text::put_number;
 use rb_texts::{DirectiveError, Item, Level, Word, level_of, put};
 use std::alloc::Global;
 use std::process::Abort;

@@ -7,7 +7,7 @@ ghost use Rattle.std.specs.Prelude.{◌≡◌, Some, option_map, unwrap_or};
 
 use super::{is, is_in_row, is_text};
 use rb_check::Failure;
-use rb_files::{Place, Trouble, replace};
+use rb_files::{PathError, Place, replace};
 use std::alloc::Global;
 use std::process::Abort;
 
@@ -23,18 +23,18 @@ struct Shelf {
     alloc: Global,
     file: Page,
     new: Option<Page>,
-    told: Option<Trouble>,
+    told: Option<PathError>,
     is_stuck: bool,
     fails: [bool; 5],
 }
 
 // What was told first.
-fn first_told(told: Option<Trouble>, trouble: Trouble) -> Option<Trouble>
-    ensures { result ≡ Some (unwrap_or told trouble) }
+fn first_told(told: Option<PathError>, error: PathError) -> Option<PathError>
+    ensures { result ≡ Some (unwrap_or told error) }
 {
     match told {
         Some(first) => Some(first),
-        None => Some(trouble),
+        None => Some(error),
     }
 }
 
@@ -46,11 +46,11 @@ impl Place for Shelf {
       is_stuck = s.is_stuck;
     }) };
 
-    fn create(&mut self) -> Result<(), Trouble> {
+    fn create(&mut self) -> Result<(), PathError> {
         if self.fails[0] {
-            let trouble = Trouble::alone(Failure::NotWritten);
-            self.told = first_told(self.told, trouble);
-            return Err(trouble);
+            let error = PathError::alone(Failure::NotWritten);
+            self.told = first_told(self.told, error);
+            return Err(error);
         }
         self.new = Some(Page {
             text: Vec::new(self.alloc),
@@ -59,11 +59,11 @@ impl Place for Shelf {
         Ok(())
     }
 
-    fn put(&mut self, bytes: &[u8]) -> Result<(), Trouble> {
+    fn put(&mut self, bytes: &[u8]) -> Result<(), PathError> {
         if self.fails[1] {
-            let trouble = Trouble::alone(Failure::NotWritten);
-            self.told = first_told(self.told, trouble);
-            return Err(trouble);
+            let error = PathError::alone(Failure::NotWritten);
+            self.told = first_told(self.told, error);
+            return Err(error);
         }
         let Some(page) = self.new.take() else {
             return Ok(());
@@ -77,18 +77,18 @@ impl Place for Shelf {
         match outcome {
             Ok(()) => Ok(()),
             Err(_) => {
-                let trouble = Trouble::alone(Failure::OutOfMemory);
-                self.told = first_told(self.told, trouble);
-                Err(trouble)
+                let error = PathError::alone(Failure::OutOfMemory);
+                self.told = first_told(self.told, error);
+                Err(error)
             }
         }
     }
 
-    fn settle(&mut self) -> Result<(), Trouble> {
+    fn settle(&mut self) -> Result<(), PathError> {
         if self.fails[2] {
-            let trouble = Trouble::alone(Failure::NotWritten);
-            self.told = first_told(self.told, trouble);
-            return Err(trouble);
+            let error = PathError::alone(Failure::NotWritten);
+            self.told = first_told(self.told, error);
+            return Err(error);
         }
         if let Some(page) = &mut self.new {
             page.is_settled = true;
@@ -96,11 +96,11 @@ impl Place for Shelf {
         Ok(())
     }
 
-    fn rename(&mut self) -> Result<(), Trouble> {
+    fn rename(&mut self) -> Result<(), PathError> {
         if self.fails[3] {
-            let trouble = Trouble::alone(Failure::NotWritten);
-            self.told = first_told(self.told, trouble);
-            return Err(trouble);
+            let error = PathError::alone(Failure::NotWritten);
+            self.told = first_told(self.told, error);
+            return Err(error);
         }
         if let Some(page) = self.new.take() {
             self.file = page;
@@ -108,12 +108,12 @@ impl Place for Shelf {
         Ok(())
     }
 
-    fn remove(&mut self) -> Result<(), Trouble> {
+    fn remove(&mut self) -> Result<(), PathError> {
         if self.fails[4] {
             self.is_stuck = true;
-            let trouble = Trouble::alone(Failure::NotRead);
-            self.told = first_told(self.told, trouble);
-            return Err(trouble);
+            let error = PathError::alone(Failure::NotRead);
+            self.told = first_told(self.told, error);
+            return Err(error);
         }
         self.new = None;
         Ok(())

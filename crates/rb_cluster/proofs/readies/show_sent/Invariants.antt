@@ -5,4 +5,4 @@ use Rattle.rb_machine.specs.Scenes.{showing_all}
 use Rattle.rb_cluster.proofs.readies.show_sent.Given as goal
 
 abbrev pub invariant-loop-k : goal.invariant-loop-k
-invariant-loop-k l = showing_all l.screen (map items.send (drop l.k l.mail)) ≡ showing_all l.fn.screen (map items.send l.mail)
+invariant-loop-k l = showing_all l.screen (map items.send (drop l.k l.outbox)) ≡ showing_all l.fn.screen (map items.send l.outbox)

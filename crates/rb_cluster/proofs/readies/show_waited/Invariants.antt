@@ -6,4 +6,4 @@ use Rattle.rb_machine.specs.Scenes.{showing_all}
 use Rattle.rb_cluster.proofs.readies.show_waited.Given as goal
 
 abbrev pub invariant-loop-k : goal.invariant-loop-k
-invariant-loop-k l = showing_all l.screen (map items.send (others l.id (drop l.k l.mail))) ≡ showing_all l.fn.screen (map items.send (others l.id l.mail))
+invariant-loop-k l = showing_all l.screen (map items.send (others l.id (drop l.k l.outbox))) ≡ showing_all l.fn.screen (map items.send (others l.id l.outbox))

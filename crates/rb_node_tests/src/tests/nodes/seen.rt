@@ -4,7 +4,7 @@ use super::before::{Before, moves_of};
 use super::making::{Player, act_all, played};
 use super::moves::{Move, Start};
 use crate::tests::is_in_row;
-use rb_message::{Event, Mail, Message, MessageKind, Role, WhyNoCampaign, WhyReplaced};
+use rb_message::{Event, Message, MessageKind, Outbox, Role, WhyNoCampaign, WhyReplaced};
 use rb_node::Node;
 use rb_raftlog::RaftLog;
 use rb_tracker::VoteResult;
@@ -196,7 +196,7 @@ fn kind_said(kind: &MessageKind) -> (Said, u64) {
     }
 }
 
-fn first_of<'a>(waiting: &'a Mail, sent: &'a Mail) -> Option<&'a Message> {
+fn first_of<'a>(waiting: &'a Outbox, sent: &'a Outbox) -> Option<&'a Message> {
     if waiting.len() != 0 {
         return Some(waiting.message(0));
     }

@@ -1,8 +1,8 @@
 //! Messages that a node keeps until its owner takes them.
 //!
-//! They grow at their end while nobody takes them, and a session keeps hundreds of clusters whose nodes have much the same mail. So
+//! They grow at their end while nobody takes them, and a session keeps hundreds of clusters whose nodes keep much the same messages. So
 //! they stand in pages, which never change and which copies share, and a tail behind them that is shorter than a page. A copy
-//! costs two pointers for the pages, and copies of the tail's messages. Equal mail is cut at the same places.
+//! costs two pointers for the pages, and copies of the tail's messages. Equal outboxes are cut at the same places.
 
 ghost use Rattle.std.specs.Prelude.{◌≡◌, ◌+◌, ◌<◌, ◌≤◌, ◌++◌, ◌∷◌, [], ◌↔◌, length, slice_get, Some, IsTrue, IfOk, OnOk};
 ghost use Rattle.rb_raftlog.specs.Packed.{joined};
@@ -19,14 +19,14 @@ use std::mem;
 
 /// Messages, in order. Contracts see the list of them.
 #[derive(Drop)]
-pub struct Mail {
+pub struct Outbox {
     // Each has PAGE messages.
     pages: Pages<Shared<Message>>,
     // Fewer than PAGE.
     tail: Vec<Message>,
 }
 
-impl Model for Mail {
+impl Model for Outbox {
     ghost use Rattle.std.specs.Prelude.{List, ◌++◌};
     ghost use Rattle.rb_raftlog.specs.Packed.{joined};
     ghost use Rattle.rb_message.specs.declared.message.Message.{Message};
@@ -75,7 +75,7 @@ fn full_page(tail: &mut Vec<Message>, last: Message) -> Result<Shared<Message>, 
     Shared::new(page)
 }
 
-// Puts the message that makes the tail a page. Mail of more than 2,000,000,000 pages is refused as if memory had been.
+// Puts the message that makes the tail a page. An outbox of more than 2,000,000,000 pages is refused as if memory had been.
 fn push_page(
     pages: &mut Pages<Shared<Message>>,
     tail: &mut Vec<Message>,
@@ -94,12 +94,12 @@ fn push_page(
     Ok(())
 }
 
-impl Mail {
+impl Outbox {
     /// No messages. It takes no memory.
-    pub fn new(alloc: Global) -> Mail
+    pub fn new(alloc: Global) -> Outbox
         ensures { result ≡ [] }
     {
-        Mail {
+        Outbox {
             pages: Pages::new(alloc),
             tail: Vec::new(alloc),
         }
@@ -157,18 +157,18 @@ impl Mail {
     }
 
     /// The same messages once more: two pointers for the pages, and copies of the tail's.
-    pub fn try_copy(&self) -> Result<Mail, AllocError>
+    pub fn try_copy(&self) -> Result<Outbox, AllocError>
         ensures { IfOk result (λ copy. copy ≡ self.now) }
     {
         let alloc = self.allocator();
-        Ok(Mail {
+        Ok(Outbox {
             pages: self.pages.try_copy()?,
             tail: copies_of(alloc, &self.tail)?,
         })
     }
 
-    /// Whether both are the same messages in the same order. Mail of different lengths is told at once. It takes no memory.
-    pub fn same(&self, other: &Mail) -> bool
+    /// Whether both are the same messages in the same order. Outboxes of different lengths are told apart at once. It takes no memory.
+    pub fn same(&self, other: &Outbox) -> bool
         ensures { IsTrue result ↔ (self.now ≡ other.now) }
     {
         if self.len() != other.len() {

@@ -5,7 +5,7 @@ use Rattle.std.specs.declared.io.ErrorKind.{ErrorKind}
 use Rattle.std.specs.declared.io.ErrorKind.TheVariants as kind
 use Rattle.rb_check.specs.declared.failure.Failure.{Failure}
 use Rattle.rb_check.specs.declared.failure.Failure.TheVariants as failure
-use Rattle.rb_files.specs.declared.trouble.Trouble.{Trouble}
+use Rattle.rb_files.specs.declared.path_error.PathError.{PathError}
 
 abbrev pub reading_failure : ErrorKind → Failure
 reading_failure kind.NotFound = failure.NotFound
@@ -20,9 +20,9 @@ writing_failure kind.OutOfMemory = failure.OutOfMemory
 writing_failure _ = failure.NotWritten
 
 -- where it has the system's error, what that comes to
-abbrev pub IsOfReading : Trouble → Type 0
+abbrev pub IsOfReading : PathError → Type 0
 IsOfReading t = IfSome t.cause (λ error. t.failure ≡ reading_failure (error_kind error))
 
 -- why a path isn't opened: what the system said, or without a word of its that it is no regular file
-abbrev pub IsOfOpening : Trouble → Type 0
+abbrev pub IsOfOpening : PathError → Type 0
 IsOfOpening t = MatchOption t.cause (t.failure ≡ failure.NoFile) (λ error. t.failure ≡ reading_failure (error_kind error))

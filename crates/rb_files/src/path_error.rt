@@ -3,7 +3,7 @@
 ghost use Rattle.std.specs.Prelude.{◌≡◌, Some, None};
 ghost use Rattle.std.specs.IoError.{error_kind};
 ghost use Rattle.rb_check.specs.declared.failure.Failure.TheVariants.{OutOfMemory};
-ghost use Rattle.rb_files.specs.Troubles.{reading_failure, writing_failure};
+ghost use Rattle.rb_files.specs.PathErrors.{reading_failure, writing_failure};
 
 use rb_check::Failure;
 use std::alloc::AllocError;
@@ -12,16 +12,16 @@ use std::io::ErrorKind;
 
 /// Why nothing came of a path, and what the system said.
 #[derive(Clone, Copy, Debug)]
-pub struct Trouble {
+pub struct PathError {
     /// Why.
     pub failure: Failure,
     /// The system's error, where there is one.
     pub cause: Option<io::Error>,
 }
 
-impl Trouble {
+impl PathError {
     /// Of a path that could not be opened, listed or read.
-    pub fn of_reading(error: io::Error) -> Trouble
+    pub fn of_reading(error: io::Error) -> PathError
         ensures { result ≡ record { failure = reading_failure (error_kind error); cause = Some error } }
     {
         let failure = match error.kind() {
@@ -31,41 +31,41 @@ impl Trouble {
             ErrorKind::OutOfMemory => Failure::OutOfMemory,
             _ => Failure::NotRead,
         };
-        Trouble {
+        PathError {
             failure,
             cause: Some(error),
         }
     }
 
     /// Of a file that could not be given its new text.
-    pub fn of_writing(error: io::Error) -> Trouble
+    pub fn of_writing(error: io::Error) -> PathError
         ensures { result ≡ record { failure = writing_failure (error_kind error); cause = Some error } }
     {
         let failure = match error.kind() {
             ErrorKind::OutOfMemory => Failure::OutOfMemory,
             _ => Failure::NotWritten,
         };
-        Trouble {
+        PathError {
             failure,
             cause: Some(error),
         }
     }
 
     /// Without an error of the system's.
-    pub fn alone(failure: Failure) -> Trouble
+    pub fn alone(failure: Failure) -> PathError
         ensures { result ≡ record { failure = failure; cause = None } }
     {
-        Trouble {
+        PathError {
             failure,
             cause: None,
         }
     }
 }
 
-impl From<AllocError> for Trouble {
+impl From<AllocError> for PathError {
     ghost from_gives = { λ _ made. made ≡ record { failure = OutOfMemory; cause = None } };
 
-    fn from(_error: AllocError) -> Trouble {
-        Trouble::alone(Failure::OutOfMemory)
+    fn from(_error: AllocError) -> PathError {
+        PathError::alone(Failure::OutOfMemory)
     }
 }

@@ -1,6 +1,6 @@
 use Rattle.std.proofs.Common.{arith}
-use Rattle.rb_message.proofs.MailLaws.{page_put}
-use Rattle.rb_message.proofs.mail.push_page.Goals as goal
+use Rattle.rb_message.proofs.OutboxLaws.{page_put}
+use Rattle.rb_message.proofs.outbox.push_page.Goals as goal
 
 pub returns-clause-paged : goal.returns-clause-paged
 returns-clause-paged c =

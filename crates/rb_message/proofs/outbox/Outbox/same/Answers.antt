@@ -1,6 +1,6 @@
 use Rattle.std.proofs.Common.{◌∙◌, sym, rules}
-use Rattle.rb_message.proofs.MailLaws.{same_by_pages, tail_of_same}
-use Rattle.rb_message.proofs.mail.Mail.same.Goals as goal
+use Rattle.rb_message.proofs.OutboxLaws.{same_by_pages, tail_of_same}
+use Rattle.rb_message.proofs.outbox.Outbox.same.Goals as goal
 
 pub returns-then-same_messages : goal.returns-then-same_messages
 returns-then-same_messages c =

@@ -1,6 +1,6 @@
 use Rattle.std.proofs.Common.{arith, ◌∙◌}
-use Rattle.rb_message.proofs.MailLaws.{page_at, tail_at, in_tail}
-use Rattle.rb_message.proofs.mail.Mail.message.Goals as goal
+use Rattle.rb_message.proofs.OutboxLaws.{page_at, tail_at, in_tail}
+use Rattle.rb_message.proofs.outbox.Outbox.message.Goals as goal
 
 pub returns-then-k-len : goal.returns-then-k-len
 returns-then-k-len c =
