@@ -1,4 +1,4 @@
-"""The judge itself is tried: each edit of trials/ has a line `verdict: KIND`, which is what must come of it in rb_words."""
+"""The judge itself is tried: each edit of trials/ has a line `verdict: KIND`, which is what must come of it in rb_text."""
 import pathlib
 import re
 import tempfile
@@ -10,7 +10,7 @@ from judge import judged
 from said import Kind, Verdict
 
 HERE = pathlib.Path(__file__).resolve().parent
-CRATE = "rb_words"
+CRATE = "rb_text"
 
 
 def stays_beside() -> bool:

@@ -2,7 +2,7 @@
 
 use crate::editing::serve_editor;
 use rb_args::{Choice, Subcommand, chosen};
-use rb_bench::status_code;
+use rb_check::status_code;
 use rb_program::{Misuse, Refusal, Terminals, carry_out};
 use std::io::Write;
 use std::rt::{Env, Files};

@@ -4,7 +4,7 @@ use rb_actions::lsp;
 use rb_line::Incoming;
 use rb_program::Refusal;
 use rb_script::Through;
-use rb_server::{ServeFault, Status};
+use rb_server::{ExitStatus, ServeFault};
 use std::io;
 
 /// Serves an editor, and gives the program's status.
@@ -12,9 +12,9 @@ pub(crate) fn serve_editor<R: Input + Print + AllocGlobal>(rt: &R) -> Result<u8,
     let mut source = Incoming(rt.reader());
     let mut sink = Through(io::writer(rt));
     match lsp(rt.alloc(), &mut source, &mut sink) {
-        Ok(Status::Done) => Ok(0),
-        Ok(Status::Exited | Status::Closed) => Ok(1),
-        Ok(Status::CutOff | Status::NoMessage) | Err(ServeFault::Io) => Err(Refusal::Io),
+        Ok(ExitStatus::Done) => Ok(0),
+        Ok(ExitStatus::Exited | ExitStatus::Closed) => Ok(1),
+        Ok(ExitStatus::CutOff | ExitStatus::NoMessage) | Err(ServeFault::Io) => Err(Refusal::Io),
         Err(ServeFault::OutOfMemory) => Err(Refusal::OutOfMemory),
     }
 }

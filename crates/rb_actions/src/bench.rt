@@ -15,7 +15,7 @@ use rb_line::Source;
 use rb_offers::{add_completion, add_folds, add_formatting, add_symbols};
 use rb_raftlog::SplitLog;
 use rb_script::Sink;
-use rb_server::{Asked, Client, ServeFault, Service, Status, serve};
+use rb_server::{Client, ExitStatus, Query, ServeFault, Service, serve};
 use std::alloc::{AllocError, Global};
 
 /// Knows what scripts mean.
@@ -70,7 +70,7 @@ impl Service for Bench {
     fn add_answer(
         &mut self,
         encoding: Encoding,
-        asked: Asked,
+        asked: Query,
         uri: &[u8],
         text: &[u8],
         out: &mut Vec<u8>,
@@ -78,16 +78,16 @@ impl Service for Bench {
         let mut meter = Meter::new();
         let alloc = self.alloc;
         match asked {
-            Asked::CodeAction(range) => add_actions::<Cluster<SplitLog>>(
+            Query::CodeAction(range) => add_actions::<Cluster<SplitLog>>(
                 alloc, out, encoding, range, uri, text, &mut meter,
             ),
-            Asked::Formatting => add_formatting(alloc, out, encoding, text),
-            Asked::Hover(position) => add_hover::<Cluster<SplitLog>>(
+            Query::Formatting => add_formatting(alloc, out, encoding, text),
+            Query::Hover(position) => add_hover::<Cluster<SplitLog>>(
                 alloc, out, encoding, position, text, &mut meter,
             ),
-            Asked::Completion(position) => add_completion(alloc, out, encoding, text, position),
-            Asked::FoldingRange => add_folds(alloc, out, text),
-            Asked::DocumentSymbol => add_symbols(alloc, out, encoding, text),
+            Query::Completion(position) => add_completion(alloc, out, encoding, text, position),
+            Query::FoldingRange => add_folds(alloc, out, text),
+            Query::DocumentSymbol => add_symbols(alloc, out, encoding, text),
         }
     }
 }
@@ -101,7 +101,7 @@ pub fn lsp<S: Source, W: Sink>(
     alloc: Global,
     source: &mut S,
     sink: &mut W,
-) -> Result<Status, ServeFault>
+) -> Result<ExitStatus, ServeFault>
     // What is written is the conversation over the bytes that come in, and the status is that of its end.
     ensures ok { IfOk result (λ status. Served meaning (S.left source.old) status (W.held sink.old) (W.held sink.new)) }
     // Where a call fails, a beginning of it went out.

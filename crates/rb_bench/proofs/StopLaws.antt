@@ -19,7 +19,7 @@ use Rattle.rb_line.proofs.TakenLaws.{takes_then}
 use Rattle.rb_bench.specs.declared.given.Given.{Given}
 use Rattle.rb_bench.specs.declared.hear.Heard.{Heard}
 use Rattle.rb_bench.specs.declared.hear.Heard.TheVariants as heards
-use Rattle.rb_bench.specs.declared.status.Status.{Status}
+use Rattle.rb_check.specs.declared.status.Status.{Status}
 use Rattle.rb_bench.specs.declared.fault.BenchFault.{BenchFault}
 use Rattle.rb_bench.specs.Talk.{is_long, given_count, taken, IsCut}
 use Rattle.rb_bench.specs.Hearing.{IsCommand}

@@ -10,7 +10,6 @@ pub mod Responses
 pub mod Runs
 pub mod Serves
 pub mod Spelling
-pub mod Statuses
 pub mod Stopping
 pub mod Talk
 pub mod Turns

@@ -9,8 +9,8 @@ use Rattle.rb_script.specs.Writes.{AppendsFront}
 use Rattle.rb_replay.specs.Report.{mismatches, report, rewritten}
 use Rattle.rb_bench.specs.declared.running.Mode.{Mode}
 use Rattle.rb_bench.specs.declared.running.Mode.TheVariants as modes
-use Rattle.rb_bench.specs.declared.status.Status.{Status}
-use Rattle.rb_bench.specs.declared.status.Status.TheVariants as statuses
+use Rattle.rb_check.specs.declared.status.Status.{Status}
+use Rattle.rb_check.specs.declared.status.Status.TheVariants as statuses
 use Rattle.rb_bench.specs.declared.fault.BenchFault.{BenchFault}
 use Rattle.rb_bench.specs.declared.fault.BenchFault.TheVariants as faults
 use Rattle.rb_line.specs.declared.reading.ReadFault.{ReadFault}
@@ -24,12 +24,12 @@ text_for modes.Rewrite s = rewritten s
 
 -- the status of mismatches
 abbrev pub status_of : List ℕ → Status
-status_of places = if nat_lt 0 (length places) then statuses.Mismatches else statuses.Done
+status_of places = if nat_lt 0 (length places) then statuses.Mismatched else statuses.Matched
 
 -- a rewritten script has no mismatches left
 abbrev pub status_for : Mode → PlainScript → Status
 status_for modes.Run s = status_of (mismatches s)
-status_for modes.Rewrite s = statuses.Done
+status_for modes.Rewrite s = statuses.Matched
 
 -- What is wanted of a reader: one byte more than a script may have, so that a longer one is found.
 abbrev pub most_read : ℕ

@@ -11,7 +11,7 @@ use Rattle.rb_line.specs.Left.{left_of}
 use Rattle.rb_line.specs.Taken.{AreWhole, TakesWhole}
 use Rattle.rb_bench.specs.declared.hear.Heard.{Heard}
 use Rattle.rb_bench.specs.declared.hear.Heard.TheVariants as heards
-use Rattle.rb_bench.specs.declared.status.Status.{Status}
+use Rattle.rb_check.specs.declared.status.Status.{Status}
 use Rattle.rb_bench.specs.Talk.{is_long, IsCut, Begins}
 use Rattle.rb_bench.specs.Serves.{IsStarted}
 

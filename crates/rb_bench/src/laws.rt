@@ -17,7 +17,7 @@ ghost use Rattle.rb_bench.specs.Serves.{IsStarted};
 ghost use Rattle.rb_bench.specs.Names.{script_name, script_line, edit_name};
 ghost use Rattle.rb_bench.specs.declared.running.Mode.{Mode};
 ghost use Rattle.rb_bench.specs.declared.fault.BenchFault.TheVariants as faults;
-ghost use Rattle.rb_bench.specs.declared.status.Status.{Status};
+ghost use Rattle.rb_check.specs.declared.status.Status.{Status};
 
 use rb_replay::edits_answer_as_one_run;
 

@@ -22,7 +22,6 @@ mod running;
 mod send;
 mod session;
 mod starting;
-mod status;
 
 pub use command::{Command, Purpose, command_of};
 pub use fault::BenchFault;
@@ -35,4 +34,3 @@ pub use names::{edit_fault_name, script_fault_line, script_fault_name};
 pub use outlet::Outlet;
 pub use running::{Mode, run_bytes, run_over};
 pub use session::serve;
-pub use status::{Status, status_code};

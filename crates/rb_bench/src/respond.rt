@@ -15,7 +15,7 @@ use crate::hear::Heard;
 use crate::reply::Reply;
 use crate::running::{Mode, status};
 use crate::starting::BenchSession;
-use crate::status::Status;
+use rb_check::Status;
 use rb_cluster::Meter;
 use rb_script::{Block, Edit, EditFault, Lines, MAX_SCRIPT, ScriptFault};
 use std::alloc::Global;

@@ -12,7 +12,7 @@ ghost use Rattle.rb_bench.specs.Runs.{Answers, RunsOver, IsWritten, text_for, st
 use crate::fault::BenchFault;
 use crate::outlet::Outlet;
 use crate::starting::{BenchSession, run_once};
-use crate::status::Status;
+use rb_check::Status;
 use rb_line::{Source, read_up_to};
 use rb_replay::is_spacing;
 use rb_script::{MAX_SCRIPT, Sink, WriteFault};
@@ -149,11 +149,11 @@ pub(crate) fn status(session: &BenchSession, mode: Mode) -> Status
     match mode {
         Mode::Run => {
             if session.mismatches().is_empty() {
-                Status::Done
+                Status::Matched
             } else {
-                Status::Mismatches
+                Status::Mismatched
             }
         }
-        Mode::Rewrite => Status::Done,
+        Mode::Rewrite => Status::Matched,
     }
 }

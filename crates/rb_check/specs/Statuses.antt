@@ -1,4 +1,4 @@
--- The statuses by which the program ends. (This project's; those of a run.)
+-- The statuses by which the program ends. (This project's.)
 use Rattle.std.specs.Prelude.{ℕ}
 use Rattle.rb_check.specs.declared.status.Status.{Status}
 use Rattle.rb_check.specs.declared.status.Status.TheVariants.{Matched, Mismatched, BadUsage, Refused, Failed, OutOfMemory}

@@ -6,15 +6,15 @@ ghost use Rattle.rb_script.specs.Writes.{Writes};
 ghost use Rattle.rb_check.specs.Heads.{head_text};
 ghost use Rattle.rb_check.specs.Notices.{left_text};
 
+use crate::file_line::{FileLine, put_heading};
 use crate::piece::{Piece, put_pieces};
-use crate::place::{Place, put_heading};
 use rb_script::{DirectiveRef, Sink, WriteFault};
 
 /// Writes that a directive's error was not accepted: `PATH:LINE: HEAD: `, the error, and that. On a failure what went out is a beginning
 /// of the text.
 pub fn put_left<S: Sink>(
     sink: &mut S,
-    place: Place<'_>,
+    place: FileLine<'_>,
     directive: &DirectiveRef<'_>,
     error: &[u8],
 ) -> Result<(), WriteFault>

@@ -12,6 +12,7 @@ mod colors;
 mod diff;
 mod doubt;
 mod failure;
+mod file_line;
 mod fold;
 mod head;
 mod highlight;
@@ -23,7 +24,6 @@ mod longest;
 mod mismatch;
 mod outcome;
 mod piece;
-mod place;
 mod refusal;
 mod side;
 mod sides;
@@ -39,6 +39,7 @@ pub use colors::Colors;
 pub use diff::{put_diff, put_told_diff};
 pub use doubt::{Doubt, doubt_sentence, put_unaccepted, put_warning};
 pub use failure::{Failure, failure_sentence, put_failure};
+pub use file_line::FileLine;
 pub use head::put_head;
 pub use laws::{
     colors_go_around, counts_are_sums, diffs_are, diffs_are_longest, diffs_tell_both_sides,
@@ -49,7 +50,6 @@ pub use laws::{
 pub use left::put_left;
 pub use mismatch::{put_directive, put_mismatch, put_note, put_told_mismatch};
 pub use outcome::Outcome;
-pub use place::Place;
 pub use refusal::{fault_line, put_refusal, sentence};
 pub use side::Side;
 pub use status::{Status, status_code};

@@ -9,10 +9,10 @@ ghost use Rattle.rb_check.specs.Whys.{reasons_in, told_mismatch};
 
 use crate::colors::Colors;
 use crate::diff::put_told_diff;
+use crate::file_line::{FileLine, put_heading};
 use crate::hint::put_hint;
 use crate::line::put_lines;
 use crate::piece::{Piece, put_pieces};
-use crate::place::{Place, put_heading};
 use crate::side::Side;
 use crate::table::Table;
 use crate::why::Why;
@@ -23,7 +23,7 @@ use rb_script::{DirectiveRef, Lines, Sink, WriteFault};
 /// was probably meant, where that isn't empty; last an empty line. On a failure what went out is a beginning of the text.
 pub fn put_mismatch<S: Sink>(
     sink: &mut S,
-    place: Place<'_>,
+    place: FileLine<'_>,
     directive: &DirectiveRef<'_>,
     expected: &Lines,
     output: &Lines,
@@ -51,7 +51,7 @@ pub fn put_mismatch<S: Sink>(
 /// On a failure what went out is a beginning of the text.
 pub fn put_told_mismatch<S: Sink>(
     sink: &mut S,
-    place: Place<'_>,
+    place: FileLine<'_>,
     directive: &DirectiveRef<'_>,
     expected: &Lines,
     output: &Lines,
@@ -73,7 +73,7 @@ pub fn put_told_mismatch<S: Sink>(
 /// Writes a directive with its output, each line after two blanks, and the word that was probably meant, where that isn't empty. On a failure what went out is a beginning of the text.
 pub fn put_directive<S: Sink>(
     sink: &mut S,
-    place: Place<'_>,
+    place: FileLine<'_>,
     directive: &DirectiveRef<'_>,
     output: &Lines,
     hint: &[u8],
@@ -91,7 +91,7 @@ pub fn put_directive<S: Sink>(
 /// that isn't empty. On a failure what went out is a beginning of the text.
 pub fn put_note<S: Sink>(
     sink: &mut S,
-    place: Place<'_>,
+    place: FileLine<'_>,
     directive: &DirectiveRef<'_>,
     note: &[u8],
     hint: &[u8],

@@ -3,18 +3,18 @@
 ghost use Rattle.std.specs.Prelude.{◌≡◌};
 ghost use Rattle.rb_check.specs.Statuses.{code_of};
 
-/// What the program says by its status, from the least to the greatest.
+/// The statuses by which the program ends, from the least to the greatest.
 #[derive(Clone, Copy, Debug, PartialEq, Eq)]
 pub enum Status {
-    /// Each output was the expected one, or was accepted.
+    /// What was asked for was done. In a report, and at the end of a session, each output was the expected one or was accepted.
     Matched,
     /// Some output was not the expected one.
     Mismatched,
     /// The words of the command line ask for nothing that there is.
     BadUsage,
-    /// Some script was refused.
+    /// A script is none, or more than one may be.
     Refused,
-    /// Some input or output failed.
+    /// Some input or output failed, or the input of a session broke off.
     Failed,
     /// Memory was refused.
     OutOfMemory,

@@ -10,10 +10,10 @@ ghost use Rattle.rb_check.specs.Heads.{head_text};
 ghost use Rattle.rb_check.specs.Steps.{is_delivery, is_event, is_ready, before_step, step_text, is_delivered, run_text};
 ghost use Rattle.rb_check.specs.Whys.{reasons_in, told_step, told_steps, told_run};
 
+use crate::file_line::{FileLine, put_heading};
 use crate::hint::put_hint;
 use crate::line::end_mark;
 use crate::piece::{Piece, put_pieces};
-use crate::place::{Place, put_heading};
 use crate::why::{Why, put_reason};
 use rb_script::{DirectiveRef, Lines, Sink, WriteFault};
 
@@ -112,7 +112,7 @@ fn put_steps<S: Sink>(sink: &mut S, lines: &Lines, why: Why<'_>) -> Result<(), W
 /// text.
 pub fn put_run<S: Sink>(
     sink: &mut S,
-    place: Place<'_>,
+    place: FileLine<'_>,
     directive: &DirectiveRef<'_>,
     output: &Lines,
     hint: &[u8],
@@ -127,7 +127,7 @@ pub fn put_run<S: Sink>(
 /// what went out is a beginning of the text.
 pub fn put_told_run<S: Sink>(
     sink: &mut S,
-    place: Place<'_>,
+    place: FileLine<'_>,
     directive: &DirectiveRef<'_>,
     output: &Lines,
     why: Why<'_>,

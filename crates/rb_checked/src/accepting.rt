@@ -13,7 +13,7 @@ use crate::answers::{block_at, number_at, output_at};
 use crate::errors::{first_line, is_unexpected};
 use crate::put::is_same;
 use crate::wanted::{Wanted, is_picked};
-use rb_check::{Place, put_left};
+use rb_check::{FileLine, put_left};
 use rb_machine::Machine;
 use rb_replay::Session;
 use rb_script::{Block, Lines, Sink, WriteFault};
@@ -130,7 +130,7 @@ fn put_if_left<S: Sink>(
     sink: &mut S,
     wanted: Wanted<'_>,
     text: &Lines,
-    place: Place<'_>,
+    place: FileLine<'_>,
     block: &Block,
     output: &Lines,
 ) -> Result<(), WriteFault>
@@ -161,7 +161,7 @@ pub(crate) fn put_all_left<M: Machine, S: Sink>(
         let block = block_at(session, i);
         let output = output_at(session, i);
         let line = number_at(heads, i);
-        put_if_left(sink, wanted, text, Place { path, line }, block, output)?;
+        put_if_left(sink, wanted, text, FileLine { path, line }, block, output)?;
     }
     Ok(())
 }

@@ -25,7 +25,9 @@ use crate::reasons::why_at;
 use crate::told::Told;
 use crate::view::{Shown, View};
 use crate::wanted::Wanted;
-use rb_check::{Colors, Place, Table, Why, put_brief, put_note, put_told_mismatch, put_told_run};
+use rb_check::{
+    Colors, FileLine, Table, Why, put_brief, put_note, put_told_mismatch, put_told_run,
+};
 use rb_machine::Machine;
 use rb_replay::Session;
 use rb_script::{Block, Lines, Sink, WriteFault};
@@ -44,7 +46,7 @@ fn put_match<S: Sink>(
     block: &Block,
     output: &Lines,
     text: &Lines,
-    place: Place<'_>,
+    place: FileLine<'_>,
     all: bool,
     why: Why<'_>,
 ) -> Result<(), WriteFault>
@@ -67,7 +69,7 @@ fn put_differing<S: Sink>(
     sink: &mut S,
     block: &Block,
     output: &Lines,
-    place: Place<'_>,
+    place: FileLine<'_>,
     why: Why<'_>,
     colors: Colors,
     table: &mut Table,
@@ -106,7 +108,7 @@ fn put_shown<S: Sink>(
     ensures all { S.takes_all sink.old → IsOk result × S.takes_all sink.new }
 {
     let path = view.path;
-    let place = Place { path, line };
+    let place = FileLine { path, line };
     if is_same(block.expected(), output) {
         return put_match(sink, block, output, text, place, all, why);
     }
@@ -169,7 +171,7 @@ fn put_mismatch_at<M: Machine, S: Sink>(
         sink,
         block,
         output,
-        Place { path, line },
+        FileLine { path, line },
         why_at(whys, index),
         view.colors,
         table,

@@ -9,7 +9,7 @@ ghost use Rattle.rb_machine.specs.Scenes.{scene};
 use crate::cluster::{Cluster, place_of};
 use rb_change::Shared;
 use rb_directive::Act;
-use rb_level::Word;
+use rb_level::ScriptWord;
 use rb_machine::Screen;
 use rb_message::{Event, Message, MessageKind};
 use rb_node::{ELECTION_TICKS, Node};
@@ -81,7 +81,7 @@ impl<L: RaftLog> Cluster<L> {
     pub(crate) fn propose(
         &mut self,
         id: u64,
-        payload: &Word<'_>,
+        payload: &ScriptWord<'_>,
         screen: &mut Screen,
     ) -> Result<(), AllocError>
         ensures { OnOk result (scene self.new screen.new ≡ propose id payload.now (scene self.old screen.old)) }

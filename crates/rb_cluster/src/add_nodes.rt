@@ -13,7 +13,7 @@ use crate::cluster::Cluster;
 use crate::shared_node::SharedNode;
 use rb_change::{ConfState, Shared};
 use rb_directive::{AddNodes, IdList, MAX_ID, MAX_NODES};
-use rb_level::{DirectiveError, Word};
+use rb_level::{DirectiveError, ScriptWord};
 use rb_machine::Screen;
 use rb_node::{Node, Options};
 use rb_raftlog::{Content, RaftLog, Snapshot};
@@ -91,7 +91,7 @@ fn config(alloc: Global, asked: &AddNodes<'_>) -> Result<ConfState, AllocError>
     })
 }
 
-fn content(alloc: Global, given: &Option<Word<'_>>) -> Result<Content, AllocError>
+fn content(alloc: Global, given: &Option<ScriptWord<'_>>) -> Result<Content, AllocError>
     ensures { IfOk result (λ c. c ≡ unwrap_or given.now []) }
 {
     match given {

@@ -12,7 +12,7 @@ use crate::change::Inputs;
 use crate::id_list::IdList;
 use crate::type_set::TypeSet;
 use rb_change::Transition;
-use rb_level::{DirectiveError, Level, Word};
+use rb_level::{DirectiveError, Level, ScriptWord};
 
 /// `add-nodes`: new nodes, all of them alike.
 #[derive(Drop)]
@@ -26,7 +26,7 @@ pub struct AddNodes<'d> {
     /// The index of the base at which they begin.
     pub index: Option<u64>,
     /// What they have applied up to there.
-    pub content: Option<Word<'d>>,
+    pub content: Option<ScriptWord<'d>>,
     /// The most appends that may be on their way to one node.
     pub inflight: u64,
     /// Whether a node asks whether it would be elected, before it takes a new term.
@@ -68,7 +68,7 @@ pub enum Request<'d> {
     /// What the node does.
     Act(Act, u64),
     /// The payload is proposed at the node.
-    Propose(u64, Word<'d>),
+    Propose(u64, ScriptWord<'d>),
     ProposeConfChange(ProposeConfChange<'d>),
     /// What is ready at the nodes is done, in this order.
     ProcessReady(IdList),

@@ -18,7 +18,7 @@ use crate::name::Name;
 use crate::reading::read;
 use crate::table::{Row, row_of};
 use rb_change::Transition;
-use rb_level::{DirectiveError, Level, Word};
+use rb_level::{DirectiveError, Level, ScriptWord};
 use rb_script::DirectiveRef;
 
 /// A request, and the level that its option `log-level` sets for it alone.
@@ -34,7 +34,7 @@ fn wanted<'d, T: Drop>(value: Option<T>, name: &'static [u8]) -> Result<T, Direc
 {
     match value {
         Some(value) => Ok(value),
-        None => Err(DirectiveError::MissingArgument(Word::new(name))),
+        None => Err(DirectiveError::MissingArgument(ScriptWord::new(name))),
     }
 }
 
@@ -189,6 +189,6 @@ pub fn request<'d>(directive: &'d DirectiveRef<'d>) -> Result<Asked<'d>, Directi
     let name = directive.name();
     match row_of(name) {
         Some(row) => asked_of(row, directive),
-        None => Err(DirectiveError::UnknownDirective(Word::new(name))),
+        None => Err(DirectiveError::UnknownDirective(ScriptWord::new(name))),
     }
 }

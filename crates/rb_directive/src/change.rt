@@ -9,7 +9,7 @@ ghost use Rattle.rb_directive.specs.Changes.{kind_of, change_of, words_left, inp
 
 use crate::form::id_of;
 use rb_change::{Transition, WordKind};
-use rb_level::{DirectiveError, Word};
+use rb_level::{DirectiveError, ScriptWord};
 use rb_script::DirectiveRef;
 use rb_text::first_word;
 use std::marker::Model;
@@ -146,7 +146,7 @@ pub(crate) fn change_fault<'d>(
     ensures { result ≡ change_fault first_version transition inputs.now }
 {
     match inputs.first_bad() {
-        Some(word) => Some(DirectiveError::BadChange(Word::new(word))),
+        Some(word) => Some(DirectiveError::BadChange(ScriptWord::new(word))),
         None => {
             if fits(first_version, transition, inputs) {
                 None

@@ -8,7 +8,7 @@ use crate::argument::{Argument, Bytes, Flag, Ids, LevelFor, Number};
 use crate::id_list::IdList;
 use crate::type_set::TypeSet;
 use rb_change::Transition;
-use rb_level::{Level, Word};
+use rb_level::{Level, ScriptWord};
 
 /// Where a word stands among the words of a directive.
 #[derive(Clone, Copy)]
@@ -44,8 +44,8 @@ pub(crate) struct Given<'d> {
     pub(crate) inflight: Option<u64>,
     pub(crate) rounds: Option<u64>,
     pub(crate) timeout: Option<u64>,
-    pub(crate) payload: Option<Word<'d>>,
-    pub(crate) content: Option<Word<'d>>,
+    pub(crate) payload: Option<ScriptWord<'d>>,
+    pub(crate) content: Option<ScriptWord<'d>>,
     pub(crate) level: Option<Level>,
     pub(crate) log_level: Option<Level>,
     pub(crate) prevote: Option<bool>,
@@ -121,7 +121,7 @@ impl<'d> Given<'d> {
         }
     }
 
-    fn bytes(&self, which: Bytes) -> &Option<Word<'d>>
+    fn bytes(&self, which: Bytes) -> &Option<ScriptWord<'d>>
         ensures { result.now ≡ bytes_given which self.now }
     {
         match which {
@@ -219,8 +219,8 @@ impl<'d> Given<'d> {
         ensures { self.new ≡ bytes_set which bytes.now self.old }
     {
         match which {
-            Bytes::Payload => self.payload = Some(Word::new(bytes)),
-            Bytes::Content => self.content = Some(Word::new(bytes)),
+            Bytes::Payload => self.payload = Some(ScriptWord::new(bytes)),
+            Bytes::Content => self.content = Some(ScriptWord::new(bytes)),
         }
     }
 

@@ -15,7 +15,7 @@ use crate::argument::{Argument, Ids};
 use crate::given::Given;
 use crate::said::Said;
 use crate::table::{Row, option_of};
-use rb_level::{DirectiveError, Word};
+use rb_level::{DirectiveError, ScriptWord};
 use rb_script::DirectiveRef;
 
 // Adds what the ids of the argument are, where none of them stands in the other list.
@@ -93,10 +93,10 @@ fn add_option<'d>(
 {
     let key = said.key();
     let Some(argument) = option_of(row.name.text(), key) else {
-        return Err(DirectiveError::UnsupportedOption(Word::new(key)));
+        return Err(DirectiveError::UnsupportedOption(ScriptWord::new(key)));
     };
     if given.has(argument) || !take(given, argument, said) {
-        return Err(DirectiveError::BadArgument(Word::new(key)));
+        return Err(DirectiveError::BadArgument(ScriptWord::new(key)));
     }
     Ok(())
 }
@@ -106,11 +106,11 @@ fn add_word<'d>(row: &Row, said: &Said<'d>, given: &mut Given<'d>) -> Result<(),
     ensures { MatchResult result (λ _. with_word (word_of row.now given.old.next) said.now given.old ≡ Ok given.new) (λ e. with_word (word_of row.now given.old.next) said.now given.old ≡ Err e) }
 {
     let Some(argument) = row.word(given.next) else {
-        return Err(DirectiveError::BadArgument(Word::new(said.key())));
+        return Err(DirectiveError::BadArgument(ScriptWord::new(said.key())));
     };
     given.next = given.next.after();
     if !take(given, argument, said) {
-        return Err(DirectiveError::BadArgument(Word::new(said.key())));
+        return Err(DirectiveError::BadArgument(ScriptWord::new(said.key())));
     }
     Ok(())
 }

@@ -1,6 +1,6 @@
 -- A file that has a text, and a new file beside it. (This project's.)
 use Rattle.std.specs.Prelude.{◌≡◌, ℕ, Bool, true, false, List, [], ◌++◌, Option, Some, None, Result, Ok, Err, IfSome, MatchBool, is_some, option_map, unwrap_or}
-use Rattle.rb_files.specs.declared.place.Unreplaced.{Unreplaced}
+use Rattle.rb_files.specs.declared.file_place.Unreplaced.{Unreplaced}
 use Rattle.rb_files.specs.declared.path_error.PathError.{PathError}
 
 -- a file's text, and whether the file is settled: stored, with the rights that it is to have

@@ -4,8 +4,8 @@ ghost use Rattle.std.specs.Prelude.{◌≡◌, None, MatchResult, option_map, st
 ghost use Rattle.rb_files.specs.PathErrors.{IsOfReading};
 
 use crate::entry::{folder_of, followed};
+use crate::file_place::FilePlace;
 use crate::path_error::PathError;
-use crate::place::Place;
 use std::fs::{Metadata, OpenFile, OpenOptions};
 use std::io::{ErrorKind, Write};
 use std::os::unix::fs::{MetadataExt, OpenOptionsExt, chown};
@@ -140,7 +140,7 @@ fn answered(outcome: io::Result<()>) -> Result<(), PathError> {
 }
 
 // What stands in a folder of the system's is not known, so of these calls nothing is claimed.
-impl<'a, R: Files + AllocGlobal> Place for Beside<'a, R> {
+impl<'a, R: Files + AllocGlobal> FilePlace for Beside<'a, R> {
     ghost stands = { λ _. None };
 
     fn create(&mut self) -> Result<(), PathError> {

@@ -6,16 +6,16 @@
 
 mod beside;
 mod entry;
+mod file_place;
 mod filter;
 mod finding;
 mod ignored;
 mod listing;
 mod opening;
 mod path_error;
-mod place;
 
 pub use beside::Beside;
+pub use file_place::{FilePlace, Unreplaced, replace};
 pub use finding::{Found, Lost, find};
 pub use opening::opened;
 pub use path_error::PathError;
-pub use place::{Place, Unreplaced, replace};

@@ -9,7 +9,7 @@ ghost use Rattle.rb_formats.specs.Escapes.{in_message};
 ghost use Rattle.rb_formats.specs.Commands.{command_with, command_text, difference_text};
 
 use crate::piece::{Piece, add_pieces};
-use rb_check::{Colors, Place, Table, put_diff};
+use rb_check::{Colors, FileLine, Table, put_diff};
 use rb_script::{Lines, Through};
 use std::alloc::{AllocError, Global};
 
@@ -17,7 +17,7 @@ use std::alloc::{AllocError, Global};
 pub(crate) fn add_command<'a>(
     text: &mut Vec<u8>,
     command: &'a [u8],
-    place: Place<'a>,
+    place: FileLine<'a>,
     head: &'a [u8],
     message: &'a [u8],
 ) -> Result<(), AllocError>
@@ -58,7 +58,11 @@ fn diff_of(
 }
 
 // Adds what stands before the message of a command that says what differs.
-fn add_opening<'a>(text: &mut Vec<u8>, place: Place<'a>, head: &'a [u8]) -> Result<(), AllocError>
+fn add_opening<'a>(
+    text: &mut Vec<u8>,
+    place: FileLine<'a>,
+    head: &'a [u8],
+) -> Result<(), AllocError>
     ensures { OnOk result (text.new.items ≡ text.old.items ++ command_with (codes "error") place.entry.path.now (Some place.entry.line) head.now []) }
 {
     add_pieces(
@@ -92,7 +96,7 @@ fn add_diff(text: &mut Vec<u8>, diff: &[u8]) -> Result<(), AllocError>
 pub(crate) fn add_difference(
     alloc: Global,
     text: &mut Vec<u8>,
-    place: Place<'_>,
+    place: FileLine<'_>,
     head: &[u8],
     expected: &Lines,
     output: &Lines,

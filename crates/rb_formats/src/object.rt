@@ -5,7 +5,7 @@ ghost use Rattle.rb_check.specs.Heads.{before_value};
 ghost use Rattle.rb_formats.specs.Objects.{object_front, object_text, quoted, strings_from};
 
 use crate::piece::{Piece, add_pieces};
-use rb_check::Place;
+use rb_check::FileLine;
 use rb_script::Lines;
 use std::alloc::AllocError;
 
@@ -42,7 +42,7 @@ fn add_strings(text: &mut Vec<u8>, lines: &Lines) -> Result<(), AllocError>
 
 fn add_front<'a>(
     text: &mut Vec<u8>,
-    place: Place<'a>,
+    place: FileLine<'a>,
     head: &'a [u8],
     status: &'a [u8],
 ) -> Result<(), AllocError>
@@ -67,7 +67,7 @@ fn add_front<'a>(
 /// Adds a directive with the lines that are expected of it and those that it gave, in a line.
 pub(crate) fn add_object(
     text: &mut Vec<u8>,
-    place: Place<'_>,
+    place: FileLine<'_>,
     head: &[u8],
     status: &[u8],
     expected: &Lines,

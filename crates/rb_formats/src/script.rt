@@ -11,7 +11,7 @@ ghost use Rattle.rb_formats.specs.Formats.{differing_text, directive_text, error
 use crate::command::{add_command, add_difference};
 use crate::format::Format;
 use crate::object::add_object;
-use rb_check::{Place, Table, put_head};
+use rb_check::{FileLine, Table, put_head};
 use rb_checked::{
     Layout, block_at, first_line, is_same, is_unexpected, layout_of, number_at, output_at,
 };
@@ -36,7 +36,7 @@ fn add_error(
     alloc: Global,
     text: &mut Vec<u8>,
     format: Format,
-    place: Place<'_>,
+    place: FileLine<'_>,
     block: &Block,
     output: &Lines,
 ) -> Result<(), AllocError>
@@ -56,7 +56,7 @@ fn add_differing(
     alloc: Global,
     text: &mut Vec<u8>,
     format: Format,
-    place: Place<'_>,
+    place: FileLine<'_>,
     block: &Block,
     output: &Lines,
     table: &mut Table,
@@ -78,7 +78,7 @@ fn add_directive(
     text: &mut Vec<u8>,
     format: Format,
     lines: &Lines,
-    place: Place<'_>,
+    place: FileLine<'_>,
     block: &Block,
     output: &Lines,
     table: &mut Table,
@@ -112,7 +112,7 @@ fn add_directives<M: Machine>(
         let block = block_at(session, i);
         let output = output_at(session, i);
         let line = number_at(heads, i);
-        let place = Place { path, line };
+        let place = FileLine { path, line };
         add_directive(alloc, text, format, lines, place, block, output, table)?;
     }
     Ok(())

@@ -1,18 +1,18 @@
 //! Why a directive is refused. The refusal is its whole output, and nothing changes.
 
-use crate::word::Word;
+use crate::script_word::ScriptWord;
 
 /// Why a directive is refused. Of a word an error shows the first 64 bytes.
 #[derive(Drop)]
 pub enum DirectiveError<'a> {
     /// The name of the directive.
-    UnknownDirective(Word<'a>),
+    UnknownDirective(ScriptWord<'a>),
     /// The key of the option.
-    UnsupportedOption(Word<'a>),
+    UnsupportedOption(ScriptWord<'a>),
     /// The key of an option, or a positional word.
-    BadArgument(Word<'a>),
+    BadArgument(ScriptWord<'a>),
     /// The name of the argument that is wanted.
-    MissingArgument(Word<'a>),
+    MissingArgument(ScriptWord<'a>),
     /// The id that no node has.
     NoSuchNode(u64),
     /// More nodes than a cluster may have.
@@ -24,7 +24,7 @@ pub enum DirectiveError<'a> {
     /// The index is not applied yet.
     IndexPastApplied,
     /// The word is no change of a configuration.
-    BadChange(Word<'a>),
+    BadChange(ScriptWord<'a>),
     /// A change of the first version is one word, and has no transition of its own.
     FirstVersionTakesOne,
 }

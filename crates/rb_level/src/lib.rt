@@ -4,9 +4,9 @@
 mod directive_error;
 mod level;
 mod message_type;
-mod word;
+mod script_word;
 
 pub use directive_error::DirectiveError;
 pub use level::{Level, level_of};
 pub use message_type::{MessageType, type_of};
-pub use word::Word;
+pub use script_word::ScriptWord;

@@ -7,8 +7,8 @@ use Rattle.rb_texts.specs.Entries.{body_text}
 use Rattle.rb_texts.specs.Errors.{word_text}
 use Rattle.rb_page.specs.declared.cell.Cell.{Cell}
 use Rattle.rb_page.specs.declared.cell.Cell.TheVariants as cells
-use Rattle.rb_page.specs.declared.row.Place.{Place}
-use Rattle.rb_page.specs.declared.row.Place.TheVariants.{First, Next}
+use Rattle.rb_page.specs.declared.row.RowPlace.{RowPlace}
+use Rattle.rb_page.specs.declared.row.RowPlace.TheVariants.{First, Next}
 use Rattle.rb_page.specs.Escapes.{escaped}
 
 pub data PlainCell : Type 0 where
@@ -43,7 +43,7 @@ abbrev pub row_text : Row → List ℕ
 row_text r = front_text r.name ++ (flat_map cell_text r.cells ++ codes "]")
 
 -- what stands before a row
-abbrev pub before : Place → List ℕ
+abbrev pub before : RowPlace → List ℕ
 before First = codes "["
 before Next = codes ",\n"
 

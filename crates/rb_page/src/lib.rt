@@ -26,4 +26,4 @@ pub use laws::{
 };
 pub use message::flag;
 pub use names::role_name;
-pub use row::{Place, put_end, put_row};
+pub use row::{RowPlace, put_end, put_row};

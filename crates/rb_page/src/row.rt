@@ -11,7 +11,7 @@ use rb_script::{Sink, WriteFault};
 
 /// Where a row stands.
 #[derive(Clone, Copy, Debug, PartialEq, Eq)]
-pub enum Place {
+pub enum RowPlace {
     /// It is the first: the list begins before it.
     First,
     /// It follows another.
@@ -19,19 +19,19 @@ pub enum Place {
 }
 
 // What stands before a row.
-fn before(place: Place) -> &'static [u8]
+fn before(place: RowPlace) -> &'static [u8]
     ensures { result.now ≡ before place }
 {
     match place {
-        Place::First => b"[",
-        Place::Next => b",\n",
+        RowPlace::First => b"[",
+        RowPlace::Next => b",\n",
     }
 }
 
 /// Writes a row of this name, with these cells.
 pub fn put_row<S: Sink>(
     sink: &mut S,
-    place: Place,
+    place: RowPlace,
     name: &[u8],
     cells: &[Cell<'_>],
 ) -> Result<(), WriteFault>
@@ -41,7 +41,7 @@ pub fn put_row<S: Sink>(
     put_parted(sink, place, name, cells, &[])
 }
 
-fn put_front<S: Sink>(sink: &mut S, place: Place, name: &[u8]) -> Result<(), WriteFault>
+fn put_front<S: Sink>(sink: &mut S, place: RowPlace, name: &[u8]) -> Result<(), WriteFault>
     ensures wrote { Writes result (S.held sink.old) (S.held sink.new) (before place ++ front_text name.now) }
     ensures all { S.takes_all sink.old → IsOk result × S.takes_all sink.new }
 {
@@ -69,7 +69,7 @@ fn put_cells<S: Sink>(sink: &mut S, cells: &[Cell<'_>]) -> Result<(), WriteFault
 // Writes a row of this name, with the cells of both lists.
 fn put_parted<S: Sink>(
     sink: &mut S,
-    place: Place,
+    place: RowPlace,
     name: &[u8],
     cells: &[Cell<'_>],
     more: &[Cell<'_>],
@@ -94,7 +94,7 @@ pub(crate) fn put_further<S: Sink>(
     ensures wrote { Writes result (S.held sink.old) (S.held sink.new) (next_text (row name.now (map plain_cell cells.now ++ map plain_cell more.now))) }
     ensures all { S.takes_all sink.old → IsOk result × S.takes_all sink.new }
 {
-    put_parted(sink, Place::Next, name, cells, more)
+    put_parted(sink, RowPlace::Next, name, cells, more)
 }
 
 /// Writes a row that follows another.
@@ -107,7 +107,7 @@ pub(crate) fn put_next<S: Sink>(
     ensures wrote { Writes result (S.held sink.old) (S.held sink.new) (next_text (row name.now (map plain_cell cells.now))) }
     ensures all { S.takes_all sink.old → IsOk result × S.takes_all sink.new }
 {
-    put_row(sink, Place::Next, name, cells)
+    put_row(sink, RowPlace::Next, name, cells)
 }
 
 /// Writes what stands behind the last row.

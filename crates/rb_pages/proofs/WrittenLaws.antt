@@ -9,7 +9,7 @@ use Rattle.rb_script.specs.Writes.{AppendsFront}
 use Rattle.rb_script.proofs.ScriptLaws.{reads_once}
 use Rattle.rb_script.proofs.HeadLineLaws.{heads_once}
 use Rattle.rb_replay.specs.Report.{mismatches}
-use Rattle.rb_bench.specs.declared.status.Status.{Status}
+use Rattle.rb_check.specs.declared.status.Status.{Status}
 use Rattle.rb_bench.specs.declared.fault.BenchFault.TheVariants as faults
 use Rattle.rb_bench.specs.Runs.{IsNoScript, status_of}
 use Rattle.rb_steps.specs.Steps.{steps_texts}

@@ -11,8 +11,9 @@ ghost use Rattle.rb_chart.specs.Charts.{PlainChart, chart_text};
 ghost use Rattle.rb_pages.specs.Drawn.{Draws, DrawsOver};
 
 use crate::script_steps::read_steps;
-use rb_bench::{BenchFault, Outlet, Status};
+use rb_bench::{BenchFault, Outlet};
 use rb_chart::{STYLE, chart_of, svg_of};
+use rb_check::Status;
 use rb_line::{Source, read_up_to};
 use rb_script::{Lines, MAX_SCRIPT, Sink, WriteFault};
 use std::alloc::{AllocError, Global};

@@ -10,7 +10,7 @@ ghost use Rattle.rb_script.specs.Writes.{AppendsFront};
 ghost use Rattle.rb_replay.specs.Report.{mismatches};
 ghost use Rattle.rb_bench.specs.Runs.{IsNoScript, status_of};
 ghost use Rattle.rb_bench.specs.declared.fault.BenchFault.TheVariants as faults;
-ghost use Rattle.rb_bench.specs.declared.status.Status.{Status};
+ghost use Rattle.rb_check.specs.declared.status.Status.{Status};
 ghost use Rattle.rb_steps.specs.Steps.{steps_texts};
 ghost use Rattle.rb_pages.specs.Written.{Tells};
 

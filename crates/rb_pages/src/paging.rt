@@ -12,7 +12,8 @@ ghost use Rattle.rb_steps.specs.Pages.{page_joined};
 ghost use Rattle.rb_pages.specs.Written.{Tells, TellsOver};
 
 use crate::script_steps::read_steps;
-use rb_bench::{BenchFault, Outlet, Status};
+use rb_bench::{BenchFault, Outlet};
+use rb_check::Status;
 use rb_line::{Source, read_up_to};
 use rb_replay::is_spacing;
 use rb_script::{Lines, MAX_SCRIPT, WriteFault};

@@ -11,7 +11,8 @@ ghost use Rattle.rb_bench.specs.Faults.{TellsFault};
 ghost use Rattle.rb_bench.specs.Runs.{status_of};
 ghost use Rattle.rb_pages.specs.Written.{AreRowsOf, AreStepsOf};
 
-use rb_bench::{BenchFault, Status};
+use rb_bench::BenchFault;
+use rb_check::Status;
 use rb_cluster::{Cluster, Meter};
 use rb_machine::Machine;
 use rb_raftlog::SplitLog;
@@ -57,9 +58,9 @@ fn status<M: Machine>(session: &Session<M>) -> Status
     ensures { result ≡ status_of (mismatches session.now.script) }
 {
     if session.mismatches().is_empty() {
-        Status::Done
+        Status::Matched
     } else {
-        Status::Mismatches
+        Status::Mismatched
     }
 }
 

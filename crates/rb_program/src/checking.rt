@@ -15,7 +15,7 @@ use crate::target::targets;
 use rb_args::CheckChoice;
 use rb_checked::Shown;
 use rb_replay::is_spacing;
-use rb_suite::{Asked, Target, check};
+use rb_suite::{CheckRequest, Target, check};
 use std::alloc::Global;
 use std::io::Write;
 use std::rt::{Env, Files};
@@ -71,7 +71,7 @@ fn check_wanted<R: Files + Input + Print + Env + Clock + AllocGlobal, E: Write +
 ) -> Result<Ended, Refusal>
     ensures { IfOk result IsRight }
 {
-    let asked = Asked {
+    let asked = CheckRequest {
         targets: &wanted.targets,
         filters: &choice.filters,
         accepts: accepts(choice),

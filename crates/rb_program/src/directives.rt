@@ -2,7 +2,7 @@
 
 use crate::misuse::Misuse;
 use crate::refusal::Refusal;
-use rb_bench::Status;
+use rb_check::Status;
 use rb_help::{nearest_name, page_of, put_manual};
 use rb_script::{Sink, Through, WriteFault};
 use std::alloc::Global;
@@ -39,7 +39,7 @@ fn page_named(alloc: Global, name: &str) -> Result<&'static [u8], Refusal> {
 /// What it comes to that this was written, or was not.
 pub(crate) fn status_of(written: Result<(), WriteFault>) -> Result<Status, Refusal> {
     match written {
-        Ok(()) => Ok(Status::Done),
+        Ok(()) => Ok(Status::Matched),
         Err(_) => Err(Refusal::Io),
     }
 }

@@ -3,13 +3,15 @@
 ghost use Rattle.std.specs.Prelude.{◌≡◌};
 ghost use Rattle.rb_program.specs.Ends.{code_of};
 
+use rb_check::{Status, status_code};
+
 /// How a subcommand ended.
 #[derive(Clone, Copy)]
 pub enum Ended {
     /// With what came of one script, or of no script.
-    Alone(rb_bench::Status),
+    Alone(Status),
     /// With what came of a check of paths.
-    Checked(rb_check::Status),
+    Checked(Status),
 }
 
 impl Ended {
@@ -18,8 +20,8 @@ impl Ended {
         ensures { result ≡ code_of self }
     {
         match self {
-            Ended::Alone(status) => rb_bench::status_code(status),
-            Ended::Checked(status) => rb_check::status_code(status),
+            Ended::Alone(status) => status_code(status),
+            Ended::Checked(status) => status_code(status),
         }
     }
 }

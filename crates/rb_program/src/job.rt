@@ -2,7 +2,8 @@
 
 use crate::refusal::Refusal;
 use crate::running::{ended, opened};
-use rb_bench::{BenchFault, Outlet, Status};
+use rb_bench::{BenchFault, Outlet};
+use rb_check::Status;
 use rb_line::{Incoming, Source};
 use rb_script::Through;
 use std::alloc::Global;

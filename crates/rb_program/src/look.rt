@@ -7,8 +7,7 @@ use crate::misuse::Misuse;
 use crate::refusal::Refusal;
 use crate::running::script;
 use crate::target::path_and_line;
-use rb_bench::Status;
-use rb_check::{Place, put_directive};
+use rb_check::{FileLine, Status, put_directive};
 use rb_cluster::{Cluster, Meter};
 use rb_look::look;
 use rb_raftlog::SplitLog;
@@ -33,7 +32,7 @@ pub(crate) fn look_at<R: Files + Print + AllocGlobal>(
     let Some((place, head)) = place_at(&read.heads, line) else {
         return Err(no_place(alloc, word));
     };
-    let at = Place {
+    let at = FileLine {
         path: path.as_bytes(),
         line: head,
     };
@@ -58,7 +57,7 @@ fn seen(alloc: Global, script: &Script, place: usize) -> Result<Lines, AllocErro
 fn show<R: Print + AllocGlobal>(
     rt: &R,
     word: &str,
-    at: Place<'_>,
+    at: FileLine<'_>,
     script: &Script,
     place: usize,
 ) -> Result<Status, Refusal> {
@@ -71,7 +70,7 @@ fn show<R: Print + AllocGlobal>(
 
 fn put<R: Print + AllocGlobal>(
     rt: &R,
-    at: Place<'_>,
+    at: FileLine<'_>,
     block: &Block,
     seen: &Lines,
 ) -> Result<Status, Refusal> {

@@ -1,7 +1,8 @@
 //! `raftbench page FILE`: the page of a script.
 
 use crate::job::Job;
-use rb_bench::{BenchFault, Outlet, Status};
+use rb_bench::{BenchFault, Outlet};
+use rb_check::Status;
 use rb_frame::{back, front};
 use rb_line::Source;
 use rb_pages::page_over;

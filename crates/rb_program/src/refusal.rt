@@ -4,7 +4,8 @@ ghost use Rattle.std.specs.Prelude.{◌≢◌};
 
 use crate::misuse::Misuse;
 use rb_args::ChoiceFault;
-use rb_bench::{BenchFault, Status, script_fault_line, script_fault_name};
+use rb_bench::{BenchFault, script_fault_line, script_fault_name};
+use rb_check::Status;
 use rb_line::ReadFault;
 use rb_script::ScriptFault;
 use std::alloc::AllocError;
@@ -43,7 +44,7 @@ impl Refusal {
     /// Writes the one line that says why, and answers the status. Where somebody reads, what a person wants to know follows it.
     pub fn tell<R: Eprint + Print + AllocGlobal>(&self, rt: &R, is_read: bool) -> Status
         // No output was compared.
-        ensures { result ≢ Status.Mismatches }
+        ensures { result ≢ Status.Mismatched }
     {
         match self {
             Refusal::Clap(error) => tell_clap(rt, error),
@@ -61,7 +62,7 @@ impl Refusal {
             }
             Refusal::Script(fault) => {
                 tell_script(rt, *fault);
-                Status::BadScript
+                Status::Refused
             }
             Refusal::Unopened(path, error) => {
                 let status = tell_io(rt);
@@ -84,7 +85,7 @@ fn say<R: Eprint>(rt: &R, what: &str) {
 }
 
 fn tell_io<R: Eprint>(rt: &R) -> Status
-    ensures { result ≢ Status.Mismatches }
+    ensures { result ≢ Status.Mismatched }
 {
     say(rt, "input or output failed");
     Status::Failed
@@ -101,13 +102,13 @@ fn tell_script<R: Eprint>(rt: &R, fault: ScriptFault) {
 // Help was asked for, and goes to standard output: where that fails, what was asked for wasn't done. What says that words
 // are wrong goes to standard error, and they are wrong whether or not it gets there.
 fn tell_clap<R: Eprint + Print>(rt: &R, error: &clap::Error) -> Status
-    ensures { result ≢ Status.Mismatches }
+    ensures { result ≢ Status.Mismatched }
 {
     let went_out = error.print(rt).is_ok();
     if error.use_stderr() {
         Status::BadUsage
     } else if went_out {
-        Status::Done
+        Status::Matched
     } else {
         tell_io(rt)
     }

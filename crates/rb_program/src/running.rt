@@ -2,7 +2,8 @@
 
 use crate::job::{Job, run_from};
 use crate::refusal::Refusal;
-use rb_bench::{BenchFault, Mode, Outlet, Status, run_over, serve};
+use rb_bench::{BenchFault, Mode, Outlet, run_over, serve};
+use rb_check::Status;
 use rb_line::{Incoming, Source, read_up_to};
 use rb_script::MAX_SCRIPT;
 use std::alloc::Global;

@@ -6,8 +6,8 @@ use Rattle.rb_rpc.specs.Messages.{IsMessage, HasNoMessage, NeverHasMessage, fram
 use Rattle.rb_rpc.specs.Said.{Said, said}
 use Rattle.rb_rpc.proofs.MessageLaws.{one_message}
 use Rattle.rb_rpc.proofs.FrameLaws.{framed_is_message}
-use Rattle.rb_server.specs.declared.phase.Status.{Status}
-use Rattle.rb_server.specs.declared.phase.Status.TheVariants.{Closed}
+use Rattle.rb_server.specs.declared.phase.ExitStatus.{ExitStatus}
+use Rattle.rb_server.specs.declared.phase.ExitStatus.TheVariants.{Closed}
 use Rattle.rb_server.specs.Meanings.{Meaning}
 use Rattle.rb_server.specs.Replies.{PlainServer, On, Over}
 use Rattle.rb_server.specs.Laws.{is_left}
@@ -49,7 +49,7 @@ heard_one all b c r q g h m n x y =
 
 -- ---- the end
 
-pub record Exits (meaning : Meaning) (server : PlainServer) (all : List ℕ) (status : Status) (text : List ℕ) : Type 0 where
+pub record Exits (meaning : Meaning) (server : PlainServer) (all : List ℕ) (status : ExitStatus) (text : List ℕ) : Type 0 where
   pub body : List ℕ
   pub rest : List ℕ
   pub heard : Option Said
@@ -59,12 +59,12 @@ pub record Exits (meaning : Meaning) (server : PlainServer) (all : List ℕ) (st
   pub text_is : text ≡ told meaning false server heard
 
 -- nothing is left, or bytes are with which no message begins
-pub record IsLeft (all : List ℕ) (status : Status) (text : List ℕ) : Type 0 where
+pub record IsLeft (all : List ℕ) (status : ExitStatus) (text : List ℕ) : Type 0 where
   pub none : HasNoMessage all
   pub text_is : text ≡ []
   pub status_is : ((all ≡ []) × (status ≡ Closed)) ⊎ ((all ≢ []) × (is_left status ≡ true))
 
-abbrev pub IsEnd : Meaning → PlainServer → List ℕ → Status → List ℕ → Type 0
+abbrev pub IsEnd : Meaning → PlainServer → List ℕ → ExitStatus → List ℕ → Type 0
 IsEnd meaning server all status text = IsLeft all status text ⊎ Exits meaning server all status text
 
 -- one begins with no bytes and more
@@ -73,24 +73,24 @@ never_in_none all never is =
     let message : IsMessage (frame [] ++ []) [] [] = framed_is_message [] [] (omega arith) in
     subst NeverHasMessage is never (frame [] ++ []) [] [] message
 
-end_of : {meaning : Meaning} {server : PlainServer} {all text : List ℕ} {status : Status} → Ends meaning server all status text → IsEnd meaning server all status text
+end_of : {meaning : Meaning} {server : PlainServer} {all text : List ℕ} {status : ExitStatus} → Ends meaning server all status text → IsEnd meaning server all status text
 end_of (exits server status all body rest heard m h over) = inr (record { body = body; rest = rest; heard = heard; message = m; hears = h; over = over; text_is = refl })
 end_of (closes server all is) = inl (record { none = subst HasNoMessage (sym is) none_in_none; text_is = refl; status_is = inl (is, refl) })
 end_of (cuts_off server all none some) = inl (record { none = none; text_is = refl; status_is = inr (some, refl) })
 end_of (strays server all never) = inl (record { none = none_now all never; text_is = refl; status_is = inr (never_in_none all never, refl) })
 
 -- the same is written, and it ends the same way
-abbrev pub AreOne : Status → Status → List ℕ → List ℕ → Type 0
+abbrev pub AreOne : ExitStatus → ExitStatus → List ℕ → List ℕ → Type 0
 AreOne s t x y = (x ≡ y) × ((s ≡ t) ⊎ ((is_left s ≡ true) × (is_left t ≡ true)))
 
-statuses_one : (all : List ℕ) (s t : Status) → ((all ≡ []) × (s ≡ Closed)) ⊎ ((all ≢ []) × (is_left s ≡ true)) → ((all ≡ []) × (t ≡ Closed)) ⊎ ((all ≢ []) × (is_left t ≡ true))
+statuses_one : (all : List ℕ) (s t : ExitStatus) → ((all ≡ []) × (s ≡ Closed)) ⊎ ((all ≢ []) × (is_left s ≡ true)) → ((all ≡ []) × (t ≡ Closed)) ⊎ ((all ≢ []) × (is_left t ≡ true))
     → (s ≡ t) ⊎ ((is_left s ≡ true) × (is_left t ≡ true))
 statuses_one all s t (inl a) (inl b) = inl (a.1 ∙ sym b.1)
 statuses_one all s t (inl a) (inr b) = absurd (b.0 a.0)
 statuses_one all s t (inr a) (inl b) = absurd (a.0 b.0)
 statuses_one all s t (inr a) (inr b) = inr (a.1, b.1)
 
-one_end : (meaning : Meaning) (server : PlainServer) (all x y : List ℕ) (s t : Status) → IsEnd meaning server all s x → IsEnd meaning server all t y → AreOne s t x y
+one_end : (meaning : Meaning) (server : PlainServer) (all x y : List ℕ) (s t : ExitStatus) → IsEnd meaning server all s x → IsEnd meaning server all t y → AreOne s t x y
 one_end meaning server all x y s t (inl a) (inl b) = (a.text_is ∙ sym b.text_is, statuses_one all s t a.status_is b.status_is)
 one_end meaning server all x y s t (inl a) (inr e) = absurd (a.none e.body e.rest e.message)
 one_end meaning server all x y s t (inr e) (inl b) = absurd (b.none e.body e.rest e.message)
@@ -101,7 +101,7 @@ one_end meaning server all x y s t (inr e) (inr f) =
     (e.text_is ∙ ap (told meaning false server) same ∙ sym f.text_is, inl status)
 
 -- where a message is answered and the server goes on, it doesn't end
-no_end : (meaning : Meaning) (server next : PlainServer) (all body rest text : List ℕ) (status : Status) (heard : Option Said) → IsMessage all body rest → Hears body heard → goes server heard ≡ On next → IsEnd meaning server all status text → ⊥
+no_end : (meaning : Meaning) (server next : PlainServer) (all body rest text : List ℕ) (status : ExitStatus) (heard : Option Said) → IsMessage all body rest → Hears body heard → goes server heard ≡ On next → IsEnd meaning server all status text → ⊥
 no_end meaning server next all body rest text status heard m h on (inl a) = a.none body rest m
 no_end meaning server next all body rest text status heard m h on (inr e) =
     let same = (heard_one all body e.body rest e.rest heard e.heard m e.message h e.hears).0 in
@@ -110,7 +110,7 @@ no_end meaning server next all body rest text status heard m h on (inr e) =
 
 -- ---- all of it
 
-one_text : (meaning : Meaning) {server last other : PlainServer} {all left more a b : List ℕ} {r s : List Bool} (p q : Status) (x y : List ℕ) → r ≡ s → Begins meaning server all r last left a → IsEnd meaning last left p x
+one_text : (meaning : Meaning) {server last other : PlainServer} {all left more a b : List ℕ} {r s : List Bool} (p q : ExitStatus) (x y : List ℕ) → r ≡ s → Begins meaning server all r last left a → IsEnd meaning last left p x
     → Begins meaning server all s other more b → IsEnd meaning other more q y → AreOne p q (a ++ x) (b ++ y)
 one_text meaning p q x y same_refusals (stands server all) e (stands server' all') f = one_end meaning server all x y p q e f
 one_text meaning p q x y same_refusals (stands server all) e (goes_on server' next last all' body rest left text heard none later m h on b) f = absurd (no_end meaning server next all body rest x p heard m h on e)
@@ -130,7 +130,7 @@ one_text meaning p q x y same_refusals (goes_on server next last all body rest l
     ∙ sym (append_assoc (told meaning none' server heard') text' y) in
     (is, rests.1)
 
-pub one_conversation : (meaning : Meaning) (all : List ℕ) (refusals : List Bool) (s t : Status) (x y : List ℕ) → Talks meaning all refusals s x → Talks meaning all refusals t y → AreOne s t x y
+pub one_conversation : (meaning : Meaning) (all : List ℕ) (refusals : List Bool) (s t : ExitStatus) (x y : List ℕ) → Talks meaning all refusals s x → Talks meaning all refusals t y → AreOne s t x y
 one_conversation meaning all refusals s t x y a b =
     let one = one_text meaning s t a.ending b.ending refl a.begins (end_of a.ends) b.begins (end_of b.ends) in
     (a.text_is ∙ one.0 ∙ sym b.text_is, one.1)

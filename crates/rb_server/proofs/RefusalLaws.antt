@@ -6,7 +6,7 @@ use Rattle.rb_document.specs.declared.position.Encoding.{Encoding}
 use Rattle.rb_rpc.specs.Messages.{frame}
 use Rattle.rb_rpc.specs.Params.{number_below}
 use Rattle.rb_rpc.specs.Said.{Said, request, notification, response, invalid}
-use Rattle.rb_server.specs.declared.asked.Asked.{Asked}
+use Rattle.rb_server.specs.declared.query.Query.{Query}
 use Rattle.rb_server.specs.declared.client.Client.{Client}
 use Rattle.rb_server.specs.declared.method.Question.{Question}
 use Rattle.rb_server.specs.declared.method.Method.{Method}
@@ -49,12 +49,12 @@ notification_told meaning server name Unknown params = notice_told meaning name 
 abbrev IsTold : Data → List ℕ → Option Data → List ℕ → List ℕ → Type 0
 IsTold id method params refused known = (frame refused ≡ frame known) ⊎ TellsRefusal (request id method params) (frame refused)
 
-answer_told : (meaning : Meaning) (id : Data) (method : List ℕ) (params : Option Data) (encoding : Encoding) (asked : Asked) (uri : List ℕ) (text : Option (List ℕ))
+answer_told : (meaning : Meaning) (id : Data) (method : List ℕ) (params : Option Data) (encoding : Encoding) (asked : Query) (uri : List ℕ) (text : Option (List ℕ))
     → IsTold id method params (of_text meaning true encoding asked uri id text) (of_text meaning false encoding asked uri id text)
 answer_told meaning id method params encoding asked uri None = inl refl
 answer_told meaning id method params encoding asked uri (Some text) = inr (of_request id method params)
 
-asked_told : (meaning : Meaning) (id : Data) (method : List ℕ) (params : Option Data) (encoding : Encoding) (ds : List PlainDocument) (uri : Option (List ℕ)) (asked : Option Asked)
+asked_told : (meaning : Meaning) (id : Data) (method : List ℕ) (params : Option Data) (encoding : Encoding) (ds : List PlainDocument) (uri : Option (List ℕ)) (asked : Option Query)
     → IsTold id method params (with_asked meaning true encoding ds id uri asked) (with_asked meaning false encoding ds id uri asked)
 asked_told meaning id method params encoding ds None asked = inl refl
 asked_told meaning id method params encoding ds (Some uri) None = inl refl

@@ -5,7 +5,7 @@ use Rattle.serde_json.specs.Data.{Data, null}
 use Rattle.rb_document.specs.declared.position.Encoding.{Encoding}
 use Rattle.rb_rpc.specs.Answers.{failure}
 use Rattle.rb_rpc.specs.declared.answer.ErrorCode.TheVariants.{InvalidRequest, MethodNotFound, InvalidParams, InternalError, ServerNotInitialized}
-use Rattle.rb_server.specs.declared.asked.Asked.{Asked}
+use Rattle.rb_server.specs.declared.query.Query.{Query}
 use Rattle.rb_server.specs.declared.client.Client.{Client}
 use Rattle.rb_server.specs.declared.phase.Phase.{Phase}
 use Rattle.rb_server.specs.declared.phase.Phase.TheVariants.{Fresh, Running, Stopped}
@@ -33,7 +33,7 @@ no_memory_answers : (meaning : Meaning) (server : PlainServer) (method : Method)
 unfolding no_memory_for
 no_memory_answers meaning server method params id = refused id InternalError (codes "no memory for an answer")
 
-text_answers : (meaning : Meaning) (no_memory : Bool) (server : PlainServer) (client : Client) (question : Question) (asked : Asked) (given : Data) (uri : List ℕ) (id : Data) (text : Option (List ℕ))
+text_answers : (meaning : Meaning) (no_memory : Bool) (server : PlainServer) (client : Client) (question : Question) (asked : Query) (given : Data) (uri : List ℕ) (id : Data) (text : Option (List ℕ))
     → server.phase ≡ Running client → uri_of given ≡ Some uri → asked_of question given ≡ Some asked → text_of uri server.documents ≡ text
     → Answers meaning server (Asks question) (Some given) id (of_text meaning no_memory client.encoding asked uri id text)
 unfolding not_open
@@ -41,7 +41,7 @@ text_answers meaning no_memory server client question asked given uri id None ru
 text_answers meaning true server client question asked given uri id (Some text) running named asks is = no_memory_answers meaning server (Asks question) (Some given) id
 text_answers meaning false server client question asked given uri id (Some text) running named asks is = answered id given client question asked uri text running refl refl named asks is
 
-asked_answers : (meaning : Meaning) (no_memory : Bool) (server : PlainServer) (client : Client) (question : Question) (given : Data) (id : Data) (uri : Option (List ℕ)) (asked : Option Asked)
+asked_answers : (meaning : Meaning) (no_memory : Bool) (server : PlainServer) (client : Client) (question : Question) (given : Data) (id : Data) (uri : Option (List ℕ)) (asked : Option Query)
     → server.phase ≡ Running client → uri_of given ≡ uri → asked_of question given ≡ asked
     → Answers meaning server (Asks question) (Some given) id (with_asked meaning no_memory client.encoding server.documents id uri asked)
 asked_answers meaning no_memory server client question given id None asked running named asks = unfit_answers meaning server (Asks question) (Some given) id
@@ -85,7 +85,7 @@ answer_has_id meaning no_memory server method params id = body_has_id meaning no
 
 -- ---- the text that is named
 
-same_asked : (meaning : Meaning) (no_memory : Bool) (encoding : Encoding) (ds es : List PlainDocument) (id : Data) (uri : Option (List ℕ)) (asked : Option Asked)
+same_asked : (meaning : Meaning) (no_memory : Bool) (encoding : Encoding) (ds es : List PlainDocument) (id : Data) (uri : Option (List ℕ)) (asked : Option Query)
     → option_and_then (λ (u : List ℕ). text_of u ds) uri ≡ option_and_then (λ (u : List ℕ). text_of u es) uri → with_asked meaning no_memory encoding ds id uri asked ≡ with_asked meaning no_memory encoding es id uri asked
 same_asked meaning no_memory encoding ds es id None asked same = refl
 same_asked meaning no_memory encoding ds es id (Some uri) None same = refl

@@ -9,8 +9,8 @@ use Rattle.rb_rpc.specs.Reading.{LosesMessage}
 use Rattle.rb_rpc.specs.Said.{Said, request, notification, response, invalid}
 use Rattle.serde_json.specs.Data.{Data}
 use Rattle.rb_server.specs.declared.fault.ServeFault.{ServeFault}
-use Rattle.rb_server.specs.declared.phase.Status.{Status}
-use Rattle.rb_server.specs.declared.phase.Status.TheVariants.{Closed, CutOff, NoMessage}
+use Rattle.rb_server.specs.declared.phase.ExitStatus.{ExitStatus}
+use Rattle.rb_server.specs.declared.phase.ExitStatus.TheVariants.{Closed, CutOff, NoMessage}
 use Rattle.rb_server.specs.Meanings.{Meaning}
 use Rattle.rb_server.specs.Methods.{method_of}
 use Rattle.rb_server.specs.declared.method.Method.{Method}
@@ -51,12 +51,12 @@ none_err (Err e) meaning server heard held = record { no_memory = false; wrote =
 
 -- ---- a message
 
-pub responds_by : (meaning : Meaning) (server then : PlainServer) (body : List ℕ) (heard : Option Said) (old new : Option (List ℕ)) (r : Result (Option Status) ServeFault) → Hears body heard
+pub responds_by : (meaning : Meaning) (server then : PlainServer) (body : List ℕ) (heard : Option Said) (old new : Option (List ℕ)) (r : Result (Option ExitStatus) ServeFault) → Hears body heard
     → IfOk r (λ over. turned_of over then ≡ goes server heard) → OnOk r (Tells meaning server heard old new) → IfOk r (λ over. Responds meaning server body (turned_of over then) old new)
 responds_by meaning server then body heard old new (Ok over) hears is tells = record { heard = heard; hears = hears; turned_is = is; tells = tells }
 responds_by meaning server then body heard old new (Err fault) hears is tells = tt
 
-pub fails_by : (meaning : Meaning) (server : PlainServer) (body : List ℕ) (heard : Option Said) (old new : Option (List ℕ)) (r : Result (Option Status) ServeFault) → Hears body heard
+pub fails_by : (meaning : Meaning) (server : PlainServer) (body : List ℕ) (heard : Option Said) (old new : Option (List ℕ)) (r : Result (Option ExitStatus) ServeFault) → Hears body heard
     → OnErr r (StartsTelling meaning server heard old new) → OnErr r (StartsAnswer meaning server body old new)
 fails_by meaning server body heard old new (Ok turned) hears s = tt
 fails_by meaning server body heard old new (Err fault) hears s = record { text = told meaning s.no_memory server heard; may = answer server body heard s.no_memory hears; wrote = s.wrote }
@@ -67,7 +67,7 @@ says_nothing meaning server body held = record { text = []; may = nothing server
 -- ---- a turn
 
 -- where a message ends the server, what goes out doesn't depend on memory
-published_over : (meaning : Meaning) (no_memory : Bool) (server : PlainServer) (method : Method) (params : Option Data) (status : Status) → noticed_by server method params ≡ Over status
+published_over : (meaning : Meaning) (no_memory : Bool) (server : PlainServer) (method : Method) (params : Option Data) (status : ExitStatus) → noticed_by server method params ≡ Over status
     → published meaning no_memory server method params ≡ published meaning false server method params
 published_over meaning no_memory server Initialize params status over = absurd cc
 published_over meaning no_memory server Shutdown params status over = absurd cc
@@ -78,7 +78,7 @@ published_over meaning no_memory server DidClose params status over = absurd cc
 published_over meaning no_memory server (Asks question) params status over = absurd cc
 published_over meaning no_memory server Unknown params status over = absurd cc
 
-told_over : (meaning : Meaning) (no_memory : Bool) (server : PlainServer) (heard : Option Said) (status : Status) → goes server heard ≡ Over status → told meaning no_memory server heard ≡ told meaning false server heard
+told_over : (meaning : Meaning) (no_memory : Bool) (server : PlainServer) (heard : Option Said) (status : ExitStatus) → goes server heard ≡ Over status → told meaning no_memory server heard ≡ told meaning false server heard
 told_over meaning no_memory server None status over = refl
 told_over meaning no_memory server (Some (request id method params)) status over = absurd cc
 told_over meaning no_memory server (Some (notification method params)) status over = published_over meaning no_memory server (method_of method) params status over
@@ -100,7 +100,7 @@ takes_by meaning server (Over status) (Some all) (Some rest) old new body loses 
 }
 
 -- a message came
-pub turns_by : (meaning : Meaning) (server then : PlainServer) (r : Result (Option Status) ServeFault) (before left old new : Option (List ℕ)) (body seen : List ℕ) → seen ≡ body → LosesMessage before left body
+pub turns_by : (meaning : Meaning) (server then : PlainServer) (r : Result (Option ExitStatus) ServeFault) (before left old new : Option (List ℕ)) (body seen : List ℕ) → seen ≡ body → LosesMessage before left body
     → IfOk r (λ over. Responds meaning server seen (turned_of over then) old new) → IfOk r (λ over. TurnsOut meaning server (turned_of over then) before left old new)
 turns_by meaning server then (Ok over) before left old new body seen is loses r =
     takes_by meaning server (turned_of over then) before left old new body loses (subst (λ (b : List ℕ). Responds meaning server b (turned_of over then) old new) is r)
@@ -111,7 +111,7 @@ starts_by meaning server None left old new body loses s = tt
 starts_by meaning server (Some all) None old new body loses s = absurd loses
 starts_by meaning server (Some all) (Some rest) old new body loses s = record { text = s.text; may = comes server all body rest s.text loses s.may; wrote = s.wrote }
 
-pub breaks_by : (meaning : Meaning) (server : PlainServer) (r : Result (Option Status) ServeFault) (before left old new : Option (List ℕ)) (body seen : List ℕ) → seen ≡ body → LosesMessage before left body
+pub breaks_by : (meaning : Meaning) (server : PlainServer) (r : Result (Option ExitStatus) ServeFault) (before left old new : Option (List ℕ)) (body seen : List ℕ) → seen ≡ body → LosesMessage before left body
     → OnErr r (StartsAnswer meaning server seen old new) → OnErr r (TurnBreaks meaning server before old new)
 breaks_by meaning server (Ok turned) before left old new body seen is loses s = tt
 breaks_by meaning server (Err fault) before left old new body seen is loses s = starts_by meaning server before left old new body loses (subst (λ (b : List ℕ). StartsAnswer meaning server b old new) is s)
@@ -179,7 +179,7 @@ far_more meaning (Some all) left after old mid new server next far turned =
           (far.begins (none ∷ later) last end (piece ++ more) (goes_on server next last far.rest t.body t.rest end more t.heard none later t.message t.hears t.next_is b)));
     }
 
-pub far_over : (meaning : Meaning) (first left after old mid new : Option (List ℕ)) (server : PlainServer) (status : Status) → Far meaning first server left old mid → TurnsOut meaning server (Over status) left after mid new → Served meaning first status old new
+pub far_over : (meaning : Meaning) (first left after old mid new : Option (List ℕ)) (server : PlainServer) (status : ExitStatus) → Far meaning first server left old mid → TurnsOut meaning server (Over status) left after mid new → Served meaning first status old new
 far_over meaning None left after old mid new server status far turned = tt
 far_over meaning (Some all) left after old mid new server status far turned =
     let e = subst (λ (l : Option (List ℕ)). TurnsOut meaning server (Over status) l after mid new) far.left_is turned in record {

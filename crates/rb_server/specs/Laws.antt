@@ -8,12 +8,12 @@ use Rattle.rb_rpc.specs.Said.{Said, request, notification, response}
 use Rattle.rb_rpc.specs.Answers.{success, failure}
 use Rattle.rb_rpc.specs.declared.answer.ErrorCode.{ErrorCode}
 use Rattle.rb_server.specs.declared.phase.Phase.TheVariants.{Running}
-use Rattle.rb_server.specs.declared.phase.Status.{Status}
-use Rattle.rb_server.specs.declared.phase.Status.TheVariants.{CutOff, NoMessage}
+use Rattle.rb_server.specs.declared.phase.ExitStatus.{ExitStatus}
+use Rattle.rb_server.specs.declared.phase.ExitStatus.TheVariants.{CutOff, NoMessage}
 use Rattle.rb_server.specs.declared.method.Method.{Method}
 use Rattle.rb_server.specs.declared.method.Method.TheVariants.{Asks}
 use Rattle.rb_server.specs.declared.method.Question.{Question}
-use Rattle.rb_server.specs.declared.asked.Asked.{Asked}
+use Rattle.rb_server.specs.declared.query.Query.{Query}
 use Rattle.rb_server.specs.declared.client.Client.{Client}
 use Rattle.rb_server.specs.Documents.{text_of}
 use Rattle.rb_server.specs.Meanings.{Meaning}
@@ -28,7 +28,7 @@ use Rattle.rb_server.specs.Talk.{Talks}
 pub data Answers (meaning : Meaning) (server : PlainServer) (method : Method) (params : Option Data) : Data → List ℕ → Type 0 where
   done : (id result : Data) → Answers meaning server method params id (body_text (success id result))
   refused : (id : Data) (code : ErrorCode) (message : List ℕ) → Answers meaning server method params id (body_text (failure id code message))
-  answered : (id given : Data) (client : Client) (question : Question) (asked : Asked) (uri text : List ℕ) → server.phase ≡ Running client → method ≡ Asks question → params ≡ Some given
+  answered : (id given : Data) (client : Client) (question : Question) (asked : Query) (uri text : List ℕ) → server.phase ≡ Running client → method ≡ Asks question → params ≡ Some given
       → uri_of given ≡ Some uri → asked_of question given ≡ Some asked → text_of uri server.documents ≡ Some text
       → Answers meaning server method params id (answer_text id (meaning.answer client.encoding asked uri text))
 
@@ -81,7 +81,7 @@ abbrev pub RefusalsAreTold : Type 0
 RefusalsAreTold = (meaning : Meaning) (server : PlainServer) (what : Said) → (told_of meaning true server what ≡ told_of meaning false server what) ⊎ TellsRefusal what (told_of meaning true server what)
 
 -- how a conversation ends over bytes that are left and begin no message
-abbrev pub is_left : Status → Bool
+abbrev pub is_left : ExitStatus → Bool
 is_left CutOff = true
 is_left NoMessage = true
 is_left status = false
@@ -89,5 +89,5 @@ is_left status = false
 -- What is written depends on the bytes alone, and on the messages for which memory was refused; and so does how it ends. Where bytes are left with
 -- which no message ever begins, either of two statuses says so, and a program ends with one for both.
 abbrev pub ConversationsAreOne : Type 0
-ConversationsAreOne = (meaning : Meaning) (all : List ℕ) (refusals : List Bool) (s t : Status) (x y : List ℕ) → Talks meaning all refusals s x → Talks meaning all refusals t y
+ConversationsAreOne = (meaning : Meaning) (all : List ℕ) (refusals : List Bool) (s t : ExitStatus) (x y : List ℕ) → Talks meaning all refusals s x → Talks meaning all refusals t y
     → (x ≡ y) × ((s ≡ t) ⊎ ((is_left s ≡ true) × (is_left t ≡ true)))

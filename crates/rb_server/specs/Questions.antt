@@ -7,15 +7,15 @@ use Rattle.rb_document.specs.declared.position.Encoding.{Encoding}
 use Rattle.rb_rpc.specs.Answers.{failure}
 use Rattle.rb_rpc.specs.Params.{position_at, range_at, text_below}
 use Rattle.rb_rpc.specs.declared.answer.ErrorCode.TheVariants.{InvalidParams, InternalError}
-use Rattle.rb_server.specs.declared.asked.Asked.{Asked}
-use Rattle.rb_server.specs.declared.asked.Asked.TheVariants as asks
+use Rattle.rb_server.specs.declared.query.Query.{Query}
+use Rattle.rb_server.specs.declared.query.Query.TheVariants as asks
 use Rattle.rb_server.specs.declared.method.Question.{Question}
 use Rattle.rb_server.specs.declared.method.Question.TheVariants.{CodeAction, Formatting, Hover, Completion, FoldingRange, DocumentSymbol}
 use Rattle.rb_server.specs.Documents.{PlainDocument, text_of}
 use Rattle.rb_server.specs.Meanings.{Meaning}
 
 -- what is asked, where what is given to the method says it
-abbrev pub asked_of : Question → Data → Option Asked
+abbrev pub asked_of : Question → Data → Option Query
 asked_of CodeAction d = option_map (λ range. asks.CodeAction range) (range_at (codes "range") d)
 asked_of Formatting d = Some asks.Formatting
 asked_of Hover d = option_map (λ position. asks.Hover position) (position_at (codes "position") d)
@@ -50,13 +50,13 @@ unfoldable pub no_memory_for : Data → Data
 no_memory_for id = failure id InternalError (codes "no memory for an answer")
 
 -- of a document, whose text this is where it is open
-abbrev pub of_text : Meaning → Bool → Encoding → Asked → List ℕ → Data → Option (List ℕ) → List ℕ
+abbrev pub of_text : Meaning → Bool → Encoding → Query → List ℕ → Data → Option (List ℕ) → List ℕ
 of_text meaning no_memory encoding asked uri id None = body_text (not_open id)
 of_text meaning no_memory encoding asked uri id (Some text) =
     if no_memory then body_text (no_memory_for id) else answer_text id (meaning.answer encoding asked uri text)
 
 -- of the document that is named, and what is asked of it
-abbrev pub with_asked : Meaning → Bool → Encoding → List PlainDocument → Data → Option (List ℕ) → Option Asked → List ℕ
+abbrev pub with_asked : Meaning → Bool → Encoding → List PlainDocument → Data → Option (List ℕ) → Option Query → List ℕ
 with_asked meaning no_memory encoding ds id None asked = body_text (unfit id)
 with_asked meaning no_memory encoding ds id (Some uri) None = body_text (unfit id)
 with_asked meaning no_memory encoding ds id (Some uri) (Some asked) = of_text meaning no_memory encoding asked uri id (text_of uri ds)

@@ -13,8 +13,8 @@ use Rattle.rb_server.specs.declared.method.Method.{Method}
 use Rattle.rb_server.specs.declared.method.Method.TheVariants.{Initialize, Shutdown, Exit, Asks}
 use Rattle.rb_server.specs.declared.phase.Phase.{Phase}
 use Rattle.rb_server.specs.declared.phase.Phase.TheVariants.{Fresh, Running, Stopped}
-use Rattle.rb_server.specs.declared.phase.Status.{Status}
-use Rattle.rb_server.specs.declared.phase.Status.TheVariants.{Done, Exited}
+use Rattle.rb_server.specs.declared.phase.ExitStatus.{ExitStatus}
+use Rattle.rb_server.specs.declared.phase.ExitStatus.TheVariants.{Done, Exited}
 use Rattle.rb_server.specs.Documents.{PlainDocument}
 use Rattle.rb_server.specs.Meanings.{Meaning}
 use Rattle.rb_server.specs.Questions.{body_text, question_body}
@@ -93,7 +93,7 @@ after (Running client) method params = Running client
 after Stopped method params = Stopped
 
 -- how it ends at `exit`
-abbrev pub status_of : Phase → Status
+abbrev pub status_of : Phase → ExitStatus
 status_of Stopped = Done
 status_of phase = Exited
 
@@ -104,7 +104,7 @@ fresh = record { phase = Fresh; documents = [] }
 -- what a message makes of it: it goes on, or ends
 pub data Turned : Type 0 where
   On : PlainServer → Turned
-  Over : Status → Turned
+  Over : ExitStatus → Turned
 
 abbrev pub with_phase : PlainServer → Phase → PlainServer
 with_phase server phase = record { phase = phase; documents = server.documents }

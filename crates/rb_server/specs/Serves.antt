@@ -4,13 +4,13 @@ use Rattle.std.specs.Io.KnownBytes.{Appends}
 use Rattle.rb_script.specs.Writes.{AppendsFront}
 use Rattle.rb_rpc.specs.Messages.{IsMessage}
 use Rattle.rb_rpc.specs.Said.{Said}
-use Rattle.rb_server.specs.declared.phase.Status.{Status}
+use Rattle.rb_server.specs.declared.phase.ExitStatus.{ExitStatus}
 use Rattle.rb_server.specs.Meanings.{Meaning}
 use Rattle.rb_server.specs.Replies.{PlainServer, Turned, On, Over, fresh}
 use Rattle.rb_server.specs.Talk.{Hears, told, goes, Begins, Ends, Talks, MayAnswer, MayCome}
 
 -- where a server stands that has not ended
-abbrev pub turned_of : Option Status → PlainServer → Turned
+abbrev pub turned_of : Option ExitStatus → PlainServer → Turned
 turned_of None server = On server
 turned_of (Some status) server = Over status
 
@@ -51,7 +51,7 @@ pub record Takes (meaning : Meaning) (server next : PlainServer) (all : List ℕ
   pub tells : Tells meaning server heard old new
 
 -- the end of a conversation goes out
-pub record GoesOut (meaning : Meaning) (server : PlainServer) (all : List ℕ) (status : Status) (old new : Option (List ℕ)) : Type 0 where
+pub record GoesOut (meaning : Meaning) (server : PlainServer) (all : List ℕ) (status : ExitStatus) (old new : Option (List ℕ)) : Type 0 where
   pub text : List ℕ
   pub ends : Ends meaning server all status text
   pub wrote : Appends old new text
@@ -72,14 +72,14 @@ TurnBreaks meaning server before old new = IfSome before (λ all. Starts meaning
 
 -- ---- all
 
-pub record TalksOut (meaning : Meaning) (all : List ℕ) (status : Status) (old new : Option (List ℕ)) : Type 0 where
+pub record TalksOut (meaning : Meaning) (all : List ℕ) (status : ExitStatus) (old new : Option (List ℕ)) : Type 0 where
   pub refusals : List Bool
   pub text : List ℕ
   pub talks : Talks meaning all refusals status text
   pub wrote : Appends old new text
 
 -- the whole conversation over the bytes that come in goes out
-abbrev pub Served : Meaning → Option (List ℕ) → Status → Option (List ℕ) → Option (List ℕ) → Type 0
+abbrev pub Served : Meaning → Option (List ℕ) → ExitStatus → Option (List ℕ) → Option (List ℕ) → Type 0
 Served meaning before status old new = IfSome before (λ all. TalksOut meaning all status old new)
 
 -- a beginning of it: what some messages have to have, and a beginning of that for the next

@@ -4,8 +4,8 @@ use Rattle.serde_json.specs.Data.{Data}
 use Rattle.serde_json.specs.Read.{read}
 use Rattle.rb_rpc.specs.Messages.{IsMessage, HasNoMessage, NeverHasMessage}
 use Rattle.rb_rpc.specs.Said.{Said, said}
-use Rattle.rb_server.specs.declared.phase.Status.{Status}
-use Rattle.rb_server.specs.declared.phase.Status.TheVariants.{Closed, CutOff, NoMessage}
+use Rattle.rb_server.specs.declared.phase.ExitStatus.{ExitStatus}
+use Rattle.rb_server.specs.declared.phase.ExitStatus.TheVariants.{Closed, CutOff, NoMessage}
 use Rattle.rb_server.specs.Meanings.{Meaning}
 use Rattle.rb_server.specs.Questions.{body_text}
 use Rattle.rb_server.specs.Replies.{PlainServer, Turned, On, Over, fresh, no_json, sent, told_of, turned_by}
@@ -33,9 +33,9 @@ pub data Begins (meaning : Meaning) : PlainServer → List ℕ → List Bool →
       → Begins meaning server all (no_memory ∷ refusals) last left (told meaning no_memory server heard ++ text)
 
 -- How it ends, and what still goes out.
-pub data Ends (meaning : Meaning) : PlainServer → List ℕ → Status → List ℕ → Type 0 where
+pub data Ends (meaning : Meaning) : PlainServer → List ℕ → ExitStatus → List ℕ → Type 0 where
   -- a message tells the server to end, for which no memory is refused
-  exits : (server : PlainServer) (status : Status) (all body rest : List ℕ) (heard : Option Said) → IsMessage all body rest → Hears body heard
+  exits : (server : PlainServer) (status : ExitStatus) (all body rest : List ℕ) (heard : Option Said) → IsMessage all body rest → Hears body heard
       → goes server heard ≡ Over status → Ends meaning server all status (told meaning false server heard)
   -- nothing is left
   closes : (server : PlainServer) (all : List ℕ) → all ≡ [] → Ends meaning server all Closed []
@@ -45,7 +45,7 @@ pub data Ends (meaning : Meaning) : PlainServer → List ℕ → Status → List
   strays : (server : PlainServer) (all : List ℕ) → NeverHasMessage all → Ends meaning server all NoMessage []
 
 -- The whole conversation over bytes: for which messages memory was refused, how it ends, and what is written.
-pub record Talks (meaning : Meaning) (all : List ℕ) (refusals : List Bool) (status : Status) (text : List ℕ) : Type 0 where
+pub record Talks (meaning : Meaning) (all : List ℕ) (refusals : List Bool) (status : ExitStatus) (text : List ℕ) : Type 0 where
   pub last : PlainServer
   pub left : List ℕ
   pub answers : List ℕ

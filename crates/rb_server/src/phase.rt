@@ -18,7 +18,7 @@ pub(crate) enum Phase {
 
 /// How a server ends.
 #[derive(Clone, Copy, Debug, PartialEq, Eq)]
-pub enum Status {
+pub enum ExitStatus {
     /// `exit` came after `shutdown`.
     Done,
     /// `exit` came, and `shutdown` had not.
@@ -32,11 +32,11 @@ pub enum Status {
 }
 
 /// How a server ends at `exit`.
-pub(crate) fn status_of(phase: Phase) -> Status
+pub(crate) fn status_of(phase: Phase) -> ExitStatus
     ensures { result ≡ status_of phase }
 {
     match phase {
-        Phase::Stopped => Status::Done,
-        _ => Status::Exited,
+        Phase::Stopped => ExitStatus::Done,
+        _ => ExitStatus::Exited,
     }
 }

@@ -9,9 +9,9 @@ ghost use Rattle.rb_rpc.specs.Messages.{frame};
 ghost use Rattle.rb_server.specs.Documents.{text_of};
 ghost use Rattle.rb_server.specs.Questions.{answer_text, asked_of, body_text, no_memory_for, not_open, of_text, question_body, unfit, with_asked};
 
-use crate::asked::{Asked, asked_of};
 use crate::documents::Documents;
 use crate::method::Question;
+use crate::query::{Query, asked_of};
 use crate::service::Service;
 use crate::told::{Told, framed, framed_answer};
 use rb_document::Encoding;
@@ -80,7 +80,7 @@ fn answered<V: Service>(
     alloc: Global,
     service: &mut V,
     encoding: Encoding,
-    asked: Asked,
+    asked: Query,
     uri: &[u8],
     text: &[u8],
     id: &Value,
@@ -103,7 +103,7 @@ fn of_text<V: Service>(
     alloc: Global,
     service: &mut V,
     encoding: Encoding,
-    asked: Asked,
+    asked: Query,
     uri: &[u8],
     text: &[u8],
     id: &Value,
@@ -130,7 +130,7 @@ fn of_document<V: Service>(
     service: &mut V,
     documents: &Documents,
     encoding: Encoding,
-    asked: Asked,
+    asked: Query,
     uri: &[u8],
     id: &Value,
 ) -> Result<Told, AllocError>

@@ -18,7 +18,7 @@ use crate::changes::document_after;
 use crate::client::Client;
 use crate::documents::Documents;
 use crate::method::{Method, is_of_documents, method_of};
-use crate::phase::{Phase, Status, status_of};
+use crate::phase::{ExitStatus, Phase, status_of};
 use crate::publication::publication;
 use crate::service::Service;
 use crate::told::{Told, framed_answer};
@@ -62,11 +62,11 @@ impl Server {
 pub(crate) struct Heard {
     pub(crate) out: Vec<u8>,
     pub(crate) has_no_memory: bool,
-    pub(crate) over: Option<Status>,
+    pub(crate) over: Option<ExitStatus>,
 }
 
 // Nothing goes out.
-fn silent(alloc: Global, over: Option<Status>) -> Heard
+fn silent(alloc: Global, over: Option<ExitStatus>) -> Heard
     ensures out { result.out.items ≡ [] }
     ensures over { result.over ≡ over }
 {

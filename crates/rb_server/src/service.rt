@@ -4,8 +4,8 @@ ghost use Rattle.std.specs.Prelude.{◌≡◌, ◌≤◌, ◌++◌, OnOk, length
 ghost use Rattle.rb_document.specs.declared.limits.TheConstants.{MAX_TEXT};
 ghost use Rattle.rb_server.specs.Meanings.{Meaning};
 
-use crate::asked::Asked;
 use crate::client::Client;
+use crate::query::Query;
 use rb_document::Encoding;
 use std::alloc::AllocError;
 
@@ -32,7 +32,7 @@ pub trait Service {
     fn add_answer(
         &mut self,
         encoding: Encoding,
-        asked: Asked,
+        asked: Query,
         uri: &[u8],
         text: &[u8],
         out: &mut Vec<u8>,

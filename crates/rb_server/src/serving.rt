@@ -10,7 +10,7 @@ ghost use Rattle.rb_server.specs.Talk.{goes};
 ghost use Rattle.rb_server.specs.Serves.{BreaksOff, Responds, Served, StartsAnswer, StartsTelling, Tells, TurnBreaks, TurnsOut, turned_of};
 
 use crate::fault::ServeFault;
-use crate::phase::Status;
+use crate::phase::ExitStatus;
 use crate::server::{Server, hear, refused};
 use crate::service::Service;
 use rb_line::Source;
@@ -30,7 +30,7 @@ pub fn serve<V: Service, S: Source, W: Sink>(
     service: &mut V,
     source: &mut S,
     sink: &mut W,
-) -> Result<Status, ServeFault>
+) -> Result<ExitStatus, ServeFault>
     // What is written is the conversation over the bytes that come in, and the status is that of its end.
     ensures ok { IfOk result (λ status. Served V.meaning (S.left source.old) status (W.held sink.old) (W.held sink.new)) }
     // Where a call fails, a beginning of it went out.
@@ -56,15 +56,15 @@ fn turn<V: Service, S: Source, W: Sink>(
     reader: &mut MessageReader,
     source: &mut S,
     sink: &mut W,
-) -> Result<Option<Status>, ServeFault>
+) -> Result<Option<ExitStatus>, ServeFault>
     ensures ok { IfOk result (λ over. TurnsOut V.meaning server.old (turned_of over server.new) (left_of reader.old (S.left source.old)) (left_of reader.new (S.left source.new)) (W.held sink.old) (W.held sink.new)) }
     ensures failed { OnErr result (TurnBreaks V.meaning server.old (left_of reader.old (S.left source.old)) (W.held sink.old) (W.held sink.new)) }
 {
     match reader.next(source)? {
         Next::Message => respond(alloc, service, server, reader.body(), sink),
-        Next::End => Ok(Some(Status::Closed)),
-        Next::CutOff => Ok(Some(Status::CutOff)),
-        Next::Bad => Ok(Some(Status::NoMessage)),
+        Next::End => Ok(Some(ExitStatus::Closed)),
+        Next::CutOff => Ok(Some(ExitStatus::CutOff)),
+        Next::Bad => Ok(Some(ExitStatus::NoMessage)),
     }
 }
 
@@ -75,7 +75,7 @@ fn respond<V: Service, W: Sink>(
     server: &mut Server,
     body: &[u8],
     sink: &mut W,
-) -> Result<Option<Status>, ServeFault>
+) -> Result<Option<ExitStatus>, ServeFault>
     ensures ok { IfOk result (λ over. Responds V.meaning server.old body.now (turned_of over server.new) (W.held sink.old) (W.held sink.new)) }
     ensures failed { OnErr result (StartsAnswer V.meaning server.old body.now (W.held sink.old) (W.held sink.new)) }
 {
@@ -93,7 +93,7 @@ fn respond_to<V: Service, W: Sink>(
     server: &mut Server,
     message: &Value,
     sink: &mut W,
-) -> Result<Option<Status>, ServeFault>
+) -> Result<Option<ExitStatus>, ServeFault>
     ensures turned { IfOk result (λ over. turned_of over server.new ≡ goes server.old (Some (said (view message.now)))) }
     ensures tells { OnOk result (Tells V.meaning server.old (Some (said (view message.now))) (W.held sink.old) (W.held sink.new)) }
     ensures failed { OnErr result (StartsTelling V.meaning server.old (Some (said (view message.now))) (W.held sink.old) (W.held sink.new)) }
@@ -108,7 +108,7 @@ fn refuse<V: Service, W: Sink>(
     alloc: Global,
     server: &mut Server,
     sink: &mut W,
-) -> Result<Option<Status>, ServeFault>
+) -> Result<Option<ExitStatus>, ServeFault>
     ensures turned { IfOk result (λ over. turned_of over server.new ≡ goes server.old None) }
     ensures tells { OnOk result (Tells V.meaning server.old None (W.held sink.old) (W.held sink.new)) }
     ensures failed { OnErr result (StartsTelling V.meaning server.old None (W.held sink.old) (W.held sink.new)) }

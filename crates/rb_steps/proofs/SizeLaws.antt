@@ -12,7 +12,7 @@ use Rattle.rb_texts.specs.Items.{PlainItem}
 use Rattle.rb_page.specs.ItemRows.{item_rows, item_text}
 use Rattle.rb_page.specs.Kept.{joined, texts_of}
 use Rattle.rb_page.specs.Rows.{number, text, Row, row, next_text, row_text, before}
-use Rattle.rb_page.specs.declared.row.Place.TheVariants.{First}
+use Rattle.rb_page.specs.declared.row.RowPlace.TheVariants.{First}
 use Rattle.rb_page.specs.Sizes.{cell_size, row_size, is_view}
 use Rattle.rb_page.proofs.SizeLaws.{rows_counted, rows_short}
 use Rattle.rb_machine.specs.declared.screen.Way.TheVariants as ways

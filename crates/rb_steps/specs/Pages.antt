@@ -4,7 +4,7 @@ use Rattle.std.specs.Borrow.{Bor}
 use Rattle.std.specs.List.{flat_map}
 use Rattle.rb_script.specs.Lines.{Line}
 use Rattle.rb_script.specs.Script.{PlainScript}
-use Rattle.rb_page.specs.declared.row.Place.TheVariants.{First}
+use Rattle.rb_page.specs.declared.row.RowPlace.TheVariants.{First}
 use Rattle.rb_page.specs.Kept.{joined}
 use Rattle.rb_page.specs.Rows.{Row, row, number, text, before, row_text}
 use Rattle.rb_steps.specs.declared.page.TheConstants.{FORMAT}

@@ -4,7 +4,7 @@ ghost use Rattle.std.specs.Prelude.{◌++◌, IsOk};
 ghost use Rattle.rb_script.specs.Writes.{Writes};
 ghost use Rattle.rb_steps.specs.Pages.{page_joined, parts_joined, rows_joined};
 
-use rb_page::{Cell, Place, put_end, put_row, put_texts};
+use rb_page::{Cell, RowPlace, put_end, put_row, put_texts};
 use rb_script::{Lines, Sink, WriteFault};
 
 /// The format of the rows.
@@ -36,7 +36,7 @@ pub fn put_steps<S: Sink>(sink: &mut S, name: &[u8], steps: &Lines) -> Result<()
 {
     put_row(
         sink,
-        Place::First,
+        RowPlace::First,
         b"raftbench",
         &[Cell::Number(FORMAT), Cell::Text(name)],
     )?;

@@ -3,7 +3,7 @@
 ghost use Rattle.rb_script.specs.Reads.{Reads};
 
 use crate::accepting::accept;
-use crate::asked::Asked;
+use crate::check_request::CheckRequest;
 use crate::ending::{Ending, ending_of};
 use crate::picking::{named_heads, picked_of};
 use crate::reasons::asked_reasons;
@@ -28,7 +28,7 @@ use std::io::Write;
 pub(crate) fn check_script<T: Runner, S: System, W: Write + Drop, E: Write + Drop>(
     system: &S,
     runner: &mut T,
-    asked: &Asked<'_>,
+    asked: &CheckRequest<'_>,
     path: &str,
     review: &mut Review,
     report: &mut Report<W, E>,
@@ -42,7 +42,7 @@ pub(crate) fn check_script<T: Runner, S: System, W: Write + Drop, E: Write + Dro
 fn run<T: Runner, S: System, W: Write + Drop, E: Write + Drop>(
     system: &S,
     runner: &mut T,
-    asked: &Asked<'_>,
+    asked: &CheckRequest<'_>,
     path: &str,
     text: &Text,
     review: &mut Review,
@@ -59,7 +59,7 @@ fn run<T: Runner, S: System, W: Write + Drop, E: Write + Drop>(
 fn explain<T: Runner, S: System, W: Write + Drop, E: Write + Drop>(
     system: &S,
     runner: &mut T,
-    asked: &Asked<'_>,
+    asked: &CheckRequest<'_>,
     path: &str,
     text: &Text,
     session: &Session<T::Machine>,
@@ -84,7 +84,7 @@ fn explain<T: Runner, S: System, W: Write + Drop, E: Write + Drop>(
 
 fn look_at<M: Machine, S: System, W: Write + Drop, E: Write + Drop>(
     system: &S,
-    asked: &Asked<'_>,
+    asked: &CheckRequest<'_>,
     subject: &Subject<'_, M>,
     review: &mut Review,
     report: &mut Report<W, E>,
@@ -100,7 +100,7 @@ fn look_at<M: Machine, S: System, W: Write + Drop, E: Write + Drop>(
 // Shows what there is to show, and accepts what is to be accepted.
 fn answer<M: Machine, S: System, W: Write + Drop, E: Write + Drop>(
     system: &S,
-    asked: &Asked<'_>,
+    asked: &CheckRequest<'_>,
     subject: &Subject<'_, M>,
     review: &mut Review,
     report: &mut Report<W, E>,
@@ -125,7 +125,7 @@ fn answer<M: Machine, S: System, W: Write + Drop, E: Write + Drop>(
 // Shows the lines that look like a slip, where they are wanted, and answers whether there are any.
 fn warn<M: Machine, W: Write + Drop, E: Write + Drop>(
     alloc: Global,
-    asked: &Asked<'_>,
+    asked: &CheckRequest<'_>,
     subject: &Subject<'_, M>,
     report: &mut Report<W, E>,
 ) -> Result<bool, AllocError>
@@ -142,7 +142,7 @@ fn warn<M: Machine, W: Write + Drop, E: Write + Drop>(
 // Does with the outputs what is to be done.
 fn settle<M: Machine, S: System, W: Write + Drop, E: Write + Drop>(
     system: &S,
-    asked: &Asked<'_>,
+    asked: &CheckRequest<'_>,
     ran: Ran<'_>,
     picked: Picked<'_>,
     ending: Ending,
@@ -172,7 +172,7 @@ fn settle<M: Machine, S: System, W: Write + Drop, E: Write + Drop>(
 // Accepts the outputs that are said yes to.
 fn accept_reviewed<M: Machine, S: System, W: Write + Drop, E: Write + Drop>(
     system: &S,
-    asked: &Asked<'_>,
+    asked: &CheckRequest<'_>,
     ran: Ran<'_>,
     picked: Picked<'_>,
     subject: &Subject<'_, M>,
@@ -226,7 +226,7 @@ fn shows_warnings(shown: Shown) -> bool {
 // Shows what there is to show of the script of the bytes. Where nothing can be shown any more, nothing is looked for.
 fn show<M: Machine, W: Write + Drop, E: Write + Drop>(
     alloc: Global,
-    asked: &Asked<'_>,
+    asked: &CheckRequest<'_>,
     subject: &Subject<'_, M>,
     report: &mut Report<W, E>,
 ) -> Result<Told, PathError>

@@ -3,7 +3,7 @@
 ghost use Rattle.std.specs.Prelude.{◌≡◌};
 ghost use Rattle.rb_suite.specs.Endings.{ending_of};
 
-use crate::asked::Asked;
+use crate::check_request::CheckRequest;
 
 /// What is done with the outputs of a script.
 #[derive(Clone, Copy)]
@@ -19,7 +19,7 @@ pub(crate) enum Ending {
 }
 
 /// What is done with the outputs of a script, of which so many differ.
-pub(crate) fn ending_of(asked: &Asked<'_>, has_warnings: bool, mismatches: usize) -> Ending
+pub(crate) fn ending_of(asked: &CheckRequest<'_>, has_warnings: bool, mismatches: usize) -> Ending
     ensures { result ≡ ending_of asked.now has_warnings mismatches }
 {
     if !asked.accepts || mismatches == 0 {

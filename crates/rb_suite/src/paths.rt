@@ -3,13 +3,13 @@
 ghost use Rattle.std.specs.Prelude.{◌≡◌, ◌≢◌, IfOk, IfErr};
 ghost use Rattle.std.specs.IoError.{error_kind};
 
-use crate::asked::Asked;
+use crate::check_request::CheckRequest;
 use crate::checking::check_script;
 use crate::progress::Progress;
 use crate::report::Report;
 use crate::review::Review;
 use crate::runner::Runner;
-use crate::system::{Given, System};
+use crate::system::{RuntimeSystem, System};
 use rb_check::{Failure, Status};
 use rb_checked::Shown;
 use rb_files::{Found, PathError, find};
@@ -26,7 +26,7 @@ use std::time::Clock;
 pub fn check<T: Runner, R: Files + Input + Print + Clock + AllocGlobal, E: Write + Drop>(
     rt: &R,
     runner: &mut T,
-    asked: Asked<'_>,
+    asked: CheckRequest<'_>,
     errors: E,
 ) -> io::Result<Status>
     // What was asked for was right.
@@ -49,14 +49,14 @@ pub fn check<T: Runner, R: Files + Input + Print + Clock + AllocGlobal, E: Write
 fn check_found<T: Runner, R: Files + Input + Clock + AllocGlobal, W: Write + Drop, E: Write + Drop>(
     rt: &R,
     runner: &mut T,
-    asked: &Asked<'_>,
+    asked: &CheckRequest<'_>,
     progress: &mut Progress,
     report: &mut Report<W, E>,
 ) {
     let found = find(rt, asked.targets, asked.filters);
     tell_lost(&found, report);
     let scripts = found.scripts.as_slice();
-    check_each(&Given(rt), runner, asked, scripts, progress, report);
+    check_each(&RuntimeSystem(rt), runner, asked, scripts, progress, report);
     end(
         asked.shown,
         scripts.len(),
@@ -84,7 +84,7 @@ fn end<W: Write + Drop, E: Write + Drop>(
 fn check_each<T: Runner, S: System, W: Write + Drop, E: Write + Drop>(
     system: &S,
     runner: &mut T,
-    asked: &Asked<'_>,
+    asked: &CheckRequest<'_>,
     scripts: &[String],
     progress: &mut Progress,
     report: &mut Report<W, E>,

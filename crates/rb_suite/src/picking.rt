@@ -2,7 +2,7 @@
 
 ghost use Rattle.rb_script.specs.Reads.{Reads};
 
-use crate::asked::Asked;
+use crate::check_request::CheckRequest;
 use crate::place::place_at;
 use crate::report::Report;
 use crate::subject::Subject;
@@ -20,7 +20,7 @@ use std::io::Write;
 /// or nothing is accepted. A directive whose output is the expected one already is told.
 pub(crate) fn named_heads<M: Machine, W: Write + Drop, E: Write + Drop>(
     alloc: Global,
-    asked: &Asked<'_>,
+    asked: &CheckRequest<'_>,
     subject: &Subject<'_, M>,
     report: &mut Report<W, E>,
 ) -> Result<Option<Vec<usize>>, PathError>

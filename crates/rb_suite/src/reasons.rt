@@ -4,7 +4,7 @@ ghost use Rattle.std.specs.Prelude.{◌≡◌, ◌++◌, ◌∷◌, [], IfOk, On
 ghost use Rattle.rb_checked.specs.Whys.{reasons_of, whys_of};
 ghost use Rattle.rb_suite.specs.Reasons.{differs, shows_outputs, asked_reasons};
 
-use crate::asked::Asked;
+use crate::check_request::CheckRequest;
 use crate::runner::Runner;
 use rb_checked::{Shown, block_at, reasons_of};
 use rb_machine::Machine;
@@ -16,7 +16,7 @@ use std::alloc::{AllocError, Global};
 pub(crate) fn asked_reasons<T: Runner>(
     alloc: Global,
     runner: &mut T,
-    asked: &Asked<'_>,
+    asked: &CheckRequest<'_>,
     session: &Session<T::Machine>,
 ) -> Result<Vec<Lines>, AllocError>
     ensures { IfOk result (λ whys. whys.items ≡ asked_reasons asked.now.explains asked.now.shown asked.now.reviews session.now.script) }

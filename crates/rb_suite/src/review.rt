@@ -3,7 +3,7 @@
 ghost use Rattle.std.specs.Prelude.{◌<◌, length};
 ghost use Rattle.rb_script.specs.Reads.{Reads};
 
-use crate::asked::Asked;
+use crate::check_request::CheckRequest;
 use crate::report::Report;
 use crate::subject::Subject;
 use crate::system::System;
@@ -67,7 +67,7 @@ pub(crate) fn answer_of(line: &str) -> Option<Answer> {
 /// The lines of the heads of the directives whose outputs are to be accepted, by what is answered.
 pub(crate) fn reviewed<M: Machine, S: System, W: Write + Drop, E: Write + Drop>(
     system: &S,
-    asked: &Asked<'_>,
+    asked: &CheckRequest<'_>,
     subject: &Subject<'_, M>,
     picked: Picked<'_>,
     review: &mut Review,
@@ -85,7 +85,7 @@ pub(crate) fn reviewed<M: Machine, S: System, W: Write + Drop, E: Write + Drop>(
 
 fn said_of<M: Machine, S: System, W: Write + Drop, E: Write + Drop>(
     system: &S,
-    asked: &Asked<'_>,
+    asked: &CheckRequest<'_>,
     subject: &Subject<'_, M>,
     layout: &Layout,
     picked: Picked<'_>,
@@ -104,7 +104,7 @@ fn said_of<M: Machine, S: System, W: Write + Drop, E: Write + Drop>(
 // Asks about each directive whose output differs and that is picked, as far as it is still to be asked.
 fn go_over<M: Machine, S: System, W: Write + Drop, E: Write + Drop>(
     system: &S,
-    asked: &Asked<'_>,
+    asked: &CheckRequest<'_>,
     subject: &Subject<'_, M>,
     layout: &Layout,
     picked: Picked<'_>,
@@ -146,7 +146,7 @@ fn differing_head<M: Machine>(
 
 // Whether an output is accepted that isn't shown.
 fn takes<M: Machine>(
-    asked: &Asked<'_>,
+    asked: &CheckRequest<'_>,
     session: &Session<M>,
     layout: &Layout,
     index: usize,
@@ -168,7 +168,7 @@ fn push(said: &mut Vec<usize>, head: usize) -> Result<(), AllocError> {
 
 fn show<M: Machine, W: Write + Drop, E: Write + Drop>(
     alloc: Global,
-    asked: &Asked<'_>,
+    asked: &CheckRequest<'_>,
     subject: &Subject<'_, M>,
     index: usize,
     report: &mut Report<W, E>,

@@ -47,9 +47,9 @@ pub(crate) trait System {
 
 /// What a runtime gives of it.
 #[derive(Drop)]
-pub(crate) struct Given<'a, R>(pub(crate) &'a R);
+pub(crate) struct RuntimeSystem<'a, R>(pub(crate) &'a R);
 
-impl<'a, R: Files + Input + Clock + AllocGlobal> System for Given<'a, R> {
+impl<'a, R: Files + Input + Clock + AllocGlobal> System for RuntimeSystem<'a, R> {
     fn alloc(&self) -> Global {
         self.0.alloc()
     }

@@ -14,5 +14,5 @@ mod texts;
 
 pub use item::{Item, LogLine, NodeLine, Verb};
 pub use laws::{lines_are_solid, printed_lines_can_be_expected, printed_plain};
-pub use rb_level::{DirectiveError, Level, Word, level_of};
+pub use rb_level::{DirectiveError, Level, ScriptWord, level_of};
 pub use texts::put;

@@ -31,7 +31,7 @@ use Rattle.rb_message.specs.declared.role.Role.{Role}
 use Rattle.rb_message.specs.declared.role.Role.TheVariants as role
 use Rattle.rb_node.specs.Node.{PlainNode, Turn, turn, told, with_node, answered_with, ignored}
 use Rattle.rb_node.specs.Terms.{followed, raised, raised_by, lowered, lowered_by, shown_term, answers_earlier, is_disturbed_by}
-use Rattle.rb_node.specs.Campaigns.{why_no_campaign, campaigned_unless, campaigned, stood_unless, stood_up}
+use Rattle.rb_node.specs.Campaigns.{why_no_campaign, campaigned_unless, campaigned, stood_unless, campaigned_after_pre_vote}
 use Rattle.rb_node.specs.Votes.{can_vote_for, count_of, counted, decided, pre_decided}
 use Rattle.rb_node.specs.Following.{heard, with_appended, after_log, append_taken, new_snapshot_taken, snapshot_taken, proposal_passed, transfer_passed, passed_on}
 use Rattle.rb_node.specs.Leading.{is_log_full, appended, appended_change, leading, led}
@@ -94,8 +94,8 @@ stands_unless : (o : Option WhyNoCampaign) (t : Turn) → Tells false t → Tell
 stands_unless (Some reason) t h = tells t _ refl h
 stands_unless None t h = tells t _ refl h
 
-stands_up : (t : Turn) → Tells false t → Tells false (stood_up t)
-unfolding stood_up
+stands_up : (t : Turn) → Tells false t → Tells false (campaigned_after_pre_vote t)
+unfolding campaigned_after_pre_vote
 stands_up t h = stands_unless (why_no_campaign t.node) t h
 
 -- ---- the lead

@@ -5,7 +5,7 @@ use rb_bench::{Command, command_of};
 use rb_message::{Event, WhyNoCampaign};
 use rb_script::{Lines, Through};
 use rb_text::put_number;
-use rb_texts::{DirectiveError, Item, Level, Word, level_of, put};
+use rb_texts::{DirectiveError, Item, Level, ScriptWord, level_of, put};
 use std::alloc::Global;
 use std::process::Abort;
 
@@ -54,7 +54,7 @@ static QUOTED: [(&[u8], &[u8]); 4] = [
 #[test]
 fn words_that_stand_in_no_script(rt: HostRuntime) {
     for (word, want) in &QUOTED {
-        let item = Item::Error(DirectiveError::BadArgument(Word::new(word)));
+        let item = Item::Error(DirectiveError::BadArgument(ScriptWord::new(word)));
         is_shown(&rt, rt.alloc(), Level::Info, &item, want);
     }
 }

@@ -7,7 +7,7 @@ ghost use Rattle.std.specs.Prelude.{◌≡◌, Some, option_map, unwrap_or};
 
 use super::{is, is_in_row, is_text};
 use rb_check::Failure;
-use rb_files::{PathError, Place, replace};
+use rb_files::{FilePlace, PathError, replace};
 use std::alloc::Global;
 use std::process::Abort;
 
@@ -38,7 +38,7 @@ fn first_told(told: Option<PathError>, error: PathError) -> Option<PathError>
     }
 }
 
-impl Place for Shelf {
+impl FilePlace for Shelf {
     ghost stands = { λ s. Some (record {
       file = record { text = s.file.text.items; is_settled = s.file.is_settled };
       new = option_map (λ p. record { text = p.text.items; is_settled = p.is_settled }) s.new;

@@ -6,7 +6,8 @@ ghost use Rattle.std.specs.Prelude.{◌≡◌, ◌≢◌, ◌+◌, ◌<◌, ◌�
 ghost use Rattle.rb_bench.specs.declared.limits.TheConstants.{MAX_READS};
 
 use crate::tests::{is, is_text};
-use rb_bench::{BenchFault, MAX_READS, Mode, Outlet, Status, run_over, serve};
+use rb_bench::{BenchFault, MAX_READS, Mode, Outlet, run_over, serve};
+use rb_check::Status;
 use rb_line::{InputFault, Source};
 use rb_script::{Sink, WriteFault};
 use std::alloc::Global;
@@ -174,7 +175,7 @@ fn came_so<R: Abort>(
 #[test]
 fn runs_over_known_sources(rt: HostRuntime) {
     let whole = ran(&rt, rt.alloc(), SCRIPT, None);
-    came_so(&rt, &whole, Ok(Status::Done), REPORT, (2, 0));
+    came_so(&rt, &whole, Ok(Status::Matched), REPORT, (2, 0));
     let broken = ran(&rt, rt.alloc(), SCRIPT, Some(2));
     came_so(&rt, &broken, Err(BenchFault::Io), b"", (2, 1));
     drop(broken);
@@ -184,7 +185,7 @@ fn runs_over_known_sources(rt: HostRuntime) {
 #[test]
 fn talks_over_known_sources(rt: HostRuntime) {
     let whole = talked(&rt, rt.alloc(), SCRIPT, b"report", None);
-    came_so(&rt, &whole, Ok(Status::Done), REPORT, (2, 0));
+    came_so(&rt, &whole, Ok(Status::Matched), REPORT, (2, 0));
     // The answers to the commands that came whole, and nothing of the one that was begun.
     let broken = talked(&rt, rt.alloc(), SCRIPT, b"report\nreport", Some(2));
     came_so(&rt, &broken, Err(BenchFault::Io), REPORT, (2, 1));

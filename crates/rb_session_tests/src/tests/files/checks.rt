@@ -2,13 +2,13 @@
 
 use crate::tests::is_text;
 use rb_check::{
-    Colors, Failure, Outcome, Place, Table, Totals, put_directive, put_mismatch, put_totals,
+    Colors, Failure, FileLine, Outcome, Table, Totals, put_directive, put_mismatch, put_totals,
 };
 use rb_script::{Block, Lines, ScriptFault, Through};
 use std::alloc::Global;
 use std::process::Abort;
 
-const PLACE: Place<'static> = Place {
+const PLACE: FileLine<'static> = FileLine {
     path: b"a/b.txt",
     line: 12,
 };

@@ -1,6 +1,6 @@
 use Rattle.std.proofs.Common.{◌++◌, refl}
 use Rattle.std.specs.Prelude.{codes}
-use Rattle.rb_page.specs.declared.row.Place.TheVariants.{First}
+use Rattle.rb_page.specs.declared.row.RowPlace.TheVariants.{First}
 use Rattle.rb_page.specs.Kept.{joined}
 use Rattle.rb_page.specs.Rows.{before, row_text}
 use Rattle.rb_page.proofs.SentLaws.{first_failed, second_written}

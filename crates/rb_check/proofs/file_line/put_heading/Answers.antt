@@ -1,5 +1,5 @@
 use Rattle.rb_check.proofs.PieceLaws.{and_then, no_more}
-use Rattle.rb_check.proofs.place.put_heading.Goals as goal
+use Rattle.rb_check.proofs.file_line.put_heading.Goals as goal
 
 pub returns-in_err-put_place-clause-wrote : goal.returns-in_err-put_place-clause-wrote
 returns-in_err-put_place-clause-wrote g c = no_more _ _ _ _ _ c.from_residual.ensures.0 c.in_err-put_place.ensures.wrote

@@ -7,7 +7,7 @@ use rb_formats::Format;
 
 /// What is asked for.
 #[derive(Clone, Copy)]
-pub struct Asked<'a> {
+pub struct CheckRequest<'a> {
     pub targets: &'a [Target],
     pub filters: &'a [String],
     pub accepts: bool,

@@ -4,11 +4,11 @@ use std::marker::Model;
 
 /// Bytes of a script, such as a name, a key or a value.
 #[derive(Drop)]
-pub struct Word<'a> {
+pub struct ScriptWord<'a> {
     bytes: &'a [u8],
 }
 
-impl<'a> Model for Word<'a> {
+impl<'a> Model for ScriptWord<'a> {
     ghost use Rattle.std.specs.Prelude.{List, ℕ};
 
     ghost Value = { List ℕ };
@@ -16,14 +16,14 @@ impl<'a> Model for Word<'a> {
     ghost view = { λ w. w.bytes.now };
 }
 
-impl<'a> Word<'a> {
+impl<'a> ScriptWord<'a> {
     ghost use Rattle.std.specs.Prelude.{◌≡◌};
 
     /// The word of these bytes.
-    pub fn new(bytes: &'a [u8]) -> Word<'a>
+    pub fn new(bytes: &'a [u8]) -> ScriptWord<'a>
         ensures { result ≡ bytes.now }
     {
-        Word { bytes }
+        ScriptWord { bytes }
     }
 
     /// The bytes.
@@ -34,9 +34,9 @@ impl<'a> Word<'a> {
     }
 
     /// The same word: bytes that stay borrowed.
-    pub fn copy(&self) -> Word<'a>
+    pub fn copy(&self) -> ScriptWord<'a>
         ensures { result ≡ self.now }
     {
-        Word { bytes: self.bytes }
+        ScriptWord { bytes: self.bytes }
     }
 }

@@ -11,7 +11,7 @@ use serde_json::Value;
 
 /// What a client asks of a document that is open.
 #[derive(Clone, Copy, Debug, PartialEq, Eq)]
-pub enum Asked {
+pub enum Query {
     /// What may be done about what stands in a range.
     CodeAction(Range),
     /// How the text is laid out.
@@ -27,15 +27,15 @@ pub enum Asked {
 }
 
 /// What is asked, where what is given to the method says it.
-pub(crate) fn asked_of(question: Question, params: &Value) -> Option<Asked>
+pub(crate) fn asked_of(question: Question, params: &Value) -> Option<Query>
     ensures { result ≡ asked_of question (view params.now) }
 {
     match question {
-        Question::CodeAction => Some(Asked::CodeAction(range_at(params, "range")?)),
-        Question::Formatting => Some(Asked::Formatting),
-        Question::Hover => Some(Asked::Hover(position_at(params, "position")?)),
-        Question::Completion => Some(Asked::Completion(position_at(params, "position")?)),
-        Question::FoldingRange => Some(Asked::FoldingRange),
-        Question::DocumentSymbol => Some(Asked::DocumentSymbol),
+        Question::CodeAction => Some(Query::CodeAction(range_at(params, "range")?)),
+        Question::Formatting => Some(Query::Formatting),
+        Question::Hover => Some(Query::Hover(position_at(params, "position")?)),
+        Question::Completion => Some(Query::Completion(position_at(params, "position")?)),
+        Question::FoldingRange => Some(Query::FoldingRange),
+        Question::DocumentSymbol => Some(Query::DocumentSymbol),
     }
 }

@@ -12,7 +12,7 @@ use rb_script::{DirectiveRef, Sink, WriteFault};
 
 /// A line of a file.
 #[derive(Clone, Copy, Debug)]
-pub struct Place<'a> {
+pub struct FileLine<'a> {
     /// The file.
     pub path: &'a [u8],
     /// The line, which counts from 1.
@@ -20,7 +20,7 @@ pub struct Place<'a> {
 }
 
 // Writes the file and the line.
-fn put_place<'a, S: Sink>(sink: &mut S, place: Place<'a>) -> Result<(), WriteFault>
+fn put_place<'a, S: Sink>(sink: &mut S, place: FileLine<'a>) -> Result<(), WriteFault>
     ensures wrote { Writes result (S.held sink.old) (S.held sink.new) (place_text place.entry.path.now place.entry.line) }
     ensures all { S.takes_all sink.old → IsOk result × S.takes_all sink.new }
 {
@@ -38,7 +38,7 @@ fn put_place<'a, S: Sink>(sink: &mut S, place: Place<'a>) -> Result<(), WriteFau
 /// Writes where a directive stands, and its head.
 pub(crate) fn put_heading<'a, S: Sink>(
     sink: &mut S,
-    place: Place<'a>,
+    place: FileLine<'a>,
     directive: &DirectiveRef<'a>,
 ) -> Result<(), WriteFault>
     ensures wrote { Writes result (S.held sink.old) (S.held sink.new) (heading_text place.entry.path.now place.entry.line (head_text (plain directive.now))) }

@@ -1,6 +1,6 @@
 //! Putting a new text in a file's place.
 //!
-//! A [`Place`] is a file that has a text, beside which a new file can be made. The new text goes there first, whole and settled, and takes
+//! A [`FilePlace`] is a file that has a text, beside which a new file can be made. The new text goes there first, whole and settled, and takes
 //! the old one's place by one step: so whatever fails, the old text or the new one stands in the place. This is proved of each place of which it
 //! is known what stands there and whose calls do what the trait says. Of real files nothing is known: that their place, [`crate::Beside`],
 //! is such a one is not proved but tested, with calls of the system that fail in turn.
@@ -11,7 +11,7 @@ ghost use Rattle.rb_files.specs.Places.{Standing, Turns, Puts, Fills, Removes, R
 use crate::path_error::PathError;
 
 /// A file with a text, and the new file beside it, where there is one.
-pub trait Place {
+pub trait FilePlace {
     // what stands there, and what the first call that failed said; `None` where it isn't known
     ghost stands: { Self → Option Standing };
 
@@ -51,7 +51,7 @@ pub struct Unreplaced {
 ///
 /// What failed first. The place has its old text then, and the new file is removed again, unless that fails too: then `is_removed` is
 /// false. Nothing is said of a place that had a new file before.
-pub fn replace<P: Place>(place: &mut P, text: &[u8]) -> Result<(), Unreplaced>
+pub fn replace<P: FilePlace>(place: &mut P, text: &[u8]) -> Result<(), Unreplaced>
     ensures { IsFresh (P.stands place.old) → Replaces text.now result (P.stands place.old) (P.stands place.new) }
 {
     if let Err(error) = place.create() {
@@ -70,7 +70,7 @@ pub fn replace<P: Place>(place: &mut P, text: &[u8]) -> Result<(), Unreplaced>
 }
 
 // Writes the text into the new file, and puts that in the old one's place.
-fn fill<P: Place>(place: &mut P, text: &[u8]) -> Result<(), PathError>
+fn fill<P: FilePlace>(place: &mut P, text: &[u8]) -> Result<(), PathError>
     ensures { Fills text.now result (P.stands place.old) (P.stands place.new) }
 {
     place.put(text)?;
