@@ -25,7 +25,7 @@ use Rattle.rb_message.specs.declared.message.Message.{Message}
 use Rattle.rb_message.specs.declared.role.Role.{Role}
 use Rattle.rb_message.specs.declared.role.Role.TheVariants as role
 use Rattle.rb_node.specs.declared.limits.TheConstants.{ELECTION_TICKS, HEARTBEAT_TICKS}
-use Rattle.rb_node.specs.Node.{PlainNode, Turn, told, with_node, message, is_leader}
+use Rattle.rb_node.specs.Node.{PlainNode, Turn, told, with_node, message, is_leader, with_elapsed, with_heartbeat_elapsed}
 use Rattle.rb_node.specs.Campaigns.{campaigned}
 use Rattle.rb_node.specs.Changing.{body_applied, applied_one, applied_all, leaves_joint, joint_left}
 use Rattle.rb_node.specs.Step.{stepped}
@@ -83,8 +83,8 @@ beat_each_holds n (id ∷ ids) h = beat_each_holds (beat_to n id) ids (beat_hold
 beats_holds : {w : World} (t : Turn) → Holds w t.node → Holds w (heartbeats_due t).node
 unfolding heartbeats_due
 beats_holds {w} t h =
-    if_both (λ (u : Turn). Holds w u.node) (nat_le HEARTBEAT_TICKS t.node.heartbeat_elapsed) _ _
-    (λ _. beat_each_holds (record t.node { heartbeat_elapsed = 0 }) (ids_of t.node.tracker.views) h) (λ _. h)
+    if_both (λ (u : Turn). Holds w u.node) (nat_le HEARTBEAT_TICKS t.node.clock.heartbeat_elapsed) _ _
+    (λ _. beat_each_holds (with_heartbeat_elapsed t.node 0) (ids_of t.node.tracker.views) h) (λ _. h)
 
 looked_holds : {w : World} (n : PlainNode) → Holds w n → Holds w (looked_anew n)
 unfolding unmarked
@@ -101,8 +101,8 @@ quorum_holds {w} t h =
 leader_counted_holds : {w : World} (t : Turn) → Holds w t.node → Holds w (leader_counted t).node
 unfolding leader_counted
 leader_counted_holds {w} t h =
-    if_both (λ (u : Turn). Holds w u.node) (nat_le ELECTION_TICKS t.node.elapsed) _ _
-    (λ _. quorum_holds (with_node t (record t.node { elapsed = 0 })) h) (λ _. beats_holds t h)
+    if_both (λ (u : Turn). Holds w u.node) (nat_le ELECTION_TICKS t.node.clock.elapsed) _ _
+    (λ _. quorum_holds (with_node t (with_elapsed t.node 0)) h) (λ _. beats_holds t h)
 
 leader_ticked_holds : {w : World} (t : Turn) → Holds w t.node → Holds w (leader_ticked t).node
 unfolding leader_ticked
@@ -111,8 +111,8 @@ leader_ticked_holds t h = leader_counted_holds (with_node t (counted_up t.node))
 other_ticked_holds : {w : World} (t : Turn) → Holds w t.node → Holds w (other_ticked t).node
 unfolding other_ticked
 other_ticked_holds {w} t h =
-    let u : Turn = with_node t (record t.node { elapsed = counted_tick t.node.elapsed }) in
-    let v : Turn = with_node u (record u.node { elapsed = 0 }) in
+    let u : Turn = with_node t (with_elapsed t.node (counted_tick t.node.clock.elapsed)) in
+    let v : Turn = with_node u (with_elapsed u.node 0) in
     if_both (λ (x : Turn). Holds w x.node) (is_due u.node) (campaigned v false) u (λ _. campaigned_holds v false h) (λ _. h)
 
 ticked_holds : {w : World} (r : Role) (t : Turn) → Holds w t.node → Holds w (ticked_by r t).node

@@ -23,7 +23,7 @@ use Rattle.rb_tracker.specs.declared.config.Config.{Config}
 use Rattle.rb_message.specs.declared.kind.MessageKind.TheVariants as kind
 use Rattle.rb_message.specs.declared.message.Message.{Message}
 use Rattle.rb_node.specs.declared.limits.TheConstants.{ELECTION_TICKS}
-use Rattle.rb_node.specs.Node.{PlainNode, turn, message}
+use Rattle.rb_node.specs.Node.{PlainNode, turn, message, with_timeout}
 use Rattle.rb_node.specs.Sends.{snapshot_of}
 use Rattle.rb_node.specs.Calls.{reported}
 use Rattle.rb_node_laws.specs.Calling.{Call, Campaign, Propose, Transfer, Tick, ForgetLeader, ReportUnreachable, SetTimeout, Compact, compacted_unless, after}
@@ -135,7 +135,7 @@ has_effect g s (requests.Propose id payload) x steady may tied = acts g s x id (
 has_effect g s (requests.ProcessReady ids) x steady may tied = readies_each g s x ids tied
 has_effect g s (requests.DeliverMsgs asked) x steady may tied = delivers_msgs g s asked x (all_present x.cluster.nodes asked.nodes may.0) tied
 has_effect g s (requests.Stabilize ids rounds) x steady may tied = settles g s rounds rounds x (chosen ids x.cluster.nodes) (chosen_some ids x.cluster.nodes) tied
-has_effect g s (requests.ActWith withs.SetRandomizedElectionTimeout id timeout) x steady may tied = changes_by g s x.cluster id (SetTimeout timeout) (λ (n : PlainNode). record n { timeout = timeout }) (node_at x.cluster id) (λ n. refl) (tt, tt) refl tied
+has_effect g s (requests.ActWith withs.SetRandomizedElectionTimeout id timeout) x steady may tied = changes_by g s x.cluster id (SetTimeout timeout) (λ (n : PlainNode). with_timeout n timeout) (node_at x.cluster id) (λ n. refl) (tt, tt) refl tied
 has_effect g s (requests.ActWith withs.TransferLeadership from to) x steady may tied = acts g s x from (Transfer to) tied (tt, tt)
 has_effect g s (requests.ActWith withs.ReportUnreachable id peer) x steady may tied = changes_by g s x.cluster id (ReportUnreachable peer) (λ (n : PlainNode). reported n peer) (node_at x.cluster id) (λ n. refl) (tt, tt) refl tied
 has_effect g s (requests.ActWith withs.SendSnapshot from to) x steady may tied = sends_snapshot g s x from to (node_at x.cluster from) refl tied

@@ -22,7 +22,7 @@ use Rattle.rb_node.specs.declared.sends.Mode.{Mode}
 use Rattle.rb_node.specs.declared.sends.Mode.TheVariants as mode
 use Rattle.rb_node.specs.declared.sends.Sending.{Sending}
 use Rattle.rb_node.specs.declared.sends.Sending.TheVariants as sending
-use Rattle.rb_node.specs.Node.{PlainNode, Turn, told, with_node, message}
+use Rattle.rb_node.specs.Node.{PlainNode, Turn, told, with_node, message, with_elapsed}
 use Rattle.rb_node.specs.Sends.{is_news as is_news_of, is_ping, takes_nothing, is_window_full, term_or_0, sending_of, append_of, snapshot_of, viewed, snapshot_to, empty_to, entries_to, sends_by, sends_with, sends_at, sends, tells, told_all}
 use Rattle.rb_node.specs.Leading.{with_own, is_log_full, appended, with_view_of, with_views, in_lead, leading, led, can_commit}
 use Rattle.rb_node.specs.Acknowledging.{heard_of, handed_to, commit_or_sent, mode_after, accepted_news, accepted_old, accepted_by, accepted_with, accepted_at, accepted, refused_with, refused_at, append_refused, lags, beat_answered_with, beat_answered_at, beat_answered}
@@ -236,7 +236,7 @@ urged_holds {w} n target h =
     (λ _. says n (message n.id target n.term kind.TimeoutNow) tt (λ _ _. tt) h) (λ _. sends_holds n target mode.Tell h)
 
 transfer_started_holds : {w : World} (t : Turn) (target : ℕ) → Holds w t.node → Holds w (transfer_started t target).node
-transfer_started_holds t target h = urged_holds (record t.node { elapsed = 0; transferee = target }) target h
+transfer_started_holds t target h = urged_holds (record (with_elapsed t.node 0) { transferee = target }) target h
 
 pub transferred_holds : {w : World} (t : Turn) (m : Message) (target : ℕ) → Holds w t.node → Holds w (transferred t m target).node
 unfolding transferred

@@ -5,7 +5,7 @@ use Rattle.rb_directive.specs.declared.act.Act.TheVariants as acts
 use Rattle.rb_message.specs.declared.kind.MessageKind.TheVariants as kinds
 use Rattle.rb_raftlog.specs.declared.entry.Body.TheVariants as bodies
 use Rattle.rb_node.specs.declared.limits.TheConstants.{ELECTION_TICKS}
-use Rattle.rb_node.specs.Node.{Turn, with_node, message}
+use Rattle.rb_node.specs.Node.{Turn, with_node, message, with_timeout}
 use Rattle.rb_node.specs.Campaigns.{campaigned}
 use Rattle.rb_node.specs.Calls.{called, leader_forgotten, reported}
 use Rattle.rb_node.specs.Ticking.{ticked}
@@ -31,7 +31,7 @@ abbrev pub propose : ℕ → List ℕ → Scene → Scene
 propose id payload s = acted s id (λ t. called t (kinds.Proposal (bodies.Payload payload)))
 
 abbrev pub set_timeout : ℕ → ℕ → Cluster → Cluster
-set_timeout id ticks c = changed c id (λ n. record n { timeout = ticks })
+set_timeout id ticks c = changed c id (λ n. with_timeout n ticks)
 
 abbrev pub transfer : ℕ → ℕ → Scene → Scene
 transfer from to s = explained (acted s from (λ t. called t (kinds.TransferLeader to))) (reason_at s.cluster from (message from from 0 (kinds.TransferLeader to)))

@@ -11,7 +11,7 @@ use Rattle.rb_message.specs.declared.kind.MessageKind.{MessageKind}
 use Rattle.rb_message.specs.declared.kind.MessageKind.TheVariants as kind
 use Rattle.rb_message.specs.declared.role.Role.TheVariants as role
 use Rattle.rb_node.specs.declared.limits.TheConstants.{ELECTION_TICKS}
-use Rattle.rb_node.specs.Node.{PlainNode, Turn, told, with_node, message, answered_with, is_leader}
+use Rattle.rb_node.specs.Node.{PlainNode, Turn, told, with_node, message, answered_with, is_leader, with_timeout}
 use Rattle.rb_node.specs.Terms.{reset}
 
 -- why the node can't campaign: the first that holds (this project's order)
@@ -52,7 +52,7 @@ stood t transfer =
 
 -- a precandidate changes no term and no vote
 abbrev pub precandidate : PlainNode → PlainNode
-precandidate n = record n { role = role.Precandidate; votes = no_votes; lead = 0; timeout = ELECTION_TICKS }
+precandidate n = record (with_timeout n ELECTION_TICKS) { role = role.Precandidate; votes = no_votes; lead = 0 }
 
 abbrev pub pre_vote_started : Turn → Turn
 pre_vote_started t =

@@ -14,8 +14,7 @@ HaveSameIndexes a b =
 
 abbrev pub HaveSameCounters : PlainNode → PlainNode → Type 0
 HaveSameCounters a b =
-    (a.elapsed ≡ b.elapsed) × (a.heartbeat_elapsed ≡ b.heartbeat_elapsed) × (a.timeout ≡ b.timeout)
-    × (a.saved ≡ b.saved) × (a.options ≡ b.options)
+    (a.clock ≡ b.clock) × (a.saved ≡ b.saved) × (a.options ≡ b.options)
 
 -- lists of the same lengths, and contents of the same sum
 abbrev pub HaveSameLengths : PlainNode → PlainNode → Type 0

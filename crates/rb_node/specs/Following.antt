@@ -12,11 +12,11 @@ use Rattle.rb_message.specs.declared.event.Event.TheVariants.{DroppedProposal, C
 use Rattle.rb_message.specs.declared.kind.MessageKind.{MessageKind}
 use Rattle.rb_message.specs.declared.kind.MessageKind.TheVariants as kind
 use Rattle.rb_message.specs.declared.message.Message.{Message}
-use Rattle.rb_node.specs.Node.{PlainNode, Turn, told, with_node, ignored, message, posted, answered_with}
+use Rattle.rb_node.specs.Node.{PlainNode, Turn, told, with_node, ignored, message, posted, answered_with, with_elapsed}
 
 -- the sender leads, and was heard of
 abbrev pub heard : PlainNode → ℕ → PlainNode
-heard n from = record n { lead = from; elapsed = 0 }
+heard n from = record (with_elapsed n 0) { lead = from }
 
 -- the commit never falls
 abbrev pub commits_to : PlainNode → ℕ → PlainNode

@@ -2,6 +2,7 @@ pub mod Acknowledging
 pub mod Calls
 pub mod Campaigns
 pub mod Changing
+pub mod Clocks
 pub mod Comparing
 pub mod Following
 pub mod Leading

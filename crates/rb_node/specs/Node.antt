@@ -15,8 +15,9 @@ use Rattle.rb_message.specs.declared.kind.MessageKind.{MessageKind}
 use Rattle.rb_message.specs.declared.message.Message.{Message}
 use Rattle.rb_message.specs.declared.role.Role.{Role}
 use Rattle.rb_message.specs.declared.role.Role.TheVariants as role
-use Rattle.rb_node.specs.declared.limits.TheConstants.{ELECTION_TICKS}
+use Rattle.rb_node.specs.declared.clock.Clock.{Clock}
 use Rattle.rb_node.specs.declared.options.Options.{Options}
+use Rattle.rb_node.specs.Clocks.{fresh_clock}
 
 pub record PlainNode : Type 0 where
   pub id : ℕ
@@ -36,11 +37,8 @@ pub record PlainNode : Type 0 where
   pub tracker : PlainTracker
   -- who answered its campaign, and how
   pub votes : Votes
-  -- ticks since it heard of its leader, or since it led or looked at its quorum; ticks since its last heartbeats
-  pub elapsed : ℕ
-  pub heartbeat_elapsed : ℕ
-  -- after so many ticks without a leader it campaigns
-  pub timeout : ℕ
+  -- ticks since it heard of its leader, or since it led or looked at its quorum; ticks since its last heartbeats; and its timeout
+  pub clock : Clock
   -- the node that it hands the lead to, or 0
   pub transferee : ℕ
   -- up to this index a change may be in its log
@@ -68,9 +66,7 @@ started id start options = record {
   content = start.content;
   tracker = no_views (config_of start.config);
   votes = no_votes;
-  elapsed = 0;
-  heartbeat_elapsed = 0;
-  timeout = ELECTION_TICKS;
+  clock = fresh_clock;
   transferee = 0;
   pending_change = 0;
   saved = record { term = 0; vote = 0; commit = start.index };
@@ -79,6 +75,18 @@ started id start options = record {
   waiting = [];
   options = options;
 }
+
+-- a node that heard of its leader so many ticks ago
+abbrev pub with_elapsed : PlainNode → ℕ → PlainNode
+with_elapsed n ticks = record n { clock = record n.clock { elapsed = ticks } }
+
+-- whose last heartbeats went out so many ticks ago
+abbrev pub with_heartbeat_elapsed : PlainNode → ℕ → PlainNode
+with_heartbeat_elapsed n ticks = record n { clock = record n.clock { heartbeat_elapsed = ticks } }
+
+-- that campaigns after so many ticks without a leader
+abbrev pub with_timeout : PlainNode → ℕ → PlainNode
+with_timeout n ticks = record n { clock = record n.clock { timeout = ticks } }
 
 -- what is true of each node
 pub record IsNode (commit applied : ℕ) : Type 0 where

@@ -8,6 +8,7 @@ use Rattle.rb_message.specs.declared.kind.MessageKind.TheVariants as kind
 use Rattle.rb_message.specs.declared.message.Message.{Message}
 use Rattle.rb_message.specs.declared.role.Role.TheVariants as role
 use Rattle.rb_node.specs.declared.limits.TheConstants.{ELECTION_TICKS}
+use Rattle.rb_node.specs.Clocks.{fresh_clock}
 use Rattle.rb_node.specs.Node.{PlainNode, Turn, told, with_node, ignored, answered_with}
 
 -- the beginning of a term: no leader is known, nobody has voted, and a vote of the same term stays
@@ -16,9 +17,7 @@ reset n term = record n {
   vote = if n.term == term then n.vote else 0;
   term = term;
   lead = 0;
-  elapsed = 0;
-  heartbeat_elapsed = 0;
-  timeout = ELECTION_TICKS;
+  clock = fresh_clock;
   votes = no_votes;
   tracker = cleared n.tracker;
   transferee = 0;
@@ -65,7 +64,7 @@ lowered t m = lowered_by m.kind t m
 -- With checks of the quorum, a node that has heard of its leader lately gives no ear to candidates, so that one who is cut off doesn't
 -- disturb the others (Ongaro's thesis, section 4.2.3), unless its leader asked that one to campaign.
 abbrev pub hears_leader : PlainNode → Bool
-hears_leader n = n.options.check_quorum && not (n.lead == 0) && nat_lt n.elapsed ELECTION_TICKS
+hears_leader n = n.options.check_quorum && not (n.lead == 0) && nat_lt n.clock.elapsed ELECTION_TICKS
 
 abbrev pub is_disturbed_by : MessageKind → PlainNode → Bool
 is_disturbed_by (kind.Vote last_term last_index transfer) n = hears_leader n && not transfer

@@ -10,7 +10,7 @@ use Rattle.rb_message.specs.declared.kind.MessageKind.TheVariants as kind
 use Rattle.rb_message.specs.declared.role.Role.{Role}
 use Rattle.rb_message.specs.declared.role.Role.TheVariants as role
 use Rattle.rb_node.specs.declared.limits.TheConstants.{ELECTION_TICKS, HEARTBEAT_TICKS, MAX_TICKS}
-use Rattle.rb_node.specs.Node.{PlainNode, Turn, told, with_node, posted}
+use Rattle.rb_node.specs.Node.{PlainNode, Turn, told, with_node, posted, with_elapsed, with_heartbeat_elapsed}
 use Rattle.rb_node.specs.Terms.{followed}
 use Rattle.rb_node.specs.Campaigns.{campaigned}
 use Rattle.rb_node.specs.Transferring.{transfer_ended}
@@ -31,10 +31,10 @@ beat_each n (id ∷ ids) = beat_each (beat_to n id) ids
 
 -- to all others with a view
 abbrev pub all_beat : PlainNode → PlainNode
-all_beat n = beat_each (record n { heartbeat_elapsed = 0 }) (ids_of n.tracker.views)
+all_beat n = beat_each (with_heartbeat_elapsed n 0) (ids_of n.tracker.views)
 
 unfoldable pub heartbeats_due : Turn → Turn
-heartbeats_due t = if nat_le HEARTBEAT_TICKS t.node.heartbeat_elapsed then with_node t (all_beat t.node) else t
+heartbeats_due t = if nat_le HEARTBEAT_TICKS t.node.clock.heartbeat_elapsed then with_node t (all_beat t.node) else t
 
 abbrev pub has_lost_quorum : PlainNode → Bool
 has_lost_quorum n = n.options.check_quorum && not (quorum_active n.tracker)
@@ -51,11 +51,11 @@ quorum_looked_at t =
 
 unfoldable pub leader_counted : Turn → Turn
 leader_counted t =
-    if nat_le ELECTION_TICKS t.node.elapsed then quorum_looked_at (with_node t (record t.node { elapsed = 0 }))
+    if nat_le ELECTION_TICKS t.node.clock.elapsed then quorum_looked_at (with_node t (with_elapsed t.node 0))
     else heartbeats_due t
 
 abbrev pub counted_up : PlainNode → PlainNode
-counted_up n = record n { elapsed = counted n.elapsed; heartbeat_elapsed = counted n.heartbeat_elapsed }
+counted_up n = with_heartbeat_elapsed (with_elapsed n (counted n.clock.elapsed)) (counted n.clock.heartbeat_elapsed)
 
 unfoldable pub leader_ticked : Turn → Turn
 leader_ticked t = leader_counted (with_node t (counted_up t.node))
@@ -64,13 +64,13 @@ leader_ticked t = leader_counted (with_node t (counted_up t.node))
 
 -- a voter that heard of no leader for its timeout
 abbrev pub is_due : PlainNode → Bool
-is_due n = is_voter n.tracker.config n.id && nat_le n.timeout n.elapsed
+is_due n = is_voter n.tracker.config n.id && nat_le n.clock.timeout n.clock.elapsed
 
 abbrev pub timed_out : Turn → Turn
-timed_out t = if is_due t.node then campaigned (with_node t (record t.node { elapsed = 0 })) false else t
+timed_out t = if is_due t.node then campaigned (with_node t (with_elapsed t.node 0)) false else t
 
 unfoldable pub other_ticked : Turn → Turn
-other_ticked t = timed_out (with_node t (record t.node { elapsed = counted t.node.elapsed }))
+other_ticked t = timed_out (with_node t (with_elapsed t.node (counted t.node.clock.elapsed)))
 
 abbrev pub ticked_by : Role → Turn → Turn
 ticked_by role.Follower t = other_ticked t

@@ -7,7 +7,7 @@ use Rattle.rb_message.specs.declared.event.Event.TheVariants.{TransferStarts, Tr
 use Rattle.rb_message.specs.declared.kind.MessageKind.TheVariants as kind
 use Rattle.rb_message.specs.declared.message.Message.{Message}
 use Rattle.rb_node.specs.declared.sends.Mode.TheVariants as mode
-use Rattle.rb_node.specs.Node.{PlainNode, Turn, told, with_node, ignored, posted}
+use Rattle.rb_node.specs.Node.{PlainNode, Turn, told, with_node, ignored, posted, with_elapsed}
 use Rattle.rb_node.specs.Sends.{sends}
 
 -- the lead goes to another voter, and not twice to the same
@@ -23,7 +23,7 @@ urged n target = if match_of n.tracker.views target == last n.log then posted n 
 
 abbrev pub transfer_started : Turn → ℕ → Turn
 transfer_started t target =
-    with_node (told t (TransferStarts t.node.id target)) (urged (record t.node { elapsed = 0; transferee = target }) target)
+    with_node (told t (TransferStarts t.node.id target)) (urged (record (with_elapsed t.node 0) { transferee = target }) target)
 
 unfoldable pub transferred : Turn → Message → ℕ → Turn
 transferred t m target = if cannot_take_lead t.node target then ignored t m else transfer_started (older_ended t) target

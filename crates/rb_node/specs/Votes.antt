@@ -8,7 +8,7 @@ use Rattle.rb_message.specs.Messages.{type_of}
 use Rattle.rb_message.specs.declared.event.Event.TheVariants.{VoteCounted}
 use Rattle.rb_message.specs.declared.kind.MessageKind.TheVariants as kind
 use Rattle.rb_message.specs.declared.message.Message.{Message}
-use Rattle.rb_node.specs.Node.{PlainNode, Turn, told, with_node, answered_with}
+use Rattle.rb_node.specs.Node.{PlainNode, Turn, told, with_node, answered_with, with_elapsed}
 use Rattle.rb_node.specs.Terms.{followed}
 use Rattle.rb_node.specs.Campaigns.{campaigned_after_pre_vote}
 use Rattle.rb_node.specs.Leading.{led}
@@ -23,7 +23,7 @@ abbrev pub grants : PlainNode → Message → ℕ → ℕ → Bool → Bool
 grants n m last_term last_index pre_vote = can_vote_for n m pre_vote && is_up_to_date n.log last_index last_term
 
 abbrev pub voted_for : PlainNode → ℕ → PlainNode
-voted_for n id = record n { vote = id; elapsed = 0 }
+voted_for n id = record (with_elapsed n 0) { vote = id }
 
 -- yes is of the term that was asked for, no of the node's own
 abbrev pub vote_answered : PlainNode → Message → ℕ → ℕ → PlainNode

@@ -4,7 +4,7 @@ ghost use Rattle.std.specs.Prelude.{◌≡◌, ◌≤◌, IfOk, OnOk, false};
 ghost use Rattle.rb_raftlog.specs.declared.limits.TheConstants.{MAX_INDEX};
 ghost use Rattle.rb_message.specs.declared.kind.MessageKind.TheVariants.{Proposal, TransferLeader};
 ghost use Rattle.rb_raftlog.specs.declared.entry.Body.TheVariants.{Payload, Change};
-ghost use Rattle.rb_node.specs.Node.{turn};
+ghost use Rattle.rb_node.specs.Node.{turn, with_timeout};
 ghost use Rattle.rb_node.specs.Campaigns.{campaigned};
 ghost use Rattle.rb_node.specs.Sends.{snapshot_of};
 ghost use Rattle.rb_node.specs.Step.{stepped};
@@ -42,9 +42,9 @@ fn forget<L: RaftLog>(state: &mut State<L>)
 }
 
 fn set_ticks<L: RaftLog>(state: &mut State<L>, timeout: u64)
-    ensures { state.new ≡ record state.old { timeout = timeout } }
+    ensures { state.new ≡ with_timeout state.old timeout }
 {
-    state.timeout = timeout;
+    state.clock.timeout = timeout;
 }
 
 fn compact_to<L: RaftLog>(state: &mut State<L>, index: u64) -> Result<(), CompactFault>
@@ -146,7 +146,7 @@ impl<L: RaftLog> Node<L> {
 
     /// After so many ticks without a leader the node campaigns, until the next reset. It takes no memory.
     pub fn set_timeout(&mut self, timeout: u64)
-        ensures { self.new ≡ record self.old { timeout = timeout } }
+        ensures { self.new ≡ with_timeout self.old timeout }
     {
         set_ticks(&mut self.state, timeout);
     }

@@ -145,7 +145,7 @@ impl<L: RaftLog> State<L> {
         self.role = Role::Precandidate;
         self.votes.clear();
         self.lead = 0;
-        self.timeout = ELECTION_TICKS;
+        self.clock.timeout = ELECTION_TICKS;
         events.push(Event::Became {
             id: self.id,
             role: Role::Precandidate,

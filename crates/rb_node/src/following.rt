@@ -24,7 +24,7 @@ impl<L: RaftLog> State<L> {
         ensures { self.new ≡ heard self.old from }
     {
         self.lead = from;
-        self.elapsed = 0;
+        self.clock.elapsed = 0;
     }
 
     pub(crate) fn take_heartbeat(&mut self, from: u64, commit: u64) -> Result<(), AllocError>

@@ -15,6 +15,7 @@ mod advancing;
 mod calls;
 mod campaigns;
 mod changing;
+mod clock;
 mod following;
 mod leading;
 mod limits;
@@ -30,6 +31,7 @@ mod ticking;
 mod transferring;
 mod votes;
 
+pub use clock::Clock;
 pub use limits::{ELECTION_TICKS, HEARTBEAT_TICKS, MAX_TICKS, limits_are};
 pub use node::Node;
 pub use options::Options;

@@ -6,7 +6,7 @@ ghost use Rattle.rb_node.specs.Node.{PlainNode, turn, started, posted, answered_
 
 mod copies;
 
-use crate::limits::ELECTION_TICKS;
+use crate::clock::Clock;
 use crate::options::Options;
 use rb_message::{Event, HardState, Message, MessageKind, Outbox, Role};
 use rb_raftlog::{Content, RaftLog, Snapshot};
@@ -36,12 +36,7 @@ pub struct State<L: RaftLog> {
     pub tracker: Tracker,
     /// The answers to its campaign.
     pub votes: Votes,
-    /// Ticks since it heard of its leader or, of a leader, since it looked at its quorum.
-    pub elapsed: u64,
-    /// Ticks since its last heartbeats.
-    pub heartbeat_elapsed: u64,
-    /// After so many ticks without a leader it campaigns.
-    pub timeout: u64,
+    pub clock: Clock,
     /// The node that it hands the lead to, or 0.
     pub transferee: u64,
     /// Up to this index a change may be in its log.
@@ -76,9 +71,7 @@ impl<L: RaftLog> Model for State<L> {
       content = n.content;
       tracker = n.tracker;
       votes = n.votes;
-      elapsed = n.elapsed;
-      heartbeat_elapsed = n.heartbeat_elapsed;
-      timeout = n.timeout;
+      clock = n.clock;
       transferee = n.transferee;
       pending_change = n.pending_change;
       saved = n.saved;
@@ -118,9 +111,7 @@ impl<L: RaftLog> State<L> {
             content,
             tracker: Tracker::new(alloc, config),
             votes: Votes::new(alloc),
-            elapsed: 0,
-            heartbeat_elapsed: 0,
-            timeout: ELECTION_TICKS,
+            clock: Clock::new(),
             transferee: 0,
             pending_change: 0,
             saved: HardState {

@@ -7,6 +7,7 @@ ghost use Rattle.std.specs.Prelude.{◌≡◌, OnOk};
 ghost use Rattle.rb_node.specs.Node.{turn};
 ghost use Rattle.rb_node.specs.Terms.{reset, followed, raised, answers_earlier, shown_term, lowered, hears_leader, is_disturbed_by};
 
+use crate::clock::Clock;
 use crate::limits::ELECTION_TICKS;
 use crate::state::State;
 use rb_message::{Event, Message, MessageKind, Role};
@@ -23,9 +24,7 @@ impl<L: RaftLog> State<L> {
         }
         self.term = term;
         self.lead = 0;
-        self.elapsed = 0;
-        self.heartbeat_elapsed = 0;
-        self.timeout = ELECTION_TICKS;
+        self.clock = Clock::new();
         self.votes.clear();
         self.tracker.clear();
         self.transferee = 0;
@@ -114,7 +113,7 @@ impl<L: RaftLog> State<L> {
     fn hears_leader(&self) -> bool
         ensures { result ≡ hears_leader self.now }
     {
-        self.options.check_quorum && self.lead != 0 && self.elapsed < ELECTION_TICKS
+        self.options.check_quorum && self.lead != 0 && self.clock.elapsed < ELECTION_TICKS
     }
 
     // Whether a candidate asks while the leader is heard.

@@ -46,7 +46,7 @@ fn beat_all<L: RaftLog>(state: &mut State<L>) -> Result<(), AllocError>
     ensures { OnOk result (state.new ≡ all_beat state.old) }
 {
     let ids = state.tracker.ids()?;
-    state.heartbeat_elapsed = 0;
+    state.clock.heartbeat_elapsed = 0;
     beat_each(state, ids.as_slice())
 }
 
@@ -55,7 +55,7 @@ fn beat_all<L: RaftLog>(state: &mut State<L>) -> Result<(), AllocError>
 fn beat_if_due<L: RaftLog>(state: &mut State<L>, events: &mut Vec<Event>) -> Result<(), AllocError>
     ensures { OnOk result (turn state.new events.new.items ≡ heartbeats_due (turn state.old events.old.items)) }
 {
-    if HEARTBEAT_TICKS <= state.heartbeat_elapsed {
+    if HEARTBEAT_TICKS <= state.clock.heartbeat_elapsed {
         return beat_all(state);
     }
     Ok(())
@@ -99,18 +99,18 @@ fn look_at_quorum<L: RaftLog>(
 fn count_leader<L: RaftLog>(state: &mut State<L>, events: &mut Vec<Event>) -> Result<(), AllocError>
     ensures { OnOk result (turn state.new events.new.items ≡ leader_counted (turn state.old events.old.items)) }
 {
-    if state.elapsed < ELECTION_TICKS {
+    if state.clock.elapsed < ELECTION_TICKS {
         return beat_if_due(state, events);
     }
-    state.elapsed = 0;
+    state.clock.elapsed = 0;
     look_at_quorum(state, events)
 }
 
 fn count_up<L: RaftLog>(state: &mut State<L>)
     ensures { state.new ≡ counted_up state.old }
 {
-    state.elapsed = counted(state.elapsed);
-    state.heartbeat_elapsed = counted(state.heartbeat_elapsed);
+    state.clock.elapsed = counted(state.clock.elapsed);
+    state.clock.heartbeat_elapsed = counted(state.clock.heartbeat_elapsed);
 }
 
 #[tactic(auto, unfolding(crate::specs::Ticking::leader_ticked))]
@@ -124,16 +124,16 @@ fn tick_leader<L: RaftLog>(state: &mut State<L>, events: &mut Vec<Event>) -> Res
 fn is_due<L: RaftLog>(state: &State<L>) -> bool
     ensures { result ≡ is_due state.now }
 {
-    state.tracker.config().is_voter(state.id) && state.timeout <= state.elapsed
+    state.tracker.config().is_voter(state.id) && state.clock.timeout <= state.clock.elapsed
 }
 
 #[tactic(auto, unfolding(crate::specs::Ticking::other_ticked))]
 fn tick_other<L: RaftLog>(state: &mut State<L>, events: &mut Vec<Event>) -> Result<(), AllocError>
     ensures { OnOk result (turn state.new events.new.items ≡ other_ticked (turn state.old events.old.items)) }
 {
-    state.elapsed = counted(state.elapsed);
+    state.clock.elapsed = counted(state.clock.elapsed);
     if is_due(state) {
-        state.elapsed = 0;
+        state.clock.elapsed = 0;
         return state.campaign(false, events);
     }
     Ok(())

@@ -49,7 +49,7 @@ impl<L: RaftLog> State<L> {
             id: self.id,
             to: target,
         })?;
-        self.elapsed = 0;
+        self.clock.elapsed = 0;
         self.transferee = target;
         self.urge(target)
     }

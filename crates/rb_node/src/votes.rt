@@ -39,7 +39,7 @@ impl<L: RaftLog> State<L> {
     {
         if self.grants(message, last_term, last_index, false) {
             self.vote = message.from;
-            self.elapsed = 0;
+            self.clock.elapsed = 0;
             return self.answer(
                 message.from,
                 message.term,

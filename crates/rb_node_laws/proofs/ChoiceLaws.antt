@@ -24,7 +24,7 @@ use Rattle.rb_message.specs.declared.message.Message.{Message}
 use Rattle.rb_message.specs.declared.role.Role.{Role}
 use Rattle.rb_message.specs.declared.role.Role.TheVariants as role
 use Rattle.rb_node.specs.declared.limits.TheConstants.{ELECTION_TICKS}
-use Rattle.rb_node.specs.Node.{PlainNode, Turn, told, with_node, ignored, message, is_leader}
+use Rattle.rb_node.specs.Node.{PlainNode, Turn, told, with_node, ignored, message, is_leader, with_elapsed}
 use Rattle.rb_node.specs.Terms.{raised, lowered, hears_leader, is_disturbed_by}
 use Rattle.rb_node.specs.Campaigns.{why_no_campaign, campaigned_unless, campaigned, stood_unless, campaigned_after_pre_vote}
 use Rattle.rb_node.specs.Changing.{steps_down, led_on, switched, change_applied}
@@ -177,21 +177,21 @@ looks_down t checks lost =
     if_both (λ (u : Turn). StepsDown t.node u.node) (has_lost_quorum t.node) _ _ (λ _. (refl, refl, refl))
     (λ no. absurd (false≢true (sym no ∙ both_true t.node.options.check_quorum (quorum_active t.node.tracker) checks lost)))
 
-leader_looks_down : (t : Turn) → t.node.options.check_quorum ≡ true → quorum_active t.node.tracker ≡ false → ELECTION_TICKS ≤ counted t.node.elapsed → StepsDown t.node (leader_ticked t).node
+leader_looks_down : (t : Turn) → t.node.options.check_quorum ≡ true → quorum_active t.node.tracker ≡ false → ELECTION_TICKS ≤ counted t.node.clock.elapsed → StepsDown t.node (leader_ticked t).node
 unfolding leader_ticked leader_counted
 leader_looks_down t checks lost due =
     let u : Turn = with_node t (counted_up t.node) in
-    if_both (λ (x : Turn). StepsDown t.node x.node) (nat_le ELECTION_TICKS u.node.elapsed) _ _
-    (λ _. looks_down (with_node u (record u.node { elapsed = 0 })) checks lost)
-    (λ no. absurd (false≢true (sym no ∙ le-leb ELECTION_TICKS u.node.elapsed due)))
+    if_both (λ (x : Turn). StepsDown t.node x.node) (nat_le ELECTION_TICKS u.node.clock.elapsed) _ _
+    (λ _. looks_down (with_node u (with_elapsed u.node 0)) checks lost)
+    (λ no. absurd (false≢true (sym no ∙ le-leb ELECTION_TICKS u.node.clock.elapsed due)))
 
-role_looks_down : (r : Role) (t : Turn) → r ≡ role.Leader → t.node.options.check_quorum ≡ true → quorum_active t.node.tracker ≡ false → ELECTION_TICKS ≤ counted t.node.elapsed → StepsDown t.node (ticked_by r t).node
+role_looks_down : (r : Role) (t : Turn) → r ≡ role.Leader → t.node.options.check_quorum ≡ true → quorum_active t.node.tracker ≡ false → ELECTION_TICKS ≤ counted t.node.clock.elapsed → StepsDown t.node (ticked_by r t).node
 role_looks_down role.Leader t is checks lost due = leader_looks_down t checks lost due
 role_looks_down role.Follower t is checks lost due = cc
 role_looks_down role.Precandidate t is checks lost due = cc
 role_looks_down role.Candidate t is checks lost due = cc
 
-pub lost_quorum_steps_down : (t : Turn) → t.node.role ≡ role.Leader → t.node.options.check_quorum ≡ true → quorum_active t.node.tracker ≡ false → ELECTION_TICKS ≤ counted t.node.elapsed → StepsDown t.node (ticked t).node
+pub lost_quorum_steps_down : (t : Turn) → t.node.role ≡ role.Leader → t.node.options.check_quorum ≡ true → quorum_active t.node.tracker ≡ false → ELECTION_TICKS ≤ counted t.node.clock.elapsed → StepsDown t.node (ticked t).node
 lost_quorum_steps_down t leads checks lost due = role_looks_down t.node.role t leads checks lost due
 
 all_three : (a b c : Bool) → a ≡ true → b ≡ false → c ≡ true → (a && not b && c) ≡ true
@@ -200,8 +200,8 @@ all_three true false false e f g = absurd (false≢true g)
 all_three true true c e f g = absurd (false≢true (sym f))
 all_three false b c e f g = absurd (false≢true e)
 
-hears : (n : PlainNode) → n.options.check_quorum ≡ true → 0 < n.lead → n.elapsed < ELECTION_TICKS → hears_leader n ≡ true
-hears n checks knows lately = all_three n.options.check_quorum (n.lead == 0) (nat_lt n.elapsed ELECTION_TICKS) checks (some_is n.lead knows) (lt-ltb n.elapsed ELECTION_TICKS lately)
+hears : (n : PlainNode) → n.options.check_quorum ≡ true → 0 < n.lead → n.clock.elapsed < ELECTION_TICKS → hears_leader n ≡ true
+hears n checks knows lately = all_three n.options.check_quorum (n.lead == 0) (nat_lt n.clock.elapsed ELECTION_TICKS) checks (some_is n.lead knows) (lt-ltb n.clock.elapsed ELECTION_TICKS lately)
 
 of_this_term : (of same : Bool) → of ≡ true → (not of || same) ≡ true → same ≡ true
 of_this_term true same e h = h
@@ -223,12 +223,12 @@ and_also : (a : Bool) → a ≡ true → (a && not false) ≡ true
 and_also true e = refl
 and_also false e = absurd (false≢true e)
 
-pub votes_disturb_nobody : (t : Turn) (m : Message) (last_term last_index : ℕ) → m.kind ≡ kind.Vote last_term last_index false → t.node.options.check_quorum ≡ true → 0 < t.node.lead → t.node.elapsed < ELECTION_TICKS → t.node.term < m.term → (stepped t m).node ≡ t.node
+pub votes_disturb_nobody : (t : Turn) (m : Message) (last_term last_index : ℕ) → m.kind ≡ kind.Vote last_term last_index false → t.node.options.check_quorum ≡ true → 0 < t.node.lead → t.node.clock.elapsed < ELECTION_TICKS → t.node.term < m.term → (stepped t m).node ≡ t.node
 votes_disturb_nobody t m last_term last_index asks checks knows lately above =
     disturbed_stays t m (ap has_term asks) above
     (ap (λ (k : MessageKind). is_disturbed_by k t.node) asks ∙ and_also (hears_leader t.node) (hears t.node checks knows lately))
 
-pub pre_votes_disturb_nobody : (t : Turn) (m : Message) (last_term last_index : ℕ) → m.kind ≡ kind.PreVote last_term last_index → t.node.options.check_quorum ≡ true → 0 < t.node.lead → t.node.elapsed < ELECTION_TICKS → t.node.term < m.term → (stepped t m).node ≡ t.node
+pub pre_votes_disturb_nobody : (t : Turn) (m : Message) (last_term last_index : ℕ) → m.kind ≡ kind.PreVote last_term last_index → t.node.options.check_quorum ≡ true → 0 < t.node.lead → t.node.clock.elapsed < ELECTION_TICKS → t.node.term < m.term → (stepped t m).node ≡ t.node
 pre_votes_disturb_nobody t m last_term last_index asks checks knows lately above =
     disturbed_stays t m (ap has_term asks) above
     (ap (λ (k : MessageKind). is_disturbed_by k t.node) asks ∙ hears t.node checks knows lately)

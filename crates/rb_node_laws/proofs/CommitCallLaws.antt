@@ -14,7 +14,7 @@ use Rattle.rb_message.specs.declared.message.Message.{Message}
 use Rattle.rb_message.specs.declared.role.Role.{Role}
 use Rattle.rb_message.specs.declared.role.Role.TheVariants as role
 use Rattle.rb_node.specs.declared.limits.TheConstants.{ELECTION_TICKS}
-use Rattle.rb_node.specs.Node.{PlainNode, Turn, with_node, message}
+use Rattle.rb_node.specs.Node.{PlainNode, Turn, with_node, message, with_elapsed}
 use Rattle.rb_node.specs.Campaigns.{why_no_campaign, campaigned_unless, campaigned}
 use Rattle.rb_node.specs.Changing.{body_applied, applied_one, joint_left}
 use Rattle.rb_node.specs.Transferring.{transfer_ended}
@@ -126,8 +126,8 @@ looks_commit t =
 leader_counted_commit : (t : Turn) → (leader_counted t).node.commit ≡ t.node.commit
 unfolding leader_counted
 leader_counted_commit t =
-    if_both (λ (u : Turn). u.node.commit ≡ t.node.commit) (nat_le ELECTION_TICKS t.node.elapsed) _ _
-    (λ _. looks_commit (with_node t (record t.node { elapsed = 0 }))) (λ _. ap (λ (c : Core). c.commit) (beats_due_same t))
+    if_both (λ (u : Turn). u.node.commit ≡ t.node.commit) (nat_le ELECTION_TICKS t.node.clock.elapsed) _ _
+    (λ _. looks_commit (with_node t (with_elapsed t.node 0))) (λ _. ap (λ (c : Core). c.commit) (beats_due_same t))
 
 leader_ticked_commit : (t : Turn) → (leader_ticked t).node.commit ≡ t.node.commit
 unfolding leader_ticked

@@ -31,7 +31,7 @@ use Rattle.rb_message.specs.declared.message.Message.{Message}
 use Rattle.rb_message.specs.declared.role.Role.{Role}
 use Rattle.rb_message.specs.declared.role.Role.TheVariants as role
 use Rattle.rb_node.specs.declared.limits.TheConstants.{ELECTION_TICKS, HEARTBEAT_TICKS}
-use Rattle.rb_node.specs.Node.{Turn, told, with_node, ignored, message, is_leader}
+use Rattle.rb_node.specs.Node.{Turn, told, with_node, ignored, message, is_leader, with_elapsed}
 use Rattle.rb_node.specs.Terms.{followed, raised, raised_by, lowered, lowered_by, shown_term, answers_earlier, is_disturbed_by}
 use Rattle.rb_node.specs.Campaigns.{why_no_campaign, campaigned_unless, campaigned, stood_unless, campaigned_after_pre_vote}
 use Rattle.rb_node.specs.Votes.{count_of, counted, decided, pre_decided}
@@ -302,7 +302,7 @@ leaves {es} t h = if_both (Adds es) (leaves_joint t.node) _ t (λ _. appends_cha
 
 beats_due : {es : List Event} (t : Turn) → Adds es t → Adds es (heartbeats_due t)
 unfolding heartbeats_due
-beats_due {es} t h = if_both (Adds es) (nat_le HEARTBEAT_TICKS t.node.heartbeat_elapsed) _ t (λ _. h) (λ _. h)
+beats_due {es} t h = if_both (Adds es) (nat_le HEARTBEAT_TICKS t.node.clock.heartbeat_elapsed) _ t (λ _. h) (λ _. h)
 
 looks : {es : List Event} (t : Turn) → Adds es t → Adds es (quorum_looked_at t)
 unfolding quorum_looked_at
@@ -315,7 +315,7 @@ looks {es} t h =
 leader_counts : {es : List Event} (t : Turn) → Adds es t → Adds es (leader_counted t)
 unfolding leader_counted
 leader_counts {es} t h =
-    if_both (Adds es) (nat_le ELECTION_TICKS t.node.elapsed) _ _ (λ _. looks (with_node t (record t.node { elapsed = 0 })) h) (λ _. beats_due t h)
+    if_both (Adds es) (nat_le ELECTION_TICKS t.node.clock.elapsed) _ _ (λ _. looks (with_node t (with_elapsed t.node 0)) h) (λ _. beats_due t h)
 
 leader_ticks : {es : List Event} (t : Turn) → Adds es t → Adds es (leader_ticked t)
 unfolding leader_ticked
@@ -324,8 +324,8 @@ leader_ticks t h = leader_counts (with_node t (counted_up t.node)) h
 other_ticks : {es : List Event} (t : Turn) → Adds es t → Adds es (other_ticked t)
 unfolding other_ticked
 other_ticks {es} t h =
-    let u : Turn = with_node t (record t.node { elapsed = counted_tick t.node.elapsed }) in
-    if_both (Adds es) (is_due u.node) _ u (λ _. campaigns (with_node u (record u.node { elapsed = 0 })) false h) (λ _. h)
+    let u : Turn = with_node t (with_elapsed t.node (counted_tick t.node.clock.elapsed)) in
+    if_both (Adds es) (is_due u.node) _ u (λ _. campaigns (with_node u (with_elapsed u.node 0)) false h) (λ _. h)
 
 ticks : {es : List Event} (r : Role) (t : Turn) → Adds es t → Adds es (ticked_by r t)
 ticks role.Follower t h = other_ticks t h

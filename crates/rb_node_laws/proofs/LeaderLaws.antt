@@ -16,7 +16,7 @@ use Rattle.rb_message.specs.declared.message.Message.{Message}
 use Rattle.rb_message.specs.declared.role.Role.TheVariants as role
 use Rattle.rb_node.specs.declared.sends.Mode.{Mode}
 use Rattle.rb_node.specs.declared.sends.Mode.TheVariants as mode
-use Rattle.rb_node.specs.Node.{PlainNode, Turn, told, with_node}
+use Rattle.rb_node.specs.Node.{PlainNode, Turn, told, with_node, with_elapsed}
 use Rattle.rb_node.specs.Sends.{viewed}
 use Rattle.rb_node.specs.Leading.{is_log_full, appended, appended_change, with_view_of, with_views, in_lead, leading, all_told, led, can_commit, checked_commit}
 use Rattle.rb_node.specs.Acknowledging.{heard_of, handed_to, commits_or_sends, commit_or_sent, mode_after, accepted_news, accepted_old, accepted_by, accepted_with, accepted_at, accepted, refused_with, refused_at, append_refused, lags, beat_answered_with, beat_answered_at, beat_answered}
@@ -183,7 +183,7 @@ urged_same : (n : PlainNode) (target : ℕ) → core (urged n target) ≡ core n
 urged_same n target = if_both (λ (x : PlainNode). core x ≡ core n) (match_of n.tracker.views target == last n.log) _ _ (λ _. refl) (λ _. sends_same n target mode.Tell)
 
 started_same : (t : Turn) (target : ℕ) → core (transfer_started t target).node ≡ core t.node
-started_same t target = urged_same (record t.node { elapsed = 0; transferee = target }) target
+started_same t target = urged_same (record (with_elapsed t.node 0) { transferee = target }) target
 
 pub transferred_same : (t : Turn) (m : Message) (target : ℕ) → core (transferred t m target).node ≡ core t.node
 unfolding transferred

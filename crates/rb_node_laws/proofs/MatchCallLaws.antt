@@ -23,7 +23,7 @@ use Rattle.rb_message.specs.declared.event.Event.TheVariants.{Switched}
 use Rattle.rb_message.specs.declared.role.Role.{Role}
 use Rattle.rb_message.specs.declared.role.Role.TheVariants as role
 use Rattle.rb_node.specs.declared.limits.TheConstants.{ELECTION_TICKS, HEARTBEAT_TICKS}
-use Rattle.rb_node.specs.Node.{PlainNode, Turn, told, with_node, is_leader}
+use Rattle.rb_node.specs.Node.{PlainNode, Turn, told, with_node, is_leader, with_elapsed, with_heartbeat_elapsed}
 use Rattle.rb_node.specs.Sends.{is_replicating, told_all}
 use Rattle.rb_node.specs.Leading.{is_log_full, appended_change, with_views, can_commit, checked_commit}
 use Rattle.rb_node.specs.Changing.{without_stranger, without_strangers, missing, stranger_given_up, joined_by, revised, steps_down, led_on, switched, change_applied, body_applied, applied_one, leaves_joint, joint_left}
@@ -48,8 +48,8 @@ beats_tracker n (id ∷ ids) = beats_tracker (beat_to n id) ids ∙ if_both (λ 
 due_match : (t : Turn) (id : ℕ) → of (heartbeats_due t).node id ≡ of t.node id
 unfolding heartbeats_due
 due_match t id =
-    if_both (λ (u : Turn). of u.node id ≡ of t.node id) (nat_le HEARTBEAT_TICKS t.node.heartbeat_elapsed) _ _
-    (λ _. ap (λ (x : PlainTracker). match_of x.views id) (beats_tracker (record t.node { heartbeat_elapsed = 0 }) (ids_of t.node.tracker.views))) (λ _. refl)
+    if_both (λ (u : Turn). of u.node id ≡ of t.node id) (nat_le HEARTBEAT_TICKS t.node.clock.heartbeat_elapsed) _ _
+    (λ _. ap (λ (x : PlainTracker). match_of x.views id) (beats_tracker (with_heartbeat_elapsed t.node 0) (ids_of t.node.tracker.views))) (λ _. refl)
 
 both_in : (b : Bool) (x y : PlainProgress) (r s : Option PlainProgress) → y.matched ≡ x.matched → match_in r ≡ match_in s → match_in (cond b (Some y) r) ≡ match_in (cond b (Some x) s)
 both_in true x y r s e f = e
@@ -83,8 +83,8 @@ looks_less t id =
 leader_counted_less : (t : Turn) (id : ℕ) → of (leader_counted t).node id ≤ of t.node id
 unfolding leader_counted
 leader_counted_less t id =
-    if_both (λ (u : Turn). of u.node id ≤ of t.node id) (nat_le ELECTION_TICKS t.node.elapsed) _ _
-    (λ _. looks_less (with_node t (record t.node { elapsed = 0 })) id) (λ _. (let e = due_match t id in omega (arith, e)))
+    if_both (λ (u : Turn). of u.node id ≤ of t.node id) (nat_le ELECTION_TICKS t.node.clock.elapsed) _ _
+    (λ _. looks_less (with_node t (with_elapsed t.node 0)) id) (λ _. (let e = due_match t id in omega (arith, e)))
 
 leader_ticked_less : (t : Turn) (id : ℕ) → of (leader_ticked t).node id ≤ of t.node id
 unfolding leader_ticked
@@ -93,9 +93,9 @@ leader_ticked_less t id = leader_counted_less (with_node t (counted_up t.node)) 
 other_ticked_less : (t : Turn) (id : ℕ) → of (other_ticked t).node id ≤ of t.node id
 unfolding other_ticked
 other_ticked_less t id =
-    let u : Turn = with_node t (record t.node { elapsed = counted_tick t.node.elapsed }) in
+    let u : Turn = with_node t (with_elapsed t.node (counted_tick t.node.clock.elapsed)) in
     if_both (λ (x : Turn). of x.node id ≤ of t.node id) (is_due u.node) _ _
-    (λ _. campaigned_less (with_node u (record u.node { elapsed = 0 })) false id) (λ _. omega arith)
+    (λ _. campaigned_less (with_node u (with_elapsed u.node 0)) false id) (λ _. omega arith)
 
 pub ticked_less : (r : Role) (t : Turn) (id : ℕ) → of (ticked_by r t).node id ≤ of t.node id
 ticked_less role.Follower t id = other_ticked_less t id

@@ -20,7 +20,7 @@ use Rattle.rb_message.specs.declared.message.Message.{Message}
 use Rattle.rb_message.specs.declared.role.Role.{Role}
 use Rattle.rb_message.specs.declared.role.Role.TheVariants as role
 use Rattle.rb_node.specs.declared.sends.Mode.TheVariants as mode
-use Rattle.rb_node.specs.Node.{PlainNode, Turn, told, with_node, ignored}
+use Rattle.rb_node.specs.Node.{PlainNode, Turn, told, with_node, ignored, with_elapsed}
 use Rattle.rb_node.specs.Terms.{followed, raised, raised_by, lowered, lowered_by, answers_earlier, is_disturbed_by}
 use Rattle.rb_node.specs.Campaigns.{candidate, precandidate, stood, pre_vote_started, why_no_campaign, campaigned_unless, campaigned, stood_unless, campaigned_after_pre_vote}
 use Rattle.rb_node.specs.Sends.{viewed, told_all}
@@ -245,7 +245,7 @@ unfolding transferred
 transferred_match t m target id =
     let u = older_ended t in
     if_both (λ (x : Turn). of x.node id ≡ of t.node id) (cannot_take_lead t.node target) _ _
-    (λ _. refl) (λ _. urged_match (record u.node { elapsed = 0; transferee = target }) target id ∙ older_match t id)
+    (λ _. refl) (λ _. urged_match (record (with_elapsed u.node 0) { transferee = target }) target id ∙ older_match t id)
 
 -- ---- each role
 

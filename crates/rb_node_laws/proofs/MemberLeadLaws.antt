@@ -22,7 +22,7 @@ use Rattle.rb_node.specs.declared.sends.Mode.{Mode}
 use Rattle.rb_node.specs.declared.sends.Mode.TheVariants as mode
 use Rattle.rb_node.specs.declared.sends.Sending.{Sending}
 use Rattle.rb_node.specs.declared.sends.Sending.TheVariants as sending
-use Rattle.rb_node.specs.Node.{PlainNode, Turn, told, with_node, posted}
+use Rattle.rb_node.specs.Node.{PlainNode, Turn, told, with_node, posted, with_elapsed}
 use Rattle.rb_node.specs.Sends.{viewed, snapshot_of, snapshot_to, empty_to, entries_to, sends_by, sending_of, sends_with, sends_at, sends, tells, told_all}
 use Rattle.rb_node.specs.Leading.{is_log_full, appended, appended_change, with_view_of, with_views, in_lead, leading, led, can_commit, checked_commit}
 use Rattle.rb_node.specs.Acknowledging.{heard_of, handed_to, commit_or_sent, mode_after, accepted_news, accepted_old, accepted_by, accepted_with, accepted_at, accepted, refused_with, refused_at, append_refused, lags, beat_answered_with, beat_answered_at, beat_answered}
@@ -234,7 +234,7 @@ pub transferred_same : (t : Turn) (m : Message) (target : ℕ) → whom (transfe
 unfolding transferred
 transferred_same t m target =
     if_both (λ (u : Turn). whom u.node ≡ whom t.node) (cannot_take_lead t.node target) _ _
-    (λ _. refl) (λ _. urged_same (record (older_ended t).node { elapsed = 0; transferee = target }) target ∙ older_same t)
+    (λ _. refl) (λ _. urged_same (record (with_elapsed (older_ended t).node 0) { transferee = target }) target ∙ older_same t)
 
 pub transfer_ended_same : (t : Turn) → whom (transfer_ended t).node ≡ whom t.node
 unfolding transfer_ended

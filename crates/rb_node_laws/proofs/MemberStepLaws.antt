@@ -33,7 +33,7 @@ use Rattle.rb_message.specs.declared.message.Message.{Message}
 use Rattle.rb_message.specs.declared.role.Role.{Role}
 use Rattle.rb_message.specs.declared.role.Role.TheVariants as role
 use Rattle.rb_node.specs.declared.limits.TheConstants.{ELECTION_TICKS, HEARTBEAT_TICKS}
-use Rattle.rb_node.specs.Node.{PlainNode, Turn, told, with_node, ignored, message, is_leader}
+use Rattle.rb_node.specs.Node.{PlainNode, Turn, told, with_node, ignored, message, is_leader, with_elapsed, with_heartbeat_elapsed}
 use Rattle.rb_node.specs.Terms.{followed, raised, raised_by, lowered, lowered_by, shown_term, answers_earlier, is_disturbed_by}
 use Rattle.rb_node.specs.Campaigns.{asked_one, asked, candidate, precandidate, stood, pre_vote_started, why_no_campaign, campaigned_unless, campaigned, stood_unless, campaigned_after_pre_vote}
 use Rattle.rb_node.specs.Leading.{appended_change, with_views}
@@ -324,8 +324,8 @@ beat_each_same n (id ∷ ids) =
 beats_same : (t : Turn) → whom (heartbeats_due t).node ≡ whom t.node
 unfolding heartbeats_due
 beats_same t =
-    if_both (λ (u : Turn). whom u.node ≡ whom t.node) (nat_le HEARTBEAT_TICKS t.node.heartbeat_elapsed) _ _
-    (λ _. beat_each_same (record t.node { heartbeat_elapsed = 0 }) (ids_of t.node.tracker.views)) (λ _. refl)
+    if_both (λ (u : Turn). whom u.node ≡ whom t.node) (nat_le HEARTBEAT_TICKS t.node.clock.heartbeat_elapsed) _ _
+    (λ _. beat_each_same (with_heartbeat_elapsed t.node 0) (ids_of t.node.tracker.views)) (λ _. refl)
 
 unmarked_same : (n : PlainNode) → whom (record n { tracker = unmarked n.tracker n.id }) ≡ whom n
 unfolding unmarked
@@ -344,8 +344,8 @@ quorum_stays t =
 leader_counted_stays : (t : Turn) → Stays t.node (leader_counted t).node
 unfolding leader_counted
 leader_counted_stays t =
-    if_both (λ (u : Turn). Stays t.node u.node) (nat_le ELECTION_TICKS t.node.elapsed) _ _
-    (λ _. (let u : Turn = with_node t (record t.node { elapsed = 0 }) in stays_then {b = u.node} (stays refl) (quorum_stays u)))
+    if_both (λ (u : Turn). Stays t.node u.node) (nat_le ELECTION_TICKS t.node.clock.elapsed) _ _
+    (λ _. (let u : Turn = with_node t (with_elapsed t.node 0) in stays_then {b = u.node} (stays refl) (quorum_stays u)))
     (λ _. stays (beats_same t))
 
 leader_ticked_stays : (t : Turn) → Stays t.node (leader_ticked t).node
@@ -355,8 +355,8 @@ leader_ticked_stays t = let u : Turn = with_node t (counted_up t.node) in stays_
 other_ticked_stays : (t : Turn) → Stays t.node (other_ticked t).node
 unfolding other_ticked
 other_ticked_stays t =
-    let u : Turn = with_node t (record t.node { elapsed = counted_tick t.node.elapsed }) in
-    let v : Turn = with_node u (record u.node { elapsed = 0 }) in
+    let u : Turn = with_node t (with_elapsed t.node (counted_tick t.node.clock.elapsed)) in
+    let v : Turn = with_node u (with_elapsed u.node 0) in
     stays_then {b = u.node} (stays refl)
     (if_both (λ (x : Turn). Stays u.node x.node) (is_due u.node) (campaigned v false) u
     (λ _. stays_then {b = v.node} (stays refl) (campaigned_stays v false)) (λ _. stays refl))

@@ -27,7 +27,7 @@ use Rattle.rb_node.specs.declared.sends.Mode.{Mode}
 use Rattle.rb_node.specs.declared.sends.Mode.TheVariants as mode
 use Rattle.rb_node.specs.declared.sends.Sending.{Sending}
 use Rattle.rb_node.specs.declared.sends.Sending.TheVariants as sending
-use Rattle.rb_node.specs.Node.{PlainNode, Turn, told, with_node, message}
+use Rattle.rb_node.specs.Node.{PlainNode, Turn, told, with_node, message, with_elapsed}
 use Rattle.rb_node.specs.Sends.{is_news as tells_news, is_ping, takes_nothing, is_window_full, sending_of, term_or_0, append_of, snapshot_of, viewed, snapshot_to, empty_to, entries_to, sends_by, sends_with, sends_at, sends, tells, told_all}
 use Rattle.rb_node.specs.Leading.{with_own, is_log_full, appended, appended_change, with_view_of, with_views, in_lead, leading, led, can_commit, checked_commit}
 use Rattle.rb_node.specs.Acknowledging.{heard_of, handed_to, commit_or_sent, mode_after, accepted_news, accepted_old, accepted_by, accepted_with, accepted_at, accepted, refused_with, refused_at, append_refused, lags, beat_answered_with, beat_answered_at, beat_answered}
@@ -369,7 +369,7 @@ urged_says {R} w n target leads is =
 
 started_says : {R : PlainNode → PlainNode → Type 0} (w : Allows R) (t : Turn) (target : ℕ) → t.node.role ≡ role.Leader → R t.node (transfer_started t target).node
 started_says w t target leads =
-    let n : PlainNode = record t.node { elapsed = 0; transferee = target } in
+    let n : PlainNode = record (with_elapsed t.node 0) { transferee = target } in
     next w {b = n} (idle w refl refl refl) (urged_says w n target leads refl)
 
 older_role : (t : Turn) → (older_ended t).node.role ≡ t.node.role

@@ -42,7 +42,7 @@ use Rattle.std.proofs.Common.{◌≡◌, ℕ, ◌+◌, ◌≤◌, Bool, true, fa
 use Rattle.std.proofs.lemmas.Bool.{ltb-false, leb-false, false≢true}
 use Rattle.rb_raftlog.proofs.TermLaws.{is_term_is, held_in}
 use Rattle.rb_tracker.specs.Commits.{match_of}
-use Rattle.rb_node.specs.Node.{PlainNode, Turn, told, with_node, ignored, message, is_leader}
+use Rattle.rb_node.specs.Node.{PlainNode, Turn, told, with_node, ignored, message, is_leader, with_elapsed, with_heartbeat_elapsed}
 use Rattle.rb_node.specs.Campaigns.{asked_one, asked, candidate, precandidate, stood, pre_vote_started, why_no_campaign, campaigned_unless, campaigned, stood_unless, campaigned_after_pre_vote}
 use Rattle.rb_node.specs.Votes.{grants, voted_for, vote_answered, pre_vote_answered, count_of, counted, decided, pre_decided}
 use Rattle.rb_node.specs.Following.{heard, beaten, commits_to, after_log, with_appended, append_taken, restored_to, with_match, snapshot_taken, proposal_passed, transfer_passed}
@@ -394,8 +394,8 @@ beat_each_says w n (id ∷ ids) = next w (beat_says w n id) (beat_each_says w (b
 beats_says : {R : PlainNode → PlainNode → Type 0} (w : Allows R) (t : Turn) → R t.node (heartbeats_due t).node
 unfolding heartbeats_due
 beats_says {R} w t =
-    if_both (λ (u : Turn). R t.node u.node) (nat_le HEARTBEAT_TICKS t.node.heartbeat_elapsed) _ _
-    (λ _. (let n : PlainNode = record t.node { heartbeat_elapsed = 0 } in next w {b = n} (idle w refl refl refl) (beat_each_says w n (ids_of t.node.tracker.views))))
+    if_both (λ (u : Turn). R t.node u.node) (nat_le HEARTBEAT_TICKS t.node.clock.heartbeat_elapsed) _ _
+    (λ _. (let n : PlainNode = with_heartbeat_elapsed t.node 0 in next w {b = n} (idle w refl refl refl) (beat_each_says w n (ids_of t.node.tracker.views))))
     (λ _. nothing w t.node)
 
 looked_words : (n : PlainNode) → words (looked_anew n) ≡ words n
@@ -412,8 +412,8 @@ quorum_says {R} w t =
 leader_counted_says : {R : PlainNode → PlainNode → Type 0} (w : Allows R) (t : Turn) → R t.node (leader_counted t).node
 unfolding leader_counted
 leader_counted_says {R} w t =
-    if_both (λ (u : Turn). R t.node u.node) (nat_le ELECTION_TICKS t.node.elapsed) _ _
-    (λ _. (let u : Turn = with_node t (record t.node { elapsed = 0 }) in next w {b = u.node} (idle w refl refl refl) (quorum_says w u)))
+    if_both (λ (u : Turn). R t.node u.node) (nat_le ELECTION_TICKS t.node.clock.elapsed) _ _
+    (λ _. (let u : Turn = with_node t (with_elapsed t.node 0) in next w {b = u.node} (idle w refl refl refl) (quorum_says w u)))
     (λ _. beats_says w t)
 
 leader_ticked_says : {R : PlainNode → PlainNode → Type 0} (w : Allows R) (t : Turn) → R t.node (leader_ticked t).node
@@ -423,8 +423,8 @@ leader_ticked_says w t = let u : Turn = with_node t (counted_up t.node) in next 
 other_ticked_says : {R : PlainNode → PlainNode → Type 0} (w : Allows R) (t : Turn) → R t.node (other_ticked t).node
 unfolding other_ticked
 other_ticked_says {R} w t =
-    let u : Turn = with_node t (record t.node { elapsed = counted_tick t.node.elapsed }) in
-    let v : Turn = with_node u (record u.node { elapsed = 0 }) in
+    let u : Turn = with_node t (with_elapsed t.node (counted_tick t.node.clock.elapsed)) in
+    let v : Turn = with_node u (with_elapsed u.node 0) in
     next w {b = u.node} (idle w refl refl refl)
     (if_both (λ (x : Turn). R u.node x.node) (is_due u.node) (campaigned v false) u
     (λ _. next w {b = v.node} (idle w refl refl refl) (campaigned_says w v false)) (λ _. nothing w u.node))

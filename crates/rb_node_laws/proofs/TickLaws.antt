@@ -6,7 +6,7 @@ use Rattle.rb_message.specs.declared.event.Event.TheVariants.{LostQuorum}
 use Rattle.rb_message.specs.declared.role.Role.{Role}
 use Rattle.rb_message.specs.declared.role.Role.TheVariants as role
 use Rattle.rb_node.specs.declared.limits.TheConstants.{ELECTION_TICKS, HEARTBEAT_TICKS}
-use Rattle.rb_node.specs.Node.{PlainNode, Turn, told, with_node}
+use Rattle.rb_node.specs.Node.{PlainNode, Turn, told, with_node, with_elapsed, with_heartbeat_elapsed}
 use Rattle.rb_node.specs.Transferring.{transfer_ended}
 use Rattle.rb_node.specs.Ticking.{counted, beat_to, beat_each, heartbeats_due, has_lost_quorum, looked_anew, quorum_looked_at, leader_counted, counted_up, leader_ticked, is_due, other_ticked, ticked_by}
 use Rattle.rb_node_laws.proofs.Goes.{Ways, core, Keeps, self, same}
@@ -23,8 +23,8 @@ beat_each_same n (id ∷ ids) = beat_each_same (beat_to n id) ids ∙ beat_to_sa
 pub beats_due_same : (t : Turn) → core (heartbeats_due t).node ≡ core t.node
 unfolding heartbeats_due
 beats_due_same t =
-    if_both (λ (u : Turn). core u.node ≡ core t.node) (nat_le HEARTBEAT_TICKS t.node.heartbeat_elapsed) _ _
-    (λ _. beat_each_same (record t.node { heartbeat_elapsed = 0 }) (ids_of t.node.tracker.views)) (λ _. refl)
+    if_both (λ (u : Turn). core u.node ≡ core t.node) (nat_le HEARTBEAT_TICKS t.node.clock.heartbeat_elapsed) _ _
+    (λ _. beat_each_same (with_heartbeat_elapsed t.node 0) (ids_of t.node.tracker.views)) (λ _. refl)
 
 pub looked_same : (n : PlainNode) → core (looked_anew n) ≡ core n
 looked_same n = if_both (λ (x : PlainNode). core x ≡ core n) n.options.check_quorum _ _ (λ _. refl) (λ _. refl)
@@ -40,8 +40,8 @@ looks {w} t =
 leader_counts : {w : Ways} (t : Turn) → Keeps w (core t.node) (core (leader_counted t).node)
 unfolding leader_counted
 leader_counts {w} t =
-    if_both (λ (u : Turn). Keeps w (core t.node) (core u.node)) (nat_le ELECTION_TICKS t.node.elapsed) _ _
-    (λ _. looks (with_node t (record t.node { elapsed = 0 }))) (λ _. same (beats_due_same t))
+    if_both (λ (u : Turn). Keeps w (core t.node) (core u.node)) (nat_le ELECTION_TICKS t.node.clock.elapsed) _ _
+    (λ _. looks (with_node t (with_elapsed t.node 0))) (λ _. same (beats_due_same t))
 
 leader_ticks : {w : Ways} (t : Turn) → Keeps w (core t.node) (core (leader_ticked t).node)
 unfolding leader_ticked
@@ -50,9 +50,9 @@ leader_ticks t = leader_counts (with_node t (counted_up t.node))
 other_ticks : {w : Ways} (t : Turn) → Keeps w (core t.node) (core (other_ticked t).node)
 unfolding other_ticked
 other_ticks {w} t =
-    let u : Turn = with_node t (record t.node { elapsed = counted t.node.elapsed }) in
+    let u : Turn = with_node t (with_elapsed t.node (counted t.node.clock.elapsed)) in
     if_both (λ (v : Turn). Keeps w (core u.node) (core v.node)) (is_due u.node) _ _
-    (λ _. campaigns (with_node u (record u.node { elapsed = 0 })) false) (λ _. self (core u.node))
+    (λ _. campaigns (with_node u (with_elapsed u.node 0)) false) (λ _. self (core u.node))
 
 pub ticks : {w : Ways} (r : Role) (t : Turn) → Keeps w (core t.node) (core (ticked_by r t).node)
 ticks role.Follower t = other_ticks t

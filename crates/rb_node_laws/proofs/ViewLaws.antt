@@ -22,7 +22,7 @@ use Rattle.rb_node.specs.declared.sends.Mode.{Mode}
 use Rattle.rb_node.specs.declared.sends.Mode.TheVariants as mode
 use Rattle.rb_node.specs.declared.sends.Sending.{Sending}
 use Rattle.rb_node.specs.declared.sends.Sending.TheVariants as sending
-use Rattle.rb_node.specs.Node.{PlainNode, Turn, told, with_node, posted}
+use Rattle.rb_node.specs.Node.{PlainNode, Turn, told, with_node, posted, with_elapsed}
 use Rattle.rb_node.specs.Sends.{is_news as tells_news, is_ping, takes_nothing, is_window_full, sending_of, append_of, snapshot_of, viewed, snapshot_to, empty_to, entries_to, sends_by, sends_with, sends_at, sends, tells, told_all}
 use Rattle.rb_node.specs.Leading.{is_log_full, appended, appended_change, new_view, with_view_of, with_views, in_lead, leading, led, can_commit, checked_commit}
 use Rattle.rb_node.specs.Acknowledging.{heard_of, handed_to, commit_or_sent, mode_after, accepted_news, accepted_old, accepted_by, accepted_with, accepted_at, accepted, refused_with, refused_at, append_refused, lags, beat_answered_with, beat_answered_at, beat_answered}
@@ -284,7 +284,7 @@ urged_views n target = if_both (λ (x : PlainNode). Views n x) (match_of n.track
 
 started_views : (t : Turn) (target : ℕ) → Views t.node (transfer_started t target).node
 started_views t target =
-    let n : PlainNode = record t.node { elapsed = 0; transferee = target } in
+    let n : PlainNode = record (with_elapsed t.node 0) { transferee = target } in
     views_then {b = n} (unchanged refl refl) (urged_views n target)
 
 pub transferred_views : (t : Turn) (m : Message) (target : ℕ) → Views t.node (transferred t m target).node

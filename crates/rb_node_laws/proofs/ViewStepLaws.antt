@@ -33,7 +33,7 @@ use Rattle.rb_message.specs.declared.message.Message.{Message}
 use Rattle.rb_message.specs.declared.role.Role.{Role}
 use Rattle.rb_message.specs.declared.role.Role.TheVariants as role
 use Rattle.rb_node.specs.declared.limits.TheConstants.{ELECTION_TICKS, HEARTBEAT_TICKS}
-use Rattle.rb_node.specs.Node.{PlainNode, Turn, told, with_node, ignored, message, is_leader}
+use Rattle.rb_node.specs.Node.{PlainNode, Turn, told, with_node, ignored, message, is_leader, with_elapsed, with_heartbeat_elapsed}
 use Rattle.rb_node.specs.Terms.{followed, raised, raised_by, lowered, lowered_by, shown_term, answers_earlier, is_disturbed_by}
 use Rattle.rb_node.specs.Campaigns.{asked_one, asked, candidate, precandidate, stood, pre_vote_started, why_no_campaign, campaigned_unless, campaigned, stood_unless, campaigned_after_pre_vote}
 use Rattle.rb_node.specs.Sends.{is_replicating}
@@ -358,8 +358,8 @@ beat_views n (id ∷ ids) =
 beats_views : (t : Turn) → Views t.node (heartbeats_due t).node
 unfolding heartbeats_due
 beats_views t =
-    if_both (λ (u : Turn). Views t.node u.node) (nat_le HEARTBEAT_TICKS t.node.heartbeat_elapsed) _ _
-    (λ _. (let n : PlainNode = record t.node { heartbeat_elapsed = 0 } in views_then {b = n} (unchanged refl refl) (beat_views n (ids_of t.node.tracker.views))))
+    if_both (λ (u : Turn). Views t.node u.node) (nat_le HEARTBEAT_TICKS t.node.clock.heartbeat_elapsed) _ _
+    (λ _. (let n : PlainNode = with_heartbeat_elapsed t.node 0 in views_then {b = n} (unchanged refl refl) (beat_views n (ids_of t.node.tracker.views))))
     (λ _. unchanged refl refl)
 
 pub unmarked_views : (n : PlainNode) → Views n (record n { tracker = unmarked n.tracker n.id })
@@ -385,8 +385,8 @@ quorum_views t =
 leader_counted_views : (t : Turn) → Views t.node (leader_counted t).node
 unfolding leader_counted
 leader_counted_views t =
-    if_both (λ (u : Turn). Views t.node u.node) (nat_le ELECTION_TICKS t.node.elapsed) _ _
-    (λ _. (let u : Turn = with_node t (record t.node { elapsed = 0 }) in views_then {b = u.node} (unchanged refl refl) (quorum_views u)))
+    if_both (λ (u : Turn). Views t.node u.node) (nat_le ELECTION_TICKS t.node.clock.elapsed) _ _
+    (λ _. (let u : Turn = with_node t (with_elapsed t.node 0) in views_then {b = u.node} (unchanged refl refl) (quorum_views u)))
     (λ _. beats_views t)
 
 leader_ticked_views : (t : Turn) → Views t.node (leader_ticked t).node
@@ -396,8 +396,8 @@ leader_ticked_views t = let u : Turn = with_node t (counted_up t.node) in views_
 other_ticked_views : (t : Turn) → Views t.node (other_ticked t).node
 unfolding other_ticked
 other_ticked_views t =
-    let u : Turn = with_node t (record t.node { elapsed = counted_tick t.node.elapsed }) in
-    let v : Turn = with_node u (record u.node { elapsed = 0 }) in
+    let u : Turn = with_node t (with_elapsed t.node (counted_tick t.node.clock.elapsed)) in
+    let v : Turn = with_node u (with_elapsed u.node 0) in
     views_then {b = u.node} (unchanged refl refl)
     (if_both (λ (x : Turn). Views u.node x.node) (is_due u.node) (campaigned v false) u
     (λ _. views_then {b = v.node} (unchanged refl refl) (campaigned_views v false)) (λ _. unchanged refl refl))

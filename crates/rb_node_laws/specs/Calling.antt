@@ -5,7 +5,7 @@ use Rattle.rb_raftlog.specs.declared.raft_log.CompactFault.{CompactFault}
 use Rattle.rb_raftlog.specs.declared.entry.Body.{Body}
 use Rattle.rb_message.specs.declared.kind.MessageKind.TheVariants.{Proposal, TransferLeader}
 use Rattle.rb_message.specs.declared.message.Message.{Message}
-use Rattle.rb_node.specs.Node.{PlainNode, Turn, with_node}
+use Rattle.rb_node.specs.Node.{PlainNode, Turn, with_node, with_timeout}
 use Rattle.rb_node.specs.Campaigns.{campaigned}
 use Rattle.rb_node.specs.Step.{stepped}
 use Rattle.rb_node.specs.Calls.{called, leader_forgotten, reported}
@@ -43,7 +43,7 @@ after Tick t = ticked t
 after Advance t = advanced t
 after ForgetLeader t = with_node t (leader_forgotten t.node)
 after (ReportUnreachable id) t = with_node t (reported t.node id)
-after (SetTimeout ticks) t = with_node t (record t.node { timeout = ticks })
+after (SetTimeout ticks) t = with_node t (with_timeout t.node ticks)
 after (Compact index) t = with_node t (compacted_to t.node index)
 
 -- and after one call upon another

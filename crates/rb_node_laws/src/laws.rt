@@ -9,7 +9,7 @@ ghost use Rattle.rb_message.specs.declared.message.Message.{Message};
 ghost use Rattle.rb_message.specs.Appends.{PlainAppend};
 ghost use Rattle.rb_message.specs.declared.kind.MessageKind.TheVariants.{Append, Vote, PreVote, Proposal, TransferLeader};
 ghost use Rattle.rb_node.specs.declared.options.Options.{Options};
-ghost use Rattle.rb_node.specs.Node.{PlainNode, Turn, turn, started};
+ghost use Rattle.rb_node.specs.Node.{PlainNode, Turn, turn, started, with_timeout};
 ghost use Rattle.rb_node.specs.Campaigns.{campaigned, campaigned_after_pre_vote};
 ghost use Rattle.rb_node.specs.declared.limits.TheConstants.{ELECTION_TICKS};
 ghost use Rattle.rb_raftlog.specs.declared.entry.Body.{Body};
@@ -57,7 +57,7 @@ pub fn calls_are_these()
     ensures advance { (t : Turn) → after Advance t ≡ advanced t }
     ensures forget { (t : Turn) → after ForgetLeader t ≡ turn (leader_forgotten t.node) t.events }
     ensures report { (t : Turn) (id : ℕ) → after (ReportUnreachable id) t ≡ turn (reported t.node id) t.events }
-    ensures timeout { (t : Turn) (ticks : ℕ) → after (SetTimeout ticks) t ≡ turn (record t.node { timeout = ticks }) t.events }
+    ensures timeout { (t : Turn) (ticks : ℕ) → after (SetTimeout ticks) t ≡ turn (with_timeout t.node ticks) t.events }
     ensures compacted { (old new : PlainNode) (index : ℕ) (done : Unit {0}) → IsCompactedTo old index (Ok done) new → new ≡ compacted_to old index }
     ensures already { (old new : PlainNode) (index : ℕ) → IsCompactedTo old index (Err AlreadyCompacted) new → new ≡ compacted_to old index }
     ensures past { (old new : PlainNode) (index : ℕ) → IsCompactedTo old index (Err PastApplied) new → new ≡ compacted_to old index }
@@ -220,14 +220,14 @@ pub fn ready_is_exact()
 
 /// With checks of the quorum, a leader that has heard of no quorum since it last looked steps down when it looks.
 pub fn lost_quorums_end_a_lead()
-    ensures { (t : Turn) → t.node.role ≡ Leader → t.node.options.check_quorum ≡ true → quorum_active t.node.tracker ≡ false → ELECTION_TICKS ≤ counted t.node.elapsed → StepsDown t.node (after Tick t).node }
+    ensures { (t : Turn) → t.node.role ≡ Leader → t.node.options.check_quorum ≡ true → quorum_active t.node.tracker ≡ false → ELECTION_TICKS ≤ counted t.node.clock.elapsed → StepsDown t.node (after Tick t).node }
 {}
 
 /// With checks of the quorum, a node that has heard of its leader within the timeout is changed by no candidate of a later term but one
 /// that the leader hands the lead to.
 pub fn candidates_disturb_nobody()
-    ensures vote { (t : Turn) (m : Message) (last_term last_index : ℕ) → m.kind ≡ Vote last_term last_index false → t.node.options.check_quorum ≡ true → 0 < t.node.lead → t.node.elapsed < ELECTION_TICKS → t.node.term < m.term → (stepped t m).node ≡ t.node }
-    ensures pre_vote { (t : Turn) (m : Message) (last_term last_index : ℕ) → m.kind ≡ PreVote last_term last_index → t.node.options.check_quorum ≡ true → 0 < t.node.lead → t.node.elapsed < ELECTION_TICKS → t.node.term < m.term → (stepped t m).node ≡ t.node }
+    ensures vote { (t : Turn) (m : Message) (last_term last_index : ℕ) → m.kind ≡ Vote last_term last_index false → t.node.options.check_quorum ≡ true → 0 < t.node.lead → t.node.clock.elapsed < ELECTION_TICKS → t.node.term < m.term → (stepped t m).node ≡ t.node }
+    ensures pre_vote { (t : Turn) (m : Message) (last_term last_index : ℕ) → m.kind ≡ PreVote last_term last_index → t.node.options.check_quorum ≡ true → 0 < t.node.lead → t.node.clock.elapsed < ELECTION_TICKS → t.node.term < m.term → (stepped t m).node ≡ t.node }
 {}
 
 /// Where leaders step down on removal, one that a change leaves without a vote leads no more.

@@ -24,7 +24,7 @@ use Rattle.rb_tracker.proofs.SetLaws.{if_both}
 use Rattle.rb_message.specs.declared.message.Message.{Message}
 use Rattle.rb_node.specs.declared.limits.TheConstants.{ELECTION_TICKS}
 use Rattle.rb_node.specs.declared.options.Options.{Options}
-use Rattle.rb_node.specs.Node.{PlainNode, Turn, turn, started}
+use Rattle.rb_node.specs.Node.{PlainNode, Turn, turn, started, with_timeout}
 use Rattle.rb_node.specs.Calls.{node_started, reported}
 use Rattle.rb_node.specs.Readying.{handed, has_ready}
 use Rattle.rb_node.specs.Ticking.{ticked}
@@ -293,7 +293,7 @@ has_effect olds (requests.Propose id payload) x may all = acts olds x id (Propos
 has_effect olds (requests.ProcessReady ids) x may all = readies_each olds x ids all
 has_effect olds (requests.DeliverMsgs asked) x may all = delivers_msgs olds asked x all
 has_effect olds (requests.Stabilize ids rounds) x may all = settles olds rounds rounds x (chosen ids x.cluster.nodes) all
-has_effect olds (requests.ActWith withs.SetRandomizedElectionTimeout id timeout) x may all = changes olds x.cluster id (SetTimeout timeout) (λ (n : PlainNode). record n { timeout = timeout }) (node_at x.cluster id) (λ n. refl) refl all
+has_effect olds (requests.ActWith withs.SetRandomizedElectionTimeout id timeout) x may all = changes olds x.cluster id (SetTimeout timeout) (λ (n : PlainNode). with_timeout n timeout) (node_at x.cluster id) (λ n. refl) refl all
 has_effect olds (requests.ActWith withs.TransferLeadership from to) x may all = acts olds x from (Transfer to) all
 has_effect olds (requests.ActWith withs.ReportUnreachable id peer) x may all = changes olds x.cluster id (ReportUnreachable peer) (λ (n : PlainNode). reported n peer) (node_at x.cluster id) (λ n. refl) refl all
 has_effect olds (requests.ActWith withs.SendSnapshot from to) x may all = sends_snapshot olds x from to (node_at x.cluster from) all

@@ -282,7 +282,7 @@ fn later_reason<L: RaftLog>(state: &State<L>, message: &Message) -> Option<Reaso
 fn hears_leader<L: RaftLog>(state: &State<L>) -> bool
     ensures { result ≡ hears_leader state.now }
 {
-    state.options.check_quorum && state.lead != 0 && state.elapsed < ELECTION_TICKS
+    state.options.check_quorum && state.lead != 0 && state.clock.elapsed < ELECTION_TICKS
 }
 
 fn is_disturbed_by<L: RaftLog>(state: &State<L>, kind: &MessageKind) -> bool

@@ -78,9 +78,7 @@ impl<L: RaftLog> State<L> {
             content: held.content,
             tracker: ballots.tracker,
             votes: ballots.votes,
-            elapsed: self.elapsed,
-            heartbeat_elapsed: self.heartbeat_elapsed,
-            timeout: self.timeout,
+            clock: self.clock,
             transferee: self.transferee,
             pending_change: self.pending_change,
             saved: self.saved,
@@ -115,11 +113,7 @@ impl<L: RaftLog> State<L> {
     fn same_counters(&self, other: &State<L>) -> bool
         ensures { IsTrue result ↔ HaveSameCounters self.now other.now }
     {
-        self.elapsed == other.elapsed
-            && self.heartbeat_elapsed == other.heartbeat_elapsed
-            && self.timeout == other.timeout
-            && self.saved == other.saved
-            && self.options == other.options
+        self.clock == other.clock && self.saved == other.saved && self.options == other.options
     }
 
     fn same_lengths(&self, other: &State<L>) -> bool
