@@ -10,7 +10,7 @@ use Rattle.rb_bench.specs.declared.command.Command.{Command}
 use Rattle.rb_bench.specs.Commands.{command_of}
 use Rattle.rb_line.specs.declared.source.InputFault.{InputFault}
 use Rattle.rb_line.specs.Given.{LosesLine, LosesLong, IsFirstLong}
-use Rattle.rb_bench.specs.declared.given.Given.{Given}
+use Rattle.rb_bench.specs.declared.given_lines.GivenLines.{GivenLines}
 use Rattle.rb_bench.specs.declared.hear.Heard.{Heard}
 use Rattle.rb_bench.specs.declared.hear.Heard.TheVariants as heards
 use Rattle.rb_bench.specs.Talk.{is_long, given_count, asked, HasLong, IsCut}
@@ -53,14 +53,14 @@ long_among (l ∷ ls) line rest (suc count) lt h =
 -- ---- taking lines
 
 -- so many lines were taken, of bytes that may not be known
-abbrev pub Takes : Option (List ℕ) → Option (List ℕ) → ℕ → Given → Type 0
+abbrev pub Takes : Option (List ℕ) → Option (List ℕ) → ℕ → GivenLines → Type 0
 Takes before after count given = IfKnown before after (λ ls rest. HasTaken ls rest count given)
 
-pub takes_none : (left : Option (List ℕ)) (given : Given) → IsGiven given [] → Takes left left 0 given
+pub takes_none : (left : Option (List ℕ)) (given : GivenLines) → IsGiven given [] → Takes left left 0 given
 takes_none None given h = tt
 takes_none (Some bytes) given h = record { ls = []; lines_are = refl; count_is = refl; short = refl; is_given = h }
 
-takes_line : (before mid after : Option (List ℕ)) (count : ℕ) (given new : Given) (line : Line) → Takes before mid count given → LosesLine mid after line → length line ≤ MAX_LINE
+takes_line : (before mid after : Option (List ℕ)) (count : ℕ) (given new : GivenLines) (line : Line) → Takes before mid count given → LosesLine mid after line → length line ≤ MAX_LINE
     → ((ls : List Line) → IsGiven given ls → IsGiven new (ls ++ line ∷ [])) → Takes before after (count + 1) new
 takes_line None mid after count given new line t l le add = tt
 takes_line (Some bytes) None after count given new line t l le add = absurd t
@@ -73,7 +73,7 @@ takes_line (Some bytes) (Some more) (Some rest) count given new line t l le add 
   is_given = add t.ls t.is_given;
 }
 
-pub takes_more : (before mid after : Option (List ℕ)) (count : ℕ) (given new : Given) (held line : Line) → Takes before mid count given → LosesLine mid after line → length line ≤ MAX_LINE → held ≡ line
+pub takes_more : (before mid after : Option (List ℕ)) (count : ℕ) (given new : GivenLines) (held line : Line) → Takes before mid count given → LosesLine mid after line → length line ≤ MAX_LINE → held ≡ line
     → ((ls : List Line) → IsGiven given ls → IsGiven new (ls ++ held ∷ [])) → Takes before after (count + 1) new
 takes_more before mid after count given new held line t l le e add =
     takes_line before mid after count given new line t l le (λ ls g. subst (λ (m : Line). IsGiven new (ls ++ m ∷ [])) e (add ls g))
@@ -83,7 +83,7 @@ long_first ls all count n [] e c lt h = absurd h
 long_first ls all count n (line ∷ rest) e c lt h =
     ap (λ (l : List Line). list_any is_long (take count l)) e ∙ long_among ls line rest count (omega arith) (long_line line h)
 
-pub gathers_long : (before mid after : Option (List ℕ)) (count : ℕ) (given : Given) (command : Command) → Takes before mid count given → count < given_count command → IfSome mid (λ all. IsFirstLong (lines all)) → LosesLong mid after
+pub gathers_long : (before mid after : Option (List ℕ)) (count : ℕ) (given : GivenLines) (command : Command) → Takes before mid count given → count < given_count command → IfSome mid (λ all. IsFirstLong (lines all)) → LosesLong mid after
     → GathersOf before after command heards.LineTooLong
 gathers_long None mid after count given command t lt h lost = tt
 gathers_long (Some bytes) None after count given command t lt h lost = absurd t
@@ -91,7 +91,7 @@ gathers_long (Some bytes) (Some more) None count given command t lt h lost = abs
 gathers_long (Some bytes) (Some more) (Some rest) count given command t lt h lost =
     long_first t.ls (lines bytes) (given_count command) count (lines more) t.lines_are t.count_is lt h
 
-pub gathers_cut : (before mid after : Option (List ℕ)) (count : ℕ) (given : Given) (command : Command) → Takes before mid count given → count < given_count command → IsAtEnd mid → after ≡ Some [] → GathersOf before after command heards.CutOff
+pub gathers_cut : (before mid after : Option (List ℕ)) (count : ℕ) (given : GivenLines) (command : Command) → Takes before mid count given → count < given_count command → IsAtEnd mid → after ≡ Some [] → GathersOf before after command heards.CutOff
 gathers_cut None mid after count given command t lt h e = tt
 gathers_cut (Some bytes) None after count given command t lt h e = absurd t
 gathers_cut (Some bytes) (Some more) None count given command t lt h e = absurd cc
@@ -99,7 +99,7 @@ gathers_cut (Some bytes) (Some more) (Some rest) count given command t lt h e =
     let all : lines bytes ≡ t.ls = t.lines_are ∙ ap (λ (l : List Line). t.ls ++ l) (lines_of_none more h) ∙ append-nil t.ls in
     (ap (list_any is_long) all ∙ t.short, omega (arith, ap length all, t.count_is))
 
-pub gathers_all : (before after : Option (List ℕ)) (count : ℕ) (given : Given) (command : Command) → Takes before after count given → count ≡ given_count command → GathersOf before after command (heards.Command command given)
+pub gathers_all : (before after : Option (List ℕ)) (count : ℕ) (given : GivenLines) (command : Command) → Takes before after count given → count ≡ given_count command → GathersOf before after command (heards.Command command given)
 gathers_all None after count given command t e = tt
 gathers_all (Some bytes) None count given command t e = absurd t
 gathers_all (Some bytes) (Some rest) count given command t e = (refl, subst (λ (n : ℕ). HasTaken (lines bytes) (lines rest) n given) e t)

@@ -16,7 +16,7 @@ use Rattle.rb_line.specs.Left.{left_of}
 use Rattle.rb_line.specs.Taken.{AreWhole, StopsInLine, TakesWhole}
 use Rattle.rb_line.proofs.CutLaws.{lines_none, lines_whole, lines_of_whole, whole_both}
 use Rattle.rb_line.proofs.TakenLaws.{takes_then}
-use Rattle.rb_bench.specs.declared.given.Given.{Given}
+use Rattle.rb_bench.specs.declared.given_lines.GivenLines.{GivenLines}
 use Rattle.rb_bench.specs.declared.hear.Heard.{Heard}
 use Rattle.rb_bench.specs.declared.hear.Heard.TheVariants as heards
 use Rattle.rb_check.specs.declared.status.Status.{Status}
@@ -34,7 +34,7 @@ three : (all whole mid begun rest : List ℕ) → all ≡ whole ++ mid → mid �
 three all whole mid begun rest e f = e ∙ ap (λ (l : List ℕ). whole ++ l) f ∙ sym (append_assoc whole begun rest)
 
 -- so many lines were taken whole, and then the beginning of one came
-came_short : (all mid after : Option (List ℕ)) (count wanted : ℕ) (given : Given) (whole begun : List ℕ) → Takes all mid count given → AreWhole whole → Consumes all mid whole
+came_short : (all mid after : Option (List ℕ)) (count wanted : ℕ) (given : GivenLines) (whole begun : List ℕ) → Takes all mid count given → AreWhole whole → Consumes all mid whole
     → HasNoFeed begun → length (without_returns begun) ≤ MAX_LINE → Consumes mid after begun → count < wanted → IfCame all after (Came (AreTooFew wanted))
 came_short None mid after count wanted given whole begun t w c free short lost lt = tt
 came_short (Some all) None after count wanted given whole begun t w c free short lost lt = absurd t
@@ -54,7 +54,7 @@ came_short (Some all) (Some mid) (Some rest) count wanted given whole begun t w 
       },
     )
 
-pub stops_short : (x y : LineReader) (a b after : Option (List ℕ)) (count wanted : ℕ) (given : Given) → Takes (left_of x a) (left_of y b) count given → TakesWhole x y a b → StopsInLine y b after → count < wanted
+pub stops_short : (x y : LineReader) (a b after : Option (List ℕ)) (count wanted : ℕ) (given : GivenLines) → Takes (left_of x a) (left_of y b) count given → TakesWhole x y a b → StopsInLine y b after → count < wanted
     → StopsBehind (AreTooFew wanted) x a after
 stops_short x y a b after count wanted given t whole s lt =
     let took = whole s.going in record {

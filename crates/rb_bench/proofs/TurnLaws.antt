@@ -10,7 +10,7 @@ use Rattle.rb_bench.specs.declared.fault.BenchFault.{BenchFault}
 use Rattle.rb_script.specs.Lines.{Line, lines}
 use Rattle.rb_bench.specs.declared.command.Command.{Command}
 use Rattle.rb_replay.specs.Holding.{Holding}
-use Rattle.rb_bench.specs.declared.given.Given.{Given}
+use Rattle.rb_bench.specs.declared.given_lines.GivenLines.{GivenLines}
 use Rattle.rb_bench.specs.declared.hear.Heard.{Heard}
 use Rattle.rb_bench.specs.declared.hear.Heard.TheVariants as heards
 use Rattle.rb_bench.specs.Responses.{AnswersCommand}
@@ -21,7 +21,7 @@ use Rattle.rb_bench.specs.Turns.{IsExchange, IsTurn, IsDue, Turned, TurnedInPart
 use Rattle.rb_bench.specs.Known.{IfKnown}
 
 -- a command that was heard is an exchange
-exchanged : (h : Holding) (command : Command) (given : Given) (ls rest : List Line) (answer : List ℕ) (after : Holding) → HearsCommand command given ls rest
+exchanged : (h : Holding) (command : Command) (given : GivenLines) (ls rest : List Line) (answer : List ℕ) (after : Holding) → HearsCommand command given ls rest
     → ((given_lines : List Line) → IsGiven given given_lines → (no_memory : Bool) × AnswersCommand h command given_lines no_memory answer after) → IsExchange h ls rest answer after
 exchanged h command given ls rest answer after heard answers =
     let (no_memory, p) = answers heard.given_lines heard.is_given in record {
@@ -36,7 +36,7 @@ exchanged h command given ls rest answer after heard answers =
       after_is = refl;
     }
 
-pub exchange_heard : (h : Holding) (heard : Heard) (command : Command) (given : Given) (ls rest : List Line) (answer : List ℕ) (after : Holding) → heard ≡ heards.Command command given → Hears heard ls rest
+pub exchange_heard : (h : Holding) (heard : Heard) (command : Command) (given : GivenLines) (ls rest : List Line) (answer : List ℕ) (after : Holding) → heard ≡ heards.Command command given → Hears heard ls rest
     → ((given_lines : List Line) → IsGiven given given_lines → (no_memory : Bool) × AnswersCommand h command given_lines no_memory answer after) → IsExchange h ls rest answer after
 exchange_heard h heard command given ls rest answer after e hears answers = exchanged h command given ls rest answer after (subst (λ (m : Heard). Hears m ls rest) e hears) answers
 

@@ -6,19 +6,19 @@ use Rattle.rb_script.specs.Lines.{Line, text_of}
 use Rattle.rb_script.specs.Reading.{capped}
 use Rattle.rb_bench.specs.declared.command.Command.{Command}
 use Rattle.rb_bench.specs.Commands.{command_of}
-use Rattle.rb_bench.specs.declared.given.Given.{Given}
+use Rattle.rb_bench.specs.declared.given_lines.GivenLines.{GivenLines}
 use Rattle.rb_bench.specs.declared.hear.Heard.{Heard}
 use Rattle.rb_bench.specs.declared.hear.Heard.TheVariants as heards
 use Rattle.rb_bench.specs.Talk.{is_long, given_count, wanted, HasLong, IsCut}
 use Rattle.rb_bench.specs.Known.{IfKnown}
 
 -- what is held of given lines: how long their text is, and the lines if it may be so long and there was memory
-pub record IsGiven (given : Given) (ls : List Line) : Type 0 where
+pub record IsGiven (given : GivenLines) (ls : List Line) : Type 0 where
   pub len : given.text_len ≡ capped (length (text_of ls))
   pub kept : given.has_no_memory ≡ false → given.text_len ≤ MAX_SCRIPT → given.lines ≡ ls
 
 -- so many lines were taken, none of them too long, and the rest is left
-pub record HasTaken (all rest : List Line) (count : ℕ) (given : Given) : Type 0 where
+pub record HasTaken (all rest : List Line) (count : ℕ) (given : GivenLines) : Type 0 where
   pub ls : List Line
   pub lines_are : all ≡ ls ++ rest
   pub count_is : length ls ≡ count
@@ -44,7 +44,7 @@ abbrev pub GathersOf : Option (List ℕ) → Option (List ℕ) → Command → H
 GathersOf before after command heard = IfKnown before after (Gathers command heard)
 
 -- a command was heard, and its lines
-pub record HearsCommand (command : Command) (given : Given) (ls rest : List Line) : Type 0 where
+pub record HearsCommand (command : Command) (given : GivenLines) (ls rest : List Line) : Type 0 where
   pub line : Line
   pub given_lines : List Line
   pub command_is : command ≡ command_of line

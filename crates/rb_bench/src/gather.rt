@@ -8,7 +8,7 @@ ghost use Rattle.rb_bench.specs.Hearing.{GathersOf};
 ghost use Rattle.rb_bench.specs.Stopping.{AreTooFew, StopsBehind, TakesHeard};
 
 use crate::command::Command;
-use crate::given::Given;
+use crate::given_lines::GivenLines;
 use crate::hear::Heard;
 use rb_line::{InputFault, LineReader, Next, Source};
 use std::alloc::Global;
@@ -37,7 +37,7 @@ pub(crate) fn gather<S: Source>(
     ensures stops { OnErr result (Stops input.old (S.left source.old) (S.asked source.old) (S.asked source.new)) }
     ensures all { S.gives_all source.old → HasCallsFor input.old (S.left source.old) → IsOk result × S.gives_all source.new }
 {
-    let mut given = Given::new(alloc);
+    let mut given = GivenLines::new(alloc);
     let count = given_count(command);
     let mut taken: usize = 0;
     while taken < count {

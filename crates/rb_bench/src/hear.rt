@@ -8,7 +8,7 @@ ghost use Rattle.rb_bench.specs.Stopping.{IsUnfinished, StopsBehind, TakesHeard}
 
 use crate::command::{Command, command_of};
 use crate::gather::gather;
-use crate::given::Given;
+use crate::given_lines::GivenLines;
 use rb_line::{InputFault, LineReader, Next, Source};
 use std::alloc::Global;
 
@@ -16,7 +16,7 @@ use std::alloc::Global;
 #[derive(Drop)]
 pub(crate) enum Heard {
     /// A command, and its lines.
-    Command(Command, Given),
+    Command(Command, GivenLines),
     /// The end.
     End,
     /// A line that is too long.

@@ -10,7 +10,7 @@
 mod command;
 mod fault;
 mod gather;
-mod given;
+mod given_lines;
 mod hear;
 mod laws;
 mod limits;

@@ -10,7 +10,7 @@ ghost use Rattle.rb_bench.specs.Replies.{reply_text};
 ghost use Rattle.rb_bench.specs.Turns.{IsTurn};
 
 use crate::command::{Command, Purpose};
-use crate::given::Given;
+use crate::given_lines::GivenLines;
 use crate::hear::Heard;
 use crate::reply::Reply;
 use crate::running::{Mode, status};
@@ -48,7 +48,7 @@ fn make_given(
     session: &mut BenchSession,
     purpose: Purpose,
     place: usize,
-    given: Given,
+    given: GivenLines,
 ) -> Reply
     ensures { (ls : List Line) → IsGiven given ls
         → (no_memory : Bool) × AnswersGiven session.old purpose place ls no_memory (reply_text session.new result) session.new }
@@ -66,7 +66,7 @@ fn make_given(
 }
 
 /// What is answered to a command and the lines given to it.
-fn respond(alloc: Global, session: &mut BenchSession, command: Command, given: Given) -> Reply
+fn respond(alloc: Global, session: &mut BenchSession, command: Command, given: GivenLines) -> Reply
     ensures { (ls : List Line) → IsGiven given ls
         → (no_memory : Bool) × AnswersCommand session.old command ls no_memory (reply_text session.new result) session.new }
 {

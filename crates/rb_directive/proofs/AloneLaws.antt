@@ -9,8 +9,8 @@ use Rattle.rb_level.specs.declared.directive_error.DirectiveError.{DirectiveErro
 use Rattle.rb_directive.specs.declared.name.Name.{Name}
 use Rattle.rb_directive.specs.declared.name.Name.TheVariants as names
 use Rattle.rb_directive.specs.declared.table.Row.{Row}
-use Rattle.rb_directive.specs.declared.given.Given.{Given}
-use Rattle.rb_directive.specs.declared.given.WordPlace.TheVariants as places
+use Rattle.rb_directive.specs.declared.arguments.Arguments.{Arguments}
+use Rattle.rb_directive.specs.declared.arguments.WordPlace.TheVariants as places
 use Rattle.rb_directive.specs.declared.argument.Argument.{Argument}
 use Rattle.rb_directive.specs.declared.argument.Argument.TheVariants as arguments
 use Rattle.rb_directive.specs.declared.argument.Number.TheVariants as numbers
@@ -19,17 +19,17 @@ use Rattle.rb_directive.specs.declared.asking.Request.{Request}
 use Rattle.rb_directive.specs.declared.build.Asked.{Asked}
 use Rattle.rb_directive.specs.Forms.{Word, within}
 use Rattle.rb_directive.specs.IdLists.{id_of, with_id}
-use Rattle.rb_directive.specs.Givens.{nothing, number_set}
+use Rattle.rb_directive.specs.Arguments.{nothing, number_set}
 use Rattle.rb_directive.specs.Reading.{or_bad, ids_kept, with_word, with_argument, with_arguments}
 use Rattle.rb_directive.specs.Requests.{and_then, built, asked_of}
 use Rattle.rb_directive.specs.Alone.{asks, of_ids, of_node, of_first, of_word}
 
 -- what is asked for by what is given
-abbrev from : Name → List Line → Result Given DirectiveError → Result Asked DirectiveError
+abbrev from : Name → List Line → Result Arguments DirectiveError → Result Asked DirectiveError
 from name inputs given = and_then given (λ g. and_then (built name g inputs) (λ q. Ok (record { request = q; log_level = g.log_level })))
 
 -- nothing is given before the first word is taken
-abbrev begun : Given
+abbrev begun : Arguments
 begun = record nothing { next = places.Second }
 
 -- it asks for the same
@@ -75,7 +75,7 @@ word_asks row inputs w values =
     ]
 
 -- the last argument
-last : (row : Row) (given : Result Given DirectiveError) → with_arguments row [] given ≡ given
+last : (row : Row) (given : Result Arguments DirectiveError) → with_arguments row [] given ≡ given
 last row (Err e) = refl
 last row (Ok g) = refl
 

@@ -9,7 +9,7 @@ use Rattle.rb_directive.specs.declared.name.Name.{Name}
 use Rattle.rb_directive.specs.declared.name.Name.TheVariants as names
 use Rattle.rb_directive.specs.declared.table.Row.{Row}
 use Rattle.rb_directive.specs.declared.table.OptionRow.{OptionRow}
-use Rattle.rb_directive.specs.declared.given.Given.{Given}
+use Rattle.rb_directive.specs.declared.arguments.Arguments.{Arguments}
 use Rattle.rb_directive.specs.declared.argument.Argument.{Argument}
 use Rattle.rb_directive.specs.declared.argument.Argument.TheVariants as arguments
 use Rattle.rb_directive.specs.declared.argument.Bytes.TheVariants as bytes
@@ -22,7 +22,7 @@ use Rattle.rb_directive.specs.declared.asking.Request.TheVariants as requests
 use Rattle.rb_directive.specs.declared.build.Asked.{Asked}
 use Rattle.rb_directive.specs.IdLists.{holds, share, with_ids}
 use Rattle.rb_directive.specs.Table.{directives, options}
-use Rattle.rb_directive.specs.Givens.{nothing, listed, shares_one, excludes, number_set, ids_set}
+use Rattle.rb_directive.specs.Arguments.{nothing, listed, shares_one, excludes, number_set, ids_set}
 use Rattle.rb_directive.specs.Reading.{number_said, ids_kept}
 use Rattle.rb_directive.specs.Requests.{add_nodes, built, request}
 use Rattle.rb_directive.specs.Whole.{name_of, AreApart}
@@ -43,7 +43,7 @@ apart_back : (ids others : List ℕ) → AreApart ids others → AreApart others
 apart_back ids others apart = λ id here there. apart id there here
 
 -- the voters and the learners that are given
-abbrev IsApart : Given → Type 0
+abbrev IsApart : Arguments → Type 0
 IsApart g = AreApart (unwrap_or g.voters []) (unwrap_or g.learners [])
 
 -- ---- what the table says
@@ -82,7 +82,7 @@ words_exclusive = refl
 
 -- ---- what each argument keeps
 
-list_apart : (which : Ids) (other : Option Ids) (ids : List ℕ) (g : Given) → excludes_other which other ≡ true → excludes other ids g ≡ false → IsApart g → IsApart (ids_set which ids g)
+list_apart : (which : Ids) (other : Option Ids) (ids : List ℕ) (g : Arguments) → excludes_other which other ≡ true → excludes other ids g ≡ false → IsApart g → IsApart (ids_set which ids g)
 list_apart lists.Nodes other ids g fits e p = p
 list_apart lists.Voters None ids g fits e p = absurd (cc)
 list_apart lists.Voters (Some lists.Nodes) ids g fits e p = absurd (cc)
@@ -96,7 +96,7 @@ list_apart lists.Learners (Some lists.Learners) ids g fits e p = absurd (cc)
 list_apart lists.Learners (Some lists.Drop) ids g fits e p = absurd (cc)
 list_apart lists.Drop other ids g fits e p = p
 
-lists_apart : (which : Ids) (other : Option Ids) (g next : Given) (o : Option (List ℕ)) → excludes_other which other ≡ true → ids_kept which other g o ≡ Some next → IsApart g → IsApart next
+lists_apart : (which : Ids) (other : Option Ids) (g next : Arguments) (o : Option (List ℕ)) → excludes_other which other ≡ true → ids_kept which other g o ≡ Some next → IsApart g → IsApart next
 lists_apart which other g next None fits h p = absurd (cc)
 lists_apart which other g next (Some ids) fits h p =
     elim (excludes other ids g) as (λ b. excludes other ids g ≡ b → (if b then None else Some (ids_set which ids g)) ≡ Some next → IsApart next) [
@@ -135,7 +135,7 @@ nothing_apart = λ id here there. absurd (let none = there.1 in omega arith)
 nodes_same : (made r : AddNodes) → done (requests.AddNodes made) ≡ done (requests.AddNodes r) → made ≡ r
 nodes_same made r h = cc
 
-nodes_apart : (g : Given) (r : AddNodes) → IsApart g → add_nodes g ≡ Ok (requests.AddNodes r) → AreApart (unwrap_or r.voters []) (unwrap_or r.learners [])
+nodes_apart : (g : Arguments) (r : AddNodes) → IsApart g → add_nodes g ≡ Ok (requests.AddNodes r) → AreApart (unwrap_or r.voters []) (unwrap_or r.learners [])
 nodes_apart g r p h =
     let count = wanted_some (codes "n") g.count _ (requests.AddNodes r) h in
     subst (λ (nodes : AddNodes). AreApart (unwrap_or nodes.voters []) (unwrap_or nodes.learners [])) (nodes_same _ r count.2) p

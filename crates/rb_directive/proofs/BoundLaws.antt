@@ -16,7 +16,7 @@ use Rattle.rb_directive.specs.declared.name.Name.{Name}
 use Rattle.rb_directive.specs.declared.name.Name.TheVariants as names
 use Rattle.rb_directive.specs.declared.table.Row.{Row}
 use Rattle.rb_directive.specs.declared.table.OptionRow.{OptionRow}
-use Rattle.rb_directive.specs.declared.given.Given.{Given}
+use Rattle.rb_directive.specs.declared.arguments.Arguments.{Arguments}
 use Rattle.rb_directive.specs.declared.argument.Argument.{Argument}
 use Rattle.rb_directive.specs.declared.argument.Argument.TheVariants as arguments
 use Rattle.rb_directive.specs.declared.argument.Number.{Number}
@@ -31,12 +31,12 @@ use Rattle.rb_directive.specs.declared.asking.AddNodes.{AddNodes}
 use Rattle.rb_directive.specs.declared.asking.Request.{Request}
 use Rattle.rb_directive.specs.declared.asking.Request.TheVariants as requests
 use Rattle.rb_directive.specs.declared.build.Asked.{Asked}
-use Rattle.rb_directive.specs.declared.limits.TheConstants.{MAX_ID, MAX_NODES, MAX_INDEX, MAX_COMPACTED, MAX_BYTES, MAX_WINDOW, MAX_ROUNDS, MAX_TIMEOUT, MAX_IDS, WINDOW, ROUNDS}
+use Rattle.rb_directive.specs.declared.limits.TheConstants.{MAX_ID, MAX_NODES, MAX_FIRST_INDEX, MAX_COMPACTED, MAX_BYTES, MAX_WINDOW, MAX_ROUNDS, MAX_TIMEOUT, MAX_IDS, WINDOW, ROUNDS}
 use Rattle.rb_directive.specs.Forms.{Word, is_within, within}
 use Rattle.rb_directive.specs.IdLists.{id_of, with_id, with_ids}
 use Rattle.rb_directive.specs.Names.{number_text}
 use Rattle.rb_directive.specs.Table.{directives, options}
-use Rattle.rb_directive.specs.Givens.{nothing, number_given, bytes_given, ids_given, listed, excludes, number_set, bytes_set, ids_set}
+use Rattle.rb_directive.specs.Arguments.{nothing, number_given, bytes_given, ids_given, listed, excludes, number_set, bytes_set, ids_set}
 use Rattle.rb_directive.specs.Reading.{only, number_said, bytes_said, ids_kept}
 use Rattle.rb_directive.specs.Requests.{IsFrom, IsId, IsNumber, AreIds, AreNodes, IsWithin, wanted, and_then, add_nodes, at_node, propose, propose_conf_change, process_ready, deliver_msgs, stabilize, wants, act_with, built, request}
 use Rattle.rb_directive.proofs.ReadLaws.{ids_none}
@@ -89,7 +89,7 @@ least numbers.Index = 0
 least which = 1
 
 abbrev pub greatest_index : Name → ℕ
-greatest_index names.AddNodes = MAX_INDEX
+greatest_index names.AddNodes = MAX_FIRST_INDEX
 greatest_index name = MAX_COMPACTED
 
 abbrev greatest : Name → Number → ℕ
@@ -128,7 +128,7 @@ words_limited = refl
 -- ---- what is given
 
 -- what is given to the directive of a name is within the limits
-abbrev IsGivenWithin : Name → Given → Type 0
+abbrev IsGivenWithin : Name → Arguments → Type 0
 IsGivenWithin name g = record {
   numbers : (which : Number) → IfSome (number_given which (numbers_of g)) (IsFrom (least which) (greatest name which));
   bytes : (which : Bytes) → IfSome (bytes_given which (bytes_of g)) (λ w. IsFrom (fewest which) MAX_BYTES (length w));
@@ -136,7 +136,7 @@ IsGivenWithin name g = record {
 }
 
 -- what holds of each number still does, where it holds of the one that is set
-number_still : (P : Number → ℕ → Type 0) (which : Number) (n : ℕ) (g : Given) → P which n → ((some : Number) → IfSome (number_given some (numbers_of g)) (P some))
+number_still : (P : Number → ℕ → Type 0) (which : Number) (n : ℕ) (g : Arguments) → P which n → ((some : Number) → IfSome (number_given some (numbers_of g)) (P some))
     → (other : Number) → IfSome (number_given other (numbers_of (number_set which n g))) (P other)
 number_still P numbers.Count n g h p numbers.Count = h
 number_still P numbers.Count n g h p other = p other
@@ -157,25 +157,25 @@ number_still P numbers.Rounds n g h p other = p other
 number_still P numbers.Timeout n g h p numbers.Timeout = h
 number_still P numbers.Timeout n g h p other = p other
 
-number_kept : (name : Name) (which : Number) (n : ℕ) (g : Given) → IsFrom (least which) (greatest name which) n → IsGivenWithin name g → IsGivenWithin name (number_set which n g)
+number_kept : (name : Name) (which : Number) (n : ℕ) (g : Arguments) → IsFrom (least which) (greatest name which) n → IsGivenWithin name g → IsGivenWithin name (number_set which n g)
 number_kept name which n g h p = record {
   numbers = number_still (λ some. IsFrom (least some) (greatest name some)) which n g h p.numbers;
   bytes = rest_still (λ some ids. (w : Bytes) → IfSome (bytes_given w some) (λ said. IsFrom (fewest w) MAX_BYTES (length said))) which n g p.bytes;
   lists = rest_still (λ some ids. (w : Ids) → IfSome (ids_given w ids) AreIds) which n g p.lists;
 }
 
-bytes_still : (P : Bytes → Word → Type 0) (which : Bytes) (w : Word) (g : Given) → P which w → ((some : Bytes) → IfSome (bytes_given some (bytes_of g)) (P some))
+bytes_still : (P : Bytes → Word → Type 0) (which : Bytes) (w : Word) (g : Arguments) → P which w → ((some : Bytes) → IfSome (bytes_given some (bytes_of g)) (P some))
     → (other : Bytes) → IfSome (bytes_given other (bytes_of (bytes_set which w g))) (P other)
 bytes_still P bytes.Payload w g h p bytes.Payload = h
 bytes_still P bytes.Payload w g h p bytes.Content = p bytes.Content
 bytes_still P bytes.Content w g h p bytes.Payload = p bytes.Payload
 bytes_still P bytes.Content w g h p bytes.Content = h
 
-bytes_kept : (name : Name) (which : Bytes) (w : Word) (g : Given) → IsFrom (fewest which) MAX_BYTES (length w) → IsGivenWithin name g → IsGivenWithin name (bytes_set which w g)
+bytes_kept : (name : Name) (which : Bytes) (w : Word) (g : Arguments) → IsFrom (fewest which) MAX_BYTES (length w) → IsGivenWithin name g → IsGivenWithin name (bytes_set which w g)
 bytes_kept name bytes.Payload w g h p = record { numbers = p.numbers; bytes = bytes_still (λ some said. IsFrom (fewest some) MAX_BYTES (length said)) bytes.Payload w g h p.bytes; lists = p.lists }
 bytes_kept name bytes.Content w g h p = record { numbers = p.numbers; bytes = bytes_still (λ some said. IsFrom (fewest some) MAX_BYTES (length said)) bytes.Content w g h p.bytes; lists = p.lists }
 
-list_still : (P : List ℕ → Type 0) (which : Ids) (ids : List ℕ) (g : Given) → P ids → ((some : Ids) → IfSome (ids_given some (lists_of g)) P)
+list_still : (P : List ℕ → Type 0) (which : Ids) (ids : List ℕ) (g : Arguments) → P ids → ((some : Ids) → IfSome (ids_given some (lists_of g)) P)
     → (other : Ids) → IfSome (ids_given other (lists_of (ids_set which ids g))) P
 list_still P lists.Nodes ids g h p lists.Nodes = h
 list_still P lists.Nodes ids g h p other = p other
@@ -186,7 +186,7 @@ list_still P lists.Learners ids g h p other = p other
 list_still P lists.Drop ids g h p lists.Drop = h
 list_still P lists.Drop ids g h p other = p other
 
-list_kept : (name : Name) (which : Ids) (ids : List ℕ) (g : Given) → AreIds ids → IsGivenWithin name g → IsGivenWithin name (ids_set which ids g)
+list_kept : (name : Name) (which : Ids) (ids : List ℕ) (g : Arguments) → AreIds ids → IsGivenWithin name g → IsGivenWithin name (ids_set which ids g)
 list_kept name lists.Nodes ids g h p = record { numbers = p.numbers; bytes = p.bytes; lists = list_still AreIds lists.Nodes ids g h p.lists }
 list_kept name lists.Voters ids g h p = record { numbers = p.numbers; bytes = p.bytes; lists = list_still AreIds lists.Voters ids g h p.lists }
 list_kept name lists.Learners ids g h p = record { numbers = p.numbers; bytes = p.bytes; lists = list_still AreIds lists.Learners ids g h p.lists }
@@ -199,7 +199,7 @@ or_none : (o : Option (List ℕ)) → IfSome o AreIds → AreIds (unwrap_or o []
 or_none None h = none_are
 or_none (Some ids) h = h
 
-listed_are : (name : Name) (which : Ids) (g : Given) → IsGivenWithin name g → AreIds (listed which g)
+listed_are : (name : Name) (which : Ids) (g : Arguments) → IsGivenWithin name g → AreIds (listed which g)
 listed_are name lists.Nodes g p = or_none g.nodes (p.lists lists.Nodes)
 listed_are name lists.Voters g p = or_none g.voters (p.lists lists.Voters)
 listed_are name lists.Learners g p = or_none g.learners (p.lists lists.Learners)
@@ -214,7 +214,7 @@ closer low high least most n h from =
     let below : high ≤ most = leb-true high most parts.1 in
     (omega arith, omega arith)
 
-ids_set_kept : (name : Name) (which : Ids) (other : Option Ids) (g next : Given) (o : Option (List ℕ)) → ((ids : List ℕ) → o ≡ Some ids → AreIds ids)
+ids_set_kept : (name : Name) (which : Ids) (other : Option Ids) (g next : Arguments) (o : Option (List ℕ)) → ((ids : List ℕ) → o ≡ Some ids → AreIds ids)
     → ids_kept which other g o ≡ Some next → IsGivenWithin name g → IsGivenWithin name next
 ids_set_kept name which other g next None are h p = absurd (cc)
 ids_set_kept name which other g next (Some ids) are h p =
@@ -258,7 +258,7 @@ or_else : (low high n : ℕ) (o : Option ℕ) → IsFrom low high n → IfSome o
 or_else low high n None default h = default
 or_else low high n (Some m) default h = h
 
-index_most : (o : Option ℕ) → IfSome o (IsFrom 0 MAX_INDEX) → unwrap_or o 0 ≤ MAX_INDEX
+index_most : (o : Option ℕ) → IfSome o (IsFrom 0 MAX_FIRST_INDEX) → unwrap_or o 0 ≤ MAX_FIRST_INDEX
 index_most None h = omega arith
 index_most (Some index) h = h.1
 
@@ -269,7 +269,7 @@ content_most (Some w) h = h.1
 done_within : (made r : Request) → done made ≡ done r → IsWithin made → IsWithin r
 done_within made r e h = let is : made ≡ r = cc in subst IsWithin is h
 
-nodes_within : (g : Given) (r : Request) → IsGivenWithin names.AddNodes g → add_nodes g ≡ Ok r → IsWithin r
+nodes_within : (g : Arguments) (r : Request) → IsGivenWithin names.AddNodes g → add_nodes g ≡ Ok r → IsWithin r
 unfolding IsWithin
 nodes_within g r p h =
     let count = wanted_some (codes "n") g.count _ r h in
@@ -282,46 +282,46 @@ nodes_within g r p h =
       inflight = or_else 1 MAX_WINDOW WINDOW g.inflight (omega arith, omega arith) (p.numbers numbers.Inflight);
     })
 
-node_within : (make : ℕ → Request) → ((id : ℕ) → IsId id → IsWithin (make id)) → (name : Name) (g : Given) (r : Request) → IsGivenWithin name g → at_node make g ≡ Ok r → IsWithin r
+node_within : (make : ℕ → Request) → ((id : ℕ) → IsId id → IsWithin (make id)) → (name : Name) (g : Arguments) (r : Request) → IsGivenWithin name g → at_node make g ≡ Ok r → IsWithin r
 node_within make is name g r p h =
     let id = wanted_some (codes "id") g.id (λ id. done (make id)) r h in
     done_within (make id.0) r id.2 (is id.0 (at_some IsId g.id id.0 id.1 (p.numbers numbers.Id)))
 
-propose_within : (g : Given) (r : Request) → IsGivenWithin names.Propose g → propose g ≡ Ok r → IsWithin r
+propose_within : (g : Arguments) (r : Request) → IsGivenWithin names.Propose g → propose g ≡ Ok r → IsWithin r
 unfolding IsWithin
 propose_within g r p h =
     let id = wanted_some (codes "id") g.id _ r h in
     let payload = wanted_some (codes "payload") g.payload _ r id.2 in
     done_within _ r payload.2 (at_some IsId g.id id.0 id.1 (p.numbers numbers.Id), at_some (λ (w : Word). IsFrom 1 MAX_BYTES (length w)) g.payload payload.0 payload.1 (p.bytes bytes.Payload))
 
-change_within : (g : Given) (inputs : List Line) (r : Request) → IsGivenWithin names.ProposeConfChange g → propose_conf_change g inputs ≡ Ok r → IsWithin r
+change_within : (g : Arguments) (inputs : List Line) (r : Request) → IsGivenWithin names.ProposeConfChange g → propose_conf_change g inputs ≡ Ok r → IsWithin r
 unfolding IsWithin
 change_within g inputs r p h =
     let id = wanted_some (codes "id") g.id _ r h in
     done_within _ r id.2 (at_some IsId g.id id.0 id.1 (p.numbers numbers.Id))
 
-ready_within : (g : Given) (r : Request) → IsGivenWithin names.ProcessReady g → process_ready g ≡ Ok r → IsWithin r
+ready_within : (g : Arguments) (r : Request) → IsGivenWithin names.ProcessReady g → process_ready g ≡ Ok r → IsWithin r
 unfolding IsWithin
 ready_within g r p h =
     let ids = wanted_some (codes "id") g.nodes _ r h in
     done_within _ r ids.2 (at_some AreIds g.nodes ids.0 ids.1 (p.lists lists.Nodes))
 
-act_within : (act : ActWith) (g : Given) (r : Request) → IfSome (number_given (wants act).0 g) IsId → IfSome (number_given (wants act).1 g) (IsNumber (wants act).1) → act_with act g ≡ Ok r → IsWithin r
+act_within : (act : ActWith) (g : Arguments) (r : Request) → IfSome (number_given (wants act).0 g) IsId → IfSome (number_given (wants act).1 g) (IsNumber (wants act).1) → act_with act g ≡ Ok r → IsWithin r
 unfolding IsWithin
 act_within act g r node number h =
     let id = wanted_some (number_text (wants act).0) (number_given (wants act).0 g) _ r h in
     let value = wanted_some (number_text (wants act).1) (number_given (wants act).1 g) _ r id.2 in
     done_within _ r value.2 (at_some IsId (number_given (wants act).0 g) id.0 id.1 node, at_some (IsNumber (wants act).1) (number_given (wants act).1 g) value.0 value.1 number)
 
-with_within : (act : ActWith) (g : Given) (r : Request) → IsGivenWithin (names.ActWith act) g → act_with act g ≡ Ok r → IsWithin r
+with_within : (act : ActWith) (g : Arguments) (r : Request) → IsGivenWithin (names.ActWith act) g → act_with act g ≡ Ok r → IsWithin r
 with_within withs.Compact g r p h = act_within withs.Compact g r (p.numbers (wants withs.Compact).0) (p.numbers (wants withs.Compact).1) h
 with_within act g r p h = act_within act g r (p.numbers (wants act).0) (p.numbers (wants act).1) h
 
-level_within : (g : Given) (r : Request) → and_then (wanted (codes "level") g.level) (λ level. Ok (requests.LogLevel level)) ≡ Ok r → IsWithin r
+level_within : (g : Arguments) (r : Request) → and_then (wanted (codes "level") g.level) (λ level. Ok (requests.LogLevel level)) ≡ Ok r → IsWithin r
 unfolding IsWithin
 level_within g r h = let level = wanted_some (codes "level") g.level _ r h in done_within _ r level.2 tt
 
-built_within : (name : Name) (g : Given) (inputs : List Line) (r : Request) → IsGivenWithin name g → built name g inputs ≡ Ok r → IsWithin r
+built_within : (name : Name) (g : Arguments) (inputs : List Line) (r : Request) → IsGivenWithin name g → built name g inputs ≡ Ok r → IsWithin r
 unfolding IsWithin
 built_within names.AddNodes g inputs r p h = nodes_within g r p h
 built_within (names.Act act) g inputs r p h = node_within (requests.Act act) (λ id is. is) (names.Act act) g r p h

@@ -8,14 +8,14 @@ use Rattle.rb_level.specs.declared.directive_error.DirectiveError.TheVariants as
 use Rattle.rb_directive.specs.declared.name.Name.{Name}
 use Rattle.rb_directive.specs.declared.name.Name.TheVariants as names
 use Rattle.rb_directive.specs.declared.table.Row.{Row}
-use Rattle.rb_directive.specs.declared.given.Given.{Given}
+use Rattle.rb_directive.specs.declared.arguments.Arguments.{Arguments}
 use Rattle.rb_directive.specs.declared.asking.Request.{Request}
 use Rattle.rb_directive.specs.declared.asking.Request.TheVariants as requests
 use Rattle.rb_directive.specs.declared.build.Asked.{Asked}
 use Rattle.rb_directive.specs.Forms.{Word}
 use Rattle.rb_directive.specs.Names.{name_text, number_text}
 use Rattle.rb_directive.specs.Table.{directives, row_in}
-use Rattle.rb_directive.specs.Givens.{nothing, number_given}
+use Rattle.rb_directive.specs.Arguments.{nothing, number_given}
 use Rattle.rb_directive.specs.Reading.{with_arguments}
 use Rattle.rb_directive.specs.Requests.{wanted, and_then, at_node, deliver_msgs, stabilize, wants, built, request_of, request}
 use Rattle.rb_directive.specs.Whole.{name_of}
@@ -36,18 +36,18 @@ done r = Ok r
 pub record IsReadBy (d : PlainDirective) (a : Asked) : Type 0 where
   pub row : Row
   pub row_is : row_in directives d.name ≡ Some row
-  pub given : Given
+  pub given : Arguments
   pub given_is : with_arguments row d.args (Ok nothing) ≡ Ok given
   pub built_is : built row.name given d.inputs ≡ Ok a.request
 
-built_by : (g : Given) (a : Asked) (result : Result Request DirectiveError) → and_then result (λ q. Ok (record { request = q; log_level = g.log_level })) ≡ Ok a → result ≡ done a.request
+built_by : (g : Arguments) (a : Asked) (result : Result Request DirectiveError) → and_then result (λ q. Ok (record { request = q; log_level = g.log_level })) ≡ Ok a → result ≡ done a.request
 built_by g a (Err e) h = absurd (cc)
 built_by g a (Ok r) h =
     let made : Asked = record { request = r; log_level = g.log_level } in
     let same : made ≡ a = cc in
     ap (λ (some : Asked). done some.request) same
 
-given_by : (row : Row) (d : PlainDirective) (a : Asked) → row_in directives d.name ≡ Some row → (given : Result Given DirectiveError) → with_arguments row d.args (Ok nothing) ≡ given
+given_by : (row : Row) (d : PlainDirective) (a : Asked) → row_in directives d.name ≡ Some row → (given : Result Arguments DirectiveError) → with_arguments row d.args (Ok nothing) ≡ given
     → and_then given (λ g. and_then (built row.name g d.inputs) (λ q. Ok (record { request = q; log_level = g.log_level }))) ≡ Ok a → IsReadBy d a
 given_by row d a found (Err e) is h = absurd (cc)
 given_by row d a found (Ok g) is h = record { row = row; row_is = found; given = g; given_is = is; built_is = built_by g a (built row.name g d.inputs) h }
@@ -65,10 +65,10 @@ read_of d a h = found_by (row_in directives d.name) d a refl h
 done_named : (name : Name) (made r : Request) → done made ≡ done r → name_of made ≡ name → name_of r ≡ name
 done_named name made r e is = let same : made ≡ r = cc in ap name_of (sym same) ∙ is
 
-node_named : (make : ℕ → Request) (name : Name) → ((id : ℕ) → name_of (make id) ≡ name) → (g : Given) (r : Request) → at_node make g ≡ Ok r → name_of r ≡ name
+node_named : (make : ℕ → Request) (name : Name) → ((id : ℕ) → name_of (make id) ≡ name) → (g : Arguments) (r : Request) → at_node make g ≡ Ok r → name_of r ≡ name
 node_named make name is g r h = let id = wanted_some (codes "id") g.id (λ id. done (make id)) r h in done_named name (make id.0) r id.2 (is id.0)
 
-pub built_named : (name : Name) (g : Given) (inputs : List Line) (r : Request) → built name g inputs ≡ Ok r → name_of r ≡ name
+pub built_named : (name : Name) (g : Arguments) (inputs : List Line) (r : Request) → built name g inputs ≡ Ok r → name_of r ≡ name
 built_named names.AddNodes g inputs r h = let count = wanted_some (codes "n") g.count _ r h in done_named names.AddNodes _ r count.2 refl
 built_named (names.Act act) g inputs r h = node_named (requests.Act act) (names.Act act) (λ id. refl) g r h
 built_named names.Propose g inputs r h = let id = wanted_some (codes "id") g.id _ r h in let payload = wanted_some (codes "payload") g.payload _ r id.2 in done_named names.Propose _ r payload.2 refl

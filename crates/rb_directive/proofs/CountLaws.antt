@@ -17,16 +17,16 @@ use Rattle.rb_directive.specs.declared.argument.Number.TheVariants as numbers
 use Rattle.rb_directive.specs.declared.asking.AddNodes.{AddNodes}
 use Rattle.rb_directive.specs.declared.asking.Request.TheVariants as requests
 use Rattle.rb_directive.specs.declared.build.Asked.{Asked}
-use Rattle.rb_directive.specs.declared.given.Given.{Given}
-use Rattle.rb_directive.specs.declared.given.WordPlace.{WordPlace}
-use Rattle.rb_directive.specs.declared.given.WordPlace.TheVariants as places
+use Rattle.rb_directive.specs.declared.arguments.Arguments.{Arguments}
+use Rattle.rb_directive.specs.declared.arguments.WordPlace.{WordPlace}
+use Rattle.rb_directive.specs.declared.arguments.WordPlace.TheVariants as places
 use Rattle.rb_directive.specs.declared.limits.TheConstants.{MAX_NODES}
 use Rattle.rb_directive.specs.declared.name.Name.{Name}
 use Rattle.rb_directive.specs.declared.name.Name.TheVariants as names
 use Rattle.rb_directive.specs.declared.table.OptionRow.{OptionRow}
 use Rattle.rb_directive.specs.declared.table.Row.{Row}
 use Rattle.rb_directive.specs.Forms.{Word, is_within, within}
-use Rattle.rb_directive.specs.Givens.{excludes, ids_set, listed, nothing, number_set}
+use Rattle.rb_directive.specs.Arguments.{excludes, ids_set, listed, nothing, number_set}
 use Rattle.rb_directive.specs.IdLists.{with_ids}
 use Rattle.rb_directive.specs.Names.{name_text}
 use Rattle.rb_directive.specs.Reading.{ids_kept, number_said, taken, with_argument, with_arguments, with_option, with_word, words_said}
@@ -54,22 +54,22 @@ unfolding options
 options_are = refl
 
 -- the next word has this place, and this is the count so far
-abbrev Stays : WordPlace → Option ℕ → Given → Type 0
+abbrev Stays : WordPlace → Option ℕ → Arguments → Type 0
 Stays place count g = (g.next ≡ place) × (g.count ≡ count)
 
-map_stays : {X : Type 0} (place : WordPlace) (count : Option ℕ) (f : X → Given) (o : Option X) (g next : Given)
+map_stays : {X : Type 0} (place : WordPlace) (count : Option ℕ) (f : X → Arguments) (o : Option X) (g next : Arguments)
     → ((x : X) → Stays place count g → Stays place count (f x)) → option_map f o ≡ Some next → Stays place count g → Stays place count next
 map_stays place count f o g next each h s = let m = map_some f o next h in subst (Stays place count) m.2 (each m.0 s)
 
-number_stays : (place : WordPlace) (count : Option ℕ) (which : Number) (low high n : ℕ) (g : Given) → is_no_count names.AddNodes (arguments.Number which low high) ≡ true → Stays place count g → Stays place count (number_set which n g)
+number_stays : (place : WordPlace) (count : Option ℕ) (which : Number) (low high n : ℕ) (g : Arguments) → is_no_count names.AddNodes (arguments.Number which low high) ≡ true → Stays place count g → Stays place count (number_set which n g)
 number_stays place count numbers.Count low high n g fits s = absurd cc
 number_stays place count which low high n g fits s = s
 
-list_stays : (place : WordPlace) (count : Option ℕ) (which : Ids) (ids : List ℕ) (g : Given) → Stays place count g → Stays place count (ids_set which ids g)
+list_stays : (place : WordPlace) (count : Option ℕ) (which : Ids) (ids : List ℕ) (g : Arguments) → Stays place count g → Stays place count (ids_set which ids g)
 list_stays place count lists.Nodes ids g s = s
 list_stays place count which ids g s = s
 
-lists_stay : (place : WordPlace) (count : Option ℕ) (which : Ids) (other : Option Ids) (g next : Given) (o : Option (List ℕ)) → ids_kept which other g o ≡ Some next → Stays place count g → Stays place count next
+lists_stay : (place : WordPlace) (count : Option ℕ) (which : Ids) (other : Option Ids) (g next : Arguments) (o : Option (List ℕ)) → ids_kept which other g o ≡ Some next → Stays place count g → Stays place count next
 lists_stay place count which other g next None h s = absurd cc
 lists_stay place count which other g next (Some ids) h s =
     elim (excludes other ids g) as (λ b. (if b then None else Some (ids_set which ids g)) ≡ Some next → Stays place count next) [
@@ -77,7 +77,7 @@ lists_stay place count which other g next (Some ids) h s =
       | false ↦ λ e. let same : ids_set which ids g ≡ next = cc in subst (Stays place count) same (list_stays place count which ids g s)
     ] h
 
-argument_stays : (place : WordPlace) (count : Option ℕ) (a : Argument) (ws : List Word) (g next : Given) → is_no_count names.AddNodes a ≡ true → taken a ws g ≡ Some next → Stays place count g → Stays place count next
+argument_stays : (place : WordPlace) (count : Option ℕ) (a : Argument) (ws : List Word) (g next : Arguments) → is_no_count names.AddNodes a ≡ true → taken a ws g ≡ Some next → Stays place count g → Stays place count next
 argument_stays place count (arguments.Number which low high) ws g next fits h s =
     map_stays place count (λ (n : ℕ). number_set which n g) (number_said low high ws) g next (λ (n : ℕ). number_stays place count which low high n g fits) h s
 argument_stays place count (arguments.Bytes texts.Payload low high) ws g next fits h s = subst (Stays place count) (map_some _ _ next h).2 s
@@ -92,13 +92,13 @@ argument_stays place count arguments.Transition ws g next fits h s = subst (Stay
 argument_stays place count arguments.Types ws g next fits h s = subst (Stays place count) (map_some _ _ next h).2 s
 argument_stays place count (arguments.Ids which other) ws g next fits h s = lists_stay place count which other g next (with_ids ws (Some (listed which g))) h s
 
-add_option : (place : WordPlace) (count : Option ℕ) (a : PlainArgument) (g next : Given) → with_option (option_of (name_text names.AddNodes) a.key) a g ≡ Ok next → Stays place count g → Stays place count next
+add_option : (place : WordPlace) (count : Option ℕ) (a : PlainArgument) (g next : Arguments) → with_option (option_of (name_text names.AddNodes) a.key) a g ≡ Ok next → Stays place count g → Stays place count next
 add_option place count a g next h s =
     option_kept (Stays place count) (option_of (name_text names.AddNodes) a.key)
     (λ which is words h next e. argument_stays place count which words h next (option_fits is_no_count options_are (λ name. refl) names.AddNodes a.key which is) e) a g next h s
 
 -- behind its first word there is none
-second_step : (count : Option ℕ) (a : PlainArgument) (g next : Given) → with_argument count_row a g ≡ Ok next → Stays places.Second count g → Stays places.Second count next
+second_step : (count : Option ℕ) (a : PlainArgument) (g next : Arguments) → with_argument count_row a g ≡ Ok next → Stays places.Second count g → Stays places.Second count next
 unfolding count_row
 second_step count a g next h s =
     elim a.has_equals as (λ b. (if b then with_option (option_of (name_text names.AddNodes) a.key) a g else with_word (word_of count_row g.next) a g) ≡ Ok next → Stays places.Second count next) [
@@ -106,8 +106,8 @@ second_step count a g next h s =
       | false ↦ λ e. let none : with_word None a g ≡ Ok next = subst (λ (p : WordPlace). with_word (word_of count_row p) a g ≡ Ok next) s.0 e in absurd cc
     ] h
 
-behind_word : (count : Option ℕ) (args : List PlainArgument) (g last : Given) → Stays places.Second count g → with_arguments count_row args (Ok g) ≡ Ok last → last.count ≡ count
-behind_word count [] g last s h = let same : g ≡ last = cc in ap (λ (x : Given). x.count) (sym same) ∙ s.1
+behind_word : (count : Option ℕ) (args : List PlainArgument) (g last : Arguments) → Stays places.Second count g → with_arguments count_row args (Ok g) ≡ Ok last → last.count ≡ count
+behind_word count [] g last s h = let same : g ≡ last = cc in ap (λ (x : Arguments). x.count) (sym same) ∙ s.1
 behind_word count (a ∷ args) g last s h =
     elim (with_argument count_row a g) as (λ r. with_argument count_row a g ≡ r → with_arguments count_row args r ≡ Ok last → last.count ≡ count) [
       | Ok next ↦ λ e more. behind_word count args next last (second_step count a g next e s) more
@@ -122,26 +122,26 @@ within_is low high n (Some m) h =
       | false ↦ λ e. absurd cc
     ] h
 
-word_taken : (a : PlainArgument) (g next last : Given) (args : List PlainArgument) → a.has_equals ≡ false → with_word (word_of count_row g.next) a g ≡ Ok next → Stays places.First None g
+word_taken : (a : PlainArgument) (g next last : Arguments) (args : List PlainArgument) → a.has_equals ≡ false → with_word (word_of count_row g.next) a g ≡ Ok next → Stays places.First None g
     → with_arguments count_row args (Ok next) ≡ Ok last → last.count ≡ number_of a.key
 unfolding count_row
 word_taken a g next last args alone h s more =
     let word : Argument = arguments.Number numbers.Count 1 MAX_NODES in
-    let moved : Given = record g { next = after g.next } in
+    let moved : Arguments = record g { next = after g.next } in
     let here : with_word (Some word) a g ≡ Ok next = subst (λ (p : WordPlace). with_word (word_of count_row p) a g ≡ Ok next) s.0 h in
     let said : taken word (a.key ∷ []) moved ≡ Some next =
     subst (λ (b : Bool). taken word (if b then a.values else a.key ∷ []) moved ≡ Some next) alone (or_bad_some a.key (taken word (words_said a) moved) next here) in
     let m = map_some (λ (n : ℕ). number_set numbers.Count n moved) (number_said 1 MAX_NODES (a.key ∷ [])) next said in
-    let place : next.next ≡ places.Second = ap (λ (x : Given). x.next) (sym m.2) ∙ ap after s.0 in
-    let count : next.count ≡ Some m.0 = ap (λ (x : Given). x.count) (sym m.2) in
+    let place : next.next ≡ places.Second = ap (λ (x : Arguments). x.next) (sym m.2) ∙ ap after s.0 in
+    let count : next.count ≡ Some m.0 = ap (λ (x : Arguments). x.count) (sym m.2) in
     behind_word (Some m.0) args next last (place, count) more ∙ sym (within_is 1 MAX_NODES m.0 (number_of a.key) m.1)
 
-first_step : (a : PlainArgument) (g next : Given) → with_option (option_of (name_text count_row.name) a.key) a g ≡ Ok next → Stays places.First None g → Stays places.First None next
+first_step : (a : PlainArgument) (g next : Arguments) → with_option (option_of (name_text count_row.name) a.key) a g ≡ Ok next → Stays places.First None g → Stays places.First None next
 unfolding count_row
 first_step a g next e s = add_option places.First None a g next e s
 
-words_count : (args : List PlainArgument) (g last : Given) (k : ℕ) → Stays places.First None g → with_arguments count_row args (Ok g) ≡ Ok last → last.count ≡ Some k → number_of (first_word args) ≡ Some k
-words_count [] g last k s h is = let same : g ≡ last = cc in let none : None ≡ Some k = sym s.1 ∙ ap (λ (x : Given). x.count) same ∙ is in absurd cc
+words_count : (args : List PlainArgument) (g last : Arguments) (k : ℕ) → Stays places.First None g → with_arguments count_row args (Ok g) ≡ Ok last → last.count ≡ Some k → number_of (first_word args) ≡ Some k
+words_count [] g last k s h is = let same : g ≡ last = cc in let none : None ≡ Some k = sym s.1 ∙ ap (λ (x : Arguments). x.count) same ∙ is in absurd cc
 words_count (a ∷ args) g last k s h is =
     elim (with_argument count_row a g) as (λ r. with_argument count_row a g ≡ r → with_arguments count_row args r ≡ Ok last → number_of (first_word (a ∷ args)) ≡ Some k) [
       | Ok next ↦ λ e more. elim a.has_equals as (λ b. a.has_equals ≡ b → (if b then with_option (option_of (name_text count_row.name) a.key) a g else with_word (word_of count_row g.next) a g) ≡ Ok next

@@ -10,9 +10,9 @@ use Rattle.rb_script.specs.Directive.{PlainArgument}
 use Rattle.rb_directive.specs.declared.name.Name.{Name}
 use Rattle.rb_directive.specs.declared.table.Row.{Row}
 use Rattle.rb_directive.specs.declared.table.OptionRow.{OptionRow}
-use Rattle.rb_directive.specs.declared.given.Given.{Given}
-use Rattle.rb_directive.specs.declared.given.WordPlace.{WordPlace}
-use Rattle.rb_directive.specs.declared.given.WordPlace.TheVariants as places
+use Rattle.rb_directive.specs.declared.arguments.Arguments.{Arguments}
+use Rattle.rb_directive.specs.declared.arguments.WordPlace.{WordPlace}
+use Rattle.rb_directive.specs.declared.arguments.WordPlace.TheVariants as places
 use Rattle.rb_directive.specs.declared.argument.Argument.{Argument}
 use Rattle.rb_directive.specs.declared.argument.Number.{Number}
 use Rattle.rb_directive.specs.declared.argument.Number.TheVariants as numbers
@@ -22,7 +22,7 @@ use Rattle.rb_directive.specs.declared.argument.Ids.TheVariants as lists
 use Rattle.rb_directive.specs.Forms.{Word}
 use Rattle.rb_directive.specs.Names.{name_text, argument_text}
 use Rattle.rb_directive.specs.Table.{directives, options, row_in, option_in, option_of, after, word_at, word_of}
-use Rattle.rb_directive.specs.Givens.{nothing, is_given, number_set}
+use Rattle.rb_directive.specs.Arguments.{nothing, is_given, number_set}
 use Rattle.rb_directive.specs.Reading.{words_said, taken, or_bad, with_option, with_word, with_argument, with_arguments}
 use Rattle.rb_directive.proofs.TableLaws.{names_found, faulty}
 
@@ -93,15 +93,15 @@ word_of_fits fits row all nodes place argument h =
 -- ---- the arguments
 
 -- P is kept where an argument is taken
-abbrev pub Keeps : (Given → Type 0) → Argument → Type 0
-Keeps P argument = (words : List Word) (g next : Given) → taken argument words g ≡ Some next → P g → P next
+abbrev pub Keeps : (Arguments → Type 0) → Argument → Type 0
+Keeps P argument = (words : List Word) (g next : Arguments) → taken argument words g ≡ Some next → P g → P next
 
-pub or_bad_some : (key : Word) (o : Option Given) (next : Given) → or_bad key o ≡ Ok next → o ≡ Some next
+pub or_bad_some : (key : Word) (o : Option Arguments) (next : Arguments) → or_bad key o ≡ Ok next → o ≡ Some next
 or_bad_some key None next h = absurd (cc)
 or_bad_some key (Some g) next h = cc
 
-pub option_kept : (P : Given → Type 0) (o : Option Argument) → ((argument : Argument) → o ≡ Some argument → Keeps P argument)
-    → (a : PlainArgument) (g next : Given) → with_option o a g ≡ Ok next → P g → P next
+pub option_kept : (P : Arguments → Type 0) (o : Option Argument) → ((argument : Argument) → o ≡ Some argument → Keeps P argument)
+    → (a : PlainArgument) (g next : Arguments) → with_option o a g ≡ Ok next → P g → P next
 option_kept P None keeps a g next h p = absurd (cc)
 option_kept P (Some argument) keeps a g next h p =
     elim (is_given argument g) as (λ b. (if b then None else taken argument (words_said a) g) ≡ Some next → P next) [
@@ -109,27 +109,27 @@ option_kept P (Some argument) keeps a g next h p =
       | false ↦ λ e. keeps argument refl (words_said a) g next e p
     ] (or_bad_some a.key _ next h)
 
-word_kept : (P : Given → Type 0) → ((g : Given) (place : WordPlace) → P g → P (record g { next = place })) → (o : Option Argument)
+word_kept : (P : Arguments → Type 0) → ((g : Arguments) (place : WordPlace) → P g → P (record g { next = place })) → (o : Option Argument)
     → ((argument : Argument) → o ≡ Some argument → Keeps P argument)
-    → (a : PlainArgument) (g next : Given) → with_word o a g ≡ Ok next → P g → P next
+    → (a : PlainArgument) (g next : Arguments) → with_word o a g ≡ Ok next → P g → P next
 word_kept P moves None keeps a g next h p = absurd (cc)
 word_kept P moves (Some argument) keeps a g next h p =
     keeps argument refl (words_said a) (record g { next = after g.next }) next (or_bad_some a.key _ next h) (moves g (after g.next) p)
 
 -- what the options and the words of a row keep, as does going on to the next place
-pub record AllKeep (P : Given → Type 0) (row : Row) : Type 0 where
+pub record AllKeep (P : Arguments → Type 0) (row : Row) : Type 0 where
   pub option : (key : List ℕ) (argument : Argument) → option_of (name_text row.name) key ≡ Some argument → Keeps P argument
   pub word : (place : WordPlace) (argument : Argument) → word_of row place ≡ Some argument → Keeps P argument
-  pub place : (g : Given) (place : WordPlace) → P g → P (record g { next = place })
+  pub place : (g : Arguments) (place : WordPlace) → P g → P (record g { next = place })
 
-argument_kept : (P : Given → Type 0) (row : Row) → AllKeep P row → (a : PlainArgument) (g next : Given) → with_argument row a g ≡ Ok next → P g → P next
+argument_kept : (P : Arguments → Type 0) (row : Row) → AllKeep P row → (a : PlainArgument) (g next : Arguments) → with_argument row a g ≡ Ok next → P g → P next
 argument_kept P row keep a g next h p =
     elim a.has_equals as (λ b. (if b then with_option (option_of (name_text row.name) a.key) a g else with_word (word_of row g.next) a g) ≡ Ok next → P next) [
       | true ↦ λ e. option_kept P (option_of (name_text row.name) a.key) (keep.option a.key) a g next e p
       | false ↦ λ e. word_kept P keep.place (word_of row g.next) (keep.word g.next) a g next e p
     ] h
 
-pub arguments_kept : (P : Given → Type 0) (row : Row) → AllKeep P row → (args : List PlainArgument) (g last : Given) → with_arguments row args (Ok g) ≡ Ok last → P g → P last
+pub arguments_kept : (P : Arguments → Type 0) (row : Row) → AllKeep P row → (args : List PlainArgument) (g last : Arguments) → with_arguments row args (Ok g) ≡ Ok last → P g → P last
 arguments_kept P row keep [] g last h p = let is : g ≡ last = cc in subst P is p
 arguments_kept P row keep (a ∷ args) g last h p =
     elim (with_argument row a g) as (λ r. with_argument row a g ≡ r → with_arguments row args r ≡ Ok last → P last) [
@@ -144,17 +144,17 @@ map_some f None y h = absurd (cc)
 map_some f (Some x) y h = (x, refl, cc)
 
 -- the numbers, the bytes and the lists alone
-abbrev pub numbers_of : Given → Given
+abbrev pub numbers_of : Arguments → Arguments
 numbers_of g = record nothing { count = g.count; id = g.id; peer = g.peer; from = g.from; to = g.to; index = g.index; inflight = g.inflight; rounds = g.rounds; timeout = g.timeout }
 
-abbrev pub bytes_of : Given → Given
+abbrev pub bytes_of : Arguments → Arguments
 bytes_of g = record nothing { payload = g.payload; content = g.content }
 
-abbrev pub lists_of : Given → Given
+abbrev pub lists_of : Arguments → Arguments
 lists_of g = record nothing { nodes = g.nodes; voters = g.voters; learners = g.learners; drop = g.drop }
 
 -- setting a number leaves the bytes and the lists
-pub rest_still : (P : Given → Given → Type 0) (which : Number) (n : ℕ) (g : Given) → P (bytes_of g) (lists_of g) → P (bytes_of (number_set which n g)) (lists_of (number_set which n g))
+pub rest_still : (P : Arguments → Arguments → Type 0) (which : Number) (n : ℕ) (g : Arguments) → P (bytes_of g) (lists_of g) → P (bytes_of (number_set which n g)) (lists_of (number_set which n g))
 rest_still P numbers.Count n g p = p
 rest_still P numbers.Id n g p = p
 rest_still P numbers.Peer n g p = p

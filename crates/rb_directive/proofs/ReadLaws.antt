@@ -6,7 +6,7 @@ use Rattle.rb_level.specs.declared.directive_error.DirectiveError.{DirectiveErro
 use Rattle.rb_level.specs.declared.message_type.MessageType.{MessageType}
 use Rattle.rb_level.specs.MessageTypes.{type_of}
 use Rattle.rb_directive.specs.declared.table.Row.{Row}
-use Rattle.rb_directive.specs.declared.given.Given.{Given}
+use Rattle.rb_directive.specs.declared.arguments.Arguments.{Arguments}
 use Rattle.rb_directive.specs.declared.limits.TheConstants.{MAX_IDS}
 use Rattle.rb_directive.specs.declared.type_set.TypeSet.{TypeSet}
 use Rattle.rb_directive.specs.Forms.{Word}
@@ -16,7 +16,7 @@ use Rattle.rb_directive.specs.Reading.{with_argument, with_arguments}
 use Rattle.rb_directive.proofs.ListLaws.{left_more}
 
 -- one argument more
-pub read_more : (row : Row) (args : List PlainArgument) (place : ℕ) (g : Given) → place < length args
+pub read_more : (row : Row) (args : List PlainArgument) (place : ℕ) (g : Arguments) → place < length args
     → with_arguments row (drop place args) (Ok g) ≡ with_arguments row (drop (place + 1) args) (with_argument row (get_or args place no_argument) g)
 read_more row args place g h = ap (λ (l : List PlainArgument). with_arguments row l (Ok g)) (left_more args place no_argument h)
 

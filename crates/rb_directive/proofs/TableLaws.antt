@@ -13,12 +13,12 @@ use Rattle.rb_directive.specs.declared.act_with.ActWith.TheVariants as withs
 use Rattle.rb_directive.specs.declared.name.Name.{Name}
 use Rattle.rb_directive.specs.declared.name.Name.TheVariants as names
 use Rattle.rb_directive.specs.declared.table.Row.{Row}
-use Rattle.rb_directive.specs.declared.given.Given.{Given}
+use Rattle.rb_directive.specs.declared.arguments.Arguments.{Arguments}
 use Rattle.rb_directive.specs.declared.argument.Argument.{Argument}
 use Rattle.rb_directive.specs.declared.build.Asked.{Asked}
 use Rattle.rb_directive.specs.Names.{name_text}
 use Rattle.rb_directive.specs.Table.{directives, row_in, option_of, word_of, has_option}
-use Rattle.rb_directive.specs.Givens.{nothing}
+use Rattle.rb_directive.specs.Arguments.{nothing}
 use Rattle.rb_directive.specs.Reading.{with_option, with_word, with_argument, with_arguments}
 use Rattle.rb_directive.specs.Requests.{and_then, built, request_of, request}
 
@@ -30,21 +30,21 @@ names_found (names.ActWith withs.Compact) = refl
 names_found name = refl
 
 -- an option that the directive lacks is refused
-with_option_has : (o : Option Argument) (a : PlainArgument) (g after : Given) → with_option o a g ≡ Ok after → is_some o ≡ true
+with_option_has : (o : Option Argument) (a : PlainArgument) (g after : Arguments) → with_option o a g ≡ Ok after → is_some o ≡ true
 with_option_has None a g after h = absurd (cc)
 with_option_has (Some argument) a g after h = refl
 
-option_has : (row : Row) (a : PlainArgument) (g after : Given) (b : Bool)
+option_has : (row : Row) (a : PlainArgument) (g after : Arguments) (b : Bool)
     → (if b then with_option (option_of (name_text row.name) a.key) a g else with_word (word_of row g.next) a g) ≡ Ok after → (not b || is_some (option_of (name_text row.name) a.key)) ≡ true
 option_has row a g after true h = with_option_has (option_of (name_text row.name) a.key) a g after h
 option_has row a g after false h = refl
 
 -- what is read with a fault is no reading
-pub faulty : (row : Row) (args : List PlainArgument) (e : DirectiveError) (after : Given) → with_arguments row args (Err e) ≡ Ok after → ⊥
+pub faulty : (row : Row) (args : List PlainArgument) (e : DirectiveError) (after : Arguments) → with_arguments row args (Err e) ≡ Ok after → ⊥
 faulty row [] e after h = cc
 faulty row (a ∷ args) e after h = cc
 
-all_have : (row : Row) (args : List PlainArgument) (g after : Given) → with_arguments row args (Ok g) ≡ Ok after → list_all (has_option (name_text row.name)) args ≡ true
+all_have : (row : Row) (args : List PlainArgument) (g after : Arguments) → with_arguments row args (Ok g) ≡ Ok after → list_all (has_option (name_text row.name)) args ≡ true
 all_have row [] g after h = refl
 all_have row (a ∷ args) g after h =
     elim (with_argument row a g) as (λ r. with_argument row a g ≡ r → with_arguments row args r ≡ Ok after → list_all (has_option (name_text row.name)) (a ∷ args) ≡ true) [
@@ -53,7 +53,7 @@ all_have row (a ∷ args) g after h =
     ] refl h
 
 -- what is asked by a row is read by it
-asked_has : (row : Row) (d : PlainDirective) (a : Asked) (r : Result Given DirectiveError) → with_arguments row d.args (Ok nothing) ≡ r
+asked_has : (row : Row) (d : PlainDirective) (a : Asked) (r : Result Arguments DirectiveError) → with_arguments row d.args (Ok nothing) ≡ r
     → and_then r (λ g. and_then (built row.name g d.inputs) (λ q. Ok (record { request = q; log_level = g.log_level }))) ≡ Ok a → list_all (has_option (name_text row.name)) d.args ≡ true
 asked_has row d a (Err e) is h = absurd (cc)
 asked_has row d a (Ok g) is h = all_have row d.args nothing g is

@@ -9,7 +9,7 @@ use Rattle.rb_change.specs.declared.change.Transition.{Transition}
 use Rattle.rb_level.specs.declared.directive_error.DirectiveError.{DirectiveError}
 use Rattle.rb_level.specs.declared.directive_error.DirectiveError.TheVariants as errors
 use Rattle.rb_directive.specs.declared.table.Row.{Row}
-use Rattle.rb_directive.specs.declared.given.Given.{Given}
+use Rattle.rb_directive.specs.declared.arguments.Arguments.{Arguments}
 use Rattle.rb_directive.specs.declared.argument.Argument.{Argument}
 use Rattle.rb_directive.specs.declared.argument.Argument.TheVariants as arguments
 use Rattle.rb_directive.specs.declared.argument.Ids.{Ids}
@@ -18,7 +18,7 @@ use Rattle.rb_directive.specs.Table.{option_of, after, word_of}
 use Rattle.rb_directive.specs.Forms.{Word, is_within, within, flag_of, transition_of}
 use Rattle.rb_directive.specs.IdLists.{with_ids}
 use Rattle.rb_directive.specs.TypeSets.{with_types, no_types}
-use Rattle.rb_directive.specs.Givens.{is_given, listed, excludes, number_set, flag_set, bytes_set, level_set, ids_set}
+use Rattle.rb_directive.specs.Arguments.{is_given, listed, excludes, number_set, flag_set, bytes_set, level_set, ids_set}
 
 -- ---- what one argument says
 
@@ -50,12 +50,12 @@ abbrev pub transition_said : List Word → Option Transition
 transition_said words = option_and_then transition_of (only words)
 
 -- ids none of which stands in the other list
-abbrev pub ids_kept : Ids → Option Ids → Given → Option (List ℕ) → Option Given
+abbrev pub ids_kept : Ids → Option Ids → Arguments → Option (List ℕ) → Option Arguments
 ids_kept which other g None = None
 ids_kept which other g (Some ids) = if excludes other ids g then None else Some (ids_set which ids g)
 
 -- these words as this argument, beside what is given; none where they are none that it takes
-abbrev pub taken : Argument → List Word → Given → Option Given
+abbrev pub taken : Argument → List Word → Arguments → Option Arguments
 taken (arguments.Number which low high) words g = option_map (λ n. number_set which n g) (number_said low high words)
 taken (arguments.Bytes which low high) words g = option_map (λ w. bytes_set which w g) (bytes_said low high words)
 taken (arguments.Level which) words g = option_map (λ l. level_set which l g) (level_said words)
@@ -64,22 +64,22 @@ taken arguments.Transition words g = option_map (λ t. record g { transition = S
 taken arguments.Types words g = option_map (λ types. record g { types = Some types }) (with_types words (Some no_types))
 taken (arguments.Ids which other) words g = ids_kept which other g (with_ids words (Some (listed which g)))
 
-abbrev pub or_bad : Word → Option Given → Result Given DirectiveError
+abbrev pub or_bad : Word → Option Arguments → Result Arguments DirectiveError
 or_bad key None = Err (errors.BadArgument key)
 or_bad key (Some g) = Ok g
 
 -- an option that the directive lacks, that is repeated, or whose values are none that it takes, is refused
-abbrev pub with_option : Option Argument → PlainArgument → Given → Result Given DirectiveError
+abbrev pub with_option : Option Argument → PlainArgument → Arguments → Result Arguments DirectiveError
 with_option None a g = Err (errors.UnsupportedOption a.key)
 with_option (Some argument) a g = or_bad a.key (if is_given argument g then None else taken argument (words_said a) g)
 
 -- so is a word that is none that the directive takes there, or one too many
-abbrev pub with_word : Option Argument → PlainArgument → Given → Result Given DirectiveError
+abbrev pub with_word : Option Argument → PlainArgument → Arguments → Result Arguments DirectiveError
 with_word None a g = Err (errors.BadArgument a.key)
 with_word (Some argument) a g = or_bad a.key (taken argument (words_said a) (record g { next = after g.next }))
 
 -- what is given with one argument more
-abbrev pub with_argument : Row → PlainArgument → Given → Result Given DirectiveError
+abbrev pub with_argument : Row → PlainArgument → Arguments → Result Arguments DirectiveError
 with_argument row a g =
     if a.has_equals then with_option (option_of (name_text row.name) a.key) a g
     else with_word (word_of row g.next) a g
@@ -87,7 +87,7 @@ with_argument row a g =
 -- ---- all arguments
 
 -- what is given with all of these, or the fault of the first that has one
-abbrev pub with_arguments : Row → List PlainArgument → Result Given DirectiveError → Result Given DirectiveError
+abbrev pub with_arguments : Row → List PlainArgument → Result Arguments DirectiveError → Result Arguments DirectiveError
 with_arguments row args (Err e) = Err e
 with_arguments row [] (Ok g) = Ok g
 with_arguments row (a ∷ args) (Ok g) = with_arguments row args (with_argument row a g)

@@ -15,17 +15,17 @@ use Rattle.rb_directive.specs.declared.name.Name.{Name}
 use Rattle.rb_directive.specs.declared.name.Name.TheVariants as names
 use Rattle.rb_change.specs.declared.change.Transition.TheVariants as transitions
 use Rattle.rb_directive.specs.declared.table.Row.{Row}
-use Rattle.rb_directive.specs.declared.given.Given.{Given}
+use Rattle.rb_directive.specs.declared.arguments.Arguments.{Arguments}
 use Rattle.rb_directive.specs.declared.asking.AddNodes.{AddNodes}
 use Rattle.rb_directive.specs.declared.asking.Request.{Request}
 use Rattle.rb_directive.specs.declared.asking.Request.TheVariants as requests
 use Rattle.rb_directive.specs.declared.asking.Named.{Named}
 use Rattle.rb_directive.specs.declared.asking.Named.TheVariants as named
 use Rattle.rb_directive.specs.declared.build.Asked.{Asked}
-use Rattle.rb_directive.specs.declared.limits.TheConstants.{MAX_ID, MAX_NODES, MAX_INDEX, MAX_COMPACTED, MAX_BYTES, MAX_WINDOW, MAX_ROUNDS, MAX_TIMEOUT, MAX_IDS, WINDOW, ROUNDS}
+use Rattle.rb_directive.specs.declared.limits.TheConstants.{MAX_ID, MAX_NODES, MAX_FIRST_INDEX, MAX_COMPACTED, MAX_BYTES, MAX_WINDOW, MAX_ROUNDS, MAX_TIMEOUT, MAX_IDS, WINDOW, ROUNDS}
 use Rattle.rb_directive.specs.Forms.{Word}
 use Rattle.rb_directive.specs.Table.{directives, row_in}
-use Rattle.rb_directive.specs.Givens.{nothing, number_given}
+use Rattle.rb_directive.specs.Arguments.{nothing, number_given}
 use Rattle.rb_directive.specs.Names.{number_text}
 use Rattle.rb_directive.specs.Reading.{with_arguments}
 use Rattle.rb_directive.specs.Changes.{change_fault}
@@ -42,7 +42,7 @@ and_then (Ok value) next = next value
 
 -- ---- the directives
 
-abbrev pub add_nodes : Given → Result Request DirectiveError
+abbrev pub add_nodes : Arguments → Result Request DirectiveError
 add_nodes g = and_then (wanted (codes "n") g.count) (λ count. Ok (requests.AddNodes (record {
   count = count;
   voters = g.voters;
@@ -56,13 +56,13 @@ add_nodes g = and_then (wanted (codes "n") g.count) (λ count. Ok (requests.AddN
 })))
 
 -- a directive that takes a node alone
-abbrev pub at_node : (ℕ → Request) → Given → Result Request DirectiveError
+abbrev pub at_node : (ℕ → Request) → Arguments → Result Request DirectiveError
 at_node make g = and_then (wanted (codes "id") g.id) (λ id. Ok (make id))
 
-abbrev pub propose : Given → Result Request DirectiveError
+abbrev pub propose : Arguments → Result Request DirectiveError
 propose g = and_then (wanted (codes "id") g.id) (λ id. and_then (wanted (codes "payload") g.payload) (λ payload. Ok (requests.Propose id payload)))
 
-abbrev pub propose_conf_change : Given → List Line → Result Request DirectiveError
+abbrev pub propose_conf_change : Arguments → List Line → Result Request DirectiveError
 propose_conf_change g inputs =
     let transition = unwrap_or g.transition transitions.Auto in
     and_then (wanted (codes "id") g.id) (λ id. Ok (requests.ProposeConfChange (record {
@@ -72,14 +72,14 @@ propose_conf_change g inputs =
       fault = change_fault (unwrap_or g.first_version false) transition inputs;
     })))
 
-abbrev pub process_ready : Given → Result Request DirectiveError
+abbrev pub process_ready : Arguments → Result Request DirectiveError
 process_ready g = and_then (wanted (codes "id") g.nodes) (λ ids. Ok (requests.ProcessReady ids))
 
 -- messages of all types where none is named
-abbrev pub deliver_msgs : Given → Request
+abbrev pub deliver_msgs : Arguments → Request
 deliver_msgs g = requests.DeliverMsgs (record { nodes = unwrap_or g.nodes []; types = g.types; drop = unwrap_or g.drop [] })
 
-abbrev pub stabilize : Given → Request
+abbrev pub stabilize : Arguments → Request
 stabilize g = requests.Stabilize (unwrap_or g.nodes []) (unwrap_or g.rounds ROUNDS)
 
 -- what a directive wants that is told a node and a number
@@ -90,14 +90,14 @@ wants withs.ReportUnreachable = (numbers.Id, numbers.Peer)
 wants withs.SendSnapshot = (numbers.From, numbers.To)
 wants withs.Compact = (numbers.Id, numbers.Index)
 
-abbrev pub with_numbers : ActWith → Number → Number → Given → Result Request DirectiveError
+abbrev pub with_numbers : ActWith → Number → Number → Arguments → Result Request DirectiveError
 with_numbers what node number g =
     and_then (wanted (number_text node) (number_given node g)) (λ id. and_then (wanted (number_text number) (number_given number g)) (λ value. Ok (requests.ActWith what id value)))
 
-abbrev pub act_with : ActWith → Given → Result Request DirectiveError
+abbrev pub act_with : ActWith → Arguments → Result Request DirectiveError
 act_with what g = with_numbers what (wants what).0 (wants what).1 g
 
-abbrev pub built : Name → Given → List Line → Result Request DirectiveError
+abbrev pub built : Name → Arguments → List Line → Result Request DirectiveError
 built names.AddNodes g inputs = add_nodes g
 built (names.Act act) g inputs = at_node (requests.Act act) g
 built names.Propose g inputs = propose g
@@ -164,7 +164,7 @@ pub record AreNodes (r : AddNodes) : Type 0 where
   pub count : IsFrom 1 MAX_NODES r.count
   pub voters : IfSome r.voters AreIds
   pub learners : IfSome r.learners AreIds
-  pub index : unwrap_or r.index 0 ≤ MAX_INDEX
+  pub index : unwrap_or r.index 0 ≤ MAX_FIRST_INDEX
   pub content : IfSome r.content (λ w. length w ≤ MAX_BYTES)
   pub inflight : IsFrom 1 MAX_WINDOW r.inflight
 

@@ -6,8 +6,8 @@ use Rattle.std.specs.Str.{bytes_eq}
 use Rattle.rb_script.specs.Directive.{PlainArgument}
 use Rattle.rb_directive.specs.declared.table.Row.{Row}
 use Rattle.rb_directive.specs.declared.table.OptionRow.{OptionRow}
-use Rattle.rb_directive.specs.declared.given.WordPlace.{WordPlace}
-use Rattle.rb_directive.specs.declared.given.WordPlace.TheVariants as places
+use Rattle.rb_directive.specs.declared.arguments.WordPlace.{WordPlace}
+use Rattle.rb_directive.specs.declared.arguments.WordPlace.TheVariants as places
 use Rattle.rb_directive.specs.declared.table.TheConstants.{DIRECTIVES, OPTIONS}
 use Rattle.rb_directive.specs.declared.argument.Argument.{Argument}
 use Rattle.rb_directive.specs.declared.argument.Argument.TheVariants as arguments

@@ -9,9 +9,9 @@ ghost use Rattle.rb_directive.specs.Requests.{wanted, add_nodes, propose, propos
 
 use crate::act_with::ActWith;
 use crate::alone::asked_alone;
+use crate::arguments::Arguments;
 use crate::asking::{AddNodes, DeliverMsgs, ProposeConfChange, Request};
 use crate::change::{Inputs, change_fault};
-use crate::given::Given;
 use crate::id_list::IdList;
 use crate::limits::{ROUNDS, WINDOW};
 use crate::name::Name;
@@ -49,13 +49,13 @@ fn ids_or_none(ids: Option<IdList>) -> IdList
 }
 
 // The node that is wanted.
-fn wanted_id<'d>(given: &Given<'d>) -> Result<u64, DirectiveError<'d>>
+fn wanted_id<'d>(given: &Arguments<'d>) -> Result<u64, DirectiveError<'d>>
     ensures { result ≡ wanted (codes "id") given.now.id }
 {
     wanted(given.id, b"id")
 }
 
-fn add_nodes(given: Given<'_>) -> Result<Request<'_>, DirectiveError<'_>>
+fn add_nodes(given: Arguments<'_>) -> Result<Request<'_>, DirectiveError<'_>>
     ensures { result ≡ add_nodes given.entry }
 {
     let count = wanted(given.count, b"n")?;
@@ -72,7 +72,7 @@ fn add_nodes(given: Given<'_>) -> Result<Request<'_>, DirectiveError<'_>>
     }))
 }
 
-fn propose(given: Given<'_>) -> Result<Request<'_>, DirectiveError<'_>>
+fn propose(given: Arguments<'_>) -> Result<Request<'_>, DirectiveError<'_>>
     ensures { result ≡ propose given.entry }
 {
     let id = wanted(given.id, b"id")?;
@@ -81,7 +81,7 @@ fn propose(given: Given<'_>) -> Result<Request<'_>, DirectiveError<'_>>
 }
 
 fn propose_conf_change<'d>(
-    given: Given<'d>,
+    given: Arguments<'d>,
     inputs: Inputs<'d>,
 ) -> Result<Request<'d>, DirectiveError<'d>>
     ensures { result ≡ propose_conf_change given.entry inputs.entry }
@@ -97,13 +97,13 @@ fn propose_conf_change<'d>(
     }))
 }
 
-fn process_ready(given: Given<'_>) -> Result<Request<'_>, DirectiveError<'_>>
+fn process_ready(given: Arguments<'_>) -> Result<Request<'_>, DirectiveError<'_>>
     ensures { result ≡ process_ready given.entry }
 {
     Ok(Request::ProcessReady(wanted(given.nodes, b"id")?))
 }
 
-fn deliver_msgs(given: Given<'_>) -> Request<'_>
+fn deliver_msgs(given: Arguments<'_>) -> Request<'_>
     ensures { result ≡ deliver_msgs given.entry }
 {
     Request::DeliverMsgs(DeliverMsgs {
@@ -113,14 +113,14 @@ fn deliver_msgs(given: Given<'_>) -> Request<'_>
     })
 }
 
-fn stabilize(given: Given<'_>) -> Request<'_>
+fn stabilize(given: Arguments<'_>) -> Request<'_>
     ensures { result ≡ stabilize given.entry }
 {
     let rounds = given.rounds.unwrap_or(ROUNDS);
     Request::Stabilize(ids_or_none(given.nodes), rounds)
 }
 
-fn act_with<'d>(what: ActWith, given: &Given<'d>) -> Result<Request<'d>, DirectiveError<'d>>
+fn act_with<'d>(what: ActWith, given: &Arguments<'d>) -> Result<Request<'d>, DirectiveError<'d>>
     ensures { result ≡ act_with what given.now }
 {
     let (node, number) = what.wants();
@@ -132,7 +132,7 @@ fn act_with<'d>(what: ActWith, given: &Given<'d>) -> Result<Request<'d>, Directi
 // What the directive of this name asks for.
 fn built<'d>(
     name: Name,
-    given: Given<'d>,
+    given: Arguments<'d>,
     inputs: Inputs<'d>,
 ) -> Result<Request<'d>, DirectiveError<'d>>
     ensures { result ≡ built name given.entry inputs.entry }

@@ -10,7 +10,7 @@ ghost use Rattle.rb_directive.specs.declared.name.Name.{Name};
 ghost use Rattle.rb_directive.specs.declared.asking.AddNodes.{AddNodes};
 ghost use Rattle.rb_directive.specs.declared.asking.Request.TheVariants as requests;
 ghost use Rattle.rb_directive.specs.declared.build.Asked.{Asked};
-ghost use Rattle.rb_directive.specs.declared.given.Given.{Given};
+ghost use Rattle.rb_directive.specs.declared.arguments.Arguments.{Arguments};
 ghost use Rattle.rb_directive.specs.declared.table.Row.{Row};
 ghost use Rattle.rb_directive.specs.Names.{name_text};
 ghost use Rattle.rb_directive.specs.Table.{directives, row_in, option_of, has_option};
@@ -26,7 +26,7 @@ pub fn names_are_apart()
 /// An option is taken only by a directive that has it in the table; every other one refuses it as unsupported.
 pub fn options_are_those_of_the_table()
     ensures taken { (d : PlainDirective) (a : Asked) → request d ≡ Ok a → list_all (has_option d.name) d.args ≡ true }
-    ensures refused { (row : Row) (a : PlainArgument) (g : Given) → a.has_equals ≡ true → option_of (name_text row.name) a.key ≡ None → with_argument row a g ≡ Err (errors.UnsupportedOption a.key) }
+    ensures refused { (row : Row) (a : PlainArgument) (g : Arguments) → a.has_equals ≡ true → option_of (name_text row.name) a.key ≡ None → with_argument row a g ≡ Err (errors.UnsupportedOption a.key) }
 {}
 
 /// A number in decimal digits is read as itself, where it is one that the argument takes.

@@ -1,7 +1,7 @@
 //! How large what a directive asks for may be.
 
 ghost use Rattle.std.specs.Prelude.{◌≡◌};
-ghost use Rattle.rb_directive.specs.declared.limits.TheConstants.{MAX_ID, MAX_NODES, MAX_INDEX, MAX_COMPACTED, MAX_BYTES, MAX_WINDOW, MAX_ROUNDS, MAX_TIMEOUT, MAX_IDS, WINDOW, ROUNDS};
+ghost use Rattle.rb_directive.specs.declared.limits.TheConstants.{MAX_ID, MAX_NODES, MAX_FIRST_INDEX, MAX_COMPACTED, MAX_BYTES, MAX_WINDOW, MAX_ROUNDS, MAX_TIMEOUT, MAX_IDS, WINDOW, ROUNDS};
 
 /// The greatest id.
 pub const MAX_ID: u64 = 32;
@@ -10,7 +10,7 @@ pub const MAX_ID: u64 = 32;
 pub const MAX_NODES: u64 = 32;
 
 /// The greatest index at which a node may begin.
-pub const MAX_INDEX: u64 = 1_000_000_000;
+pub const MAX_FIRST_INDEX: u64 = 1_000_000_000;
 
 /// The greatest index up to which a log may be asked to be compacted.
 pub const MAX_COMPACTED: u64 = 2_000_000_000;
@@ -40,7 +40,7 @@ pub(crate) const ROUNDS: u64 = 200;
 pub fn limits_are()
     ensures ids { MAX_ID ≡ 32 }
     ensures nodes { MAX_NODES ≡ 32 }
-    ensures index { MAX_INDEX ≡ 1000000000 }
+    ensures index { MAX_FIRST_INDEX ≡ 1000000000 }
     ensures compacted { MAX_COMPACTED ≡ 2000000000 }
     ensures bytes { MAX_BYTES ≡ 1024 }
     ensures window { MAX_WINDOW ≡ 256 }

@@ -5,21 +5,26 @@
 
 ghost use Rattle.std.specs.Prelude.{◌≡◌, MatchBool, MatchResult, Some, None, Ok, Err};
 ghost use Rattle.rb_script.specs.Tokens.{plain};
-ghost use Rattle.rb_directive.specs.Givens.{nothing, listed};
+ghost use Rattle.rb_directive.specs.Arguments.{nothing, listed};
 ghost use Rattle.rb_directive.specs.IdLists.{with_ids};
 ghost use Rattle.rb_directive.specs.Names.{name_text};
 ghost use Rattle.rb_directive.specs.Table.{option_of, word_of};
 ghost use Rattle.rb_directive.specs.Reading.{words_said, ids_kept, taken, with_option, with_word, with_argument, with_arguments};
 
 use crate::argument::{Argument, Ids};
-use crate::given::Given;
-use crate::said::Said;
+use crate::argument_ref::ArgumentRef;
+use crate::arguments::Arguments;
 use crate::table::{Row, option_of};
 use rb_level::{DirectiveError, ScriptWord};
 use rb_script::DirectiveRef;
 
 // Adds what the ids of the argument are, where none of them stands in the other list.
-fn take_ids<'d>(given: &mut Given<'d>, which: Ids, other: Option<Ids>, said: &Said<'d>) -> bool
+fn take_ids<'d>(
+    given: &mut Arguments<'d>,
+    which: Ids,
+    other: Option<Ids>,
+    said: &ArgumentRef<'d>,
+) -> bool
     ensures { MatchBool result (ids_kept which other given.old (with_ids (words_said said.now) (Some (listed which given.old))) ≡ Some given.new) (ids_kept which other given.old (with_ids (words_said said.now) (Some (listed which given.old))) ≡ None) }
 {
     let Some(ids) = said.ids(given.listed(which)) else {
@@ -33,7 +38,7 @@ fn take_ids<'d>(given: &mut Given<'d>, which: Ids, other: Option<Ids>, said: &Sa
 }
 
 // Adds what the argument says, where it is what it has to be.
-fn take<'d>(given: &mut Given<'d>, argument: Argument, said: &Said<'d>) -> bool
+fn take<'d>(given: &mut Arguments<'d>, argument: Argument, said: &ArgumentRef<'d>) -> bool
     ensures { MatchBool result (taken argument (words_said said.now) given.old ≡ Some given.new) (taken argument (words_said said.now) given.old ≡ None) }
 {
     match argument {
@@ -86,8 +91,8 @@ fn take<'d>(given: &mut Given<'d>, argument: Argument, said: &Said<'d>) -> bool
 // Adds an option, where the directive takes it.
 fn add_option<'d>(
     row: &Row,
-    said: &Said<'d>,
-    given: &mut Given<'d>,
+    said: &ArgumentRef<'d>,
+    given: &mut Arguments<'d>,
 ) -> Result<(), DirectiveError<'d>>
     ensures { MatchResult result (λ _. with_option (option_of (name_text row.now.name) said.now.key) said.now given.old ≡ Ok given.new) (λ e. with_option (option_of (name_text row.now.name) said.now.key) said.now given.old ≡ Err e) }
 {
@@ -102,7 +107,11 @@ fn add_option<'d>(
 }
 
 // Adds a word, where the directive takes one there.
-fn add_word<'d>(row: &Row, said: &Said<'d>, given: &mut Given<'d>) -> Result<(), DirectiveError<'d>>
+fn add_word<'d>(
+    row: &Row,
+    said: &ArgumentRef<'d>,
+    given: &mut Arguments<'d>,
+) -> Result<(), DirectiveError<'d>>
     ensures { MatchResult result (λ _. with_word (word_of row.now given.old.next) said.now given.old ≡ Ok given.new) (λ e. with_word (word_of row.now given.old.next) said.now given.old ≡ Err e) }
 {
     let Some(argument) = row.word(given.next) else {
@@ -116,7 +125,11 @@ fn add_word<'d>(row: &Row, said: &Said<'d>, given: &mut Given<'d>) -> Result<(),
 }
 
 // Adds an argument.
-fn add<'d>(row: &Row, said: &Said<'d>, given: &mut Given<'d>) -> Result<(), DirectiveError<'d>>
+fn add<'d>(
+    row: &Row,
+    said: &ArgumentRef<'d>,
+    given: &mut Arguments<'d>,
+) -> Result<(), DirectiveError<'d>>
     ensures { MatchResult result (λ _. with_argument row.now said.now given.old ≡ Ok given.new) (λ e. with_argument row.now said.now given.old ≡ Err e) }
 {
     if said.has_equals() {
@@ -131,12 +144,12 @@ fn add<'d>(row: &Row, said: &Said<'d>, given: &mut Given<'d>) -> Result<(), Dire
 pub(crate) fn read<'d>(
     row: &Row,
     directive: &'d DirectiveRef<'d>,
-) -> Result<Given<'d>, DirectiveError<'d>>
+) -> Result<Arguments<'d>, DirectiveError<'d>>
     ensures { result ≡ with_arguments row.now (plain directive.now).args (Ok nothing) }
 {
-    let mut given = Given::nothing();
+    let mut given = Arguments::nothing();
     for place in 0..directive.args() {
-        add(row, &Said::at(directive, place), &mut given)?;
+        add(row, &ArgumentRef::at(directive, place), &mut given)?;
     }
     Ok(given)
 }

@@ -8,9 +8,10 @@ ghost use Rattle.rb_directive.specs.Table.{directives, options, row_in, is_name,
 use crate::act::Act;
 use crate::act_with::ActWith;
 use crate::argument::{Argument, Bytes, Flag, Ids, LevelFor, Number};
-use crate::given::WordPlace;
+use crate::arguments::WordPlace;
 use crate::limits::{
-    MAX_BYTES, MAX_COMPACTED, MAX_ID, MAX_INDEX, MAX_NODES, MAX_ROUNDS, MAX_TIMEOUT, MAX_WINDOW,
+    MAX_BYTES, MAX_COMPACTED, MAX_FIRST_INDEX, MAX_ID, MAX_NODES, MAX_ROUNDS, MAX_TIMEOUT,
+    MAX_WINDOW,
 };
 use crate::name::Name;
 
@@ -43,7 +44,7 @@ const TO: Argument = Argument::Number(Number::To, 1, MAX_ID);
 
 const COUNT: Argument = Argument::Number(Number::Count, 1, MAX_NODES);
 
-const BASE: Argument = Argument::Number(Number::Index, 0, MAX_INDEX);
+const BASE: Argument = Argument::Number(Number::Index, 0, MAX_FIRST_INDEX);
 
 const COMPACTED: Argument = Argument::Number(Number::Index, 0, MAX_COMPACTED);
 

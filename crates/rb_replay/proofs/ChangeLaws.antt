@@ -15,13 +15,13 @@ use Rattle.rb_script.specs.Directive.{PlainDirective}
 use Rattle.rb_script.specs.Script.{PlainBlock, PlainScript, text, expecting, all_expecting, with_outputs}
 use Rattle.rb_script.specs.Reading.{directive_of}
 use Rattle.rb_script.specs.Edits.{edited, unless, fitting, is_no_place, with_blocks, block_at_place, is_expectation}
-use Rattle.rb_replay.specs.declared.cut.Cut.{Cut}
-use Rattle.rb_replay.specs.declared.cut.Effect.TheVariants as effects
+use Rattle.rb_replay.specs.declared.splice.Splice.{Splice}
+use Rattle.rb_replay.specs.declared.splice.Effect.TheVariants as effects
 use Rattle.rb_replay.specs.Run.{directives, outputs}
 use Rattle.rb_replay.specs.Report.{differing, mismatches}
 use Rattle.rb_replay.specs.Holding.{Holding, IsFresh}
 use Rattle.rb_replay.specs.Reuse.{Change, change_by, effect_of, change, change_of, change_for, IsChange, StayWhole, IsOneBlock}
-use Rattle.rb_replay.specs.Cuts.{no_cut, IsMended}
+use Rattle.rb_replay.specs.Splices.{no_splice, IsMended}
 use Rattle.rb_replay.proofs.RunLaws.{both, outputs-same, length-outputs}
 use Rattle.rb_replay.proofs.DifferingLaws.{differing-accepted}
 
@@ -152,14 +152,14 @@ edit-one h (Expect k lines) new fresh e = tt
 edit-one h Accept new fresh e = tt
 
 -- the change, by what the code calls it
-pub change-is : (h : Holding) (new : PlainScript) (edit : Edit) (cut : Cut) → effect_of edit ≡ effects.Splice cut → change_of h new edit ≡ Some (change_by h new cut)
-change-is h new edit cut e = ap (change_for h new) e
+pub change-is : (h : Holding) (new : PlainScript) (edit : Edit) (splice : Splice) → effect_of edit ≡ effects.Replay splice → change_of h new edit ≡ Some (change_by h new splice)
+change-is h new edit splice e = ap (change_for h new) e
 
-pub cut-change : (h : Holding) (edit : Edit) (new : PlainScript) (cut : Cut) → IsFresh h → edited h.script edit (outputs h.script) ≡ Ok new → effect_of edit ≡ effects.Splice cut → IsChange (change_by h new cut)
-cut-change h edit new cut fresh e is = rw (change-is h new edit cut is) at (edit-change h edit new fresh e)
+pub splice-change : (h : Holding) (edit : Edit) (new : PlainScript) (splice : Splice) → IsFresh h → edited h.script edit (outputs h.script) ≡ Ok new → effect_of edit ≡ effects.Replay splice → IsChange (change_by h new splice)
+splice-change h edit new splice fresh e is = rw (change-is h new edit splice is) at (edit-change h edit new fresh e)
 
-pub cut-whole : (h : Holding) (edit : Edit) (new : PlainScript) (cut : Cut) → IsFresh h → edited h.script edit (outputs h.script) ≡ Ok new → effect_of edit ≡ effects.Splice cut → StayWhole (change_by h new cut)
-cut-whole h edit new cut fresh e is = let one : IsOneBlock (change_by h new cut) = rw (change-is h new edit cut is) at (edit-one h edit new fresh e) in one.whole
+pub splice-whole : (h : Holding) (edit : Edit) (new : PlainScript) (splice : Splice) → IsFresh h → edited h.script edit (outputs h.script) ≡ Ok new → effect_of edit ≡ effects.Replay splice → StayWhole (change_by h new splice)
+splice-whole h edit new splice fresh e is = let one : IsOneBlock (change_by h new splice) = rw (change-is h new edit splice is) at (edit-one h edit new fresh e) in one.whole
 
 -- ---- edits of expectations
 
@@ -184,7 +184,7 @@ expect-directives s new k lines os e =
     let made = expected s new k lines os e in
     sym (ap directives made.2) ∙ set-directives s.blocks (k - 1) _ lines
 
-pub expect-mended : (s new : PlainScript) (k : ℕ) (lines : List Line) → edited s (Expect k lines) (outputs s) ≡ Ok new → IsMended s new no_cut (k - 1) (take 1 (drop (k - 1) (outputs s))) k
+pub expect-mended : (s new : PlainScript) (k : ℕ) (lines : List Line) → edited s (Expect k lines) (outputs s) ≡ Ok new → IsMended s new no_splice (k - 1) (take 1 (drop (k - 1) (outputs s))) k
 expect-mended s new k lines e =
     let made = expected s new k lines (outputs s) e in
     let same : outputs new ≡ outputs s = outputs-same new s (expect-directives s new k lines (outputs s) e) in
@@ -227,7 +227,7 @@ pub record IsExpected (s new : PlainScript) (place : ℕ) : Type 0 where
   pub same : directives new ≡ directives s
   pub first : 1 ≤ place
   pub within : place ≤ length s.blocks
-  pub mended : IsMended s new no_cut (place - 1) (take 1 (drop (place - 1) (outputs s))) place
+  pub mended : IsMended s new no_splice (place - 1) (take 1 (drop (place - 1) (outputs s))) place
 
 pub expect-edit : (s new : PlainScript) (edit : Edit) (place : ℕ) → effect_of edit ≡ effects.Expect place → edited s edit (outputs s) ≡ Ok new → IsExpected s new place
 expect-edit s new (Insert k b) place is e = absurd cc

@@ -8,11 +8,11 @@ use Rattle.std.proofs.lemmas.Slice.Eq.{bytes_eq-Decides}
 use Rattle.std.proofs.lemmas.List.{drop_more, length-take-le, length-drop, length-append, take-append-drop, drop-drop, take_rest}
 use Rattle.rb_script.specs.Lines.{Line}
 use Rattle.rb_script.specs.Script.{PlainBlock, PlainScript, all_expecting}
-use Rattle.rb_replay.specs.declared.cut.Cut.{Cut}
+use Rattle.rb_replay.specs.declared.splice.Splice.{Splice}
 use Rattle.rb_replay.specs.Run.{outputs}
 use Rattle.rb_replay.specs.Report.{same_lines, differing, mismatches}
 use Rattle.rb_replay.specs.Points.{IsRising}
-use Rattle.rb_replay.specs.Cuts.{IsMended}
+use Rattle.rb_replay.specs.Splices.{IsMended}
 use Rattle.rb_replay.proofs.RunLaws.{both, length-outputs}
 use Rattle.rb_replay.proofs.PartLaws.{nothing_below}
 
@@ -176,9 +176,9 @@ differing-accepted place (b ∷ bs) (o ∷ os) = rw (same_lines-refl o) (differi
 
 -- ---- mismatches that are mended
 
-pub mended-differing : (old new : PlainScript) (cut : Cut) (from : ℕ) (os : List (List Line)) (stop : ℕ) → IsMended old new cut from os stop
-    → filter (λ p. nat_lt p (from + 1)) (mismatches old) ++ (differing (from + 1) (drop from new.blocks) os ++ map (λ (p : ℕ). p - cut.old_rest + cut.new_rest) (filter (λ p. nat_le (stop + 1) p) (mismatches old))) ≡ mismatches new
-mended-differing old new cut from os stop m =
+pub mended-differing : (old new : PlainScript) (splice : Splice) (from : ℕ) (os : List (List Line)) (stop : ℕ) → IsMended old new splice from os stop
+    → filter (λ p. nat_lt p (from + 1)) (mismatches old) ++ (differing (from + 1) (drop from new.blocks) os ++ map (λ (p : ℕ). p - splice.old_rest + splice.new_rest) (filter (λ p. nat_le (stop + 1) p) (mismatches old))) ≡ mismatches new
+mended-differing old new splice from os stop m =
     let mid : ℕ = length os in
     let one : from + 1 ≡ 1 + from = omega arith in
     let last : stop + 1 ≡ 1 + stop = omega arith in
@@ -191,11 +191,11 @@ mended-differing old new cut from os stop m =
     ap (λ (n : ℕ). filter (λ p. nat_lt p n) (mismatches old)) one ∙ differing-before 1 from old.blocks (outputs old) ∙ both (differing 1) (sym m.same_front) (sym m.same_answers) in
     let second : differing (from + 1) (drop from new.blocks) os ≡ differing (1 + from) (take (length os) (drop from new.blocks)) os =
     ap (λ (n : ℕ). differing n (drop from new.blocks) os) one ∙ sym (differing-take (1 + from) (drop from new.blocks) os) in
-    let to : 1 + from + length os ≡ 1 + stop - cut.old_rest + cut.new_rest = omega (arith, m.moved, m.in_rest) in
-    let third : map (λ (p : ℕ). p - cut.old_rest + cut.new_rest) (filter (λ p. nat_le (stop + 1) p) (mismatches old)) ≡ differing (1 + from + length os) (drop (from + length os) new.blocks) (drop (from + length os) (outputs new)) =
-    ap (λ (n : ℕ). map (λ (p : ℕ). p - cut.old_rest + cut.new_rest) (filter (λ p. nat_le n p) (mismatches old))) last
-    ∙ ap (map (λ (p : ℕ). p - cut.old_rest + cut.new_rest)) (differing-from 1 stop old.blocks (outputs old))
-    ∙ differing-moved cut.old_rest cut.new_rest (1 + stop) (1 + from + length os) (drop stop old.blocks) (drop stop (outputs old)) (omega (arith, m.in_rest)) to
+    let to : 1 + from + length os ≡ 1 + stop - splice.old_rest + splice.new_rest = omega (arith, m.moved, m.in_rest) in
+    let third : map (λ (p : ℕ). p - splice.old_rest + splice.new_rest) (filter (λ p. nat_le (stop + 1) p) (mismatches old)) ≡ differing (1 + from + length os) (drop (from + length os) new.blocks) (drop (from + length os) (outputs new)) =
+    ap (λ (n : ℕ). map (λ (p : ℕ). p - splice.old_rest + splice.new_rest) (filter (λ p. nat_le n p) (mismatches old))) last
+    ∙ ap (map (λ (p : ℕ). p - splice.old_rest + splice.new_rest)) (differing-from 1 stop old.blocks (outputs old))
+    ∙ differing-moved splice.old_rest splice.new_rest (1 + stop) (1 + from + length os) (drop stop old.blocks) (drop stop (outputs old)) (omega (arith, m.in_rest)) to
     ∙ both (differing (1 + from + length os)) (sym m.same_rest) (sym m.same_end) in
     let blocks : take from new.blocks ++ (take (length os) (drop from new.blocks) ++ drop (from + length os) new.blocks) ≡ new.blocks =
     ap (λ (bs : List PlainBlock). take from new.blocks ++ (take (length os) (drop from new.blocks) ++ bs)) (ap (λ (n : ℕ). drop n new.blocks) (omega arith) ∙ sym (drop-drop (length os) from new.blocks))

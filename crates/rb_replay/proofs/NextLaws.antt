@@ -4,7 +4,7 @@ use Rattle.std.specs.Prelude.{Contains}
 use Rattle.std.proofs.lemmas.Bool.{cases_lt}
 use Rattle.std.proofs.lemmas.List.{get_or_default}
 use Rattle.rb_replay.specs.Points.{IsRising}
-use Rattle.rb_replay.specs.Cuts.{IsNext}
+use Rattle.rb_replay.specs.Splices.{IsNext}
 
 -- what stands later is greater
 pub rising-first : (a k : ℕ) (ps : List ℕ) → IsRising a ps → k < length ps → a ≤ get_or ps k 0

@@ -4,7 +4,7 @@ use Rattle.std.proofs.lemmas.List.{length_push}
 use Rattle.std.proofs.lemmas.Nat.{div-mul-add}
 use Rattle.std.proofs.lemmas.Bool.{cases_lt}
 use Rattle.rb_replay.specs.Points.{every}
-use Rattle.rb_replay.specs.Course.{IsPaced, IsPacedOn}
+use Rattle.rb_replay.specs.Running.{IsPaced, IsPacedOn}
 use Rattle.rb_replay.proofs.RunLaws.{both}
 
 pub paced_start : (K from : ℕ) → IsPaced K from from K []

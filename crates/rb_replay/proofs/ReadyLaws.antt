@@ -6,12 +6,12 @@ use Rattle.std.proofs.lemmas.Bool.Decides.{nat_tests, leb_tells}
 use Rattle.std.proofs.lemmas.List.{take-append-drop, map-append, take-map, drop-map, take-take, drop_all, append-nil, length-append, length-take-le}
 use Rattle.rb_script.specs.Lines.{Line}
 use Rattle.rb_machine.specs.Cluster.{Cluster}
-use Rattle.rb_replay.specs.declared.cut.Cut.{Cut}
-use Rattle.rb_replay.specs.declared.seam.Seam.{Seam}
+use Rattle.rb_replay.specs.declared.splice.Splice.{Splice}
+use Rattle.rb_replay.specs.declared.rejoin.Rejoin.{Rejoin}
 use Rattle.rb_replay.specs.Run.{directives, state, outputs}
 use Rattle.rb_replay.specs.Points.{IsRising, AreNear, AreKept, last_up_to}
 use Rattle.rb_replay.specs.Reuse.{Change, start, stop, old_point, new_point, Meets, IsFirstMeeting, IsChange, StayWhole, fresh_points, points_before}
-use Rattle.rb_replay.specs.Cuts.{front_bound, old_stop, run_points, IsSeam, IsMended}
+use Rattle.rb_replay.specs.Splices.{front_bound, old_stop, run_points, IsRejoin, IsMended}
 use Rattle.rb_replay.proofs.RunLaws.{both, outputs-front, states-front, length-outputs}
 use Rattle.rb_replay.proofs.DifferingLaws.{AreAtMost}
 use Rattle.rb_replay.proofs.ReuseLaws.{parts-on, outputs-after, states-after, start-le, kept-within, stop-within}
@@ -174,8 +174,8 @@ run-length c o os is first on =
     let whole : length (take (stop c o) (outputs c.new)) ≡ stop c o = length-take-le (stop c o) (outputs c.new) (omega (arith, length-outputs c.new)) in
     omega (arith, ap length on, length-append (take (start c) (outputs c.new)) os)
 
-pub mended-ready : (c : Change) (cut : Cut) (o : Option ℕ) (os : List (List Line)) → cut.old_rest ≡ c.old_rest → cut.new_rest ≡ c.new_rest → IsChange c → StayWhole c → IsFirstMeeting c o → take (start c) (outputs c.new) ++ os ≡ take (stop c o) (outputs c.new) → IsMended c.old c.new cut (start c) os (old_stop c o)
-mended-ready c cut o os olds news is whole first on =
+pub mended-ready : (c : Change) (splice : Splice) (o : Option ℕ) (os : List (List Line)) → splice.old_rest ≡ c.old_rest → splice.new_rest ≡ c.new_rest → IsChange c → StayWhole c → IsFirstMeeting c o → take (start c) (outputs c.new) ++ os ≡ take (stop c o) (outputs c.new) → IsMended c.old c.new splice (start c) os (old_stop c o)
+mended-ready c splice o os olds news is whole first on =
     let long : start c + length os ≡ stop c o = run-length c o os is first on in
     record {
       same_front = front-part c (start c) c.new.blocks c.old.blocks whole.same_front (start-le c);
@@ -255,16 +255,16 @@ same-past f h to b n (p ∷ ps) all same =
       | inr e ↦ rw e.0 (same-past f h to b n ps all.1 same)
     ]
 
-pub states-ready : (c : Change) (o : Option ℕ) (seam : Seam) (kept fresh : List Cluster) → IsChange c → IsFirstMeeting c o → IsSeam c o seam → kept ≡ map (state c.old) c.points → fresh ≡ map (state c.new) (run_points c o)
-    → take seam.front kept ++ (fresh ++ drop seam.rest kept) ≡ map (state c.new) (joined_points c o)
-states-ready c o seam kept fresh is first at olds run =
+pub states-ready : (c : Change) (o : Option ℕ) (rejoin : Rejoin) (kept fresh : List Cluster) → IsChange c → IsFirstMeeting c o → IsRejoin c o rejoin → kept ≡ map (state c.old) c.points → fresh ≡ map (state c.new) (run_points c o)
+    → take rejoin.front kept ++ (fresh ++ drop rejoin.rest kept) ≡ map (state c.new) (joined_points c o)
+states-ready c o rejoin kept fresh is first at olds run =
     let fronts : List ℕ = filter (λ p. nat_lt p (front_bound c o)) c.points in
     let rests : List ℕ = filter (λ p. nat_le (old_stop c o + 1) p) c.points in
-    let one : take seam.front kept ≡ map (state c.new) (filter (λ p. nat_lt p (front_bound c o)) c.points) =
-    ap (take seam.front) olds ∙ take-map (state c.old) seam.front c.points ∙ ap (map (state c.old)) at.fronts
+    let one : take rejoin.front kept ≡ map (state c.new) (filter (λ p. nat_lt p (front_bound c o)) c.points) =
+    ap (take rejoin.front) olds ∙ take-map (state c.old) rejoin.front c.points ∙ ap (map (state c.old)) at.fronts
     ∙ same-below (state c.old) (state c.new) (front_bound c o) c.points (λ p lt. states-before c p is (front-small c o p lt)) in
-    let three : drop seam.rest kept ≡ map (state c.new) (map (new_point c) (filter (λ p. nat_le (old_stop c o + 1) p) c.points)) =
-    ap (drop seam.rest) olds ∙ drop-map (state c.old) seam.rest c.points ∙ ap (map (state c.old)) at.rests
+    let three : drop rejoin.rest kept ≡ map (state c.new) (map (new_point c) (filter (λ p. nat_le (old_stop c o + 1) p) c.points)) =
+    ap (drop rejoin.rest) olds ∙ drop-map (state c.old) rejoin.rest c.points ∙ ap (map (state c.old)) at.rests
     ∙ same-past (state c.old) (state c.new) (new_point c) (old_stop c o + 1) (length c.old.blocks) c.points (kept-all c.spacing (length c.old.blocks) c.points is.kept) (λ p le within. moved-states c o p is first le within) in
     both (λ (a b : List Cluster). a ++ b) one (both (λ (a b : List Cluster). a ++ b) run three ∙ sym (map-append (state c.new) (run_points c o) (map (new_point c) (filter (λ p. nat_le (old_stop c o + 1) p) c.points))))
     ∙ sym (map-append (state c.new) (filter (λ p. nat_lt p (front_bound c o)) c.points) (run_points c o ++ map (new_point c) (filter (λ p. nat_le (old_stop c o + 1) p) c.points)))

@@ -3,10 +3,10 @@ use Rattle.std.specs.Prelude.{◌≡◌, ℕ, ◌+◌, ◌-◌, ◌*◌, ◌/◌
 use Rattle.rb_script.specs.Script.{PlainScript}
 use Rattle.rb_script.specs.declared.edit.Edit.{Edit}
 use Rattle.rb_script.specs.declared.edit.Edit.TheVariants.{Insert, Replace, Remove, Expect, Accept}
-use Rattle.rb_replay.specs.declared.cut.Cut.{Cut}
-use Rattle.rb_replay.specs.declared.cut.Effect.{Effect}
-use Rattle.rb_replay.specs.declared.cut.Effect.TheVariants.{Splice}
-use Rattle.rb_replay.specs.declared.cut.Effect.TheVariants as effects
+use Rattle.rb_replay.specs.declared.splice.Splice.{Splice}
+use Rattle.rb_replay.specs.declared.splice.Effect.{Effect}
+use Rattle.rb_replay.specs.declared.splice.Effect.TheVariants.{Replay}
+use Rattle.rb_replay.specs.declared.splice.Effect.TheVariants as effects
 use Rattle.rb_replay.specs.Run.{directives, state}
 use Rattle.rb_replay.specs.Points.{last_up_to, every, thin, AreKept}
 use Rattle.rb_replay.specs.Holding.{Holding}
@@ -29,17 +29,17 @@ change h new front old_rest new_rest =
 
 -- what an edit changes of a run: the directives between a front and a rest that stay, or only expectations
 abbrev pub effect_of : Edit → Effect
-effect_of (Insert k block) = Splice (record { front = k - 1; old_rest = k - 1; new_rest = k })
-effect_of (Replace k block) = Splice (record { front = k - 1; old_rest = k; new_rest = k })
-effect_of (Remove k) = Splice (record { front = k - 1; old_rest = k; new_rest = k - 1 })
+effect_of (Insert k block) = Replay (record { front = k - 1; old_rest = k - 1; new_rest = k })
+effect_of (Replace k block) = Replay (record { front = k - 1; old_rest = k; new_rest = k })
+effect_of (Remove k) = Replay (record { front = k - 1; old_rest = k; new_rest = k - 1 })
 effect_of (Expect k lines) = effects.Expect k
 effect_of Accept = effects.Accept
 
-abbrev pub change_by : Holding → PlainScript → Cut → Change
-change_by h new cut = change h new cut.front cut.old_rest cut.new_rest
+abbrev pub change_by : Holding → PlainScript → Splice → Change
+change_by h new splice = change h new splice.front splice.old_rest splice.new_rest
 
 abbrev pub change_for : Holding → PlainScript → Effect → Option Change
-change_for h new (Splice cut) = Some (change_by h new cut)
+change_for h new (Replay splice) = Some (change_by h new splice)
 change_for h new (effects.Expect k) = None
 change_for h new effects.Accept = None
 

@@ -3,7 +3,7 @@ use Rattle.std.specs.Prelude.{◌≡◌, ℕ, ◌+◌, ◌-◌, ◌≤◌, List,
 use Rattle.rb_script.specs.Lines.{Line}
 use Rattle.rb_script.specs.Directive.{PlainDirective}
 use Rattle.rb_script.specs.Script.{PlainScript}
-use Rattle.rb_replay.specs.declared.cut.Cut.{Cut}
+use Rattle.rb_replay.specs.declared.splice.Splice.{Splice}
 use Rattle.rb_replay.specs.declared.session.Changed.{Changed}
 use Rattle.rb_replay.specs.Run.{directives}
 use Rattle.rb_replay.specs.Report.{mismatches}
@@ -11,27 +11,27 @@ use Rattle.rb_replay.specs.Holding.{Holding, IsFresh}
 use Rattle.rb_replay.specs.Reuse.{change_by, Reuses, IsCost}
 
 -- The longest rest that two lists of directives share, and of what is left the longest front.
-pub record IsLongestCut (old new : List PlainDirective) (cut : Cut) : Type 0 where
-  pub same_rest : drop cut.new_rest new ≡ drop cut.old_rest old
-  pub old_within : cut.old_rest ≤ length old
-  pub new_within : cut.new_rest ≤ length new
-  pub longest_rest : (n : ℕ) → n ≤ length old → n ≤ length new → drop (length new - n) new ≡ drop (length old - n) old → n + cut.old_rest ≤ length old
-  pub same_front : take cut.front new ≡ take cut.front old
-  pub old_from : cut.front ≤ cut.old_rest
-  pub new_from : cut.front ≤ cut.new_rest
-  pub longest_front : (n : ℕ) → n ≤ cut.old_rest → n ≤ cut.new_rest → take n new ≡ take n old → n ≤ cut.front
+pub record IsLongestSplice (old new : List PlainDirective) (splice : Splice) : Type 0 where
+  pub same_rest : drop splice.new_rest new ≡ drop splice.old_rest old
+  pub old_within : splice.old_rest ≤ length old
+  pub new_within : splice.new_rest ≤ length new
+  pub longest_rest : (n : ℕ) → n ≤ length old → n ≤ length new → drop (length new - n) new ≡ drop (length old - n) old → n + splice.old_rest ≤ length old
+  pub same_front : take splice.front new ≡ take splice.front old
+  pub old_from : splice.front ≤ splice.old_rest
+  pub new_from : splice.front ≤ splice.new_rest
+  pub longest_front : (n : ℕ) → n ≤ splice.old_rest → n ≤ splice.new_rest → take n new ≡ take n old → n ≤ splice.front
 
 -- What is used again, exactly, of the run of the script before.
 pub record ReusesLongest (h : Holding) (new : PlainScript) (executed : ℕ) (points : List ℕ) : Type 0 where
-  pub cut : Cut
-  pub is_longest : IsLongestCut (directives h.script) (directives new) cut
-  pub reuse : Reuses (change_by h new cut) executed points
+  pub splice : Splice
+  pub is_longest : IsLongestSplice (directives h.script) (directives new) splice
+  pub reuse : Reuses (change_by h new splice) executed points
 
 -- how many directives are executed
 pub record IsTurnCost (h : Holding) (new : PlainScript) (executed : ℕ) : Type 0 where
-  pub cut : Cut
-  pub is_longest : IsLongestCut (directives h.script) (directives new) cut
-  pub cost : IsCost (change_by h new cut) executed
+  pub splice : Splice
+  pub is_longest : IsLongestSplice (directives h.script) (directives new) splice
+  pub cost : IsCost (change_by h new splice) executed
 
 -- A session that was turned into a script. What is held then is what one run of that script gives.
 pub record IsTurned (old : Holding) (script : PlainScript) (changed : Changed) (new : Holding) : Type 0 where

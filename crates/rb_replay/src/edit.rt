@@ -1,8 +1,8 @@
 //! Edits of a session.
 
-use crate::cut::{Common, Cut, Effect, effect_of};
 use crate::ready::{make_room, take_over};
 use crate::session::{Changed, Session};
+use crate::splice::{Common, Effect, Splice, effect_of};
 use rb_machine::{Count, Machine};
 use rb_script::{Edit, EditFault, Script};
 use std::alloc::AllocError;
@@ -41,7 +41,7 @@ impl<M: Machine> Session<M> {
     {
         let new = self.script.edited(edit, &self.outputs)?;
         match effect_of(edit) {
-            Effect::Splice(cut) => Ok(self.replay(new, cut, Common::Blocks, meter)?),
+            Effect::Replay(splice) => Ok(self.replay(new, splice, Common::Blocks, meter)?),
             Effect::Expect(place) => Ok(self.expect(new, place)?),
             Effect::Accept => Ok(self.accept(new)),
         }
@@ -51,36 +51,36 @@ impl<M: Machine> Session<M> {
     pub(crate) fn replay(
         &mut self,
         new: Script,
-        cut: Cut,
+        splice: Splice,
         common: Common,
         meter: &mut M::Meter,
     ) -> Result<Changed, AllocError>
-        requires change { IsChange (change_by self.old new cut) }
-        requires whole { common ≡ Common.Blocks → StayWhole (change_by self.old new cut) }
+        requires change { IsChange (change_by self.old new splice) }
+        requires whole { common ≡ Common.Blocks → StayWhole (change_by self.old new splice) }
         requires few { length new.blocks ≤ MAX_DIRECTIVES }
         requires meter { M.Meter.count_of meter.old ≤ 2 ^ 62 }
         ensures script { OnOk result (self.new.script ≡ new) }
         ensures spacing { self.new.spacing ≡ self.old.spacing }
-        ensures reuse { IfOk result (λ changed. Reuses (change_by self.old new cut) changed.executed self.new.points) }
+        ensures reuse { IfOk result (λ changed. Reuses (change_by self.old new splice) changed.executed self.new.points) }
         ensures counted { IfOk result (λ changed. M.Meter.count_of meter.new ≡ M.Meter.count_of meter.old + changed.executed) }
         ensures mismatches { IfOk result (λ changed. changed.mismatches ≡ length self.new.mismatches) }
         ensures fresh { IsFresh self.new }
         ensures err { OnErr result (self.new ≡ self.old) }
-        ensures refused { OnErr result ((n : ℕ) → IsCost (change_by self.old new cut) n → M.Meter.count_of meter.new ≤ M.Meter.count_of meter.old + n) }
+        ensures refused { OnErr result ((n : ℕ) → IsCost (change_by self.old new splice) n → M.Meter.count_of meter.new ≤ M.Meter.count_of meter.old + n) }
         ensures least { M.Meter.count_of meter.old ≤ M.Meter.count_of meter.new }
         ensures most { M.Meter.count_of meter.new ≤ M.Meter.count_of meter.old + length new.blocks }
     {
-        let ready = self.prepare(&new, cut, common, meter)?;
-        make_room(&ready.course, &mut self.outputs, &mut self.kept)?;
+        let ready = self.prepare(&new, splice, common, meter)?;
+        make_room(&ready.running, &mut self.outputs, &mut self.kept)?;
         // From here on nothing can fail.
-        let executed = (ready.course.at - ready.course.from) as u64;
+        let executed = (ready.running.at - ready.running.from) as u64;
         let mismatches = ready.mismatches.len();
         self.points = ready.points;
         self.mismatches = ready.mismatches;
         self.script = new;
         take_over(
-            ready.course,
-            ready.seam,
+            ready.running,
+            ready.rejoin,
             &mut self.outputs,
             &mut self.points,
             &mut self.kept,

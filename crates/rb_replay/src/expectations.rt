@@ -1,7 +1,7 @@
 //! Edits that change expectations alone.
 
-use crate::cut::Cut;
 use crate::session::{Changed, Session};
+use crate::splice::Splice;
 use rb_machine::Machine;
 use rb_script::Script;
 use std::alloc::AllocError;
@@ -12,14 +12,14 @@ impl<M: Machine> Session<M> {
     ghost use Rattle.rb_replay.specs.Run.{directives, outputs};
     ghost use Rattle.rb_replay.specs.Report.{mismatches};
     ghost use Rattle.rb_replay.specs.Holding.{Holding, IsFresh};
-    ghost use Rattle.rb_replay.specs.Cuts.{IsMended, no_cut};
+    ghost use Rattle.rb_replay.specs.Splices.{IsMended, no_splice};
 
     /// Puts in a script whose directive at the place expects other lines.
     pub(crate) fn expect(&mut self, new: Script, place: usize) -> Result<Changed, AllocError>
         requires same { directives new ≡ directives self.old.script }
         requires first { 1 ≤ place }
         requires within { place ≤ length self.old.script.blocks }
-        requires mended { IsMended self.old.script new no_cut (place - 1) (take 1 (drop (place - 1) (outputs self.old.script))) place }
+        requires mended { IsMended self.old.script new no_splice (place - 1) (take 1 (drop (place - 1) (outputs self.old.script))) place }
         ensures script { OnOk result (self.new.script ≡ new) }
         ensures spacing { self.new.spacing ≡ self.old.spacing }
         ensures points { self.new.points ≡ self.old.points }
@@ -28,12 +28,18 @@ impl<M: Machine> Session<M> {
         ensures fresh { IsFresh self.new }
         ensures err { OnErr result (self.new ≡ self.old) }
     {
-        let cut = Cut {
+        let splice = Splice {
             front: 0,
             old_rest: 0,
             new_rest: 0,
         };
-        let mismatches = self.mended(&new, cut, place - 1, &self.outputs[place - 1..place], place)?;
+        let mismatches = self.mended(
+            &new,
+            splice,
+            place - 1,
+            &self.outputs[place - 1..place],
+            place,
+        )?;
         self.mismatches = mismatches;
         self.script = new;
         Ok(Changed {

@@ -8,7 +8,7 @@ ghost use Rattle.rb_script.specs.Reads.{Reads};
 ghost use Rattle.rb_script.specs.Valid.{IsScript};
 ghost use Rattle.rb_script.specs.Edits.{edited};
 ghost use Rattle.rb_script.specs.Directive.{PlainDirective};
-ghost use Rattle.rb_replay.specs.declared.cut.Cut.{Cut};
+ghost use Rattle.rb_replay.specs.declared.splice.Splice.{Splice};
 ghost use Rattle.rb_replay.specs.declared.session.Changed.{Changed};
 ghost use Rattle.rb_replay.specs.Run.{directives, state, outputs};
 ghost use Rattle.rb_replay.specs.Report.{mismatches, rewritten};
@@ -16,7 +16,7 @@ ghost use Rattle.rb_replay.specs.Points.{AreKept, IsRising};
 ghost use Rattle.rb_replay.specs.Holding.{Holding, IsFresh};
 ghost use Rattle.rb_replay.specs.Reuse.{Change, change_by, change_of, IsChange, IsOneBlock, IsCost, IsFirstMeeting, points_before, IsPointBefore};
 ghost use Rattle.rb_replay.specs.After.{Answered, Leads, after};
-ghost use Rattle.rb_replay.specs.Turns.{IsLongestCut, IsTurned, IsTurnCost, shown};
+ghost use Rattle.rb_replay.specs.Turns.{IsLongestSplice, IsTurned, IsTurnCost, shown};
 
 /// Whatever edits a session is given, and whichever of them it accepts, it answers as one run of the
 /// script with the accepted ones made.
@@ -49,8 +49,8 @@ pub fn edits_are_changes()
 /// What differs between a session's script and another is a change too, and there is one such change: one longest rest, and one
 /// longest front before it. So a turn has at most one cost.
 pub fn turns_are_changes()
-    ensures change { (h : Holding) (new : PlainScript) (cut : Cut) → IsFresh h → IsLongestCut (directives h.script) (directives new) cut → IsChange (change_by h new cut) }
-    ensures once { (old new : List PlainDirective) (a b : Cut) → IsLongestCut old new a → IsLongestCut old new b → a ≡ b }
+    ensures change { (h : Holding) (new : PlainScript) (splice : Splice) → IsFresh h → IsLongestSplice (directives h.script) (directives new) splice → IsChange (change_by h new splice) }
+    ensures once { (old new : List PlainDirective) (a b : Splice) → IsLongestSplice old new a → IsLongestSplice old new b → a ≡ b }
     ensures cost { (h : Holding) (new : PlainScript) (m n : ℕ) → IsTurnCost h new m → IsTurnCost h new n → m ≡ n }
 {}
 

@@ -7,8 +7,6 @@
 #![tactic(auto)]
 
 mod blocks;
-mod course;
-mod cut;
 mod differing;
 mod edit;
 mod expectations;
@@ -18,12 +16,14 @@ mod longest;
 mod points;
 mod prepare;
 mod ready;
+mod rejoin;
 mod report;
 mod rerun;
+mod run;
 mod same;
-mod seam;
 mod session;
 mod spacing;
+mod splice;
 mod start;
 mod turn;
 

@@ -4,9 +4,9 @@ ghost use Rattle.std.specs.Prelude.{◌≡◌, ◌+◌, ◌-◌, ◌<◌, ◌≤
 ghost use Rattle.rb_script.specs.declared.limits.TheConstants.{MAX_DIRECTIVES};
 ghost use Rattle.rb_machine.specs.Cluster.{Cluster};
 ghost use Rattle.rb_replay.specs.Points.{thin, IsRising, last_up_to};
-ghost use Rattle.rb_replay.specs.Cuts.{IsNext};
+ghost use Rattle.rb_replay.specs.Splices.{IsNext};
 
-use crate::cut::Cut;
+use crate::splice::Splice;
 use std::alloc::{AllocError, Global};
 
 /// How many of the points are below the bound.
@@ -41,8 +41,8 @@ pub(crate) fn find_start(points: &[usize], front: usize) -> usize
     count_below(points, front + 1) - 1
 }
 
-/// Cuts out the items from `from` to `to`.
-fn cut_out<T: Drop>(items: &mut Vec<T>, from: usize, to: usize)
+/// Splices out the items from `from` to `to`.
+fn taken_out<T: Drop>(items: &mut Vec<T>, from: usize, to: usize)
     requires order { from ≤ to }
     requires within { to ≤ vec_len items.old }
     ensures items { items.new.items ≡ take from items.old.items ++ drop to items.old.items }
@@ -88,9 +88,9 @@ pub(crate) fn put_between<T: Drop>(items: &mut Vec<T>, from: usize, to: usize, f
     let count = fresh.len().min(to - from);
     exchange(items, from, count, fresh);
     if from + count < to {
-        cut_out(items, from + count, to);
+        taken_out(items, from + count, to);
     } else {
-        cut_out(fresh, 0, count);
+        taken_out(fresh, 0, count);
         put_in(items, to, fresh);
     }
 }
@@ -121,18 +121,18 @@ pub(crate) fn joined(
     front: &[usize],
     fresh: &[usize],
     rest: &[usize],
-    cut: Cut,
+    splice: Splice,
 ) -> Result<Vec<usize>, AllocError>
     requires small { All (λ p. p ≤ MAX_DIRECTIVES) rest.now }
-    requires new_small { cut.new_rest ≤ MAX_DIRECTIVES }
-    ensures { IfOk result (λ v. v.items ≡ front.now ++ (fresh.now ++ map (λ p. p - cut.old_rest + cut.new_rest) rest.now)) }
+    requires new_small { splice.new_rest ≤ MAX_DIRECTIVES }
+    ensures { IfOk result (λ v. v.items ≡ front.now ++ (fresh.now ++ map (λ p. p - splice.old_rest + splice.new_rest) rest.now)) }
 {
     let mut points = Vec::with_capacity(alloc, front.len())?;
     points.extend_from_slice(front)?;
     points.extend_from_slice(fresh)?;
     points.reserve(rest.len())?;
     for p in rest {
-        points.push(p.saturating_sub(cut.old_rest) + cut.new_rest)?;
+        points.push(p.saturating_sub(splice.old_rest) + splice.new_rest)?;
     }
     Ok(points)
 }

@@ -3,12 +3,12 @@
 ghost use Rattle.std.specs.Prelude.{◌≡◌, ◌+◌, ◌-◌, ◌<◌, ◌≤◌, ◌^◌, ℕ, length, map, IsTrue, false, Contains, slice_index};
 ghost use Rattle.rb_machine.specs.Cluster.{Cluster};
 ghost use Rattle.rb_replay.specs.Points.{IsRising};
-ghost use Rattle.rb_replay.specs.Cuts.{IsNext};
+ghost use Rattle.rb_replay.specs.Splices.{IsNext};
 
-use crate::course::Course;
-use crate::cut::Cut;
 use crate::points::{count_below, find_start};
+use crate::run::Run;
 use crate::session::Session;
+use crate::splice::Splice;
 use rb_machine::{Count, Machine};
 use rb_script::Script;
 use std::alloc::AllocError;
@@ -16,7 +16,7 @@ use std::alloc::AllocError;
 /// What was run, and where the old clusters were met, if they were.
 #[derive(Drop)]
 pub(crate) struct Rerun<M> {
-    pub(crate) course: Course<M>,
+    pub(crate) running: Run<M>,
     pub(crate) met: Option<usize>,
 }
 
@@ -36,7 +36,7 @@ fn is_kept(points: &[usize], index: usize, point: usize) -> bool
 /// Whether the machine's cluster is the one that is kept for this place of the new script. Where it is
 /// not, the index moves on to the next point.
 fn meets<M: Machine>(
-    cut: Cut,
+    splice: Splice,
     points: &[usize],
     kept: &[M],
     index: &mut usize,
@@ -45,17 +45,17 @@ fn meets<M: Machine>(
 ) -> bool
     requires paired { length kept.now ≡ length points.now }
     requires rising { IsRising 0 points.now }
-    requires small { at + cut.old_rest < 2 ^ 63 }
-    requires next { IsNext points.now (at - cut.new_rest + cut.old_rest) index.old }
-    ensures met { (f : ℕ → Cluster) → map M.meaning kept.now ≡ map f points.now → IsTrue result → (cut.new_rest ≤ at) × Contains points.now (at - cut.new_rest + cut.old_rest) × (M.meaning machine.now ≡ f (at - cut.new_rest + cut.old_rest)) }
-    ensures unmet { (f : ℕ → Cluster) → map M.meaning kept.now ≡ map f points.now → result ≡ false → cut.new_rest ≤ at → Contains points.now (at - cut.new_rest + cut.old_rest) → M.meaning machine.now ≡ f (at - cut.new_rest + cut.old_rest) → ⊥ }
-    ensures next { result ≡ false → IsNext points.now (at + 1 - cut.new_rest + cut.old_rest) index.new }
+    requires small { at + splice.old_rest < 2 ^ 63 }
+    requires next { IsNext points.now (at - splice.new_rest + splice.old_rest) index.old }
+    ensures met { (f : ℕ → Cluster) → map M.meaning kept.now ≡ map f points.now → IsTrue result → (splice.new_rest ≤ at) × Contains points.now (at - splice.new_rest + splice.old_rest) × (M.meaning machine.now ≡ f (at - splice.new_rest + splice.old_rest)) }
+    ensures unmet { (f : ℕ → Cluster) → map M.meaning kept.now ≡ map f points.now → result ≡ false → splice.new_rest ≤ at → Contains points.now (at - splice.new_rest + splice.old_rest) → M.meaning machine.now ≡ f (at - splice.new_rest + splice.old_rest) → ⊥ }
+    ensures next { result ≡ false → IsNext points.now (at + 1 - splice.new_rest + splice.old_rest) index.new }
 {
-    if at < cut.new_rest {
+    if at < splice.new_rest {
         return false;
     }
     let here = *index;
-    if !is_kept(points, here, at - cut.new_rest + cut.old_rest) {
+    if !is_kept(points, here, at - splice.new_rest + splice.old_rest) {
         return false;
     }
     *index = here + 1;
@@ -69,7 +69,7 @@ impl<M: Machine> Session<M> {
     ghost use Rattle.rb_replay.specs.Points.{last_up_to};
     ghost use Rattle.rb_replay.specs.Holding.{Holding};
     ghost use Rattle.rb_replay.specs.Reuse.{change_by, IsChange, IsCost};
-    ghost use Rattle.rb_replay.specs.Cuts.{IsRerun};
+    ghost use Rattle.rb_replay.specs.Splices.{IsRerun};
 
     /// The last kept cluster before the change, and its point.
     fn last_kept(&self, front: usize) -> Result<(usize, M), AllocError>
@@ -86,40 +86,40 @@ impl<M: Machine> Session<M> {
     pub(crate) fn run_on(
         &self,
         new: &Script,
-        cut: Cut,
+        splice: Splice,
         meter: &mut M::Meter,
     ) -> Result<Rerun<M>, AllocError>
-        requires change { IsChange (change_by self.now new.now cut) }
+        requires change { IsChange (change_by self.now new.now splice) }
         requires few { length new.now.blocks ≤ MAX_DIRECTIVES }
         requires meter { M.Meter.count_of meter.old ≤ 2 ^ 62 }
-        ensures run { IfOk result (IsRerun M.meaning (change_by self.now new.now cut)) }
-        ensures counted { IfOk result (λ run. M.Meter.count_of meter.new ≡ M.Meter.count_of meter.old + (run.course.at - run.course.from)) }
-        ensures refused { OnErr result ((n : ℕ) → IsCost (change_by self.now new.now cut) n → M.Meter.count_of meter.new ≤ M.Meter.count_of meter.old + n) }
+        ensures run { IfOk result (IsRerun M.meaning (change_by self.now new.now splice)) }
+        ensures counted { IfOk result (λ run. M.Meter.count_of meter.new ≡ M.Meter.count_of meter.old + (run.running.at - run.running.from)) }
+        ensures refused { OnErr result ((n : ℕ) → IsCost (change_by self.now new.now splice) n → M.Meter.count_of meter.new ≤ M.Meter.count_of meter.old + n) }
         ensures least { M.Meter.count_of meter.old ≤ M.Meter.count_of meter.new }
         ensures most { M.Meter.count_of meter.new ≤ M.Meter.count_of meter.old + length new.now.blocks }
     {
-        let (from, mut machine) = self.last_kept(cut.front)?;
-        let mut course = Course::new(self.alloc, self.spacing, from);
-        let mut index = count_below(&self.points, cut.old_rest);
+        let (from, mut machine) = self.last_kept(splice.front)?;
+        let mut running = Run::new(self.alloc, self.spacing, from);
+        let mut index = count_below(&self.points, splice.old_rest);
         'steps: while !meets(
-            cut,
+            splice,
             &self.points,
             &self.kept,
             &mut index,
             &machine,
-            course.at,
+            running.at,
         ) {
-            course.keep_due(&machine)?;
-            if course.at == new.len() {
-                return Ok(Rerun { course, met: None });
+            running.keep_due(&machine)?;
+            if running.at == new.len() {
+                return Ok(Rerun { running, met: None });
             }
-            machine = course.step(machine, new, meter)?;
+            machine = running.step(machine, new, meter)?;
         }
-        let at = course.at;
-        course.kept.push(machine)?;
-        course.points.push(at)?;
+        let at = running.at;
+        running.kept.push(machine)?;
+        running.points.push(at)?;
         Ok(Rerun {
-            course,
+            running,
             met: Some(at),
         })
     }

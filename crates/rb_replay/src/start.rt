@@ -9,9 +9,9 @@ ghost use Rattle.rb_replay.specs.Run.{state, outputs};
 ghost use Rattle.rb_replay.specs.Points.{start_points};
 ghost use Rattle.rb_replay.specs.Start.{TellsStartFault};
 
-use crate::course::Course;
 use crate::differing::list_differing;
 use crate::fault::StartFault;
+use crate::run::Run;
 use crate::session::Session;
 use crate::spacing::is_spacing;
 use rb_machine::{Count, Machine};
@@ -128,16 +128,16 @@ impl<M: Machine> Session<M> {
         ensures counted { OnOk result (M.Meter.count_of meter.new ≡ M.Meter.count_of meter.old + length script.blocks) }
         ensures refused { OnErr result (M.Meter.count_of meter.new ≤ M.Meter.count_of meter.old + length script.blocks) }
     {
-        let course = run_whole(alloc, &script, spacing, meter)?;
-        let mismatches = list_differing(alloc, &script, 0, &course.outputs)?;
+        let running = run_whole(alloc, &script, spacing, meter)?;
+        let mismatches = list_differing(alloc, &script, 0, &running.outputs)?;
         Ok(Session {
             alloc,
             script,
             spacing,
-            outputs: course.outputs,
+            outputs: running.outputs,
             mismatches,
-            points: course.points,
-            kept: course.kept,
+            points: running.points,
+            kept: running.kept,
         })
     }
 }
@@ -148,7 +148,7 @@ fn run_whole<M: Machine>(
     script: &Script,
     spacing: usize,
     meter: &mut M::Meter,
-) -> Result<Course<M>, AllocError>
+) -> Result<Run<M>, AllocError>
     requires least { 1 ≤ spacing }
     requires few { length script.now.blocks ≤ MAX_DIRECTIVES }
     requires meter { M.Meter.count_of meter.old ≤ 2 ^ 62 }
@@ -161,13 +161,13 @@ fn run_whole<M: Machine>(
     let mut machine = M::empty(alloc)?;
     // A step takes the machine away, so what is kept at point 0 is copied before the first.
     let first = machine.try_copy()?;
-    let mut course = Course::new(alloc, spacing, 0);
-    while course.at < script.len() {
-        machine = course.step(machine, script, meter)?;
-        course.keep_due(&machine)?;
+    let mut running = Run::new(alloc, spacing, 0);
+    while running.at < script.len() {
+        machine = running.step(machine, script, meter)?;
+        running.keep_due(&machine)?;
     }
-    // It comes in now, since a course counts its points from the first that it keeps on the way.
-    course.kept.insert(0, first)?;
-    course.points.insert(0, 0)?;
-    Ok(course)
+    // It comes in now, since a run counts its points from the first that it keeps on the way.
+    running.kept.insert(0, first)?;
+    running.points.insert(0, 0)?;
+    Ok(running)
 }

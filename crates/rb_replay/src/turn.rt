@@ -1,8 +1,8 @@
 //! Turning a session into another script.
 
-use crate::cut::Common;
-use crate::longest::longest_cut;
+use crate::longest::longest_splice;
 use crate::session::{Changed, Session};
+use crate::splice::Common;
 use rb_machine::{Count, Machine};
 use rb_script::Script;
 use std::alloc::AllocError;
@@ -34,7 +34,7 @@ impl<M: Machine> Session<M> {
         // All that is held is what one run of the script gives, whatever the answer.
         ensures fresh { IsFresh self.new }
     {
-        let cut = longest_cut(&self.script, &script);
-        self.replay(script, cut, Common::Directives, meter)
+        let splice = longest_splice(&self.script, &script);
+        self.replay(script, splice, Common::Directives, meter)
     }
 }

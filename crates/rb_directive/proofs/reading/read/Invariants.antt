@@ -1,7 +1,7 @@
 -- What is given so far, and the arguments that are left.
 use Rattle.std.proofs.Common.{◌≡◌, drop, Ok}
 use Rattle.rb_script.specs.Tokens.{plain}
-use Rattle.rb_directive.specs.Givens.{nothing}
+use Rattle.rb_directive.specs.Arguments.{nothing}
 use Rattle.rb_directive.specs.Reading.{with_arguments}
 use Rattle.rb_directive.proofs.reading.read.Given as goal
 

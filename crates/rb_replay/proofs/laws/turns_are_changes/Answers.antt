@@ -1,11 +1,11 @@
-use Rattle.rb_replay.proofs.TurnLaws.{cut-change, cut-once, turn-cost-one}
+use Rattle.rb_replay.proofs.TurnLaws.{splice-change, splice-once, turn-cost-one}
 use Rattle.rb_replay.proofs.laws.turns_are_changes.Goals as goal
 
 pub returns-clause-change : goal.returns-clause-change
-returns-clause-change c = cut-change
+returns-clause-change c = splice-change
 
 pub returns-clause-once : goal.returns-clause-once
-returns-clause-once c = cut-once
+returns-clause-once c = splice-once
 
 pub returns-clause-cost : goal.returns-clause-cost
 returns-clause-cost c = turn-cost-one

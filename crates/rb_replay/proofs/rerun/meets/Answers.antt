@@ -7,7 +7,7 @@ use Rattle.rb_replay.proofs.rerun.meets.Goals as goal
 use Rattle.rb_replay.proofs.rerun.meets.Given.{Over}
 
 -- what is kept at the point that was found
-found : (g : Over) (c : goal.After-same g) (f : ℕ → Cluster) → map g.M.Machine.meaning c.args.kept.now ≡ map f c.args.points.now → g.M.Machine.meaning c.index-kept-here.result ≡ f (c.args.at - c.args.cut.new_rest + c.args.cut.old_rest)
+found : (g : Over) (c : goal.After-same g) (f : ℕ → Cluster) → map g.M.Machine.meaning c.args.kept.now ≡ map f c.args.points.now → g.M.Machine.meaning c.index-kept-here.result ≡ f (c.args.at - c.args.splice.new_rest + c.args.splice.old_rest)
 found g c f states =
     let here = c.is_kept.ensures.kept c.if-not-is_kept.false in
     ap g.M.Machine.meaning c.index-kept-here.is ∙ map_at g.M.Machine.meaning f c.args.kept.now c.args.points.now c.args.index.now c.index-kept-here.result 0 states here.0 ∙ ap f here.1
@@ -24,5 +24,5 @@ returns-clause-unmet g c = λ f states no from has same.
 pub returns-clause-next : goal.returns-clause-next
 returns-clause-next g c = λ no.
     let here = c.is_kept.ensures.kept c.if-not-is_kept.false in
-    let on : c.args.at + 1 - c.args.cut.new_rest + c.args.cut.old_rest ≡ c.args.at - c.args.cut.new_rest + c.args.cut.old_rest + 1 = omega arith in
-    rw on (next-on c.args.points.now (c.args.at - c.args.cut.new_rest + c.args.cut.old_rest) c.args.index.now c.requires.rising c.requires.next here.0 here.1)
+    let on : c.args.at + 1 - c.args.splice.new_rest + c.args.splice.old_rest ≡ c.args.at - c.args.splice.new_rest + c.args.splice.old_rest + 1 = omega arith in
+    rw on (next-on c.args.points.now (c.args.at - c.args.splice.new_rest + c.args.splice.old_rest) c.args.index.now c.requires.rising c.requires.next here.0 here.1)

@@ -8,15 +8,15 @@ use Rattle.rb_replay.proofs.start.run_whole.Goals as goal
 
 pub returns-clause-outputs : goal.returns-clause-outputs
 returns-clause-outputs g c =
-    let run = c.loop-course.invariant.run in
-    let at : c.loop-course.course.at ≡ length c.args.script.now.blocks = omega (arith, c.len.ensures, c.loop-course-test.false, run.within) in
-    let on = rw (c.loop-course.invariant.begins, at) at run.outputs_on in
+    let run = c.loop-running.invariant.run in
+    let at : c.loop-running.running.at ≡ length c.args.script.now.blocks = omega (arith, c.len.ensures, c.loop-running-test.false, run.within) in
+    let on = rw (c.loop-running.invariant.begins, at) at run.outputs_on in
     on ∙ take_all (length c.args.script.now.blocks) (outputs c.args.script.now) (omega (arith, length-outputs c.args.script.now))
 
 pub returns-clause-points : goal.returns-clause-points
 returns-clause-points g c =
-    let at : c.loop-course.course.at ≡ length c.args.script.now.blocks = omega (arith, c.len.ensures, c.loop-course-test.false, c.loop-course.invariant.run.within) in
+    let at : c.loop-running.running.at ≡ length c.args.script.now.blocks = omega (arith, c.len.ensures, c.loop-running-test.false, c.loop-running.invariant.run.within) in
     let all : length c.args.script.now.blocks - 0 ≡ length c.args.script.now.blocks = omega arith in
-    let paced = rw (c.loop-course.invariant.begins, c.loop-course.invariant.spaced, at, all) at (paced_end c.loop-course.course.spacing c.loop-course.course.from c.loop-course.course.at c.loop-course.course.due c.loop-course.course.points.items c.loop-course.invariant.paced) in
-    let first : c.insert-2.new.self.items ≡ 0 ∷ c.loop-course.course.points.items = grind (arith, common_steps) in
+    let paced = rw (c.loop-running.invariant.begins, c.loop-running.invariant.spaced, at, all) at (paced_end c.loop-running.running.spacing c.loop-running.running.from c.loop-running.running.at c.loop-running.running.due c.loop-running.running.points.items c.loop-running.invariant.paced) in
+    let first : c.insert-2.new.self.items ≡ 0 ∷ c.loop-running.running.points.items = grind (arith, common_steps) in
     first ∙ ap (λ (ps : List ℕ). 0 ∷ ps) paced

@@ -1,19 +1,19 @@
 use Rattle.std.proofs.Common.{◌≡◌, ◌+◌, ◌-◌, length}
 use Rattle.rb_machine.specs.Cluster.{empty}
 use Rattle.rb_replay.specs.Run.{state}
-use Rattle.rb_replay.specs.Course.{HasRun, PacedOn}
+use Rattle.rb_replay.specs.Running.{HasRun, PacedOn}
 use Rattle.rb_replay.proofs.start.run_whole.Given as goal
 
-abbrev pub invariant-loop-course : goal.invariant-loop-course
-invariant-loop-course g l = record {
-  begins : l.course.from ≡ 0;
-  spaced : l.course.spacing ≡ l.spacing;
-  run : HasRun g.M.Machine.meaning l.script l.course;
-  paced : PacedOn l.course;
-  here : g.M.Machine.meaning l.machine ≡ state l.script l.course.at;
+abbrev pub invariant-loop-running : goal.invariant-loop-running
+invariant-loop-running g l = record {
+  begins : l.running.from ≡ 0;
+  spaced : l.running.spacing ≡ l.spacing;
+  run : HasRun g.M.Machine.meaning l.script l.running;
+  paced : PacedOn l.running;
+  here : g.M.Machine.meaning l.machine ≡ state l.script l.running.at;
   before : g.M.Machine.meaning l.first ≡ empty;
-  counted : g.M.Meter.Count.count_of l.meter ≡ g.M.Meter.Count.count_of l.fn.meter + l.course.at;
+  counted : g.M.Meter.Count.count_of l.meter ≡ g.M.Meter.Count.count_of l.fn.meter + l.running.at;
 }
 
-abbrev pub decreases-loop-course : goal.decreases-loop-course
-decreases-loop-course g l = length l.script.blocks - l.course.at
+abbrev pub decreases-loop-running : goal.decreases-loop-running
+decreases-loop-running g l = length l.script.blocks - l.running.at

@@ -12,34 +12,34 @@ use Rattle.rb_replay.proofs.session.Session.assembled.Goals as goal
 pub joined-requires-clause-small : goal.joined-requires-clause-small
 joined-requires-clause-small g c =
     rw c.deref-3.ensures.value
-    (at_most-rest MAX_DIRECTIVES c.args.seam.rest c.self.inside.points.items (at_most-more _ MAX_DIRECTIVES c.self.inside.points.items c.self.invariant.few (kept-all c.self.inside.spacing _ c.self.inside.points.items c.self.invariant.near)))
+    (at_most-rest MAX_DIRECTIVES c.args.rejoin.rest c.self.inside.points.items (at_most-more _ MAX_DIRECTIVES c.self.inside.points.items c.self.invariant.few (kept-all c.self.inside.spacing _ c.self.inside.points.items c.self.invariant.near)))
 
 pub returns-clause-ready : goal.returns-clause-ready
 returns-clause-ready g c =
     let run = c.requires.run in
     let fresh : IsFresh c.args.self.now = subst IsFresh c.self.view_is c.self.invariant in
     let placed : c.self.inside.points.items ≡ c.args.self.now.points = ap (λ (h : Holding). h.points) c.self.view_is in
-    let on : take (start (change_by c.args.self.now c.args.new.now c.args.cut)) (outputs c.args.new.now) ++ c.args.run.course.outputs.items ≡ take (stop (change_by c.args.self.now c.args.new.now c.args.cut) c.args.run.met) (outputs c.args.new.now) =
-    ap (λ (n : ℕ). take n (outputs c.args.new.now) ++ c.args.run.course.outputs.items) (sym run.from_is) ∙ run.has_run.outputs_on ∙ ap (λ (n : ℕ). take n (outputs c.args.new.now)) run.at_is in
-    let joined : c.in_ok-points.points.items ≡ joined_points (change_by c.args.self.now c.args.new.now c.args.cut) c.args.run.met =
+    let on : take (start (change_by c.args.self.now c.args.new.now c.args.splice)) (outputs c.args.new.now) ++ c.args.run.running.outputs.items ≡ take (stop (change_by c.args.self.now c.args.new.now c.args.splice) c.args.run.met) (outputs c.args.new.now) =
+    ap (λ (n : ℕ). take n (outputs c.args.new.now) ++ c.args.run.running.outputs.items) (sym run.from_is) ∙ run.has_run.outputs_on ∙ ap (λ (n : ℕ). take n (outputs c.args.new.now)) run.at_is in
+    let joined : c.in_ok-points.points.items ≡ joined_points (change_by c.args.self.now c.args.new.now c.args.splice) c.args.run.met =
     c.in_ok-points.ensures
-    ∙ both (λ (a b : List ℕ). a ++ b) (ap (take c.args.seam.front) (c.deref.ensures.value ∙ placed) ∙ c.requires.seam.fronts)
-    (both (λ (a b : List ℕ). a ++ map (new_point (change_by c.args.self.now c.args.new.now c.args.cut)) b) (c.deref-2.ensures.value ∙ run.points_are) (take_rest c.deref-3.result.now c.args.seam.rest ∙ ap (drop c.args.seam.rest) (c.deref-3.ensures.value ∙ placed) ∙ c.requires.seam.rests)) in
+    ∙ both (λ (a b : List ℕ). a ++ b) (ap (take c.args.rejoin.front) (c.deref.ensures.value ∙ placed) ∙ c.requires.rejoin.fronts)
+    (both (λ (a b : List ℕ). a ++ map (new_point (change_by c.args.self.now c.args.new.now c.args.splice)) b) (c.deref-2.ensures.value ∙ run.points_are) (take_rest c.deref-3.result.now c.args.rejoin.rest ∙ ap (drop c.args.rejoin.rest) (c.deref-3.ensures.value ∙ placed) ∙ c.requires.rejoin.rests)) in
     record {
       meeting = c.args.run.met;
       is_first = run.is_first;
       from_is = run.from_is;
       at_is = run.at_is;
       spacing_is = run.spacing_is;
-      points_are = joined ∙ joined-before (change_by c.args.self.now c.args.new.now c.args.cut) c.args.run.met c.requires.change run.is_first;
+      points_are = joined ∙ joined-before (change_by c.args.self.now c.args.new.now c.args.splice) c.args.run.met c.requires.change run.is_first;
       mismatches_are = c.in_ok-mismatches.ensures;
-      outputs_are = rw (run.from_is, c.requires.seam.old_stop_is) (outputs-ready (change_by c.args.self.now c.args.new.now c.args.cut) c.args.run.met c.args.run.course.outputs.items c.requires.change run.is_first on);
+      outputs_are = rw (run.from_is, c.requires.rejoin.old_stop_is) (outputs-ready (change_by c.args.self.now c.args.new.now c.args.splice) c.args.run.met c.args.run.running.outputs.items c.requires.change run.is_first on);
       states_are =
-          states-ready (change_by c.args.self.now c.args.new.now c.args.cut) c.args.run.met c.args.seam c.args.self.now.kept (map g.M.Machine.meaning c.args.run.course.kept.items) c.requires.change run.is_first c.requires.seam fresh.states
+          states-ready (change_by c.args.self.now c.args.new.now c.args.splice) c.args.run.met c.args.rejoin c.args.self.now.kept (map g.M.Machine.meaning c.args.run.running.kept.items) c.requires.change run.is_first c.requires.rejoin fresh.states
           (run.has_run.states_are ∙ ap (map (state c.args.new.now)) run.points_are)
           ∙ ap (map (state c.args.new.now)) (sym joined);
-      order = rw (run.from_is, c.requires.seam.old_stop_is) (start-old (change_by c.args.self.now c.args.new.now c.args.cut) c.args.run.met c.requires.change run.is_first);
-      old_within = rw c.requires.seam.old_stop_is (old_stop-within (change_by c.args.self.now c.args.new.now c.args.cut) c.args.run.met c.requires.change run.is_first);
-      front_first = c.requires.seam.order;
-      rest_within = c.requires.seam.within;
+      order = rw (run.from_is, c.requires.rejoin.old_stop_is) (start-old (change_by c.args.self.now c.args.new.now c.args.splice) c.args.run.met c.requires.change run.is_first);
+      old_within = rw c.requires.rejoin.old_stop_is (old_stop-within (change_by c.args.self.now c.args.new.now c.args.splice) c.args.run.met c.requires.change run.is_first);
+      front_first = c.requires.rejoin.order;
+      rest_within = c.requires.rejoin.within;
     }

@@ -35,6 +35,6 @@ returns g c =
     let rests : drop c.count_below-rest.result c.deref-5.result.now ≡ filter (λ p. nat_le (c.args.old_stop + 1) p) c.deref-5.result.now =
     rw (c.deref-2.ensures.value ∙ sym c.deref-5.ensures.value) at c.count_below-rest.ensures.rest in
     ok-along c.joined.result _ _ (λ v e. e ∙ parts (mismatches c.args.self.now.script) c.deref-3.result.now c.deref.result.now c.deref-5.result.now c.count_below-front.result c.count_below-rest.result (c.args.from + 1) (c.args.old_stop + 1)
-    (λ (p : ℕ). p - c.args.cut.old_rest + c.args.cut.new_rest) c.deref-4.result.now (differing (c.args.from + 1) (drop c.args.from c.args.new.now.blocks) c.args.outputs.now)
+    (λ (p : ℕ). p - c.args.splice.old_rest + c.args.splice.new_rest) c.deref-4.result.now (differing (c.args.from + 1) (drop c.args.from c.args.new.now.blocks) c.args.outputs.now)
     (c.deref-3.ensures.value ∙ held) (c.deref.ensures.value ∙ held) (c.deref-5.ensures.value ∙ held) (c.deref-4.ensures.value ∙ c.in_ok-fresh.ensures) c.count_below-front.ensures.front rests
-    ∙ mended-differing c.args.self.now.script c.args.new.now c.args.cut c.args.from c.args.outputs.now c.args.old_stop c.requires.mended) c.joined.ensures
+    ∙ mended-differing c.args.self.now.script c.args.new.now c.args.splice c.args.from c.args.outputs.now c.args.old_stop c.requires.mended) c.joined.ensures

@@ -8,7 +8,7 @@ use Rattle.rb_replay.specs.Holding.{Holding, IsFresh}
 use Rattle.rb_replay.specs.Reuse.{change_by, start, old_point, Meets}
 use Rattle.rb_replay.proofs.ReuseLaws.{cost-at_least, unmet_more, start-le, meets-within}
 use Rattle.rb_replay.proofs.ReadyLaws.{kept-rising, states-before, on_err_always}
-use Rattle.rb_replay.proofs.CourseLaws.{course-run, course-paced, course-end, course-meeting, states-more, same-length}
+use Rattle.rb_replay.proofs.RunningLaws.{running-run, running-paced, running-end, running-meeting, states-more, same-length}
 use Rattle.rb_replay.proofs.session.Session.run_on.Goals as goal
 
 pub count_below-index-requires : goal.count_below-index-requires
@@ -16,18 +16,18 @@ count_below-index-requires g c = rw c.deref.ensures.value (kept-rising c.self.in
 
 pub steps-init : goal.steps-init
 steps-init g c =
-    let le : start (change_by c.args.self.now c.args.new.now c.args.cut) ≤ c.args.cut.front = start-le (change_by c.args.self.now c.args.new.now c.args.cut) in
-    let begins : c.new-course.result.from ≡ start (change_by c.args.self.now c.args.new.now c.args.cut) = c.new-course.ensures.from ∙ c.in_ok-from.ensures.point in
-    let at : c.new-course.result.at ≡ c.new-course.result.from = c.new-course.ensures.at ∙ sym c.new-course.ensures.from in
-    let before : c.in_ok-from.from ≤ c.args.cut.front = omega (arith, c.in_ok-from.ensures.point, le) in
-    let first : c.new-course.result.at - c.args.cut.new_rest + c.args.cut.old_rest ≡ c.args.cut.old_rest = omega (arith, at, begins, le, c.requires.change.new_from) in
+    let le : start (change_by c.args.self.now c.args.new.now c.args.splice) ≤ c.args.splice.front = start-le (change_by c.args.self.now c.args.new.now c.args.splice) in
+    let begins : c.new-running.result.from ≡ start (change_by c.args.self.now c.args.new.now c.args.splice) = c.new-running.ensures.from ∙ c.in_ok-from.ensures.point in
+    let at : c.new-running.result.at ≡ c.new-running.result.from = c.new-running.ensures.at ∙ sym c.new-running.ensures.from in
+    let before : c.in_ok-from.from ≤ c.args.splice.front = omega (arith, c.in_ok-from.ensures.point, le) in
+    let first : c.new-running.result.at - c.args.splice.new_rest + c.args.splice.old_rest ≡ c.args.splice.old_rest = omega (arith, at, begins, le, c.requires.change.new_from) in
     let points : c.deref.result.now ≡ c.args.self.now.points = c.deref.ensures.value ∙ ap (λ (h : Holding). h.points) c.self.view_is in
     record {
       begins = begins;
-      spaced = c.new-course.ensures.spacing ∙ ap (λ (h : Holding). h.spacing) c.self.view_is;
-      run = course-run g.M.Machine.meaning c.args.new.now c.new-course.result c.new-course.ensures.outputs c.new-course.ensures.points c.new-course.ensures.kept at (omega (arith, begins, le, c.requires.change.new_from, c.requires.change.new_within));
-      paced = course-paced c.new-course.result c.new-course.ensures.points at (c.new-course.ensures.due ∙ sym c.new-course.ensures.spacing);
-      here = c.in_ok-from.ensures.machine ∙ states-before (change_by c.args.self.now c.args.new.now c.args.cut) c.in_ok-from.from c.requires.change before ∙ ap (state c.args.new.now) (sym c.new-course.ensures.at);
+      spaced = c.new-running.ensures.spacing ∙ ap (λ (h : Holding). h.spacing) c.self.view_is;
+      run = running-run g.M.Machine.meaning c.args.new.now c.new-running.result c.new-running.ensures.outputs c.new-running.ensures.points c.new-running.ensures.kept at (omega (arith, begins, le, c.requires.change.new_from, c.requires.change.new_within));
+      paced = running-paced c.new-running.result c.new-running.ensures.points at (c.new-running.ensures.due ∙ sym c.new-running.ensures.spacing);
+      here = c.in_ok-from.ensures.machine ∙ states-before (change_by c.args.self.now c.args.new.now c.args.splice) c.in_ok-from.from c.requires.change before ∙ ap (state c.args.new.now) (sym c.new-running.ensures.at);
       next = rw (first, ← points) c.count_below-index.ensures.next;
       unmet = λ t lt m. absurd (omega (arith, m.from_start, at, begins));
       counted = omega (arith, at);
@@ -51,35 +51,35 @@ differs meaning h inside ps kept x at r t view fresh points states unmet le has 
 pub returns-in_err-keep_due-clause-refused : goal.returns-in_err-keep_due-clause-refused
 returns-in_err-keep_due-clause-refused g c =
     on_err_always c.from_residual-in_err-keep_due.result (λ n cost.
-    let least = cost-at_least (change_by c.args.self.now c.args.new.now c.args.cut) c.steps.course.at n c.steps.invariant.unmet c.steps.invariant.run.within cost in
+    let least = cost-at_least (change_by c.args.self.now c.args.new.now c.args.splice) c.steps.running.at n c.steps.invariant.unmet c.steps.invariant.run.within cost in
     omega (arith, least, c.steps.invariant.counted, c.steps.invariant.begins))
 
-pub returns-then-course-len-clause-run : goal.returns-then-course-len-clause-run
-returns-then-course-len-clause-run g c =
-    let at : c.keep_due.new.self.at ≡ c.steps.course.at = c.keep_due.ensures.at in
-    let end : c.keep_due.new.self.at ≡ length c.args.new.now.blocks = c.if-course-len.true ∙ c.len.ensures in
-    let from : c.keep_due.new.self.from ≡ start (change_by c.args.self.now c.args.new.now c.args.cut) = c.keep_due.ensures.from ∙ c.steps.invariant.begins in
+pub returns-then-running-len-clause-run : goal.returns-then-running-len-clause-run
+returns-then-running-len-clause-run g c =
+    let at : c.keep_due.new.self.at ≡ c.steps.running.at = c.keep_due.ensures.at in
+    let end : c.keep_due.new.self.at ≡ length c.args.new.now.blocks = c.if-running-len.true ∙ c.len.ensures in
+    let from : c.keep_due.new.self.from ≡ start (change_by c.args.self.now c.args.new.now c.args.splice) = c.keep_due.ensures.from ∙ c.steps.invariant.begins in
     let spacing : c.keep_due.new.self.spacing ≡ c.args.self.now.spacing = c.keep_due.ensures.spacing ∙ c.steps.invariant.spaced in
-    let unmet : (t : ℕ) → t < c.steps.course.at + 1 → Meets (change_by c.args.self.now c.args.new.now c.args.cut) t → ⊥ =
-    unmet_more (change_by c.args.self.now c.args.new.now c.args.cut) c.steps.course.at (g.M.Machine.meaning c.steps.machine) c.steps.invariant.unmet c.steps.invariant.here
-    (differs g.M.Machine.meaning c.args.self.now _ c.deref-in-steps.result.now c.deref-in-steps-2.result.now (g.M.Machine.meaning c.steps.machine) c.steps.course.at c.args.cut.old_rest c.args.cut.new_rest c.self.view_is c.self.invariant c.deref-in-steps.ensures.value (ap (map g.M.Machine.meaning) c.deref-in-steps-2.ensures.value) (λ f s. c.meets.ensures.unmet f s c.steps-test.true)) in
+    let unmet : (t : ℕ) → t < c.steps.running.at + 1 → Meets (change_by c.args.self.now c.args.new.now c.args.splice) t → ⊥ =
+    unmet_more (change_by c.args.self.now c.args.new.now c.args.splice) c.steps.running.at (g.M.Machine.meaning c.steps.machine) c.steps.invariant.unmet c.steps.invariant.here
+    (differs g.M.Machine.meaning c.args.self.now _ c.deref-in-steps.result.now c.deref-in-steps-2.result.now (g.M.Machine.meaning c.steps.machine) c.steps.running.at c.args.splice.old_rest c.args.splice.new_rest c.self.view_is c.self.invariant c.deref-in-steps.ensures.value (ap (map g.M.Machine.meaning) c.deref-in-steps-2.ensures.value) (λ f s. c.meets.ensures.unmet f s c.steps-test.true)) in
     record {
-      is_first = λ t m. let within : t ≤ length c.args.new.now.blocks = meets-within (change_by c.args.self.now c.args.new.now c.args.cut) t c.requires.change m in unmet t (omega (arith, at, end)) m;
+      is_first = λ t m. let within : t ≤ length c.args.new.now.blocks = meets-within (change_by c.args.self.now c.args.new.now c.args.splice) t c.requires.change m in unmet t (omega (arith, at, end)) m;
       from_is = from;
       at_is = end;
       spacing_is = spacing;
       has_run = c.in_ok-keep_due.ensures.run c.args.new.now c.steps.invariant.run c.steps.invariant.here;
-      points_are = course-end c.keep_due.new.self (change_by c.args.self.now c.args.new.now c.args.cut) c.in_ok-keep_due.ensures.paced spacing from end;
+      points_are = running-end c.keep_due.new.self (change_by c.args.self.now c.args.new.now c.args.splice) c.in_ok-keep_due.ensures.paced spacing from end;
     }
 
 pub returns-in_err-machine-clause-refused : goal.returns-in_err-machine-clause-refused
 returns-in_err-machine-clause-refused g c =
-    let within : c.steps.course.at < length c.args.new.now.blocks = less c.steps.course.at c.keep_due.new.self.at c.len.result (length c.args.new.now.blocks) c.keep_due.ensures.at c.len.ensures c.if-course-len.false c.steps.invariant.run.within in
-    let unmet : (t : ℕ) → t < c.steps.course.at + 1 → Meets (change_by c.args.self.now c.args.new.now c.args.cut) t → ⊥ =
-    unmet_more (change_by c.args.self.now c.args.new.now c.args.cut) c.steps.course.at (g.M.Machine.meaning c.steps.machine) c.steps.invariant.unmet c.steps.invariant.here
-    (differs g.M.Machine.meaning c.args.self.now _ c.deref-in-steps.result.now c.deref-in-steps-2.result.now (g.M.Machine.meaning c.steps.machine) c.steps.course.at c.args.cut.old_rest c.args.cut.new_rest c.self.view_is c.self.invariant c.deref-in-steps.ensures.value (ap (map g.M.Machine.meaning) c.deref-in-steps-2.ensures.value) (λ f s. c.meets.ensures.unmet f s c.steps-test.true)) in
+    let within : c.steps.running.at < length c.args.new.now.blocks = less c.steps.running.at c.keep_due.new.self.at c.len.result (length c.args.new.now.blocks) c.keep_due.ensures.at c.len.ensures c.if-running-len.false c.steps.invariant.run.within in
+    let unmet : (t : ℕ) → t < c.steps.running.at + 1 → Meets (change_by c.args.self.now c.args.new.now c.args.splice) t → ⊥ =
+    unmet_more (change_by c.args.self.now c.args.new.now c.args.splice) c.steps.running.at (g.M.Machine.meaning c.steps.machine) c.steps.invariant.unmet c.steps.invariant.here
+    (differs g.M.Machine.meaning c.args.self.now _ c.deref-in-steps.result.now c.deref-in-steps-2.result.now (g.M.Machine.meaning c.steps.machine) c.steps.running.at c.args.splice.old_rest c.args.splice.new_rest c.self.view_is c.self.invariant c.deref-in-steps.ensures.value (ap (map g.M.Machine.meaning) c.deref-in-steps-2.ensures.value) (λ f s. c.meets.ensures.unmet f s c.steps-test.true)) in
     on_err_always c.from_residual-in_err-machine.result (λ n cost.
-    let least = cost-at_least (change_by c.args.self.now c.args.new.now c.args.cut) (c.steps.course.at + 1) n unmet (omega arith) cost in
+    let least = cost-at_least (change_by c.args.self.now c.args.new.now c.args.splice) (c.steps.running.at + 1) n unmet (omega arith) cost in
     omega (arith, least, c.step.ensures.counted, c.steps.invariant.counted, c.steps.invariant.begins, c.steps.invariant.run.from_first))
   where
     less : (at kept len n : ℕ) → kept ≡ at → len ≡ n → (kept ≡ len → ⊥) → at ≤ n → at < n
@@ -87,12 +87,12 @@ returns-in_err-machine-clause-refused g c =
 
 pub steps-preserved : goal.steps-preserved
 steps-preserved g c =
-    let at : c.step.new.self.at ≡ c.steps.course.at + 1 = c.in_ok-machine.ensures.at ∙ ap (λ (n : ℕ). n + 1) c.keep_due.ensures.at in
-    let from : c.step.new.self.from ≡ c.steps.course.from = c.step.ensures.from ∙ c.keep_due.ensures.from in
+    let at : c.step.new.self.at ≡ c.steps.running.at + 1 = c.in_ok-machine.ensures.at ∙ ap (λ (n : ℕ). n + 1) c.keep_due.ensures.at in
+    let from : c.step.new.self.from ≡ c.steps.running.from = c.step.ensures.from ∙ c.keep_due.ensures.from in
     let points : c.deref-in-steps.result.now ≡ c.args.self.now.points = c.deref-in-steps.ensures.value ∙ ap (λ (h : Holding). h.points) c.self.view_is in
-    let unmet : (t : ℕ) → t < c.steps.course.at + 1 → Meets (change_by c.args.self.now c.args.new.now c.args.cut) t → ⊥ =
-    unmet_more (change_by c.args.self.now c.args.new.now c.args.cut) c.steps.course.at (g.M.Machine.meaning c.steps.machine) c.steps.invariant.unmet c.steps.invariant.here
-    (differs g.M.Machine.meaning c.args.self.now _ c.deref-in-steps.result.now c.deref-in-steps-2.result.now (g.M.Machine.meaning c.steps.machine) c.steps.course.at c.args.cut.old_rest c.args.cut.new_rest c.self.view_is c.self.invariant c.deref-in-steps.ensures.value (ap (map g.M.Machine.meaning) c.deref-in-steps-2.ensures.value) (λ f s. c.meets.ensures.unmet f s c.steps-test.true)) in
+    let unmet : (t : ℕ) → t < c.steps.running.at + 1 → Meets (change_by c.args.self.now c.args.new.now c.args.splice) t → ⊥ =
+    unmet_more (change_by c.args.self.now c.args.new.now c.args.splice) c.steps.running.at (g.M.Machine.meaning c.steps.machine) c.steps.invariant.unmet c.steps.invariant.here
+    (differs g.M.Machine.meaning c.args.self.now _ c.deref-in-steps.result.now c.deref-in-steps-2.result.now (g.M.Machine.meaning c.steps.machine) c.steps.running.at c.args.splice.old_rest c.args.splice.new_rest c.self.view_is c.self.invariant c.deref-in-steps.ensures.value (ap (map g.M.Machine.meaning) c.deref-in-steps-2.ensures.value) (λ f s. c.meets.ensures.unmet f s c.steps-test.true)) in
     record {
       begins = from ∙ c.steps.invariant.begins;
       spaced = c.step.ensures.spacing ∙ c.keep_due.ensures.spacing ∙ c.steps.invariant.spaced;
@@ -110,15 +110,15 @@ returns-clause-run g c =
     let stated : map g.M.Machine.meaning c.deref-in-steps-2.result.now ≡ map (state c.args.self.now.script) c.deref-in-steps.result.now =
     ap (map g.M.Machine.meaning) c.deref-in-steps-2.ensures.value ∙ ap (λ (h : Holding). h.kept) c.self.view_is ∙ (let fresh : IsFresh c.args.self.now = subst IsFresh c.self.view_is c.self.invariant in fresh.states) ∙ ap (map (state c.args.self.now.script)) (sym placed) in
     let met = c.meets.ensures.met (state c.args.self.now.script) stated c.steps-test.false in
-    let kept : c.push.new.self.items ≡ c.steps.course.kept.items ++ c.steps.machine ∷ [] = grind (arith, common_steps) in
-    let points : c.push-2.new.self.items ≡ c.steps.course.points.items ++ c.steps.course.at ∷ [] = grind (arith, common_steps) in
-    let one : 1 ≤ c.steps.course.spacing = omega (arith, c.steps.invariant.spaced, c.requires.change.spaced) in
+    let kept : c.push.new.self.items ≡ c.steps.running.kept.items ++ c.steps.machine ∷ [] = grind (arith, common_steps) in
+    let points : c.push-2.new.self.items ≡ c.steps.running.points.items ++ c.steps.running.at ∷ [] = grind (arith, common_steps) in
+    let one : 1 ≤ c.steps.running.spacing = omega (arith, c.steps.invariant.spaced, c.requires.change.spaced) in
     record {
       is_first = (
         record {
           from_start = omega (arith, c.steps.invariant.begins, c.steps.invariant.run.from_first);
           in_rest = met.0;
-          is_kept = subst (λ (ps : List ℕ). Contains ps (old_point (change_by c.args.self.now c.args.new.now c.args.cut) c.steps.course.at)) placed met.1;
+          is_kept = subst (λ (ps : List ℕ). Contains ps (old_point (change_by c.args.self.now c.args.new.now c.args.splice) c.steps.running.at)) placed met.1;
           same = sym c.steps.invariant.here ∙ met.2;
         },
         c.steps.invariant.unmet,
@@ -130,7 +130,7 @@ returns-clause-run g c =
         from_first = c.steps.invariant.run.from_first;
         within = c.steps.invariant.run.within;
         outputs_on = c.steps.invariant.run.outputs_on;
-        states_are = rw (kept, points) (states-more g.M.Machine.meaning c.args.new.now c.steps.course.kept.items c.steps.course.points.items c.steps.machine c.steps.course.at c.steps.invariant.run.states_are c.steps.invariant.here);
+        states_are = rw (kept, points) (states-more g.M.Machine.meaning c.args.new.now c.steps.running.kept.items c.steps.running.points.items c.steps.machine c.steps.running.at c.steps.invariant.run.states_are c.steps.invariant.here);
       };
-      points_are = points ∙ ap (λ (ps : List ℕ). ps ++ c.steps.course.at ∷ []) (course-meeting c.steps.course (change_by c.args.self.now c.args.new.now c.args.cut) c.steps.course.at one c.steps.invariant.run.from_first c.steps.invariant.paced c.steps.invariant.spaced c.steps.invariant.begins refl);
+      points_are = points ∙ ap (λ (ps : List ℕ). ps ++ c.steps.running.at ∷ []) (running-meeting c.steps.running (change_by c.args.self.now c.args.new.now c.args.splice) c.steps.running.at one c.steps.invariant.run.from_first c.steps.invariant.paced c.steps.invariant.spaced c.steps.invariant.begins refl);
     }

@@ -2,8 +2,8 @@
 use Rattle.std.specs.Prelude.{ℕ, Bool, false, List, [], Option, Some, None, is_some}
 use Rattle.std.specs.Option.{unwrap_or}
 use Rattle.rb_level.specs.declared.level.Level.{Level}
-use Rattle.rb_directive.specs.declared.given.Given.{Given}
-use Rattle.rb_directive.specs.declared.given.WordPlace.TheVariants as places
+use Rattle.rb_directive.specs.declared.arguments.Arguments.{Arguments}
+use Rattle.rb_directive.specs.declared.arguments.WordPlace.TheVariants as places
 use Rattle.rb_directive.specs.declared.argument.Argument.{Argument}
 use Rattle.rb_directive.specs.declared.argument.Argument.TheVariants as arguments
 use Rattle.rb_directive.specs.declared.argument.Number.{Number}
@@ -19,7 +19,7 @@ use Rattle.rb_directive.specs.declared.argument.Ids.TheVariants as lists
 use Rattle.rb_directive.specs.Forms.{Word}
 use Rattle.rb_directive.specs.IdLists.{share}
 
-abbrev pub nothing : Given
+abbrev pub nothing : Arguments
 nothing = record {
   next = places.First;
   count = None;
@@ -49,7 +49,7 @@ nothing = record {
 
 -- ---- what is given under a name
 
-abbrev pub number_given : Number → Given → Option ℕ
+abbrev pub number_given : Number → Arguments → Option ℕ
 number_given numbers.Count g = g.count
 number_given numbers.Id g = g.id
 number_given numbers.Peer g = g.peer
@@ -60,27 +60,27 @@ number_given numbers.Inflight g = g.inflight
 number_given numbers.Rounds g = g.rounds
 number_given numbers.Timeout g = g.timeout
 
-abbrev pub flag_given : Flag → Given → Option Bool
+abbrev pub flag_given : Flag → Arguments → Option Bool
 flag_given flags.Prevote g = g.prevote
 flag_given flags.CheckQuorum g = g.check_quorum
 flag_given flags.StepDown g = g.step_down
 flag_given flags.FirstVersion g = g.first_version
 
-abbrev pub bytes_given : Bytes → Given → Option Word
+abbrev pub bytes_given : Bytes → Arguments → Option Word
 bytes_given bytes.Payload g = g.payload
 bytes_given bytes.Content g = g.content
 
-abbrev pub level_given : LevelFor → Given → Option Level
+abbrev pub level_given : LevelFor → Arguments → Option Level
 level_given levels.Cluster g = g.level
 level_given levels.Directive g = g.log_level
 
-abbrev pub ids_given : Ids → Given → Option (List ℕ)
+abbrev pub ids_given : Ids → Arguments → Option (List ℕ)
 ids_given lists.Nodes g = g.nodes
 ids_given lists.Voters g = g.voters
 ids_given lists.Learners g = g.learners
 ids_given lists.Drop g = g.drop
 
-abbrev pub is_given : Argument → Given → Bool
+abbrev pub is_given : Argument → Arguments → Bool
 is_given (arguments.Number which low high) g = is_some (number_given which g)
 is_given (arguments.Bytes which low high) g = is_some (bytes_given which g)
 is_given (arguments.Level which) g = is_some (level_given which g)
@@ -90,7 +90,7 @@ is_given arguments.Types g = is_some g.types
 is_given (arguments.Ids which other) g = is_some (ids_given which g)
 
 -- the ids of a list, none where it isn't given
-abbrev pub listed : Ids → Given → List ℕ
+abbrev pub listed : Ids → Arguments → List ℕ
 listed which g = unwrap_or (ids_given which g) []
 
 abbrev pub shares_one : List ℕ → Option (List ℕ) → Bool
@@ -98,13 +98,13 @@ shares_one ids None = false
 shares_one ids (Some others) = share ids others
 
 -- one of the ids stands in the other list
-abbrev pub excludes : Option Ids → List ℕ → Given → Bool
+abbrev pub excludes : Option Ids → List ℕ → Arguments → Bool
 excludes None ids g = false
 excludes (Some other) ids g = shares_one ids (ids_given other g)
 
 -- ---- this, under a name
 
-abbrev pub number_set : Number → ℕ → Given → Given
+abbrev pub number_set : Number → ℕ → Arguments → Arguments
 number_set numbers.Count n g = record g { count = Some n }
 number_set numbers.Id n g = record g { id = Some n }
 number_set numbers.Peer n g = record g { peer = Some n }
@@ -115,21 +115,21 @@ number_set numbers.Inflight n g = record g { inflight = Some n }
 number_set numbers.Rounds n g = record g { rounds = Some n }
 number_set numbers.Timeout n g = record g { timeout = Some n }
 
-abbrev pub flag_set : Flag → Bool → Given → Given
+abbrev pub flag_set : Flag → Bool → Arguments → Arguments
 flag_set flags.Prevote b g = record g { prevote = Some b }
 flag_set flags.CheckQuorum b g = record g { check_quorum = Some b }
 flag_set flags.StepDown b g = record g { step_down = Some b }
 flag_set flags.FirstVersion b g = record g { first_version = Some b }
 
-abbrev pub bytes_set : Bytes → Word → Given → Given
+abbrev pub bytes_set : Bytes → Word → Arguments → Arguments
 bytes_set bytes.Payload w g = record g { payload = Some w }
 bytes_set bytes.Content w g = record g { content = Some w }
 
-abbrev pub level_set : LevelFor → Level → Given → Given
+abbrev pub level_set : LevelFor → Level → Arguments → Arguments
 level_set levels.Cluster l g = record g { level = Some l }
 level_set levels.Directive l g = record g { log_level = Some l }
 
-abbrev pub ids_set : Ids → List ℕ → Given → Given
+abbrev pub ids_set : Ids → List ℕ → Arguments → Arguments
 ids_set lists.Nodes ids g = record g { nodes = Some ids }
 ids_set lists.Voters ids g = record g { voters = Some ids }
 ids_set lists.Learners ids g = record g { learners = Some ids }

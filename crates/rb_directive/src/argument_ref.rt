@@ -10,12 +10,12 @@ use std::marker::Model;
 
 /// An argument of a directive. In contracts it is the plain argument.
 #[derive(Drop)]
-pub(crate) struct Said<'d> {
+pub(crate) struct ArgumentRef<'d> {
     directive: &'d DirectiveRef<'d>,
     place: usize,
 }
 
-impl<'d> Model for Said<'d> {
+impl<'d> Model for ArgumentRef<'d> {
     ghost use Rattle.std.specs.Prelude.{◌<◌, length};
     ghost use Rattle.rb_script.specs.Directive.{PlainArgument, plain_argument};
     ghost use Rattle.rb_script.specs.Tokens.{plain};
@@ -27,7 +27,7 @@ impl<'d> Model for Said<'d> {
     ghost invariant = { λ a. a.place < length (plain a.directive.now).args };
 }
 
-impl<'d> Said<'d> {
+impl<'d> ArgumentRef<'d> {
     ghost use Rattle.std.specs.Prelude.{◌≡◌, ◌<◌, length, Some, MatchOption, None, [], slice_index_or};
     ghost use Rattle.rb_script.specs.Directive.{plain_argument};
     ghost use Rattle.rb_script.specs.Tokens.{plain};
@@ -36,11 +36,11 @@ impl<'d> Said<'d> {
     ghost use Rattle.rb_directive.specs.Reading.{words_said, only, number_said, bytes_said, level_said, flag_said, transition_said};
 
     /// The argument at a place of the directive, counted from 0.
-    pub(crate) fn at(directive: &'d DirectiveRef<'d>, place: usize) -> Said<'d>
+    pub(crate) fn at(directive: &'d DirectiveRef<'d>, place: usize) -> ArgumentRef<'d>
         requires { place < length (plain directive.now).args }
         ensures { result ≡ plain_argument (plain directive.now) place }
     {
-        Said { directive, place }
+        ArgumentRef { directive, place }
     }
 
     /// The key of an option, or the word.

@@ -1,13 +1,13 @@
 -- A change, by what the code knows of it. (This project's.)
 use Rattle.std.specs.Prelude.{◌≡◌, ℕ, ◌+◌, ◌-◌, ◌<◌, ◌≤◌, min, nat_le, nat_lt, List, [], ◌∷◌, ◌++◌, length, take, drop, map, filter, slice_index, Option, Some, None}
 use Rattle.rb_script.specs.Script.{PlainScript}
-use Rattle.rb_replay.specs.declared.cut.Cut.{Cut}
+use Rattle.rb_replay.specs.declared.splice.Splice.{Splice}
 use Rattle.rb_replay.specs.declared.rerun.Rerun.{Rerun}
-use Rattle.rb_replay.specs.declared.seam.Seam.{Seam}
+use Rattle.rb_replay.specs.declared.rejoin.Rejoin.{Rejoin}
 use Rattle.rb_replay.specs.declared.ready.Ready.{Ready}
 use Rattle.rb_script.specs.Lines.{Line}
 use Rattle.rb_machine.specs.Cluster.{Cluster}
-use Rattle.rb_replay.specs.Course.{HasRun}
+use Rattle.rb_replay.specs.Running.{HasRun}
 use Rattle.rb_replay.specs.Run.{state, outputs}
 use Rattle.rb_replay.specs.Report.{mismatches}
 use Rattle.rb_replay.specs.Reuse.{Change, start, stop, old_point, IsFirstMeeting, fresh_points, points_before}
@@ -35,26 +35,26 @@ old_stop c (Some s) = old_point c s
 -- what a run of an edited script brings back
 pub record IsRerun {M : Type 0} (meaning : M → Cluster) (c : Change) (r : Rerun M) : Type 0 where
   pub is_first : IsFirstMeeting c r.met
-  pub from_is : r.course.from ≡ start c
-  pub at_is : r.course.at ≡ stop c r.met
-  pub spacing_is : r.course.spacing ≡ c.spacing
-  pub has_run : HasRun meaning c.new r.course
-  pub points_are : r.course.points.items ≡ run_points c r.met
+  pub from_is : r.running.from ≡ start c
+  pub at_is : r.running.at ≡ stop c r.met
+  pub spacing_is : r.running.spacing ≡ c.spacing
+  pub has_run : HasRun meaning c.new r.running
+  pub points_are : r.running.points.items ≡ run_points c r.met
 
 -- Where the old run goes on: which of its points stay, and which are used again.
-pub record IsSeam (c : Change) (meeting : Option ℕ) (seam : Seam) : Type 0 where
-  pub old_stop_is : seam.old_stop ≡ old_stop c meeting
-  pub fronts : take seam.front c.points ≡ filter (λ p. nat_lt p (front_bound c meeting)) c.points
-  pub rests : drop seam.rest c.points ≡ filter (λ p. nat_le (old_stop c meeting + 1) p) c.points
-  pub order : seam.front ≤ seam.rest
-  pub within : seam.rest ≤ length c.points
+pub record IsRejoin (c : Change) (meeting : Option ℕ) (rejoin : Rejoin) : Type 0 where
+  pub old_stop_is : rejoin.old_stop ≡ old_stop c meeting
+  pub fronts : take rejoin.front c.points ≡ filter (λ p. nat_lt p (front_bound c meeting)) c.points
+  pub rests : drop rejoin.rest c.points ≡ filter (λ p. nat_le (old_stop c meeting + 1) p) c.points
+  pub order : rejoin.front ≤ rejoin.rest
+  pub within : rejoin.rest ≤ length c.points
 
-abbrev pub no_cut : Cut
-no_cut = record { front = 0; old_rest = 0; new_rest = 0 }
+abbrev pub no_splice : Splice
+no_splice = record { front = 0; old_rest = 0; new_rest = 0 }
 
 -- Blocks and outputs of two scripts are the same up to a point, and from an old point on, but that they
 -- move.
-pub record IsMended (old new : PlainScript) (cut : Cut) (from : ℕ) (os : List (List Line)) (stop : ℕ) : Type 0 where
+pub record IsMended (old new : PlainScript) (splice : Splice) (from : ℕ) (os : List (List Line)) (stop : ℕ) : Type 0 where
   -- up to `from` both scripts have the same blocks
   pub same_front : take from new.blocks ≡ take from old.blocks
   -- and answer the same
@@ -65,10 +65,10 @@ pub record IsMended (old new : PlainScript) (cut : Cut) (from : ℕ) (os : List 
   pub same_rest : drop (from + length os) new.blocks ≡ drop stop old.blocks
   -- and so are the outputs
   pub same_end : drop (from + length os) (outputs new) ≡ drop stop (outputs old)
-  -- as far as the cut moves the rest, so far `stop` was moved
-  pub moved : from + length os ≡ stop - cut.old_rest + cut.new_rest
-  -- `stop` lies in the rest that the cut leaves
-  pub in_rest : cut.old_rest ≤ stop
+  -- as far as the splice moves the rest, so far `stop` was moved
+  pub moved : from + length os ≡ stop - splice.old_rest + splice.new_rest
+  -- `stop` lies in the rest that the splice leaves
+  pub in_rest : splice.old_rest ≤ stop
   -- and not before `from`
   pub order : from ≤ stop
   -- both ends lie within their scripts
@@ -81,18 +81,18 @@ pub record IsReady {M : Type 0} (meaning : M → Cluster) (c : Change) (kept : L
   pub meeting : Option ℕ
   pub is_first : IsFirstMeeting c meeting
   -- the run went from the start to the stop, and kept clusters as far apart as the session does
-  pub from_is : r.course.from ≡ start c
-  pub at_is : r.course.at ≡ stop c meeting
-  pub spacing_is : r.course.spacing ≡ c.spacing
+  pub from_is : r.running.from ≡ start c
+  pub at_is : r.running.at ≡ stop c meeting
+  pub spacing_is : r.running.spacing ≡ c.spacing
   -- the new points, before thinning, and the new mismatches stand ready whole
   pub points_are : r.points.items ≡ points_before c meeting
   pub mismatches_are : r.mismatches.items ≡ mismatches c.new
   -- old outputs, those that were run, and old ones again are the outputs of the new script
-  pub outputs_are : take r.course.from (outputs c.old) ++ (r.course.outputs.items ++ drop r.seam.old_stop (outputs c.old)) ≡ outputs c.new
+  pub outputs_are : take r.running.from (outputs c.old) ++ (r.running.outputs.items ++ drop r.rejoin.old_stop (outputs c.old)) ≡ outputs c.new
   -- and in the same way kept clusters those of the new points
-  pub states_are : take r.seam.front kept ++ (map meaning r.course.kept.items ++ drop r.seam.rest kept) ≡ map (state c.new) r.points.items
+  pub states_are : take r.rejoin.front kept ++ (map meaning r.running.kept.items ++ drop r.rejoin.rest kept) ≡ map (state c.new) r.points.items
   -- what stays and what is used again don't overlap, and lie within what there was
-  pub order : r.course.from ≤ r.seam.old_stop
-  pub old_within : r.seam.old_stop ≤ length c.old.blocks
-  pub front_first : r.seam.front ≤ r.seam.rest
-  pub rest_within : r.seam.rest ≤ length c.points
+  pub order : r.running.from ≤ r.rejoin.old_stop
+  pub old_within : r.rejoin.old_stop ≤ length c.old.blocks
+  pub front_first : r.rejoin.front ≤ r.rejoin.rest
+  pub rest_within : r.rejoin.rest ≤ length c.points

@@ -1,7 +1,7 @@
 use Rattle.std.proofs.Common.{◌≡◌, arith, ◌++◌, ◌∷◌, []}
 use Rattle.std.proofs.lemmas.Grind.{common_steps}
 use Rattle.rb_replay.proofs.PaceLaws.{paced_push}
-use Rattle.rb_replay.proofs.course.Course.keep_due.Goals as goal
+use Rattle.rb_replay.proofs.run.Run.keep_due.Goals as goal
 
 pub returns-clause-paced : goal.returns-clause-paced
 returns-clause-paced g c =

@@ -3,32 +3,32 @@ use Rattle.std.proofs.Common.{◌≡◌, ℕ, ◌≤◌, List, [], ◌∷◌, �
 use Rattle.std.proofs.lemmas.List.{map-append, length-map}
 use Rattle.rb_script.specs.Script.{PlainScript}
 use Rattle.rb_machine.specs.Cluster.{Cluster}
-use Rattle.rb_replay.specs.declared.course.Course.{Course}
+use Rattle.rb_replay.specs.declared.run.Run.{Run}
 use Rattle.rb_replay.specs.Run.{state, outputs}
 use Rattle.rb_replay.specs.Reuse.{Change, start, fresh_points}
-use Rattle.rb_replay.specs.Course.{HasRun, PacedAt, PacedOn}
-use Rattle.rb_replay.specs.Cuts.{run_points}
+use Rattle.rb_replay.specs.Running.{HasRun, PacedAt, PacedOn}
+use Rattle.rb_replay.specs.Splices.{run_points}
 use Rattle.rb_replay.proofs.RunLaws.{both}
 use Rattle.rb_replay.proofs.PaceLaws.{paced_start, paced_end, paced_meeting}
 
 -- what holds when nothing has run
-pub course-run : {M : Type 0} (meaning : M → Cluster) (s : PlainScript) (c : Course M) → c.outputs.items ≡ [] → c.points.items ≡ [] → c.kept.items ≡ [] → c.at ≡ c.from → c.from ≤ length s.blocks → HasRun meaning s c
-course-run meaning s c outs points kept at le = record {
+pub running-run : {M : Type 0} (meaning : M → Cluster) (s : PlainScript) (c : Run M) → c.outputs.items ≡ [] → c.points.items ≡ [] → c.kept.items ≡ [] → c.at ≡ c.from → c.from ≤ length s.blocks → HasRun meaning s c
+running-run meaning s c outs points kept at le = record {
   from_first = omega arith;
   within = omega arith;
   outputs_on = rw (outs, at) (append-nil (take c.from (outputs s)));
   states_are = rw (kept, points) refl;
 }
 
-pub course-paced : {M : Type 0} (c : Course M) → c.points.items ≡ [] → c.at ≡ c.from → c.due ≡ c.spacing → PacedAt c
-course-paced c points at due = rw (points, at, due) (paced_start c.spacing c.from)
+pub running-paced : {M : Type 0} (c : Run M) → c.points.items ≡ [] → c.at ≡ c.from → c.due ≡ c.spacing → PacedAt c
+running-paced c points at due = rw (points, at, due) (paced_start c.spacing c.from)
 
 -- the points of a run up to the end, and up to a meeting
-pub course-end : {M : Type 0} (c : Course M) (ch : Change) → PacedOn c → c.spacing ≡ ch.spacing → c.from ≡ start ch → c.at ≡ length ch.new.blocks → c.points.items ≡ run_points ch None
-course-end c ch paced spacing from at = paced_end c.spacing c.from c.at c.due c.points.items paced ∙ rw (spacing, from, at) refl
+pub running-end : {M : Type 0} (c : Run M) (ch : Change) → PacedOn c → c.spacing ≡ ch.spacing → c.from ≡ start ch → c.at ≡ length ch.new.blocks → c.points.items ≡ run_points ch None
+running-end c ch paced spacing from at = paced_end c.spacing c.from c.at c.due c.points.items paced ∙ rw (spacing, from, at) refl
 
-pub course-meeting : {M : Type 0} (c : Course M) (ch : Change) (s : ℕ) → 1 ≤ c.spacing → c.from ≤ c.at → PacedAt c → c.spacing ≡ ch.spacing → c.from ≡ start ch → c.at ≡ s → c.points.items ≡ fresh_points ch (Some s)
-course-meeting c ch s one le paced spacing from at = paced_meeting c.spacing c.from c.at c.due c.points.items one le paced ∙ rw (spacing, from, at) refl
+pub running-meeting : {M : Type 0} (c : Run M) (ch : Change) (s : ℕ) → 1 ≤ c.spacing → c.from ≤ c.at → PacedAt c → c.spacing ≡ ch.spacing → c.from ≡ start ch → c.at ≡ s → c.points.items ≡ fresh_points ch (Some s)
+running-meeting c ch s one le paced spacing from at = paced_meeting c.spacing c.from c.at c.due c.points.items one le paced ∙ rw (spacing, from, at) refl
 
 -- a kept cluster more
 pub states-more : {M : Type 0} (meaning : M → Cluster) (s : PlainScript) (kept : List M) (points : List ℕ) (m : M) (at : ℕ) → map meaning kept ≡ map (state s) points → meaning m ≡ state s at → map meaning (kept ++ m ∷ []) ≡ map (state s) (points ++ at ∷ [])

@@ -4,7 +4,7 @@ ghost use Rattle.std.specs.Prelude.{◌≡◌, ◌+◌, ◌<◌, ◌≤◌, ◌^
 ghost use Rattle.rb_script.specs.declared.limits.TheConstants.{MAX_DIRECTIVES};
 ghost use Rattle.rb_script.specs.Script.{PlainScript};
 ghost use Rattle.rb_replay.specs.Run.{state};
-ghost use Rattle.rb_replay.specs.Course.{HasRun, PacedAt, PacedOn};
+ghost use Rattle.rb_replay.specs.Running.{HasRun, PacedAt, PacedOn};
 
 use crate::blocks::block_at;
 use rb_machine::{Count, Machine};
@@ -13,7 +13,7 @@ use std::alloc::{AllocError, Global};
 
 /// What a run of a script from a point on has brought so far.
 #[derive(Drop)]
-pub(crate) struct Course<M> {
+pub(crate) struct Run<M> {
     pub(crate) outputs: Vec<Lines>,
     // the points at which the machine was kept on the way, and what was kept
     pub(crate) points: Vec<usize>,
@@ -26,9 +26,9 @@ pub(crate) struct Course<M> {
     pub(crate) due: usize,
 }
 
-impl<M: Machine> Course<M> {
+impl<M: Machine> Run<M> {
     /// Nothing has run yet.
-    pub(crate) fn new(alloc: Global, spacing: usize, from: usize) -> Course<M>
+    pub(crate) fn new(alloc: Global, spacing: usize, from: usize) -> Run<M>
         ensures outputs { result.outputs.items ≡ [] }
         ensures points { result.points.items ≡ [] }
         ensures kept { result.kept.items ≡ [] }
@@ -37,7 +37,7 @@ impl<M: Machine> Course<M> {
         ensures at { result.at ≡ from }
         ensures due { result.due ≡ spacing }
     {
-        Course {
+        Run {
             outputs: Vec::new(alloc),
             points: Vec::new(alloc),
             kept: Vec::new(alloc),

@@ -2,7 +2,7 @@
 use Rattle.std.specs.Prelude.{◌≡◌, ℕ, ◌+◌, ◌*◌, ◌≤◌, List, ◌++◌, length, take, map}
 use Rattle.rb_script.specs.Script.{PlainScript}
 use Rattle.rb_machine.specs.Cluster.{Cluster}
-use Rattle.rb_replay.specs.declared.course.Course.{Course}
+use Rattle.rb_replay.specs.declared.run.Run.{Run}
 use Rattle.rb_replay.specs.Run.{state, outputs}
 use Rattle.rb_replay.specs.Points.{every}
 
@@ -22,15 +22,15 @@ pub record IsPacedOn (K from at due : ℕ) (points : List ℕ) : Type 0 where
   pub most : due ≤ K
 
 -- what a run of a script from a point on has brought
-pub record HasRun {M : Type 0} (meaning : M → Cluster) (s : PlainScript) (c : Course M) : Type 0 where
+pub record HasRun {M : Type 0} (meaning : M → Cluster) (s : PlainScript) (c : Run M) : Type 0 where
   pub from_first : c.from ≤ c.at
   pub within : c.at ≤ length s.blocks
   pub outputs_on : take c.from (outputs s) ++ c.outputs.items ≡ take c.at (outputs s)
   pub states_are : map meaning c.kept.items ≡ map (state s) c.points.items
 
 -- and its points, when it comes to a point, and when it goes on from it
-abbrev pub PacedAt : {M : Type 0} → Course M → Type 0
+abbrev pub PacedAt : {M : Type 0} → Run M → Type 0
 PacedAt c = IsPaced c.spacing c.from c.at c.due c.points.items
 
-abbrev pub PacedOn : {M : Type 0} → Course M → Type 0
+abbrev pub PacedOn : {M : Type 0} → Run M → Type 0
 PacedOn c = IsPacedOn c.spacing c.from c.at c.due c.points.items

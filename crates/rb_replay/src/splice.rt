@@ -7,7 +7,7 @@ use rb_script::Edit;
 
 /// Where the common front of two scripts ends, and where their common rest begins in either.
 #[derive(Clone, Copy)]
-pub(crate) struct Cut {
+pub(crate) struct Splice {
     pub(crate) front: usize,
     pub(crate) old_rest: usize,
     pub(crate) new_rest: usize,
@@ -26,7 +26,7 @@ pub(crate) enum Common {
 #[derive(Clone, Copy)]
 pub(crate) enum Effect {
     /// Other directives are run between a front and a rest that stay.
-    Splice(Cut),
+    Replay(Splice),
     /// The directive at this place expects other lines.
     Expect(usize),
     /// Each directive expects its output.
@@ -38,18 +38,26 @@ pub(crate) fn effect_of(edit: &Edit) -> Effect
     ensures { result ≡ effect_of edit.now }
 {
     match edit {
-        Edit::Insert(place, _) => splice(place.saturating_sub(1), place.saturating_sub(1), *place),
-        Edit::Replace(place, _) => splice(place.saturating_sub(1), *place, *place),
-        Edit::Remove(place) => splice(place.saturating_sub(1), *place, place.saturating_sub(1)),
+        Edit::Insert(place, _) => replay_between(
+            place.saturating_sub(1),
+            place.saturating_sub(1),
+            *place,
+        ),
+        Edit::Replace(place, _) => replay_between(place.saturating_sub(1), *place, *place),
+        Edit::Remove(place) => replay_between(
+            place.saturating_sub(1),
+            *place,
+            place.saturating_sub(1),
+        ),
         Edit::Expect(place, _) => Effect::Expect(*place),
         Edit::Accept => Effect::Accept,
     }
 }
 
-fn splice(front: usize, old_rest: usize, new_rest: usize) -> Effect
-    ensures { result ≡ Effect.Splice (record { front = front; old_rest = old_rest; new_rest = new_rest }) }
+fn replay_between(front: usize, old_rest: usize, new_rest: usize) -> Effect
+    ensures { result ≡ Effect.Replay (record { front = front; old_rest = old_rest; new_rest = new_rest }) }
 {
-    Effect::Splice(Cut {
+    Effect::Replay(Splice {
         front,
         old_rest,
         new_rest,

@@ -2,10 +2,10 @@ use Rattle.std.proofs.Common.{◌≡◌, ◌+◌, ◌≤◌, ◌∙◌, ap, ℕ,
 use Rattle.std.specs.Prelude.{filter, nat_lt, nat_le}
 use Rattle.rb_replay.specs.Holding.{Holding}
 use Rattle.rb_replay.specs.Reuse.{change_by}
-use Rattle.rb_replay.specs.Cuts.{IsNext}
+use Rattle.rb_replay.specs.Splices.{IsNext}
 use Rattle.rb_replay.proofs.ReadyLaws.{bounds-order, kept-rising}
 use Rattle.rb_replay.proofs.NextLaws.{next-order}
-use Rattle.rb_replay.proofs.session.Session.seam.Goals as goal
+use Rattle.rb_replay.proofs.session.Session.rejoin.Goals as goal
 
 pub count_below-requires : goal.count_below-requires
 count_below-requires g c = rw c.deref.ensures.value (kept-rising c.self.inside.spacing _ c.self.inside.points.items c.self.invariant.near)
@@ -22,7 +22,7 @@ returns g c =
     let fronts : take c.count_below.result c.args.self.now.points ≡ filter (λ p. nat_lt p c.bounds-bounds.result.front) c.args.self.now.points = rw placed at c.count_below.ensures.front in
     let rests : drop c.count_below-2.result c.args.self.now.points ≡ filter (λ p. nat_le (c.bounds-bounds.result.old_stop + 1) p) c.args.self.now.points = rw placed-2 at c.count_below-2.ensures.rest in
     let order : c.bounds-bounds.result.front ≤ c.bounds-bounds.result.old_stop + 1 =
-    rw (c.bounds-bounds.ensures.front, c.bounds-bounds.ensures.old_stop) (bounds-order (change_by c.args.self.now c.args.new.now c.args.cut) c.args.run.now.met c.requires.change c.requires.run.is_first) in
+    rw (c.bounds-bounds.ensures.front, c.bounds-bounds.ensures.old_stop) (bounds-order (change_by c.args.self.now c.args.new.now c.args.splice) c.args.run.now.met c.requires.change c.requires.run.is_first) in
     record {
       old_stop_is = c.bounds-bounds.ensures.old_stop;
       fronts = fronts ∙ ap (λ (b : ℕ). filter (λ p. nat_lt p b) c.args.self.now.points) c.bounds-bounds.ensures.front;

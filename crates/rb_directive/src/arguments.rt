@@ -2,7 +2,7 @@
 
 ghost use Rattle.std.specs.Prelude.{◌≡◌};
 ghost use Rattle.rb_directive.specs.Table.{after};
-ghost use Rattle.rb_directive.specs.Givens.{nothing, number_given, flag_given, bytes_given, level_given, ids_given, is_given, listed, excludes, number_set, flag_set, bytes_set, level_set, ids_set};
+ghost use Rattle.rb_directive.specs.Arguments.{nothing, number_given, flag_given, bytes_given, level_given, ids_given, is_given, listed, excludes, number_set, flag_set, bytes_set, level_set, ids_set};
 
 use crate::argument::{Argument, Bytes, Flag, Ids, LevelFor, Number};
 use crate::id_list::IdList;
@@ -32,7 +32,7 @@ impl WordPlace {
 
 /// What the arguments say: under each name nothing, as long as it isn't given.
 #[derive(Drop)]
-pub(crate) struct Given<'d> {
+pub(crate) struct Arguments<'d> {
     /// Where the next word stands.
     pub(crate) next: WordPlace,
     pub(crate) count: Option<u64>,
@@ -60,12 +60,12 @@ pub(crate) struct Given<'d> {
     pub(crate) drop: Option<IdList>,
 }
 
-impl<'d> Given<'d> {
+impl<'d> Arguments<'d> {
     /// Nothing.
-    pub(crate) fn nothing() -> Given<'d>
+    pub(crate) fn nothing() -> Arguments<'d>
         ensures { result ≡ nothing }
     {
-        Given {
+        Arguments {
             next: WordPlace::First,
             count: None,
             id: None,

@@ -5,7 +5,7 @@ use std::alloc::Global;
 
 /// Lines that were given to a command, kept as long as they may be an edit's and there is memory.
 #[derive(Drop)]
-pub(crate) struct Given {
+pub(crate) struct GivenLines {
     pub(crate) lines: Lines,
     // how long the text of all of them is
     pub(crate) text_len: usize,
@@ -13,16 +13,16 @@ pub(crate) struct Given {
     pub(crate) has_no_memory: bool,
 }
 
-impl Given {
+impl GivenLines {
     ghost use Rattle.std.specs.Prelude.{[], ◌∷◌, ◌++◌, List};
     ghost use Rattle.rb_script.specs.Lines.{Line};
     ghost use Rattle.rb_bench.specs.Hearing.{IsGiven};
 
     /// No lines. Takes no memory.
-    pub(crate) fn new(alloc: Global) -> Given
+    pub(crate) fn new(alloc: Global) -> GivenLines
         ensures { IsGiven result [] }
     {
-        Given {
+        GivenLines {
             lines: Lines::new(alloc),
             text_len: 0,
             has_no_memory: false,

@@ -9,8 +9,8 @@ use Rattle.rb_machine.specs.Cluster.{Cluster}
 use Rattle.rb_machine.specs.Outcome.{outcome}
 use Rattle.rb_replay.specs.Run.{outputs}
 use Rattle.rb_replay.proofs.RunLaws.{state_next, outputs_next, both}
-use Rattle.rb_replay.proofs.course.Course.step.Goals as goal
-use Rattle.rb_replay.proofs.course.Course.step.Given.{Over}
+use Rattle.rb_replay.proofs.run.Run.step.Goals as goal
+use Rattle.rb_replay.proofs.run.Run.step.Given.{Over}
 
 -- what the directive is
 directive-is : (g : Over) (c : goal.After-self-2-1 g) → plain c.directive.result ≡ directive_of (get_or c.args.script.now.blocks c.args.self.now.at c.block_at-block.result.now)
