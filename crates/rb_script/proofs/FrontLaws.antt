@@ -1,6 +1,6 @@
 -- What stands above an expectation, by where it stands in the lines.
-use Rattle.std.proofs.Common.{◌≡◌, ℕ, ◌+◌, ◌<◌, ◌≤◌, List, [], ◌∷◌, ◌++◌, length, take, map, get_or, Some, Ok, ap, sym, ◌∙◌, arith}
-use Rattle.std.proofs.lemmas.List.{take_more, map_push}
+use Rattle.std.proofs.Common.{◌≡◌, ℕ, ◌+◌, ◌≤◌, List, [], ◌∷◌, length, take, map, Some, Ok, refl, ap, sym, ◌∙◌, arith}
+use Rattle.std.specs.List.{AllZip}
 use Rattle.rb_script.specs.declared.argument.Argument.{Argument}
 use Rattle.rb_script.specs.declared.tokens.Tokens.{Tokens}
 use Rattle.rb_script.specs.Lines.{Line, text_of}
@@ -47,12 +47,11 @@ front_text_len all lead head input end order =
     let whole = text_upto all lead end (omega (arith, order.0, order.1, order.2)) in
     omega (arith, first, second, third, whole)
 
--- ---- arguments, one after another
+-- ---- arguments
 
--- one more is copied
-pub one_more_copied : (args : List Argument) (i : ℕ) (a : Argument) → i < length args → a ≡ get_or args i a → (copy next : List Argument) (b : Argument) → next ≡ copy ++ b ∷ [] → spanned b ≡ spanned a → map spanned copy ≡ map spanned (take i args) → map spanned next ≡ map spanned (take (i + 1) args)
-one_more_copied args i a lt is copy next b e same so_far =
-    ap (map spanned) e ∙ map_push spanned copy b
-    ∙ ap (λ (s : SpannedArgument). map spanned copy ++ s ∷ []) same
-    ∙ ap (λ (l : List SpannedArgument). l ++ spanned a ∷ []) so_far
-    ∙ sym (ap (map spanned) (take_more args i a lt ∙ ap (λ (x : Argument). take i args ++ x ∷ []) (sym is)) ∙ map_push spanned (take i args) a)
+-- clones stand where the arguments do
+pub clones_are : (args clones : List Argument) → AllZip (λ a b. spanned b ≡ spanned a) args clones → map spanned clones ≡ map spanned args
+clones_are [] [] e = refl
+clones_are [] (b ∷ clones) e = absurd e
+clones_are (a ∷ args) [] e = absurd e
+clones_are (a ∷ args) (b ∷ clones) e = ap (λ (s : SpannedArgument). s ∷ map spanned clones) e.0 ∙ ap (λ (l : List SpannedArgument). spanned a ∷ l) (clones_are args clones e.1)

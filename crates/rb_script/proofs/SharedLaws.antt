@@ -4,9 +4,9 @@ use Rattle.std.specs.Prelude.{◌==◌, nat_le, slice_get}
 use Rattle.std.proofs.lemmas.Option.{slice_get_within, get_or_from_slice_get, same_Some}
 use Rattle.std.specs.declared.rc.Rc.{Rc}
 use Rattle.std.specs.declared.alloc.Global.{Global}
-use Rattle.std.specs.List.{list_all, AllByRecursion}
+use Rattle.std.specs.List.{list_all, AllByRecursion, AllZip, AppendsClones}
 use Rattle.std.proofs.lemmas.Bool.{cases_Bool, and_parts, and_from, not-true, leb-true, le-leb}
-use Rattle.std.proofs.lemmas.List.{take-append-drop, drop_all, drop_more, take_more, take_all, map-append, length-map}
+use Rattle.std.proofs.lemmas.List.{take-append-drop, drop_all, drop_more, map-append, length-map}
 use Rattle.std.proofs.Math.ListN.{get_or-map}
 use Rattle.rb_script.specs.declared.limits.TheConstants.{MAX_LINE}
 use Rattle.rb_script.specs.Lines.{Line, put_before, without_returns}
@@ -148,15 +148,16 @@ module _ {T : Type 0} (ps : List (Rc T Global)) (i : ℕ) (p : Rc T Global) (lt 
   pub values_split : drop i (values ps) ≡ p.value ∷ drop (i + 1) (values ps)
   values_split = drop_more (values ps) i p.value some_value ∙ ap (λ (v : T). v ∷ drop (i + 1) (values ps)) value_is
 
-  -- one more pointer, to the value at a place
-  pub shared_more : (old : List T) (into next : List (Rc T Global)) (q : Rc T Global) → next ≡ into ++ q ∷ [] → q.value ≡ p.value → values into ≡ old ++ take i (values ps) → values next ≡ old ++ take (i + 1) (values ps)
-  shared_more old into next q e same so_far =
-      ap values e ∙ map-append (λ (r : Rc T Global). r.value) into (q ∷ []) ∙ ap (λ (v : T). values into ++ v ∷ []) same ∙ ap (λ (l : List T). l ++ p.value ∷ []) so_far ∙ append_assoc old (take i (values ps)) (p.value ∷ [])
-      ∙ ap (λ (l : List T). old ++ l) (sym (take_more (values ps) i p.value some_value ∙ ap (λ (v : T). take i (values ps) ++ v ∷ []) value_is))
+-- clones of pointers are to the same values
+clones_values : {T : Type 0} (ps qs : List (Rc T Global)) → AllZip (λ p q. q.value ≡ p.value) ps qs → values qs ≡ values ps
+clones_values [] [] e = refl
+clones_values [] (q ∷ qs) e = absurd e
+clones_values (p ∷ ps) [] e = absurd e
+clones_values {T} (p ∷ ps) (q ∷ qs) e = ap (λ (v : T). v ∷ values qs) e.0 ∙ ap (λ (l : List T). p.value ∷ l) (clones_values ps qs e.1)
 
--- all of them
-pub shared_all : {T : Type 0} (ps : List (Rc T Global)) (i : ℕ) (old now : List T) → length ps ≤ i → now ≡ old ++ take i (values ps) → now ≡ old ++ values ps
-shared_all {T} ps i old now le so_far = so_far ∙ ap (λ (l : List T). old ++ l) (take_all i (values ps) (subst (λ (n : ℕ). n ≤ i) (sym (values-length ps)) le))
+-- clones of pointers were added
+pub shared_all : {T : Type 0} (old new more : List (Rc T Global)) → AppendsClones (λ p q. q.value ≡ p.value) old new more → values new ≡ values old ++ values more
+shared_all {T} old new more h = ap values h.1 ∙ map-append (λ (r : Rc T Global). r.value) old h.0 ∙ ap (λ (l : List T). values old ++ l) (clones_values more h.0 h.2)
 
 -- no value is left
 pub values_none : {T : Type 0} (ps : List (Rc T Global)) (i : ℕ) → length ps ≤ i → drop i (values ps) ≡ []
@@ -181,12 +182,10 @@ module _ (bs : List PlainBlock) (outputs : List (List Line)) (i : ℕ) (b : Plai
       ∙ ap (all_expecting (b ∷ drop (i + 1) bs)) (drop_more outputs i output some ∙ ap (λ (o : List Line). o ∷ drop (i + 1) outputs) (sym output_is))
 
   -- one more block with its output was made
-  pub expecting_more : (all : List PlainBlock) (made next : List (Rc PlainBlock Global)) (r : Rc PlainBlock Global) → next ≡ made ++ r ∷ [] → r.value ≡ expecting b output
-      → values made ++ all_expecting (drop i bs) (drop i outputs) ≡ all → values next ++ all_expecting (drop (i + 1) bs) (drop (i + 1) outputs) ≡ all
-  expecting_more all made next r e same so_far =
+  pub expecting_more : (all made next : List PlainBlock) → next ≡ made ++ expecting b output ∷ [] → made ++ all_expecting (drop i bs) (drop i outputs) ≡ all → next ++ all_expecting (drop (i + 1) bs) (drop (i + 1) outputs) ≡ all
+  expecting_more all made next e so_far =
       let rest = all_expecting (drop (i + 1) bs) (drop (i + 1) outputs) in
-      ap (λ (l : List (Rc PlainBlock Global)). values l ++ rest) e ∙ ap (λ (l : List PlainBlock). l ++ rest) (map-append (λ (q : Rc PlainBlock Global). q.value) made (r ∷ [])) ∙ append_assoc (values made) (r.value ∷ []) rest
-      ∙ ap (λ (v : PlainBlock). values made ++ v ∷ rest) same ∙ ap (λ (l : List PlainBlock). values made ++ l) (sym expecting_split) ∙ so_far
+      ap (λ (l : List PlainBlock). l ++ rest) e ∙ append_assoc made (expecting b output ∷ []) rest ∙ ap (λ (l : List PlainBlock). made ++ l) (sym expecting_split) ∙ so_far
 
 -- no block is left
 pub expecting_none : (bs : List PlainBlock) (outputs : List (List Line)) (i : ℕ) → length bs ≤ i → all_expecting (drop i bs) outputs ≡ []

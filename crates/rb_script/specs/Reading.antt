@@ -45,6 +45,14 @@ abbrev pub only_block : List PlainBlock → List Line → Result PlainBlock Scri
 only_block (b ∷ []) [] = Ok b
 only_block bs tail = Err NotOneBlock
 
+-- the same, where its canonical text is short enough
+abbrev pub one_of : PlainScript → Result PlainBlock ScriptFault
+one_of s = only_block s.blocks s.tail >>= λ b. fits_text s >>= λ _. Ok b
+
+-- whether the parts are one block
+abbrev pub is_one : PlainScript → Result (Unit {0}) ScriptFault
+is_one s = one_of s >>= λ _. Ok tt
+
 -- the one block of the bytes
 unfoldable pub block_of : List ℕ → Result PlainBlock ScriptFault
 block_of bytes = do

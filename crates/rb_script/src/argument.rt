@@ -37,18 +37,18 @@ impl MadeWith<Global> for Argument {
     }
 }
 
-impl Argument {
-    ghost use Rattle.std.specs.Prelude.{◌≡◌, IfOk};
+// A clone has values in memory of its own.
+impl Clone for Argument {
+    ghost use Rattle.std.specs.Prelude.{◌≡◌};
     ghost use Rattle.rb_script.specs.Parsed.{spanned};
 
-    /// The same, in memory of its own.
-    pub(crate) fn try_copy(&self, alloc: Global) -> Result<Argument, AllocError>
-        ensures { IfOk result (λ copy. spanned copy ≡ spanned self.now) }
-    {
+    ghost is_clone = { λ a b. spanned b ≡ spanned a };
+
+    fn clone(&self) -> Result<Argument, AllocError> {
         Ok(Argument {
             key: self.key,
             has_equals: self.has_equals,
-            values: Vec::from_slice(alloc, self.values.as_slice())?,
+            values: Vec::from_slice(*self.values.allocator(), self.values.as_slice())?,
         })
     }
 }

@@ -5,7 +5,7 @@
 //!
 //! The group of a block is found among those beginnings. As long as no block came or went, it is the one that its index says.
 
-ghost use Rattle.std.specs.Prelude.{◌≡◌, ◌+◌, ◌/◌, ◌<◌, ◌≤◌, ◌++◌, length, take, drop, IfOk, OnOk, option_to_list};
+ghost use Rattle.std.specs.Prelude.{◌≡◌, ◌+◌, ◌/◌, ◌<◌, ◌≤◌, ◌∷◌, ◌++◌, [], length, take, drop, IfOk, OnOk, option_to_list};
 ghost use Rattle.rb_script.specs.declared.limits.TheConstants.{MAX_DIRECTIVES};
 ghost use Rattle.rb_script.specs.declared.blocks.TheConstants.{GROUP};
 ghost use Rattle.rb_script.specs.Shared.{values};
@@ -25,12 +25,22 @@ const GROUP: usize = 128;
 const MOST: usize = 256;
 
 /// A list of blocks. Contracts see the list.
-#[derive(Drop)]
 pub(crate) struct Blocks {
     len: usize,
     // where each group begins
     starts: Vec<usize>,
     groups: Vec<Group>,
+}
+
+// Written out, so that giving one back is a call wherever it is owned, and is proved here alone.
+impl Drop for Blocks {
+    fn drop(self) {
+        let Blocks {
+            len: _,
+            starts: _,
+            groups: _,
+        } = self;
+    }
 }
 
 impl Model for Blocks {
@@ -49,9 +59,17 @@ impl Model for Blocks {
 fn share(into: &mut Vec<Rc<Block>>, blocks: &[Rc<Block>]) -> Result<(), AllocError>
     ensures { OnOk result (values into.new.items ≡ values into.old.items ++ values blocks.now) }
 {
-    for block in blocks {
-        into.push(block.clone()?)?;
-    }
+    into.extend_with_clones(blocks)
+}
+
+/// Adds a pointer to the new block, if there is one.
+fn push_new(alloc: Global, into: &mut Vec<Rc<Block>>, new: Option<Block>) -> Result<(), AllocError>
+    ensures { OnOk result (values into.new.items ≡ values into.old.items ++ option_to_list new) }
+{
+    let Some(block) = new else {
+        return Ok(());
+    };
+    into.push(Rc::new(alloc, block)?)?;
     Ok(())
 }
 
@@ -66,9 +84,7 @@ fn spliced(
 {
     let mut made = Vec::with_capacity(alloc, front.len() + rest.len() + 1)?;
     share(&mut made, front)?;
-    if let Some(block) = new {
-        made.push(Rc::new(alloc, block)?)?;
-    }
+    push_new(alloc, &mut made, new)?;
     share(&mut made, rest)?;
     Ok(made)
 }
@@ -77,9 +93,18 @@ fn spliced(
 fn share_groups(into: &mut Vec<Group>, groups: &[Group]) -> Result<(), AllocError>
     ensures { OnOk result (into.new.items ≡ into.old.items ++ groups.now) }
 {
-    for group in groups {
-        into.push(group.try_copy()?)?;
-    }
+    into.extend_with_clones(groups)
+}
+
+/// Adds a group of these blocks.
+fn push_one(
+    alloc: Global,
+    groups: &mut Vec<Group>,
+    blocks: Vec<Rc<Block>>,
+) -> Result<(), AllocError>
+    ensures { OnOk result (groups.new.items ≡ groups.old.items ++ values blocks.items ∷ []) }
+{
+    groups.push(Group::new(alloc, blocks)?)?;
     Ok(())
 }
 
@@ -94,15 +119,13 @@ fn push_group(
     if blocks.is_empty() {
         return Ok(());
     }
-    if blocks.len() > MOST {
-        let half = blocks.len() / 2;
-        let rest = blocks.split_off(half)?;
-        groups.push(Group::new(alloc, blocks)?)?;
-        groups.push(Group::new(alloc, rest)?)?;
-        return Ok(());
+    if blocks.len() <= MOST {
+        return push_one(alloc, groups, blocks);
     }
-    groups.push(Group::new(alloc, blocks)?)?;
-    Ok(())
+    let half = blocks.len() / 2;
+    let rest = blocks.split_off(half)?;
+    push_one(alloc, groups, blocks)?;
+    push_one(alloc, groups, rest)
 }
 
 /// The blocks in groups. The last is made first, so that no pointer is moved twice.
@@ -112,7 +135,7 @@ fn grouped(alloc: Global, mut blocks: Vec<Rc<Block>>) -> Result<Vec<Group>, Allo
     let mut groups = Vec::new(alloc);
     while !blocks.is_empty() {
         let last = blocks.split_off((blocks.len() - 1) / GROUP * GROUP)?;
-        groups.push(Group::new(alloc, last)?)?;
+        push_one(alloc, &mut groups, last)?;
     }
     groups.reverse();
     Ok(groups)
@@ -304,11 +327,26 @@ impl Blocks {
         requires few { length (take from self.now ++ (option_to_list new ++ drop to self.now)) ≤ MAX_DIRECTIVES }
         ensures { IfOk result (λ b. b ≡ take from self.now ++ (option_to_list new ++ drop to self.now)) }
     {
+        Blocks::new(alloc, self.groups_with(alloc, from, new, to)?)
+    }
+
+    // The groups of those.
+    fn groups_with(
+        &self,
+        alloc: Global,
+        from: usize,
+        new: Option<Block>,
+        to: usize,
+    ) -> Result<Vec<Group>, AllocError>
+        requires from { from ≤ length self.now }
+        requires to { to ≤ length self.now }
+        ensures { IfOk result (λ groups. ungrouped groups.items ≡ take from self.now ++ (option_to_list new ++ drop to self.now)) }
+    {
         if self.groups.is_empty() {
-            return Blocks::of(alloc, spliced(alloc, &[], new, &[])?);
+            return grouped(alloc, spliced(alloc, &[], new, &[])?);
         }
         let front = place_of(&self.groups, &self.starts, from);
         let rest = place_of(&self.groups, &self.starts, to);
-        Blocks::new(alloc, with_between(alloc, &self.groups, front, new, rest)?)
+        with_between(alloc, &self.groups, front, new, rest)
     }
 }

@@ -1,6 +1,6 @@
 //! Making an edit of a script.
 
-ghost use Rattle.std.specs.Prelude.{◌≡◌, ◌≤◌, ◌==◌, ◌++◌, true, not, length, take, drop, IfOk, option_to_list};
+ghost use Rattle.std.specs.Prelude.{◌≡◌, ◌≤◌, ◌==◌, ◌∷◌, ◌++◌, [], true, not, length, take, drop, IfOk, OnOk, option_to_list};
 ghost use Rattle.std.specs.List.{list_all, flat_map};
 ghost use Rattle.rb_script.specs.Lines.{text_of};
 ghost use Rattle.rb_script.specs.Script.{block_lines, all_expecting, expecting};
@@ -259,9 +259,23 @@ fn all_expecting(
 {
     let mut made = Vec::with_capacity(alloc, blocks.len())?;
     for i in 0..blocks.len() {
-        made.push(expecting(alloc, blocks.at(i), &outputs[i])?)?;
+        push_expecting(alloc, &mut made, blocks.at(i), &outputs[i])?;
     }
     Ok(made)
+}
+
+/// Adds the block with this output as its expectation.
+fn push_expecting(
+    alloc: Global,
+    made: &mut Vec<Rc<Block>>,
+    block: &Rc<Block>,
+    output: &Lines,
+) -> Result<(), AllocError>
+    requires { is_expectation output.now ≡ true }
+    ensures { OnOk result (values made.new.items ≡ values made.old.items ++ expecting block.now.value output.now ∷ []) }
+{
+    made.push(expecting(alloc, block, output)?)?;
+    Ok(())
 }
 
 /// The block with this output as its expectation.

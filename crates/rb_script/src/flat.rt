@@ -251,6 +251,16 @@ fn make_room(text: &mut Vec<u8>, room: usize) -> Result<(), AllocError>
     Ok(())
 }
 
+// Writes the line with its LF.
+fn write_text<W: WrittenLine>(text: &mut Vec<u8>, line: &W) -> Result<(), AllocError>
+    ensures { OnOk result (text.new.items ≡ text.old.items ++ line_text (W.bytes line.now)) }
+{
+    make_room(text, line.room())?;
+    line.add_to(text)?;
+    text.push(b'\n')?;
+    Ok(())
+}
+
 // Writes the line with its LF, and adds its end.
 fn write_line<W: WrittenLine>(
     text: &mut Vec<u8>,
@@ -260,9 +270,7 @@ fn write_line<W: WrittenLine>(
     ensures text { OnOk result (text.new.items ≡ text.old.items ++ line_text (W.bytes line.now)) }
     ensures ends { OnOk result (ends.new.items ≡ ends.old.items ++ length text.new.items ∷ []) }
 {
-    make_room(text, line.room())?;
-    line.add_to(text)?;
-    text.push(b'\n')?;
+    write_text(text, line)?;
     ends.push(text.len())?;
     Ok(())
 }

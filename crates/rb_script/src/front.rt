@@ -1,15 +1,12 @@
 //! What stands above an expectation.
 
-ghost use Rattle.std.specs.Prelude.{◌≡◌, IfOk, map};
-ghost use Rattle.rb_script.specs.Parsed.{spanned};
-
 use crate::argument::Argument;
 use crate::marks::RULE_LINE;
 use crate::shared_lines::SharedLines;
 use crate::span::Span;
 use crate::tokens::Tokens;
 use smallvec::SmallVec;
-use std::alloc::{AllocError, Global};
+use std::alloc::AllocError;
 use std::marker::Model;
 
 /// How long a separator and the empty line after an expectation are.
@@ -154,7 +151,7 @@ impl Front {
     pub(crate) fn try_copy(&self) -> Result<Front, AllocError>
         ensures { IfOk result (λ copy. copy ≡ self.now) }
     {
-        let args = copied(self.all.allocator(), self.args.as_slice())?;
+        let args = SmallVec::from_clones(self.all.allocator(), self.args.as_slice())?;
         Ok(Front {
             all: self.all.try_copy()?,
             lead: self.lead,
@@ -175,15 +172,4 @@ impl Front {
             .len()
             .saturating_add(AROUND_LEN)
     }
-}
-
-/// The same arguments, in memory of their own.
-fn copied(alloc: Global, arguments: &[Argument]) -> Result<SmallVec<Argument, 1>, AllocError>
-    ensures { IfOk result (λ copy. map spanned copy.items ≡ map spanned arguments.now) }
-{
-    let mut copy = SmallVec::new(alloc);
-    for argument in arguments {
-        copy.push(argument.try_copy(alloc)?)?;
-    }
-    Ok(copy)
 }

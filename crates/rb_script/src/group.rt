@@ -46,11 +46,15 @@ impl Group {
     {
         self.blocks.as_slice()
     }
+}
 
-    /// The same group once more: a pointer to it.
-    pub(crate) fn try_copy(&self) -> Result<Group, AllocError>
-        ensures { IfOk result (λ copy. copy ≡ self.now) }
-    {
+// A clone is the same group once more: a pointer to it.
+impl Clone for Group {
+    ghost use Rattle.std.specs.Prelude.{◌≡◌};
+
+    ghost is_clone = { λ group clone. clone ≡ group };
+
+    fn clone(&self) -> Result<Group, AllocError> {
         Ok(Group {
             blocks: self.blocks.clone()?,
         })

@@ -26,12 +26,20 @@ impl Drop for Lines {
 }
 
 /// Where lines are kept.
-#[derive(Drop)]
 pub(crate) enum Kept {
     /// In memory of their own.
     Own(FlatLines),
     /// As a part of lines that others share.
     Part(LinePart),
+}
+
+// Written out, so that giving one back is a call wherever it is owned, and is proved here alone.
+impl Drop for Kept {
+    fn drop(self) {
+        match self {
+            Kept::Own(_) | Kept::Part(_) => {}
+        }
+    }
 }
 
 impl Model for Lines {
@@ -186,9 +194,7 @@ impl Kept {
         match self {
             Kept::Own(own) => own.push(line),
             Kept::Part(part) => {
-                let mut own = part.own()?;
-                own.push(line)?;
-                *self = Kept::Own(own);
+                *self = Kept::Own(own_and(part, line)?);
                 Ok(())
             }
         }
@@ -208,7 +214,16 @@ impl Kept {
     }
 }
 
-// The lines of a part and this one, in memory of their own. It stands apart, since what a function needs is cleared as it begins: who adds to
+// The lines of a part and this one, in memory of their own.
+fn own_and(part: &LinePart, line: &[u8]) -> Result<FlatLines, AllocError>
+    ensures { IfOk result (λ own. own ≡ part.now ++ line.now ∷ []) }
+{
+    let mut own = part.own()?;
+    own.push(line)?;
+    Ok(own)
+}
+
+// The same of a line that is put together where it stays. It stands apart, since what a function needs is cleared as it begins: who adds to
 // lines that nobody shares clears nothing of it.
 #[inline(never)]
 fn own_with<W: WrittenLine>(part: &LinePart, line: &W) -> Result<FlatLines, AllocError>

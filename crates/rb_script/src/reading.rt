@@ -12,12 +12,12 @@ ghost use Rattle.rb_script.specs.Parsed.{ParsesHead};
 ghost use Rattle.rb_script.specs.Joined.{joined};
 ghost use Rattle.rb_script.specs.Heads.{few_or, head_at};
 ghost use Rattle.rb_script.specs.Blocks.{below_head, block_at, blocks_at};
-ghost use Rattle.rb_script.specs.Reading.{parts_of, block_of, long_line, no_long_line, capped, early_fault, read_of};
+ghost use Rattle.rb_script.specs.Reading.{parts_of, is_one, block_of, long_line, no_long_line, capped, early_fault, read_of};
 ghost use Rattle.rb_script.specs.Found.{seen, pair_seen};
 ghost use Rattle.rb_script.specs.Flat.{between};
-ghost use Rattle.rb_script.specs.Script.{text};
+ghost use Rattle.rb_script.specs.Script.{PlainBlock, text};
 ghost use Rattle.rb_script.specs.Valid.{IsLine};
-ghost use Rattle.rb_script.specs.Shared.{values, parts_view};
+ghost use Rattle.rb_script.specs.Shared.{values, parts_view, IsKeptScript};
 ghost use Rattle.rb_script.specs.HeadLines.{AreHeadLines};
 
 use crate::block::Block;
@@ -362,6 +362,26 @@ fn text_len(parts: &Parts) -> usize
     total
 }
 
+/// The script of these blocks and this tail.
+fn whole(
+    alloc: Global,
+    blocks: Vec<Rc<Block>>,
+    tail: LinePart,
+    text_len: usize,
+) -> Result<Script, AllocError>
+    requires { IsKeptScript (record { blocks = values blocks.items; tail = tail }) text_len }
+    ensures { IfOk result (λ s. s ≡ record { blocks = values blocks.items; tail = tail }) }
+{
+    let blocks = Blocks::of(alloc, blocks)?;
+    let tail = Rc::new(alloc, tail)?;
+    Ok(Script {
+        alloc,
+        blocks,
+        tail,
+        text_len,
+    })
+}
+
 /// The script of the bytes, with their lines and those of its heads, or the first fault.
 #[tactic(auto, unfolding(crate::specs::Reading::read_of, crate::specs::Reading::fits_text))]
 pub(crate) fn with_lines(alloc: Global, bytes: &[u8]) -> Result<ScriptWithLines, ScriptFault>
@@ -375,12 +395,7 @@ pub(crate) fn with_lines(alloc: Global, bytes: &[u8]) -> Result<ScriptWithLines,
     if text_len > MAX_SCRIPT {
         return Err(ScriptFault::TooLong);
     }
-    let script = Script {
-        alloc,
-        blocks: Blocks::of(alloc, parts.blocks)?,
-        tail: Rc::new(alloc, parts.tail)?,
-        text_len,
-    };
+    let script = whole(alloc, parts.blocks, parts.tail, text_len)?;
     Ok(ScriptWithLines {
         script,
         lines: Lines::whole(parts.all),
@@ -409,21 +424,37 @@ fn unshared(block: Rc<Block>) -> Result<Block, AllocError>
     }
 }
 
+/// The first fault of the parts as one block, if they have one.
+#[tactic(auto, unfolding(crate::specs::Reading::fits_text))]
+fn check_alone(parts: &Parts) -> Result<(), ScriptFault>
+    ensures { result ≡ is_one (parts_view parts.now) }
+{
+    if parts.blocks.len() != 1 || !parts.tail.is_empty() {
+        return Err(ScriptFault::NotOneBlock);
+    }
+    if text_len(parts) > MAX_SCRIPT {
+        return Err(ScriptFault::TooLong);
+    }
+    Ok(())
+}
+
+/// The last of the blocks, if there is one.
+fn last(mut blocks: Vec<Rc<Block>>) -> Result<Block, ScriptFault>
+    ensures { (b : PlainBlock) → values blocks.items ≡ b ∷ [] → Gives {X = PlainBlock} {Y = PlainBlock} (λ b. b) result (Ok b) }
+{
+    match blocks.pop() {
+        Some(block) => Ok(unshared(block)?),
+        None => Err(ScriptFault::NotOneBlock),
+    }
+}
+
 /// The one block of the bytes, or the first fault.
-#[tactic(auto, unfolding(crate::specs::Reading::block_of, crate::specs::Reading::fits_text))]
+#[tactic(auto, unfolding(crate::specs::Reading::block_of))]
 pub(crate) fn one_block(alloc: Global, bytes: &[u8]) -> Result<Block, ScriptFault>
     ensures exact { Gives (λ b. b) result (block_of bytes.now) }
     ensures early { IfSome (early_fault bytes.now) (λ fault. result ≡ Err fault) }
 {
-    let mut parts = read_parts(alloc, bytes)?;
-    if parts.blocks.len() != 1 || !parts.tail.is_empty() {
-        return Err(ScriptFault::NotOneBlock);
-    }
-    if text_len(&parts) > MAX_SCRIPT {
-        return Err(ScriptFault::TooLong);
-    }
-    match parts.blocks.pop() {
-        Some(block) => Ok(unshared(block)?),
-        None => Err(ScriptFault::NotOneBlock),
-    }
+    let parts = read_parts(alloc, bytes)?;
+    check_alone(&parts)?;
+    last(parts.blocks)
 }

@@ -1,4 +1,4 @@
-use Rattle.std.proofs.Common.{arith, sym, ◌∙◌}
+use Rattle.std.proofs.Common.{arith, refl, sym, ◌∙◌}
 use Rattle.std.proofs.lemmas.Bool.{eqb-true}
 use Rattle.rb_script.specs.Shared.{values}
 use Rattle.rb_script.proofs.GroupLaws.{grouped_more, grouped_all}
@@ -6,8 +6,8 @@ use Rattle.rb_script.proofs.blocks.grouped.Goals as goal
 
 pub loop-alloc-preserved : goal.loop-alloc-preserved
 loop-alloc-preserved c =
-    grouped_more c.loop-alloc.blocks.items c.split_off.new.self.items c.in_ok-last.last.items c.loop-alloc.groups.items c.push.new.self.items c.in_ok-new.field-0 (values c.args.blocks.items) _
-    c.in_ok-last.ensures.items c.in_ok-last.ensures.tail c.in_ok-new.ensures c.in_ok-push.ensures.items c.loop-alloc.invariant
+    grouped_more c.loop-alloc.blocks.items c.split_off.new.self.items c.in_ok-last.last.items c.loop-alloc.groups.items c.push_one.new.groups.items (values c.in_ok-last.last.items) (values c.args.blocks.items) _
+    c.in_ok-last.ensures.items c.in_ok-last.ensures.tail refl c.in_ok-push_one.ensures c.loop-alloc.invariant
 
 pub returns : goal.returns
 returns c = grouped_all c.loop-alloc.blocks.items c.loop-alloc.groups.items c.reverse.new.self.items (values c.args.blocks.items) (let none = eqb-true c.loop-alloc.blocks.len 0 (sym c.is_empty.ensures ∙ c.loop-alloc-test.false) in omega (arith, none, c.loop-alloc.blocks.ok.0)) c.reverse.ensures.items c.loop-alloc.invariant

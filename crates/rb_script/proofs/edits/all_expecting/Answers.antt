@@ -7,7 +7,7 @@ use Rattle.rb_script.proofs.edits.all_expecting.Goals as goal
 pub loop-i-preserved : goal.loop-i-preserved
 loop-i-preserved c =
     expecting_more c.args.blocks.now c.args.outputs.now c.loop-i.i c.at.result.now.value c.index-outputs-i.result c.at.ensures (omega arith) c.index-outputs-i.is
-    _ c.loop-i.made.items c.push.new.self.items c.in_ok-expecting.field-0 c.in_ok-push.ensures.items c.in_ok-expecting.ensures c.loop-i.invariant
+    _ (values c.loop-i.made.items) (values c.push_expecting.new.made.items) c.in_ok-push_expecting.ensures c.loop-i.invariant
 
 pub returns : goal.returns
 returns c =

@@ -1,4 +1,4 @@
-use Rattle.std.proofs.Common.{◌≤◌, ◌-◌, length, take, drop, ap, sym, ◌∙◌, arith}
+use Rattle.std.proofs.Common.{◌-◌, length, take, drop, ap, sym, ◌∙◌, arith}
 use Rattle.rb_script.specs.Flat.{ends_of, parted, between, line_start}
 use Rattle.rb_script.proofs.FlatLaws.{ends_between, parted_len}
 use Rattle.rb_script.proofs.flat.FlatLines.ends_between.Goals as goal
