@@ -16,13 +16,24 @@ use std::alloc::{AllocError, Global};
 use std::marker::Model;
 
 /// The nodes that scripts speak of, the messages on their way between them, and the least level that is shown.
-#[derive(Drop)]
 pub struct Cluster<L: RaftLog> {
     /// By id, from 1 on. A copy shares them.
     pub(crate) nodes: Vec<SharedNode<L>>,
     pub(crate) pending: Vec<SharedMessage>,
     pub(crate) level: Level,
     pub(crate) alloc: Global,
+}
+
+// Written out, so that giving one back is a call wherever it is owned, and is proved here alone.
+impl<L: RaftLog> Drop for Cluster<L> {
+    fn drop(self) {
+        let Cluster {
+            nodes: _,
+            pending: _,
+            level: _,
+            alloc: _,
+        } = self;
+    }
 }
 
 impl<L: RaftLog> Model for Cluster<L> {
