@@ -7,7 +7,7 @@ use Rattle.std.proofs.lemmas.List.{take-append-drop, map-append, take-map, drop-
 use Rattle.rb_script.specs.Lines.{Line}
 use Rattle.rb_machine.specs.Cluster.{Cluster}
 use Rattle.rb_replay.specs.declared.splice.Splice.{Splice}
-use Rattle.rb_replay.specs.declared.rejoin.Rejoin.{Rejoin}
+use Rattle.rb_replay.specs.declared.prepare.Rejoin.{Rejoin}
 use Rattle.rb_replay.specs.Run.{directives, state, outputs}
 use Rattle.rb_replay.specs.Points.{IsRising, AreNear, AreKept, last_up_to}
 use Rattle.rb_replay.specs.Reuse.{Change, start, stop, old_point, new_point, Meets, IsFirstMeeting, IsChange, StayWhole, fresh_points, points_before}

@@ -2,8 +2,8 @@
 use Rattle.std.specs.Prelude.{◌≡◌, ℕ, ◌+◌, ◌-◌, ◌<◌, ◌≤◌, min, nat_le, nat_lt, List, [], ◌∷◌, ◌++◌, length, take, drop, map, filter, slice_index, Option, Some, None}
 use Rattle.rb_script.specs.Script.{PlainScript}
 use Rattle.rb_replay.specs.declared.splice.Splice.{Splice}
-use Rattle.rb_replay.specs.declared.rerun.Rerun.{Rerun}
-use Rattle.rb_replay.specs.declared.rejoin.Rejoin.{Rejoin}
+use Rattle.rb_replay.specs.declared.run.Rerun.{Rerun}
+use Rattle.rb_replay.specs.declared.prepare.Rejoin.{Rejoin}
 use Rattle.rb_replay.specs.declared.ready.Ready.{Ready}
 use Rattle.rb_script.specs.Lines.{Line}
 use Rattle.rb_machine.specs.Cluster.{Cluster}

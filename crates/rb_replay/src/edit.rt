@@ -1,11 +1,45 @@
 //! Edits of a session.
 
+ghost use Rattle.std.specs.Prelude.{◌≡◌};
+ghost use Rattle.rb_replay.specs.Reuse.{effect_of};
+
 use crate::ready::{make_room, take_over};
 use crate::session::{Changed, Session};
-use crate::splice::{Common, Effect, Splice, effect_of};
+use crate::splice::{Common, Effect, Splice};
 use rb_machine::{Count, Machine};
 use rb_script::{Edit, EditFault, Script};
 use std::alloc::AllocError;
+
+/// What the edit changes.
+fn effect_of(edit: &Edit) -> Effect
+    ensures { result ≡ effect_of edit.now }
+{
+    match edit {
+        Edit::Insert(place, _) => replay_between(
+            place.saturating_sub(1),
+            place.saturating_sub(1),
+            *place,
+        ),
+        Edit::Replace(place, _) => replay_between(place.saturating_sub(1), *place, *place),
+        Edit::Remove(place) => replay_between(
+            place.saturating_sub(1),
+            *place,
+            place.saturating_sub(1),
+        ),
+        Edit::Expect(place, _) => Effect::Expect(*place),
+        Edit::Accept => Effect::Accept,
+    }
+}
+
+fn replay_between(front: usize, old_rest: usize, new_rest: usize) -> Effect
+    ensures { result ≡ Effect.Replay (record { front = front; old_rest = old_rest; new_rest = new_rest }) }
+{
+    Effect::Replay(Splice {
+        front,
+        old_rest,
+        new_rest,
+    })
+}
 
 impl<M: Machine> Session<M> {
     ghost use Rattle.std.specs.Prelude.{◌≡◌, ◌≢◌, ◌+◌, ◌≤◌, ◌^◌, ℕ, length, IfOk, IfErr, OnOk, OnErr, Ok, Err};

@@ -1,11 +1,9 @@
-//! Making ready all that is to change, before anything is changed.
+//! Making ready all that is to change, before anything is changed: what is run, and where the old run goes on.
 
 use crate::differing::list_differing;
 use crate::points::{count_below, joined};
 use crate::ready::Ready;
-use crate::rejoin::Rejoin;
-use crate::rerun::Rerun;
-use crate::run::Run;
+use crate::run::{Rerun, Run};
 use crate::session::Session;
 use crate::splice::{Common, Splice};
 use rb_machine::{Count, Machine};
@@ -111,6 +109,7 @@ impl<M: Machine> Session<M> {
         ensures ready { IfOk result (IsReady M.meaning (change_by self.now new.now splice) self.now.kept) }
         ensures running { IfOk result (λ ready. ready.running ≡ run.running) }
     {
+        let mismatches = self.mismatches_after(new, splice, common, &run, rejoin.old_stop)?;
         let points = joined(
             self.alloc,
             &self.points[..rejoin.front],
@@ -118,7 +117,6 @@ impl<M: Machine> Session<M> {
             &self.points[rejoin.rest..],
             splice,
         )?;
-        let mismatches = self.mismatches_after(new, splice, common, &run, rejoin.old_stop)?;
         Ok(Ready {
             running: run.running,
             rejoin,
@@ -148,5 +146,68 @@ impl<M: Machine> Session<M> {
         let run = self.run_on(new, splice, meter)?;
         let rejoin = self.rejoin(new, splice, &run);
         self.assembled(new, splice, common, run, rejoin)
+    }
+}
+
+/// Up to where the old run stays, and from where on it is used again.
+#[derive(Clone, Copy)]
+pub(crate) struct Rejoin {
+    // the old point from which on outputs are used again
+    pub(crate) old_stop: usize,
+    // how many of the old points stay, and the index of the first that is used again
+    pub(crate) front: usize,
+    pub(crate) rest: usize,
+}
+
+/// Where the old run goes on, in old points.
+#[derive(Clone, Copy)]
+struct Bounds {
+    // from here on the old run is used again
+    old_stop: usize,
+    // what is below stays
+    front: usize,
+}
+
+impl<M: Machine> Session<M> {
+    ghost use Rattle.std.specs.Prelude.{◌≡◌, ◌≤◌, length};
+    ghost use Rattle.rb_script.specs.declared.limits.TheConstants.{MAX_DIRECTIVES};
+    ghost use Rattle.rb_replay.specs.Holding.{Holding};
+    ghost use Rattle.rb_replay.specs.Reuse.{change_by, IsChange};
+    ghost use Rattle.rb_replay.specs.Splices.{old_stop, front_bound, IsRerun, IsRejoin};
+
+    /// Where the old run goes on.
+    fn bounds(&self, new: &Script, splice: Splice, run: &Rerun<M>) -> Bounds
+        requires change { IsChange (change_by self.now new.now splice) }
+        requires few { length new.now.blocks ≤ MAX_DIRECTIVES }
+        requires run { IsRerun M.meaning (change_by self.now new.now splice) run.now }
+        ensures old_stop { result.old_stop ≡ old_stop (change_by self.now new.now splice) run.now.met }
+        ensures front { result.front ≡ front_bound (change_by self.now new.now splice) run.now.met }
+    {
+        let after = run.running.from + 1;
+        match run.met {
+            None => Bounds {
+                old_stop: self.script.len(),
+                front: after,
+            },
+            Some(at) => Bounds {
+                old_stop: at - splice.new_rest + splice.old_rest,
+                front: after.min(at),
+            },
+        }
+    }
+
+    /// The same by the indices of the points.
+    pub(crate) fn rejoin(&self, new: &Script, splice: Splice, run: &Rerun<M>) -> Rejoin
+        requires change { IsChange (change_by self.now new.now splice) }
+        requires few { length new.now.blocks ≤ MAX_DIRECTIVES }
+        requires run { IsRerun M.meaning (change_by self.now new.now splice) run.now }
+        ensures { IsRejoin (change_by self.now new.now splice) run.now.met result }
+    {
+        let bounds = self.bounds(new, splice, run);
+        Rejoin {
+            old_stop: bounds.old_stop,
+            front: count_below(&self.points, bounds.front),
+            rest: count_below(&self.points, bounds.old_stop + 1),
+        }
     }
 }

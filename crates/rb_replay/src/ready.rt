@@ -5,7 +5,7 @@ ghost use Rattle.rb_machine.specs.Cluster.{Cluster};
 ghost use Rattle.rb_replay.specs.Points.{thin};
 
 use crate::points::{put_between, thin};
-use crate::rejoin::Rejoin;
+use crate::prepare::Rejoin;
 use crate::run::Run;
 use rb_machine::Machine;
 use rb_script::Lines;

@@ -6,7 +6,6 @@ use std::alloc::Global;
 use std::marker::Model;
 
 /// A script with what one run of it gives, and clusters of that run.
-#[derive(Drop)]
 pub struct Session<M: Machine> {
     pub(crate) alloc: Global,
     pub(crate) script: Script,
@@ -16,6 +15,21 @@ pub struct Session<M: Machine> {
     // where clusters are kept, and those clusters
     pub(crate) points: Vec<usize>,
     pub(crate) kept: Vec<M>,
+}
+
+// Written out, so that giving one back is a call wherever it is owned, and is proved here alone.
+impl<M: Machine> Drop for Session<M> {
+    fn drop(self) {
+        let Session {
+            alloc: _,
+            script: _,
+            spacing: _,
+            outputs: _,
+            mismatches: _,
+            points: _,
+            kept: _,
+        } = self;
+    }
 }
 
 impl<M: Machine> Model for Session<M> {

@@ -1,10 +1,5 @@
 //! What an edit, or another script, changes.
 
-ghost use Rattle.std.specs.Prelude.{◌≡◌};
-ghost use Rattle.rb_replay.specs.Reuse.{effect_of};
-
-use rb_script::Edit;
-
 /// Where the common front of two scripts ends, and where their common rest begins in either.
 #[derive(Clone, Copy)]
 pub(crate) struct Splice {
@@ -31,35 +26,4 @@ pub(crate) enum Effect {
     Expect(usize),
     /// Each directive expects its output.
     Accept,
-}
-
-/// What the edit changes.
-pub(crate) fn effect_of(edit: &Edit) -> Effect
-    ensures { result ≡ effect_of edit.now }
-{
-    match edit {
-        Edit::Insert(place, _) => replay_between(
-            place.saturating_sub(1),
-            place.saturating_sub(1),
-            *place,
-        ),
-        Edit::Replace(place, _) => replay_between(place.saturating_sub(1), *place, *place),
-        Edit::Remove(place) => replay_between(
-            place.saturating_sub(1),
-            *place,
-            place.saturating_sub(1),
-        ),
-        Edit::Expect(place, _) => Effect::Expect(*place),
-        Edit::Accept => Effect::Accept,
-    }
-}
-
-fn replay_between(front: usize, old_rest: usize, new_rest: usize) -> Effect
-    ensures { result ≡ Effect.Replay (record { front = front; old_rest = old_rest; new_rest = new_rest }) }
-{
-    Effect::Replay(Splice {
-        front,
-        old_rest,
-        new_rest,
-    })
 }

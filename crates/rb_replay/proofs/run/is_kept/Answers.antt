@@ -1,7 +1,7 @@
 use Rattle.std.proofs.Common.{◌≡◌, ◌<◌, length, get_or, ◌∙◌, eq-eqb}
 use Rattle.std.proofs.lemmas.List.{get_or_default}
 use Rattle.rb_replay.proofs.NextLaws.{next-past, next-none}
-use Rattle.rb_replay.proofs.rerun.is_kept.Goals as goal
+use Rattle.rb_replay.proofs.run.is_kept.Goals as goal
 
 pub returns-in-Some-clause-none : goal.returns-in-Some-clause-none
 returns-in-Some-clause-none c = λ no.

@@ -3,8 +3,8 @@ use Rattle.std.specs.Prelude.{IsTrue}
 use Rattle.rb_machine.specs.Cluster.{Cluster}
 use Rattle.rb_replay.proofs.PartLaws.{map_at}
 use Rattle.rb_replay.proofs.NextLaws.{next-on}
-use Rattle.rb_replay.proofs.rerun.meets.Goals as goal
-use Rattle.rb_replay.proofs.rerun.meets.Given.{Over}
+use Rattle.rb_replay.proofs.run.meets.Goals as goal
+use Rattle.rb_replay.proofs.run.meets.Given.{Over}
 
 -- what is kept at the point that was found
 found : (g : Over) (c : goal.After-same g) (f : ℕ → Cluster) → map g.M.Machine.meaning c.args.kept.now ≡ map f c.args.points.now → g.M.Machine.meaning c.index-kept-here.result ≡ f (c.args.at - c.args.splice.new_rest + c.args.splice.old_rest)
