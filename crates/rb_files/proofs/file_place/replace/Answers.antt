@@ -8,5 +8,5 @@ returns-in-Err g c = λ fresh. leaves_uncreated c.in-Err.error _ _ fresh c.in-Er
 
 pub returns-in-Err-fill : goal.returns-in-Err-fill
 returns-in-Err-fill g c = λ fresh.
-    subst (λ (b : Bool). IfSome (g.P.FilePlace.stands c.args.place.now) (λ s. LeavesOld (record { error = c.in-Err-fill.path_error; is_removed = b }) s (g.P.FilePlace.stands c.remove.new.self))) (sym c.is_ok-is_removed.ensures.value)
+    subst (λ (b : Bool). IfSome (g.P.FilePlace.stands c.args.place.now) (λ s. LeavesOld (record { error = c.in-Err-fill.error; is_removed = b }) s (g.P.FilePlace.stands c.remove.new.self))) (sym c.is_ok-is_removed.ensures.value)
     (leaves_old c.in-Err-fill.error c.remove.result _ _ _ _ c.in_default.ensures c.in-Err-fill.ensures c.remove.ensures)
