@@ -29,7 +29,7 @@ fn answered<R: Files + Input + Print + Env + Clock + AllocGlobal, E: Write + Dro
     match choice.subcommand {
         Some(Subcommand::Lsp) => serve_editor(rt),
         Some(subcommand) => match carry_out(rt, subcommand, &choice, errors, terminals) {
-            Ok(ended) => Ok(ended.code()),
+            Ok(status) => Ok(status_code(status)),
             Err(refusal) => Err(refusal),
         },
         None => Err(Refusal::Usage(Misuse::NoCommand)),

@@ -7,7 +7,8 @@ use Rattle.rb_script.specs.declared.fault.ScriptFault.{ScriptFault}
 use Rattle.rb_script.specs.declared.fault.ScriptFault.TheVariants as scripts
 use Rattle.rb_script.specs.declared.fault.EditFault.{EditFault}
 use Rattle.rb_script.specs.declared.fault.EditFault.TheVariants as edits
-use Rattle.rb_bench.specs.Names.{script_name, script_line, edit_name}
+use Rattle.rb_check.specs.Refusals.{fault_line}
+use Rattle.rb_bench.specs.Names.{script_name, edit_name}
 
 -- the fault of a name and a line
 abbrev script_named : List ℕ → Option ℕ → ScriptFault
@@ -22,7 +23,7 @@ script_named name line =
     else if bytes_eq name (codes "TooManyArguments") then scripts.TooManyArguments (unwrap_or line 0)
     else scripts.OutOfMemory
 
-named_script : (fault : ScriptFault) → script_named (script_name fault) (script_line fault) ≡ fault
+named_script : (fault : ScriptFault) → script_named (script_name fault) (fault_line fault) ≡ fault
 named_script scripts.TooLong = refl
 named_script (scripts.LineTooLong line) = refl
 named_script (scripts.BadLine line) = refl
@@ -33,9 +34,9 @@ named_script scripts.NotOneBlock = refl
 named_script (scripts.TooManyArguments line) = refl
 named_script scripts.OutOfMemory = refl
 
-pub script_names : (fault other : ScriptFault) → script_name fault ≡ script_name other → script_line fault ≡ script_line other → fault ≡ other
+pub script_names : (fault other : ScriptFault) → script_name fault ≡ script_name other → fault_line fault ≡ fault_line other → fault ≡ other
 script_names fault other name line =
-    sym (named_script fault) ∙ ap (λ (n : List ℕ). script_named n (script_line fault)) name ∙ ap (script_named (script_name other)) line ∙ named_script other
+    sym (named_script fault) ∙ ap (λ (n : List ℕ). script_named n (fault_line fault)) name ∙ ap (script_named (script_name other)) line ∙ named_script other
 
 -- the same of an edit
 abbrev edit_named : List ℕ → EditFault

@@ -1,5 +1,5 @@
--- The names of faults, and their lines. (This project's.)
-use Rattle.std.specs.Prelude.{ℕ, codes, List, Option, Some, None}
+-- The names of faults. (This project's.)
+use Rattle.std.specs.Prelude.{ℕ, codes, List}
 use Rattle.rb_script.specs.declared.fault.ScriptFault.{ScriptFault}
 use Rattle.rb_script.specs.declared.fault.ScriptFault.TheVariants as scripts
 use Rattle.rb_script.specs.declared.fault.EditFault.{EditFault}
@@ -16,18 +16,6 @@ script_name scripts.TooManyDirectives = codes "TooManyDirectives"
 script_name scripts.NotOneBlock = codes "NotOneBlock"
 script_name (scripts.TooManyArguments line) = codes "TooManyArguments"
 script_name scripts.OutOfMemory = codes "OutOfMemory"
-
--- the line of such a fault, which counts from 1
-abbrev pub script_line : ScriptFault → Option ℕ
-script_line scripts.TooLong = None
-script_line (scripts.LineTooLong line) = Some line
-script_line (scripts.BadLine line) = Some line
-script_line (scripts.NoSeparator line) = Some line
-script_line (scripts.NotClosed line) = Some line
-script_line scripts.TooManyDirectives = None
-script_line scripts.NotOneBlock = None
-script_line (scripts.TooManyArguments line) = Some line
-script_line scripts.OutOfMemory = None
 
 -- a refusal of an edit
 abbrev pub edit_name : EditFault → List ℕ

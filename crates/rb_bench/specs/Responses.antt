@@ -19,7 +19,8 @@ use Rattle.rb_replay.specs.Run.{outputs, output_at}
 use Rattle.rb_replay.specs.Report.{report, rewritten}
 use Rattle.rb_replay.specs.Holding.{Holding}
 use Rattle.rb_replay.specs.After.{IsEdited}
-use Rattle.rb_bench.specs.Names.{script_name, script_line, edit_name}
+use Rattle.rb_check.specs.Refusals.{fault_line}
+use Rattle.rb_bench.specs.Names.{script_name, edit_name}
 
 -- ---- texts
 
@@ -30,7 +31,7 @@ at_line (Some n) = codes " at line " ++ decimal n
 
 -- a fault of a block
 abbrev pub fault_text : ScriptFault → List ℕ
-fault_text fault = script_name fault ++ at_line (script_line fault)
+fault_text fault = script_name fault ++ at_line (fault_line fault)
 
 -- why a command is refused
 abbrev pub refused : List ℕ → List ℕ

@@ -14,7 +14,8 @@ ghost use Rattle.rb_bench.specs.Talk.{Exchange, Converses, Talks, refusals};
 ghost use Rattle.rb_bench.specs.Made.{AreMade};
 ghost use Rattle.rb_bench.specs.Runs.{Answers, IsNoScript, status_for, text_for};
 ghost use Rattle.rb_bench.specs.Serves.{IsStarted};
-ghost use Rattle.rb_bench.specs.Names.{script_name, script_line, edit_name};
+ghost use Rattle.rb_check.specs.Refusals.{fault_line};
+ghost use Rattle.rb_bench.specs.Names.{script_name, edit_name};
 ghost use Rattle.rb_bench.specs.declared.running.Mode.{Mode};
 ghost use Rattle.rb_bench.specs.declared.fault.BenchFault.TheVariants as faults;
 ghost use Rattle.rb_check.specs.declared.status.Status.{Status};
@@ -56,6 +57,6 @@ pub fn sessions_start_as_one()
 
 /// No two faults have the same words.
 pub fn names_are_distinct()
-    ensures script { (fault other : ScriptFault) → script_name fault ≡ script_name other → script_line fault ≡ script_line other → fault ≡ other }
+    ensures script { (fault other : ScriptFault) → script_name fault ≡ script_name other → fault_line fault ≡ fault_line other → fault ≡ other }
     ensures edit { (fault other : EditFault) → edit_name fault ≡ edit_name other → fault ≡ other }
 {}

@@ -30,7 +30,7 @@ pub use laws::{
     sessions_start_as_one,
 };
 pub use limits::{MAX_GIVEN, MAX_READS, USUAL_SPACING, limits_are};
-pub use names::{edit_fault_name, script_fault_line, script_fault_name};
+pub use names::{edit_fault_name, script_fault_name};
 pub use outlet::Outlet;
 pub use running::{Mode, run_bytes, run_over};
 pub use session::serve;

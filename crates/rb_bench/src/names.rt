@@ -1,7 +1,7 @@
 //! The names of faults.
 
 ghost use Rattle.std.specs.Prelude.{◌≡◌};
-ghost use Rattle.rb_bench.specs.Names.{script_name, script_line, edit_name};
+ghost use Rattle.rb_bench.specs.Names.{script_name, edit_name};
 
 use rb_script::{EditFault, ScriptFault};
 
@@ -19,23 +19,6 @@ pub fn script_fault_name(fault: ScriptFault) -> &'static str
         ScriptFault::NotOneBlock => "NotOneBlock",
         ScriptFault::TooManyArguments(_) => "TooManyArguments",
         ScriptFault::OutOfMemory => "OutOfMemory",
-    }
-}
-
-/// The line of the fault, which counts from 1.
-pub fn script_fault_line(fault: ScriptFault) -> Option<usize>
-    ensures { result ≡ script_line fault }
-{
-    match fault {
-        ScriptFault::LineTooLong(line) => Some(line),
-        ScriptFault::BadLine(line) => Some(line),
-        ScriptFault::NoSeparator(line) => Some(line),
-        ScriptFault::NotClosed(line) => Some(line),
-        ScriptFault::TooManyArguments(line) => Some(line),
-        ScriptFault::TooLong => None,
-        ScriptFault::TooManyDirectives => None,
-        ScriptFault::NotOneBlock => None,
-        ScriptFault::OutOfMemory => None,
     }
 }
 

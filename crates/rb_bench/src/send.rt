@@ -7,10 +7,11 @@ ghost use Rattle.rb_bench.specs.Responses.{at_line, fault_text, refused, done, o
 ghost use Rattle.rb_bench.specs.Handed.{IsHandedOn};
 ghost use Rattle.rb_bench.specs.Replies.{reply_text};
 
-use crate::names::{edit_fault_name, script_fault_line, script_fault_name};
+use crate::names::{edit_fault_name, script_fault_name};
 use crate::outlet::Outlet;
 use crate::reply::Reply;
 use crate::starting::BenchSession;
+use rb_check::fault_line;
 use rb_replay::Changed;
 use rb_script::{Lines, ScriptFault, Sink, WriteFault};
 use rb_text::put_number;
@@ -33,7 +34,7 @@ fn put_fault<S: Sink>(sink: &mut S, fault: ScriptFault) -> Result<(), WriteFault
     ensures all { S.takes_all sink.old → IsOk result × S.takes_all sink.new }
 {
     sink.put(script_fault_name(fault).as_bytes())?;
-    put_line_number(sink, script_fault_line(fault))
+    put_line_number(sink, fault_line(fault))
 }
 
 fn put_refused<S: Sink>(sink: &mut S, name: &[u8]) -> Result<(), WriteFault>

@@ -1,11 +1,9 @@
 //! `raftbench check PATH..`: scripts and folders of scripts.
 
-ghost use Rattle.std.specs.Prelude.{IfOk};
-ghost use Rattle.rb_program.specs.Ends.{IsRight};
+ghost use Rattle.std.specs.Prelude.{◌≢◌, IfOk};
 
 use crate::clusters::Clusters;
 use crate::colors::{ColorChoice, color_choice_of, colors};
-use crate::ended::Ended;
 use crate::misuse::{Misuse, misuse_of_every, misused};
 use crate::refusal::Refusal;
 use crate::spacing::spacing;
@@ -13,6 +11,7 @@ use crate::style::{Style, style_of};
 use crate::subcommands::Terminals;
 use crate::target::targets;
 use rb_args::CheckChoice;
+use rb_check::Status;
 use rb_checked::Shown;
 use rb_replay::is_spacing;
 use rb_suite::{CheckRequest, Target, check};
@@ -36,8 +35,8 @@ pub(crate) fn check_all<R: Files + Input + Print + Env + Clock + AllocGlobal, E:
     every: Option<&str>,
     errors: E,
     terminals: Terminals,
-) -> Result<Ended, Refusal>
-    ensures { IfOk result IsRight }
+) -> Result<Status, Refusal>
+    ensures { IfOk result (λ status. status ≢ Status.BadUsage) }
 {
     let wanted = find_wanted(rt, choice, every, terminals)?;
     check_wanted(rt, choice, &wanted, errors, terminals)
@@ -68,8 +67,8 @@ fn check_wanted<R: Files + Input + Print + Env + Clock + AllocGlobal, E: Write +
     wanted: &Wanted,
     errors: E,
     terminals: Terminals,
-) -> Result<Ended, Refusal>
-    ensures { IfOk result IsRight }
+) -> Result<Status, Refusal>
+    ensures { IfOk result (λ status. status ≢ Status.BadUsage) }
 {
     let asked = CheckRequest {
         targets: &wanted.targets,
@@ -85,8 +84,7 @@ fn check_wanted<R: Files + Input + Print + Env + Clock + AllocGlobal, E: Write +
         colors: colors(rt, wanted.color, terminals.output),
         wants_progress: terminals.errors && !choice.reviews,
     };
-    let status = check(rt, &mut Clusters, asked, errors)?;
-    Ok(Ended::Checked(status))
+    Ok(check(rt, &mut Clusters, asked, errors)?)
 }
 
 // What the report is to look like. What else is asked for is looked at too.

@@ -1,6 +1,6 @@
 //! What the program does for each of its subcommands but `lsp`, over the files, the streams, the environment and the clock of a runtime.
 //!
-//! [`carry_out`] does it and tells how it [`Ended`], or why it didn't: a [`Refusal`], which tells it to whoever called.
+//! [`carry_out`] does it and tells the [`rb_check::Status`] it ended with, or why it didn't: a [`Refusal`], which tells it to whoever called.
 #![tactic(auto)]
 
 mod chart;
@@ -8,7 +8,6 @@ mod checking;
 mod clusters;
 mod colors;
 mod directives;
-mod ended;
 mod job;
 mod look;
 mod misuse;
@@ -20,7 +19,6 @@ mod style;
 mod subcommands;
 mod target;
 
-pub use ended::Ended;
 pub use misuse::Misuse;
 pub use refusal::Refusal;
 pub use subcommands::{Terminals, carry_out};

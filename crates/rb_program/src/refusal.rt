@@ -4,8 +4,8 @@ ghost use Rattle.std.specs.Prelude.{◌≢◌};
 
 use crate::misuse::Misuse;
 use rb_args::ChoiceFault;
-use rb_bench::{BenchFault, script_fault_line, script_fault_name};
-use rb_check::Status;
+use rb_bench::{BenchFault, script_fault_name};
+use rb_check::{Status, fault_line};
 use rb_line::ReadFault;
 use rb_script::ScriptFault;
 use std::alloc::AllocError;
@@ -93,7 +93,7 @@ fn tell_io<R: Eprint>(rt: &R) -> Status
 
 fn tell_script<R: Eprint>(rt: &R, fault: ScriptFault) {
     let name = script_fault_name(fault);
-    let _ = match script_fault_line(fault) {
+    let _ = match fault_line(fault) {
         Some(line) => eprintln!(rt; "raftbench: script refused: {name} at line {line}"),
         None => eprintln!(rt; "raftbench: script refused: {name}"),
     };

@@ -1,12 +1,10 @@
 //! What is done for each subcommand.
 
-ghost use Rattle.std.specs.Prelude.{IfOk};
-ghost use Rattle.rb_program.specs.Ends.{IsRight};
+ghost use Rattle.std.specs.Prelude.{◌≡◌, ◌≢◌, IfOk};
 
 use crate::chart::chart;
 use crate::checking::check_all;
 use crate::directives::directives;
-use crate::ended::Ended;
 use crate::job::run_job;
 use crate::look::look_at;
 use crate::misuse::{Misuse, misuse_of_every};
@@ -41,22 +39,16 @@ pub fn carry_out<R: Files + Input + Print + Env + Clock + AllocGlobal, E: Write 
     choice: &Choice,
     errors: E,
     terminals: Terminals,
-) -> Result<Ended, Refusal>
+) -> Result<Status, Refusal>
     // What is found to be wrong with the words of a check is a refusal.
-    ensures { IfOk result IsRight }
+    ensures { subcommand ≡ Subcommand.Check → IfOk result (λ status. status ≢ Status.BadUsage) }
 {
     let every = choice.every.as_deref();
     match subcommand {
         Subcommand::Check => check_all(rt, &choice.check, every, errors, terminals),
-        Subcommand::Directives => alone(directives(rt, choice.name.as_deref())),
-        _ => alone(with_file(rt, subcommand, choice)),
+        Subcommand::Directives => directives(rt, choice.name.as_deref()),
+        _ => with_file(rt, subcommand, choice),
     }
-}
-
-fn alone(status: Result<Status, Refusal>) -> Result<Ended, Refusal>
-    ensures { IfOk result IsRight }
-{
-    Ok(Ended::Alone(status?))
 }
 
 // Does what is asked for with one file. What is wrong with `--every` is told with its text.
