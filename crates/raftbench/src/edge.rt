@@ -1,4 +1,4 @@
-//! The words, and what is done for them.
+//! The arguments, and what is done for them.
 
 use crate::editing::serve_editor;
 use rb_args::{Choice, Subcommand, chosen};

@@ -1,4 +1,4 @@
-//! The program: its words are read, and what they ask for is done, or it is told why it isn't. The streams are the process's own.
+//! The program: its arguments are read, and what they ask for is done, or it says why it isn't. The streams are the process's own.
 #![tactic(auto)]
 
 mod edge;

@@ -1,4 +1,4 @@
--- What holds of what an editor is told. (This project's.)
+-- What holds of what an editor is shown. (This project's.)
 use Rattle.std.specs.Prelude.{◌≡◌, ℕ, ◌≤◌, Bool, true, false, List, ◌∷◌, ◌++◌, length, take, drop, slice_index, Option}
 use Rattle.std.specs.List.{AllByRecursion}
 use Rattle.serde_json.specs.Data.{Data}

@@ -1,4 +1,4 @@
-//! What an editor is told about a script: the language server of scripts.
+//! What an editor is shown of a script: the language server of scripts.
 //!
 //! [`lsp`] publishes the diagnostics of rb_diagnostics, and answers what is asked of a script by one fresh run of its text: at a position what
 //! came of the directive there, with the cluster behind it, and for a range the actions that accept what came, each with its edit. What a text

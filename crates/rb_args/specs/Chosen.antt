@@ -1,4 +1,4 @@
--- What the words choose, by what clap found in them, and how a refusal is told. (This project's.)
+-- What the arguments choose, by what clap found in them, and how a refusal is answered. (This project's.)
 use Rattle.std.specs.Prelude.{◌≡◌, ◌≢◌, if◌then◌else◌, Bool, false, List, [], Option, Some, None, codes, map, option_map, option_and_then, string_bytes, unwrap_or}
 use Rattle.std.specs.Str.{bytes_eq}
 use Rattle.clap.specs.Words.{IsAmong, Kinds, Row, Text, all_of, first_of, kind_of}

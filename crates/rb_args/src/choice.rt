@@ -1,4 +1,4 @@
-//! What the words choose, and why they choose nothing.
+//! What the arguments choose, and why they choose nothing.
 
 use clap::Error;
 
@@ -25,7 +25,7 @@ pub enum Subcommand {
     Lsp,
 }
 
-/// What the words choose. What they don't give is `None`.
+/// What the arguments choose. What they don't give is `None`.
 pub struct Choice {
     /// The subcommand.
     pub subcommand: Option<Subcommand>,
@@ -55,7 +55,7 @@ impl Drop for Choice {
     }
 }
 
-/// What the words choose of `check`. Where another subcommand is meant, nothing of it is given.
+/// What the arguments choose of `check`. Where another subcommand is meant, nothing of it is given.
 pub struct CheckChoice {
     /// Its PATHs, as they were given and in that order.
     pub paths: Vec<String>,
@@ -105,10 +105,10 @@ impl Drop for CheckChoice {
     }
 }
 
-/// Why the words choose nothing.
+/// Why the arguments choose nothing.
 #[derive(Drop)]
 pub enum ChoiceFault {
-    /// `clap` refuses the words, or they ask for help, which the error prints.
+    /// `clap` refuses the arguments, or they ask for help, which the error prints.
     Refused(Error),
     /// Memory was refused.
     OutOfMemory,

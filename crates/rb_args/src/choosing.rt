@@ -12,18 +12,18 @@ use clap::{ArgMatches, Error};
 use std::alloc::{AllocError, Global};
 use std::convert::AsStr;
 
-/// What the words of a command line choose, the program's name first.
+/// What the arguments of a command line choose, the program's name first.
 ///
 /// # Errors
 ///
-/// `Refused` with `clap`'s error where it refuses the words, and where they ask for help. `OutOfMemory` where
+/// `Refused` with `clap`'s error where it refuses the arguments, and where they ask for help. `OutOfMemory` where
 /// memory was refused, to `clap` too.
 pub fn chosen<S: AsStr>(alloc: Global, words: &[S]) -> Result<Choice, ChoiceFault>
-    // Only words without a fault have a choice, and it is that of their matches.
+    // Only arguments without a fault have a choice, and it is that of their matches.
     ensures ok { IfOk result (λ choice. (fault_of command_line (map S.text words.now) ≡ [])
         × IsChoiceOf (subcommand_of command_line (map S.text words.now)) choice) }
     ensures refused { IfErr result (RefusedFor (fault_of command_line (map S.text words.now))) }
-    // Words that the command line takes are refused for want of memory alone.
+    // Arguments that the command line takes are refused for want of memory alone.
     ensures taken { takes command_line (map S.text words.now) ≡ true
         → IfErr result (λ fault. fault ≡ ChoiceFault.OutOfMemory) }
 {

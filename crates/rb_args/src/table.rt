@@ -1,4 +1,4 @@
-//! The words of the command line: a line for each subcommand, and a row for each of its arguments.
+//! The arguments of the command line: a line for each subcommand, and a row for each of its arguments.
 //!
 //! They are data. `CommandLine` says what clap is to make of a line and of a row, and what the whole command line is.
 

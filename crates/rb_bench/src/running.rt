@@ -28,7 +28,7 @@ pub enum Mode {
     Rewrite,
 }
 
-/// Reads a script, runs it and writes what `mode` asks for. The answer is the program's status: `Done`, or `Mismatches`
+/// Reads a script, runs it and writes what `mode` asks for. The answer is the program's status: `Matched`, or `Mismatched`
 /// where a report shows some. `every` is how many directives a session would have from one checkpoint to the next, 1 to 64;
 /// it changes no text, and a run, which nobody edits, keeps none.
 ///

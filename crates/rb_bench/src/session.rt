@@ -25,8 +25,8 @@ use rb_line::{LineReader, Source};
 use std::alloc::Global;
 
 /// Holds a session of the script over a source and a writer, with a cluster kept every so many directives. Commands
-/// come in, one a line, and each is answered before the next is read. The answer is the program's status: `Done` if the
-/// input ended and each output was the expected one, `Mismatches` if not, and `Failed` if the session broke off: at a
+/// come in, one a line, and each is answered before the next is read. The answer is the program's status: `Matched` if the
+/// input ended and each output was the expected one, `Mismatched` if not, and `Failed` if the session broke off: at a
 /// line that is too long, or at an end within the lines of a command.
 ///
 /// # Errors

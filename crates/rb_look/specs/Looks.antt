@@ -1,4 +1,4 @@
--- What stands after a directive of a script, told by what other directives would print there. (This project's.)
+-- What stands after a directive of a script, shown by what other directives would print there. (This project's.)
 use Rattle.std.specs.Prelude.{ℕ, zero, suc, ◌+◌, min, if◌then◌else◌, List, [], ◌∷◌, ◌++◌, length, map, take, drop, codes, decimal, Result, Ok, Err}
 use Rattle.std.specs.Str.{bytes_eq}
 use Rattle.rb_script.specs.declared.fault.ScriptFault.{ScriptFault}

@@ -1,4 +1,4 @@
-//! What stands after a directive of a script: its cluster, told by what directives would print there.
+//! What stands after a directive of a script: its cluster, shown by what directives would print there.
 //!
 //! [`look`] runs a script up to a directive, and asks for the state of each node, its log, what a leader knows of the others, and the messages
 //! on their way. The script stays as it is.

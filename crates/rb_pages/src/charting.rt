@@ -19,7 +19,7 @@ use rb_script::{Lines, MAX_SCRIPT, Sink, WriteFault};
 use std::alloc::{AllocError, Global};
 
 /// Reads a script, runs it and writes the picture of its run, under this name; of its directives up to the one at line `until`, where that is
-/// given. The answer is the program's status: `Done`, or `Mismatches` where there are some.
+/// given. The answer is the program's status: `Matched`, or `Mismatched` where an output is not the expected one.
 ///
 /// # Errors
 ///

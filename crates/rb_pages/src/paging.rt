@@ -20,8 +20,8 @@ use rb_script::{Lines, MAX_SCRIPT, WriteFault};
 use rb_steps::{Frame, put_page};
 use std::alloc::Global;
 
-/// Reads a script, runs it and writes its page, under this name. The answer is the program's status: `Done`, or `Mismatches` where there are
-/// some. `every` is how many directives a session would have from one checkpoint to the next, 1 to 64; it changes no page.
+/// Reads a script, runs it and writes its page, under this name. The answer is the program's status: `Matched`, or `Mismatched` where there are mismatches.
+/// `every` is how many directives a session would have from one checkpoint to the next, 1 to 64; it changes no page.
 ///
 /// # Errors
 ///

@@ -20,7 +20,7 @@ use std::io::Write;
 use std::rt::{Env, Files};
 use std::time::Clock;
 
-// What was found right with the words.
+// What the arguments ask for, where nothing is wrong with it.
 #[derive(Drop)]
 struct Wanted {
     color: ColorChoice,

@@ -14,7 +14,7 @@ pub(crate) enum ColorChoice {
     Never,
 }
 
-/// What the word of `--color` asks for; none is `auto`.
+/// What the value of `--color` asks for; none is `auto`.
 pub(crate) fn color_choice_of(word: Option<&str>) -> Option<ColorChoice> {
     match word {
         None => Some(ColorChoice::Auto),

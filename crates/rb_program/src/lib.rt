@@ -1,6 +1,6 @@
 //! What the program does for each of its subcommands but `lsp`, over the files, the streams, the environment and the clock of a runtime.
 //!
-//! [`carry_out`] does it and tells the [`rb_check::Status`] it ended with, or why it didn't: a [`Refusal`], which tells it to whoever called.
+//! [`carry_out`] does it and gives the status that it ended with, or why it was not done: a [`Refusal`], which says so on standard error.
 #![tactic(auto)]
 
 mod chart;

@@ -1,12 +1,12 @@
-//! What is wrong with the words of the command line, in a sentence.
+//! What is wrong with the arguments, in a sentence.
 
 use rb_args::{ChoiceFault, chosen};
 use std::alloc::Global;
 use std::str;
 
-/// What is wrong with the words.
+/// What is wrong with the arguments.
 pub enum Misuse {
-    /// A word is no text.
+    /// An argument is no text.
     NoText,
     /// No subcommand is named.
     NoCommand,
@@ -18,9 +18,9 @@ pub enum Misuse {
     Every(String),
     /// So it is, where its text isn't kept.
     Spacing,
-    /// What stands behind `--color` is none of its words.
+    /// What stands behind `--color` is none of its values.
     Color(String),
-    /// What stands behind `--format` is none of its words.
+    /// What stands behind `--format` is none of its values.
     Format(String),
     /// Where `--review` is to ask is no terminal.
     NoTerminal,
@@ -111,7 +111,7 @@ pub(crate) fn misuse_of_every(alloc: Global, every: Option<&str>) -> Misuse {
     }
 }
 
-/// The word, where it is given and there is memory for it.
+/// The text, where it is given and there is memory for it.
 pub(crate) fn misused(alloc: Global, word: Option<&str>) -> Option<String> {
     match String::from_str(alloc, word?) {
         Ok(text) => Some(text),

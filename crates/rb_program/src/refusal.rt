@@ -13,7 +13,7 @@ use std::io;
 
 /// Why the program ends early.
 pub enum Refusal {
-    /// Help, or words that are not taken; the text is clap's.
+    /// Help, or arguments that are not taken; the text is clap's.
     Clap(clap::Error),
     Usage(Misuse),
     /// The same, where nothing fixes the text: the sentence alone is told.
@@ -99,7 +99,7 @@ fn tell_script<R: Eprint>(rt: &R, fault: ScriptFault) {
     };
 }
 
-// Help was asked for, and goes to standard output: where that fails, what was asked for wasn't done. What says that words
+// Help was asked for, and goes to standard output: where that fails, what was asked for wasn't done. What says that arguments
 // are wrong goes to standard error, and they are wrong whether or not it gets there.
 fn tell_clap<R: Eprint + Print>(rt: &R, error: &clap::Error) -> Status
     ensures { result ≢ Status.Mismatched }

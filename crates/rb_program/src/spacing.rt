@@ -6,7 +6,7 @@ ghost use Rattle.rb_text.specs.Numbers.{number_of};
 use rb_bench::USUAL_SPACING;
 use rb_text::number_of;
 
-/// The number that the word says. It may still be outside what a session takes.
+/// The number that the argument says. It may still be outside what a session takes.
 pub(crate) fn spacing(word: Option<&str>) -> Option<u64>
     ensures { MatchOption word.entry (result ≡ Some USUAL_SPACING) (λ word. result ≡ number_of word.now) }
 {

@@ -21,7 +21,7 @@ impl Style {
     }
 }
 
-/// What the word of `--format` asks for; none is no style.
+/// What the value of `--format` asks for; none is no style.
 pub(crate) fn style_of(word: Option<&str>) -> Option<Style> {
     match word {
         None => Some(Style::Text),

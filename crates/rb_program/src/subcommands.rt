@@ -28,7 +28,7 @@ pub struct Terminals {
     pub errors: bool,
 }
 
-/// Does what the subcommand asks for, and tells how it ended. What `lsp` asks for is not done here.
+/// Does what the subcommand asks for, and gives how it ended. What `lsp` asks for is not done here.
 ///
 /// # Errors
 ///
@@ -40,7 +40,7 @@ pub fn carry_out<R: Files + Input + Print + Env + Clock + AllocGlobal, E: Write 
     errors: E,
     terminals: Terminals,
 ) -> Result<Status, Refusal>
-    // What is found to be wrong with the words of a check is a refusal.
+    // What is found to be wrong with the arguments of a check is a refusal.
     ensures { subcommand ≡ Subcommand.Check → IfOk result (λ status. status ≢ Status.BadUsage) }
 {
     let every = choice.every.as_deref();
@@ -51,7 +51,7 @@ pub fn carry_out<R: Files + Input + Print + Env + Clock + AllocGlobal, E: Write 
     }
 }
 
-// Does what is asked for with one file. What is wrong with `--every` is told with its text.
+// Does what is asked for with one file. What is wrong with `--every` is shown with its text.
 fn with_file<R: Files + Input + Print + AllocGlobal>(
     rt: &R,
     subcommand: Subcommand,

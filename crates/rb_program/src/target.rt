@@ -6,13 +6,13 @@ use std::alloc::{AllocError, Global};
 use std::fs;
 use std::rt::Files;
 
-/// FILE, and the number behind the word's last colon.
+/// FILE, and the number behind the argument's last colon.
 pub(crate) fn path_and_line(word: &str) -> Option<(&str, usize)> {
     let (path, line) = word.rsplit_once(':')?;
     Some((path, number_of(line.as_bytes())? as usize))
 }
 
-/// What the words name. Where outputs are accepted, a word that ends in a colon and a number names a directive of a file, unless it is
+/// What the arguments name. Where outputs are accepted, one that ends in a colon and a number names a directive of a file, unless it is
 /// itself the name of something.
 pub(crate) fn targets<R: Files + AllocGlobal>(
     rt: &R,

@@ -15,7 +15,7 @@ use std::fs::Metadata;
 use std::io;
 use std::io::Write;
 
-/// Writes the outputs into the script's file: those that are accepted. The others are told.
+/// Writes the outputs into the script's file: those that are accepted. The others are named.
 pub(crate) fn accept<M: Machine, S: System, W: Write + Drop, E: Write + Drop>(
     system: &S,
     wanted: Wanted<'_>,

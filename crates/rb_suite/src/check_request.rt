@@ -18,7 +18,7 @@ pub struct CheckRequest<'a> {
     /// Whether each output that differs is asked about.
     pub reviews: bool,
     pub is_quiet: bool,
-    /// Whether it is told why nothing came of messages, below the outputs that are shown.
+    /// Whether it is shown why nothing came of messages, below the outputs that are shown.
     pub explains: bool,
     pub shown: Shown,
     /// The format for programs, where one is asked for.
