@@ -59,7 +59,7 @@ impl<T: Drop> Shared<T> {
         })
     }
 
-    /// Whether both are the same list, whoever holds it. Lists of different lengths are told at once, others item by item.
+    /// Whether both are the same list, whoever holds it. Lists of different lengths are told apart at once, others item by item.
     pub fn same(&self, other: &Shared<T>) -> bool
     where
         T: PartialEq,

@@ -1,5 +1,5 @@
-//! What `raftbench check` shows, and how it ends: where outputs are not the expected ones, why a script is refused or a file
-//! failed, what there was of each, and the status.
+//! What `raftbench check` shows, and the statuses of the program: where outputs are not the expected ones, why a script is refused
+//! or a file failed, what there was of each, and with which status it all ends.
 //!
 //! It opens no file and runs no script: it writes into any sink what it is given. Its only memory is a [`Table`], which is taken once.
 //! Of a line that is empty, ends in a space, a tab or `$`, or begins as a fold does, a `$` is shown after its end: so blanks are seen,

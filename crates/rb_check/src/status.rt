@@ -10,7 +10,7 @@ pub enum Status {
     Matched,
     /// Some output was not the expected one.
     Mismatched,
-    /// The words of the command line ask for nothing that there is.
+    /// The arguments ask for nothing that there is.
     BadUsage,
     /// A script is none, or more than one may be.
     Refused,

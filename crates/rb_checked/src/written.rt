@@ -156,7 +156,7 @@ pub fn accept<M: Machine>(
     requires { Reads bytes.now session.now.script }
     // The text reads as the script with what is accepted.
     ensures reads { (heads : List ℕ) → AreHeadLines 1 (lines bytes.now) session.now.script.blocks heads → IfOk result (λ made. Reads made.text.items (accepted wanted.entry (lines bytes.now) heads session.now.script)) }
-    // The others are told.
+    // The others are named.
     ensures left { (heads : List ℕ) → AreHeadLines 1 (lines bytes.now) session.now.script.blocks heads → IfOk result (λ made. made.left.items ≡ left_heads wanted.entry (lines bytes.now) heads session.now.script.blocks (outputs session.now.script)) }
 {
     let layout = layout_of(alloc, bytes)?;

@@ -118,7 +118,7 @@ impl<L: RaftLog> Machine for Cluster<L> {
 
 impl<L: RaftLog> Cluster<L> {
     // Whether both have as many pending messages, and nodes with the same numbers. It looks into no list of messages or entries, so
-    // clusters that went different ways are usually told here.
+    // clusters that went different ways are usually told apart here.
     fn has_numbers_of(&self, other: &Cluster<L>) -> bool
         ensures { (self.now ≡ other.now) → IsTrue result }
     {

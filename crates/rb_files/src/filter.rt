@@ -1,4 +1,4 @@
-//! Which paths are kept, by the words of `--filter`.
+//! Which paths are kept, by the values of `--filter`.
 
 ghost use Rattle.std.specs.Prelude.{◌≡◌, ◌↔◌, true};
 ghost use Rattle.std.specs.Str.Iter.{HasSubslice};

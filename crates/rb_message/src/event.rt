@@ -1,4 +1,4 @@
-//! What a node tells of itself.
+//! What a node shows of itself.
 //!
 //! An event says what a node decided where its state alone doesn't show it: why it does nothing, what it counted, what it gave up. Each
 //! names the node that it is of.
@@ -33,7 +33,7 @@ pub enum WhyReplaced {
     NotJoint,
 }
 
-/// What a node tells.
+/// What a node shows.
 #[derive(Drop)]
 pub enum Event {
     /// It started at an entry, with a configuration.

@@ -1,7 +1,7 @@
-//! What Raft nodes say to one another, and what a node tells of itself.
+//! What Raft nodes say to one another, and what a node shows of itself.
 //!
 //! Nodes know of each other by messages alone (Ongaro's thesis, section 3.1): requests for votes and entries, and their answers. A
-//! [`Message`] is a value: who sent it, to whom, in which term, and what it says ([`MessageKind`]). What a node does is told in
+//! [`Message`] is a value: who sent it, to whom, in which term, and what it says ([`MessageKind`]). What a node does is shown in
 //! [`Event`]s, one for each thing that a person who watches the node wants to know.
 #![tactic(auto)]
 

@@ -28,7 +28,7 @@ pub(crate) fn copies_of(alloc: Global, messages: &[Message]) -> Result<Vec<Messa
     Ok(copies)
 }
 
-/// Whether both are the same messages in the same order. Lists of different lengths are told at once.
+/// Whether both are the same messages in the same order. Lists of different lengths are told apart at once.
 pub(crate) fn same_messages(messages: &[Message], others: &[Message]) -> bool
     ensures { IsTrue result ↔ (messages.now ≡ others.now) }
 {

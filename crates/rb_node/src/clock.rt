@@ -8,11 +8,11 @@ use crate::limits::ELECTION_TICKS;
 /// Counts of ticks, and the timeout that they are compared with.
 #[derive(Clone, Copy, Debug, PartialEq, Eq)]
 pub struct Clock {
-    /// Ticks since it heard of its leader or, of a leader, since it looked at its quorum.
+    /// Ticks since the node heard of its leader or, where it leads, since it looked at its quorum.
     pub elapsed: u64,
-    /// Ticks since its last heartbeats.
+    /// Ticks since the node's last heartbeats.
     pub heartbeat_elapsed: u64,
-    /// After so many ticks without a leader it campaigns.
+    /// After so many ticks without a leader the node campaigns.
     pub timeout: u64,
 }
 

@@ -46,7 +46,7 @@ impl<L: RaftLog> Node<L> {
         Ok(Node { state })
     }
 
-    /// All that the node knows, each part on loan.
+    /// All that the node knows, on loan.
     pub fn status(&self) -> &State<L>
         ensures { result.now ≡ self.now }
     {

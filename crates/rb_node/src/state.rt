@@ -14,7 +14,7 @@ use rb_tracker::{Config, Tracker, Votes};
 use std::alloc::{AllocError, Global};
 use std::marker::Model;
 
-/// All that a node knows (Ongaro's thesis, figure 3.1, with what etcd's raft adds). Who holds one changes it by its calls.
+/// All that a node knows (Ongaro's thesis, figure 3.1, with what etcd's raft adds). The calls of a node change it; others read it.
 #[derive(Drop)]
 pub struct State<L: RaftLog> {
     /// The node's id.

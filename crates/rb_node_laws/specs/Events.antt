@@ -1,4 +1,4 @@
--- What a node tells (this project's): its events, one after another
+-- What a node shows (this project's): its events, one after another
 use Rattle.std.specs.Prelude.{◌≡◌, List, ◌++◌}
 use Rattle.rb_message.specs.declared.event.Event.{Event}
 

@@ -53,8 +53,8 @@ pub record IsOfState (n : PlainNode) (snapshot : Snapshot) : Type 0 where
 -- ---- every message
 
 -- What is sent at once. A leader's entries and states, and heartbeats, go to others alone; a heartbeat's commit is at most the receiver's
--- match; a candidate names its last entry; a leader's wish that another campaigns goes to whom the lead goes, who is known to hold its whole
--- log; what is for the leader goes to the leader.
+-- match; a candidate names its last entry; a leader's MsgTimeoutNow goes to whom the lead goes, who is known to hold its whole log;
+-- what is for the leader goes to the leader.
 abbrev pub SendsBy : MessageKind → PlainNode → Message → Type 0
 SendsBy (kind.Append append) n m = (m.term ≡ n.term) × (m.to ≡ n.id → ⊥) × (HasSoundViews n → n.role ≡ Leader) × IsOfLog n append
 SendsBy (kind.Snapshot snapshot) n m = (m.term ≡ n.term) × (m.to ≡ n.id → ⊥) × (HasSoundViews n → n.role ≡ Leader) × IsOfState n snapshot

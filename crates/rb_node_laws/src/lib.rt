@@ -1,8 +1,8 @@
 //! Laws of a Raft node, in Raft's own words, over the definitions of its calls alone.
 //!
-//! The contracts of `rb_node` say what each call of a node gives, by the definitions of `rb_node` and `rb_node`. The laws say why that
-//! is what Raft asks of a single node, whatever messages it gets and in whatever order it is called. None of them is run. They are
-//! about one node: that a cluster of nodes is safe does not follow from them alone (docs/NODE.md).
+//! The contracts of `rb_node` say what each call of a node gives, by its definitions. The laws say why that is what Raft asks of a
+//! single node, whatever messages it gets and in whatever order it is called. None of them is run. They are about one node: that a
+//! cluster of nodes is safe does not follow from them alone (docs/NODE.md).
 #![tactic(auto)]
 
 mod laws;

@@ -1,4 +1,4 @@
-//! What a node tells, as rows.
+//! What a node shows, as rows.
 
 ghost use Rattle.std.specs.Prelude.{◌≡◌, ◌∷◌, [], IsOk};
 ghost use Rattle.rb_script.specs.Writes.{Writes};
@@ -13,7 +13,7 @@ use crate::row::put_next;
 use rb_message::Event;
 use rb_script::{Sink, WriteFault};
 
-/// Writes the row of what a node tells.
+/// Writes the row of what a node shows.
 #[tactic(auto, unfolding(crate::specs::EventRows::event_row))]
 pub(crate) fn put_event<S: Sink>(sink: &mut S, event: &Event) -> Result<(), WriteFault>
     ensures wrote { Writes result (S.held sink.old) (S.held sink.new) (next_text (event_row event.now)) }

@@ -7,7 +7,7 @@
 //! pages, so that a copy costs a pointer for each 64 pieces, some for the last ones, and the rest. Equal contents are cut at the
 //! same places. The rest always has the last bytes, as many as are shown, so these are there as one slice.
 //!
-//! A sum of all bytes goes with them, so that contents of one length that differ anywhere are usually told by two numbers.
+//! A sum of all bytes goes with them, so that contents of one length that differ anywhere are usually told apart by two numbers.
 
 ghost use Rattle.std.specs.Prelude.{◌≡◌, ◌+◌, ◌<◌, ◌≤◌, ◌++◌, ◌↔◌, [], length, take, IsTrue, IfOk, OnOk, OnErr};
 ghost use Rattle.rb_raftlog.specs.Content.{content_end, content_sum, sum_with, sum_from};
@@ -228,7 +228,7 @@ impl Content {
         same_bytes(&self.rest, &other.rest) && same_pieces(&self.pieces, &other.pieces)
     }
 
-    /// Whether both are the same bytes. Contents of different sums are told at once, then their ends are looked at.
+    /// Whether both are the same bytes. Contents of different sums are told apart at once, then their ends are looked at.
     pub fn same(&self, other: &Content) -> bool
         ensures { IsTrue result ↔ (self.now ≡ other.now) }
     {

@@ -132,7 +132,7 @@ impl Entries {
         }
     }
 
-    /// Whether both are the same entries, whoever holds them. Different numbers of entries are told at once, others entry by entry.
+    /// Whether both are the same entries, whoever holds them. Different numbers of entries are told apart at once, others entry by entry.
     pub fn same(&self, other: &Entries) -> bool
         ensures { IsTrue result ↔ (self.now ≡ other.now) }
     {

@@ -42,14 +42,14 @@ pub fn message_at(bytes: &[u8]) -> Found
     }
 }
 
-// Whether the name is that of the field that tells the length.
+// Whether the name is that of the field that says the length.
 fn is_length_name(name: &[u8]) -> bool
     ensures { result ≡ is_length_name name.now }
 {
     name.eq_ignore_ascii_case(b"content-length")
 }
 
-// The length that the fields tell.
+// The length that the fields say.
 fn told_length(bytes: &[u8], fields: &[HeaderSpan]) -> Option<u64>
     requires { All (IsHeaderWithin (length bytes.now)) fields.now }
     ensures { result ≡ told_length (map (header_bytes bytes.now) fields.now) }

@@ -12,7 +12,7 @@ use rb_machine::Machine;
 use rb_script::{Block, Lines};
 use std::alloc::{AllocError, Global};
 
-/// A machine that tells what a directive does, and what stands after it that didn't stand so before.
+/// A machine that shows what a directive does, and what stands after it that didn't stand so before.
 pub trait Shown: Machine {
     /// Runs a directive on a copy: the machine after it, and what it prints.
     fn after(&self, block: &Block) -> Result<(Self, Lines), AllocError>

@@ -1,4 +1,4 @@
-//! The lines that directives print: levels, and the text of each item.
+//! The lines that directives print: the text of each item, where the level shows it.
 #![tactic(auto)]
 
 mod configs;

@@ -6,7 +6,7 @@ ghost use Rattle.rb_node.specs.Node.{PlainNode};
 ghost use Rattle.rb_why.specs.Reasons.{reason};
 ghost use Rattle.rb_why.specs.Telling.{ignores, refuses, is_of_ignored, is_of_refused};
 
-/// There is a reason why a message is ignored exactly where stepping it tells that it is.
+/// There is a reason why a message is ignored exactly where stepping it shows that it is.
 pub fn reasons_are_of_what_is_ignored()
     ensures { (n : PlainNode) (m : Message) → is_of_ignored (reason n m) ≡ ignores n m }
 {}
