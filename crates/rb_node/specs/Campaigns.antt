@@ -1,5 +1,5 @@
 -- Campaigns (Ongaro's thesis, section 3.4, and section 9.6 for the question before the vote)
-use Rattle.std.specs.Prelude.{ℕ, ◌+◌, Bool, true, false, ◌&&◌, not, List, [], ◌∷◌, ◌++◌, Option, Some, None, if◌then◌else◌, nat_le, ◌==◌}
+use Rattle.std.specs.Prelude.{ℕ, ◌+◌, Bool, true, false, ◌&&◌, not, List, [], ◌∷◌, Option, Some, None, if◌then◌else◌, nat_le, ◌==◌}
 use Rattle.rb_raftlog.specs.declared.limits.TheConstants.{MAX_TERM}
 use Rattle.rb_raftlog.specs.Log.{last, last_term, has_change}
 use Rattle.rb_tracker.specs.Ballots.{no_votes}
@@ -11,7 +11,7 @@ use Rattle.rb_message.specs.declared.kind.MessageKind.{MessageKind}
 use Rattle.rb_message.specs.declared.kind.MessageKind.TheVariants as kind
 use Rattle.rb_message.specs.declared.role.Role.TheVariants as role
 use Rattle.rb_node.specs.declared.limits.TheConstants.{ELECTION_TICKS}
-use Rattle.rb_node.specs.Node.{PlainNode, Turn, told, with_node, message, answered_with, is_leader, with_timeout}
+use Rattle.rb_node.specs.Node.{PlainNode, Turn, told, with_node, posted_at, answered_with, is_leader, with_timeout}
 use Rattle.rb_node.specs.Terms.{reset}
 
 -- why the node can't campaign: the first that holds (this project's order)
@@ -28,7 +28,7 @@ why_no_campaign n =
 abbrev pub asked_one : PlainNode → ℕ → ℕ → MessageKind → MessageKind → PlainNode
 asked_one n to term question answer =
     if to == n.id then answered_with n to term answer
-    else record n { sent = n.sent ++ message n.id to term question ∷ [] }
+    else posted_at n to term question
 
 abbrev pub asked : PlainNode → List ℕ → ℕ → MessageKind → MessageKind → PlainNode
 asked n [] term question answer = n

@@ -1,5 +1,5 @@
 -- What a follower does with what its leader says, and with what is for its leader (Ongaro's thesis, sections 3.5, 5.3 and 6.2)
-use Rattle.std.specs.Prelude.{ℕ, ◌≤◌, true, [], ◌∷◌, ◌++◌, max, min, if◌then◌else◌, nat_le, ◌==◌}
+use Rattle.std.specs.Prelude.{ℕ, ◌≤◌, true, max, min, if◌then◌else◌, nat_le, ◌==◌}
 use Rattle.rb_raftlog.specs.Log.{last, term_at, is_term, appended, answer, restored}
 use Rattle.rb_raftlog.specs.declared.raft_log.Appended.{Appended}
 use Rattle.rb_raftlog.specs.declared.raft_log.Appended.TheVariants.{Matched, Refused, BelowCommit}
@@ -12,7 +12,7 @@ use Rattle.rb_message.specs.declared.event.Event.TheVariants.{DroppedProposal, C
 use Rattle.rb_message.specs.declared.kind.MessageKind.{MessageKind}
 use Rattle.rb_message.specs.declared.kind.MessageKind.TheVariants as kind
 use Rattle.rb_message.specs.declared.message.Message.{Message}
-use Rattle.rb_node.specs.Node.{PlainNode, Turn, told, with_node, ignored, message, posted, answered_with, with_elapsed}
+use Rattle.rb_node.specs.Node.{PlainNode, Turn, told, with_node, ignored, posted, posted_at, answered_with, with_elapsed}
 
 -- the sender leads, and was heard of
 abbrev pub heard : PlainNode → ℕ → PlainNode
@@ -77,7 +77,7 @@ snapshot_taken t from snapshot =
 
 -- what is for the leader is sent on, from the node itself and of no term
 abbrev pub passed_on : PlainNode → MessageKind → PlainNode
-passed_on n what = record n { sent = n.sent ++ message n.id n.lead 0 what ∷ [] }
+passed_on n what = posted_at n n.lead 0 what
 
 abbrev pub proposal_passed : Turn → MessageKind → Turn
 proposal_passed t what = if t.node.lead == 0 then told t (DroppedProposal t.node.id) else with_node t (passed_on t.node what)

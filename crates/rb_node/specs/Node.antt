@@ -115,9 +115,13 @@ ignored t m = told t (Ignored t.node.id (type_of m.kind) m.from)
 abbrev pub message : ℕ → ℕ → ℕ → MessageKind → Message
 message from to term what = record { from = from; to = to; term = term; kind = what }
 
--- one more message of the node's term, which goes out with what is ready
+-- one more message, which goes out with what is ready
+abbrev pub posted_at : PlainNode → ℕ → ℕ → MessageKind → PlainNode
+posted_at n to term what = record n { sent = n.sent ++ message n.id to term what ∷ [] }
+
+-- the same, of the node's term
 abbrev pub posted : PlainNode → ℕ → MessageKind → PlainNode
-posted n to what = record n { sent = n.sent ++ message n.id to n.term what ∷ [] }
+posted n to what = posted_at n to n.term what
 
 -- one more answer, which waits until what is ready is durable
 abbrev pub answered_with : PlainNode → ℕ → ℕ → MessageKind → PlainNode

@@ -11,7 +11,7 @@ ghost use Rattle.rb_node.specs.Campaigns.{why_no_campaign, asked_one, asked_for_
 
 use crate::limits::ELECTION_TICKS;
 use crate::state::State;
-use rb_message::{Event, Message, MessageKind, Role, WhyNoCampaign};
+use rb_message::{Event, MessageKind, Role, WhyNoCampaign};
 use rb_raftlog::{MAX_TERM, RaftLog};
 use std::alloc::AllocError;
 
@@ -38,33 +38,21 @@ impl<L: RaftLog> State<L> {
         None
     }
 
-    // Asks one voter for its vote, or gives itself its own.
-    fn ask_for_vote(
+    // Asks one voter, or gives the node's own answer in place of a question to itself.
+    fn ask_one(
         &mut self,
         to: u64,
         term: u64,
-        last_term: u64,
-        last_index: u64,
-        transfer: bool,
+        question: MessageKind,
+        answer: MessageKind,
     ) -> Result<(), AllocError>
-        ensures { OnOk result (self.new ≡ asked_one self.old to term (Vote last_term last_index transfer) (VoteResponse true)) }
+        ensures { OnOk result (self.new ≡ asked_one self.old to term question answer) }
     {
-        let from = self.id;
-        if to == from {
-            return self.answer(to, term, MessageKind::VoteResponse { granted: true });
+        if to == self.id {
+            self.answer(to, term, answer)
+        } else {
+            self.post_at(to, term, question)
         }
-        let kind = MessageKind::Vote {
-            last_term,
-            last_index,
-            transfer,
-        };
-        self.sent.push(Message {
-            from,
-            to,
-            term,
-            kind,
-        })?;
-        Ok(())
     }
 
     fn ask_for_votes(&mut self, transfer: bool) -> Result<(), AllocError>
@@ -75,35 +63,18 @@ impl<L: RaftLog> State<L> {
         let last_index = self.log.last_index();
         let last_term = self.log.last_term();
         for id in voters.as_slice() {
-            self.ask_for_vote(*id, term, last_term, last_index, transfer)?;
+            let question = MessageKind::Vote {
+                last_term,
+                last_index,
+                transfer,
+            };
+            self.ask_one(
+                *id,
+                term,
+                question,
+                MessageKind::VoteResponse { granted: true },
+            )?;
         }
-        Ok(())
-    }
-
-    // Asks one voter whether it would give its vote, or answers itself.
-    fn ask_for_pre_vote(
-        &mut self,
-        to: u64,
-        term: u64,
-        last_term: u64,
-        last_index: u64,
-    ) -> Result<(), AllocError>
-        ensures { OnOk result (self.new ≡ asked_one self.old to term (PreVote last_term last_index) (PreVoteResponse true)) }
-    {
-        let from = self.id;
-        if to == from {
-            return self.answer(to, term, MessageKind::PreVoteResponse { granted: true });
-        }
-        let kind = MessageKind::PreVote {
-            last_term,
-            last_index,
-        };
-        self.sent.push(Message {
-            from,
-            to,
-            term,
-            kind,
-        })?;
         Ok(())
     }
 
@@ -116,7 +87,16 @@ impl<L: RaftLog> State<L> {
         let last_index = self.log.last_index();
         let last_term = self.log.last_term();
         for id in voters.as_slice() {
-            self.ask_for_pre_vote(*id, term, last_term, last_index)?;
+            let question = MessageKind::PreVote {
+                last_term,
+                last_index,
+            };
+            self.ask_one(
+                *id,
+                term,
+                question,
+                MessageKind::PreVoteResponse { granted: true },
+            )?;
         }
         Ok(())
     }

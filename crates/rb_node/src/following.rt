@@ -193,15 +193,7 @@ impl<L: RaftLog> State<L> {
     fn pass_on(&mut self, kind: MessageKind) -> Result<(), AllocError>
         ensures { OnOk result (self.new ≡ passed_on self.old kind) }
     {
-        let from = self.id;
-        let to = self.lead;
-        self.sent.push(Message {
-            from,
-            to,
-            term: 0,
-            kind,
-        })?;
-        Ok(())
+        self.post_at(self.lead, 0, kind)
     }
 
     pub(crate) fn pass_proposal(

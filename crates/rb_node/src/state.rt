@@ -2,7 +2,7 @@
 
 ghost use Rattle.std.specs.Prelude.{◌≡◌, ◌≤◌, IfOk, OnOk};
 ghost use Rattle.rb_raftlog.specs.declared.limits.TheConstants.{MAX_INDEX};
-ghost use Rattle.rb_node.specs.Node.{PlainNode, turn, started, posted, answered_with, ignored};
+ghost use Rattle.rb_node.specs.Node.{PlainNode, turn, started, posted, posted_at, answered_with, ignored};
 
 mod copies;
 
@@ -131,8 +131,19 @@ impl<L: RaftLog> State<L> {
     pub(crate) fn post(&mut self, to: u64, kind: MessageKind) -> Result<(), AllocError>
         ensures { OnOk result (self.new ≡ posted self.old to kind) }
     {
+        self.post_at(to, self.term, kind)
+    }
+
+    /// Puts a message of a term among the sent ones.
+    pub(crate) fn post_at(
+        &mut self,
+        to: u64,
+        term: u64,
+        kind: MessageKind,
+    ) -> Result<(), AllocError>
+        ensures { OnOk result (self.new ≡ posted_at self.old to term kind) }
+    {
         let from = self.id;
-        let term = self.term;
         self.sent.push(Message {
             from,
             to,
