@@ -14,19 +14,11 @@ use rb_args::CheckChoice;
 use rb_check::Status;
 use rb_checked::Shown;
 use rb_replay::is_spacing;
-use rb_suite::{CheckRequest, Target, check};
+use rb_suite::{CheckRequest, check};
 use std::alloc::Global;
 use std::io::Write;
 use std::rt::{Env, Files};
 use std::time::Clock;
-
-// What the arguments ask for, where nothing is wrong with it.
-#[derive(Drop)]
-struct Wanted {
-    color: ColorChoice,
-    style: Style,
-    targets: Vec<Target>,
-}
 
 /// Checks scripts and folders of scripts.
 pub(crate) fn check_all<R: Files + Input + Print + Env + Clock + AllocGlobal, E: Write + Drop>(
@@ -38,53 +30,27 @@ pub(crate) fn check_all<R: Files + Input + Print + Env + Clock + AllocGlobal, E:
 ) -> Result<Status, Refusal>
     ensures { IfOk result (λ status. status ≢ Status.BadUsage) }
 {
-    let wanted = find_wanted(rt, choice, every, terminals)?;
-    check_wanted(rt, choice, &wanted, errors, terminals)
-}
-
-fn find_wanted<R: Files + AllocGlobal>(
-    rt: &R,
-    choice: &CheckChoice,
-    every: Option<&str>,
-    terminals: Terminals,
-) -> Result<Wanted, Refusal> {
     let (color, style) = colors_and_style(rt.alloc(), choice, every, terminals)?;
     let targets = targets(rt, &choice.paths, accepts(choice))?;
-    Ok(Wanted {
-        color,
-        style,
-        targets,
-    })
-}
-
-fn accepts(choice: &CheckChoice) -> bool {
-    choice.accepts || choice.accepts_errors || choice.reviews
-}
-
-fn check_wanted<R: Files + Input + Print + Env + Clock + AllocGlobal, E: Write + Drop>(
-    rt: &R,
-    choice: &CheckChoice,
-    wanted: &Wanted,
-    errors: E,
-    terminals: Terminals,
-) -> Result<Status, Refusal>
-    ensures { IfOk result (λ status. status ≢ Status.BadUsage) }
-{
     let asked = CheckRequest {
-        targets: &wanted.targets,
+        targets: &targets,
         filters: &choice.filters,
         accepts: accepts(choice),
         accepts_errors: choice.accepts_errors,
         is_forced: choice.is_forced,
         reviews: choice.reviews,
         is_quiet: choice.is_quiet,
-        explains: choice.explains && !choice.is_quiet && wanted.style == Style::Text,
-        shown: shown(choice, wanted.style),
-        format: wanted.style.format(),
-        colors: colors(rt, wanted.color, terminals.output),
+        explains: choice.explains && !choice.is_quiet && style == Style::Text,
+        shown: shown(choice, style),
+        format: style.format(),
+        colors: colors(rt, color, terminals.output),
         wants_progress: terminals.errors && !choice.reviews,
     };
     Ok(check(rt, &mut Clusters, asked, errors)?)
+}
+
+fn accepts(choice: &CheckChoice) -> bool {
+    choice.accepts || choice.accepts_errors || choice.reviews
 }
 
 // What the report is to look like. What else is asked for is looked at too.

@@ -11,7 +11,7 @@ use crate::report::{Ran, Report};
 use crate::review::{Review, reviewed};
 use crate::runner::Runner;
 use crate::subject::Subject;
-use crate::system::{System, Text};
+use crate::system::System;
 use rb_check::Failure;
 use rb_checked::{
     Picked, ShowFault, Shown, Told, View, Wanted, Warning, is_quiet, put_checked, warnings,
@@ -25,6 +25,10 @@ use std::alloc::{AllocError, Global};
 use std::io::Write;
 
 /// Checks the script at the path: shows what differs, and accepts it where that is asked for.
+///
+/// # Errors
+///
+/// What failed, where the script could not be read or run, or memory was refused for what there is to show.
 pub(crate) fn check_script<T: Runner, S: System, W: Write + Drop, E: Write + Drop>(
     system: &S,
     runner: &mut T,
@@ -32,72 +36,27 @@ pub(crate) fn check_script<T: Runner, S: System, W: Write + Drop, E: Write + Dro
     path: &str,
     review: &mut Review,
     report: &mut Report<W, E>,
-) {
-    match system.read(path) {
-        Ok(text) => run(system, runner, asked, path, &text, review, report),
-        Err(error) => report.fail(path.as_bytes(), error),
-    }
-}
-
-fn run<T: Runner, S: System, W: Write + Drop, E: Write + Drop>(
-    system: &S,
-    runner: &mut T,
-    asked: &CheckRequest<'_>,
-    path: &str,
-    text: &Text,
-    review: &mut Review,
-    report: &mut Report<W, E>,
-) {
-    match runner.run(system.alloc(), &text.bytes) {
-        Ok(session) => explain(system, runner, asked, path, text, &session, review, report),
-        Err(StartFault::Script(fault)) => report.refused(path, fault),
-        Err(_) => report.fail(path.as_bytes(), PathError::alone(Failure::OutOfMemory)),
-    }
-}
-
-// With the reasons that are asked for.
-fn explain<T: Runner, S: System, W: Write + Drop, E: Write + Drop>(
-    system: &S,
-    runner: &mut T,
-    asked: &CheckRequest<'_>,
-    path: &str,
-    text: &Text,
-    session: &Session<T::Machine>,
-    review: &mut Review,
-    report: &mut Report<W, E>,
-)
-    requires { Reads text.now.bytes.items session.now.script }
-{
-    match asked_reasons(system.alloc(), runner, asked, session) {
-        Ok(whys) => {
-            let subject = Subject {
-                path,
-                text,
-                session,
-                whys: &whys,
-            };
-            look_at(system, asked, &subject, review, report);
+) -> Result<(), PathError> {
+    let text = system.read(path)?;
+    let session = match runner.run(system.alloc(), &text.bytes) {
+        Ok(session) => session,
+        Err(StartFault::Script(fault)) => {
+            report.refused(path, fault);
+            return Ok(());
         }
-        Err(_) => report.fail(path.as_bytes(), PathError::alone(Failure::OutOfMemory)),
-    }
+        Err(_) => return Err(PathError::alone(Failure::OutOfMemory)),
+    };
+    let whys = asked_reasons(system.alloc(), runner, asked, &session)?;
+    let subject = Subject {
+        path,
+        text: &text,
+        session: &session,
+        whys: &whys,
+    };
+    answer(system, asked, &subject, review, report)
 }
 
-fn look_at<M: Machine, S: System, W: Write + Drop, E: Write + Drop>(
-    system: &S,
-    asked: &CheckRequest<'_>,
-    subject: &Subject<'_, M>,
-    review: &mut Review,
-    report: &mut Report<W, E>,
-)
-    requires { Reads subject.now.text.now.bytes.items subject.now.session.now.script }
-{
-    match answer(system, asked, subject, review, report) {
-        Ok(()) => {}
-        Err(error) => report.fail(subject.path.as_bytes(), error),
-    }
-}
-
-// Shows what there is to show, and accepts what is to be accepted.
+// Shows what there is to show, and does with the outputs what is to be done.
 fn answer<M: Machine, S: System, W: Write + Drop, E: Write + Drop>(
     system: &S,
     asked: &CheckRequest<'_>,
@@ -118,8 +77,19 @@ fn answer<M: Machine, S: System, W: Write + Drop, E: Write + Drop>(
     };
     let heads = named_heads(alloc, asked, subject, report)?;
     let picked = picked_of(&heads);
-    let ending = ending_of(asked, has_warnings, ran.mismatches);
-    settle(system, asked, ran, picked, ending, subject, review, report)
+    match ending_of(asked, has_warnings, ran.mismatches) {
+        Ending::Kept => report.ran(alloc, ran),
+        Ending::Refused => report.refuse_to_accept(alloc, ran),
+        Ending::Accepted => {
+            let errors = asked.accepts_errors;
+            let wanted = Wanted { picked, errors };
+            accept(system, wanted, ran, subject.session, subject.text, report);
+        }
+        Ending::Reviewed => {
+            return accept_reviewed(system, asked, ran, picked, subject, review, report);
+        }
+    }
+    Ok(())
 }
 
 // Shows the lines that look like a slip, where they are wanted, and answers whether there are any.
@@ -137,36 +107,6 @@ fn warn<M: Machine, W: Write + Drop, E: Write + Drop>(
         report.warn(subject.path, &warnings);
     }
     Ok(!warnings.is_empty())
-}
-
-// Does with the outputs what is to be done.
-fn settle<M: Machine, S: System, W: Write + Drop, E: Write + Drop>(
-    system: &S,
-    asked: &CheckRequest<'_>,
-    ran: Ran<'_>,
-    picked: Picked<'_>,
-    ending: Ending,
-    subject: &Subject<'_, M>,
-    review: &mut Review,
-    report: &mut Report<W, E>,
-) -> Result<(), PathError>
-    requires { Reads subject.now.text.now.bytes.items subject.now.session.now.script }
-{
-    match ending {
-        Ending::Kept => report.ran(system.alloc(), ran),
-        Ending::Refused => report.refuse_to_accept(system.alloc(), ran),
-        Ending::Accepted => {
-            let wanted = Wanted {
-                picked,
-                errors: asked.accepts_errors,
-            };
-            accept(system, wanted, ran, subject.session, subject.text, report);
-        }
-        Ending::Reviewed => {
-            return accept_reviewed(system, asked, ran, picked, subject, review, report);
-        }
-    }
-    Ok(())
 }
 
 // Accepts the outputs that are said yes to.

@@ -41,46 +41,27 @@ pub fn check<T: Runner, R: Files + Input + Print + Clock + AllocGlobal, E: Write
         asked.is_quiet,
         asked.format,
     )?;
-    check_found(rt, runner, &asked, &mut progress, &mut report);
+    let found = find(rt, asked.targets, asked.filters);
+    tell_lost(&found, &mut report);
+    let scripts = found.scripts.as_slice();
+    if scripts.is_empty() {
+        report.fail(b"raftbench", PathError::alone(Failure::NoScripts));
+        return Ok(report.status());
+    }
+    check_each(
+        &RuntimeSystem(rt),
+        runner,
+        &asked,
+        scripts,
+        &mut progress,
+        &mut report,
+    );
+    let lists_differing = scripts.len() > 1 && asked.shown != Shown::Brief;
+    report.end(lists_differing, milliseconds(&progress, rt));
     Ok(report.status())
 }
 
-// Finds the scripts and checks them.
-fn check_found<T: Runner, R: Files + Input + Clock + AllocGlobal, W: Write + Drop, E: Write + Drop>(
-    rt: &R,
-    runner: &mut T,
-    asked: &CheckRequest<'_>,
-    progress: &mut Progress,
-    report: &mut Report<W, E>,
-) {
-    let found = find(rt, asked.targets, asked.filters);
-    tell_lost(&found, report);
-    let scripts = found.scripts.as_slice();
-    check_each(&RuntimeSystem(rt), runner, asked, scripts, progress, report);
-    end(
-        asked.shown,
-        scripts.len(),
-        milliseconds(progress, rt),
-        report,
-    );
-}
-
-fn end<W: Write + Drop, E: Write + Drop>(
-    shown: Shown,
-    scripts: usize,
-    milliseconds: u64,
-    report: &mut Report<W, E>,
-) {
-    if scripts == 0 {
-        return report.fail(b"raftbench", PathError::alone(Failure::NoScripts));
-    }
-    if scripts > 1 && shown != Shown::Brief {
-        report.list_differing();
-    }
-    report.end(milliseconds);
-}
-
-// Checks one script after another, until a review is over.
+// Checks one script after another, until a review is over, and tells of what failed.
 fn check_each<T: Runner, S: System, W: Write + Drop, E: Write + Drop>(
     system: &S,
     runner: &mut T,
@@ -94,7 +75,10 @@ fn check_each<T: Runner, S: System, W: Write + Drop, E: Write + Drop>(
         if system.is_due(progress) {
             report.show_progress(done, scripts.len());
         }
-        check_script(system, runner, asked, path.as_str(), &mut review, report);
+        let checked = check_script(system, runner, asked, path.as_str(), &mut review, report);
+        if let Err(error) = checked {
+            report.fail(path.as_bytes(), error);
+        }
         if review == Review::Over {
             break;
         }

@@ -275,8 +275,8 @@ impl<W: Write + Drop, E: Write + Drop> Report<W, E> {
         }
     }
 
-    /// The scripts that differ, a line each, and an empty line; nothing, where none does.
-    pub(crate) fn list_differing(&mut self) {
+    // The scripts that differ, a line each, and an empty line; nothing, where none does.
+    fn list_differing(&mut self) {
         if self.is_lost || self.is_for_programs() || self.differing.is_empty() {
             return;
         }
@@ -377,8 +377,11 @@ impl<W: Write + Drop, E: Write + Drop> Report<W, E> {
         }
     }
 
-    /// The last line.
-    pub(crate) fn end(&mut self, milliseconds: u64) {
+    /// The end: the scripts that differ, where they are to be listed, and the last line.
+    pub(crate) fn end(&mut self, lists_differing: bool, milliseconds: u64) {
+        if lists_differing {
+            self.list_differing();
+        }
         let totals = self.totals;
         if self.is_for_programs() {
             return self.clear();
