@@ -17,7 +17,7 @@ use rb_message::{Install, Message, MessageKind};
 use rb_node::Node;
 use rb_raftlog::{CompactFault, RaftLog};
 use rb_texts::{Item, Verb};
-use std::alloc::AllocError;
+use std::alloc::{AllocError, Global};
 
 fn error_of(fault: Option<CompactFault>) -> Option<DirectiveError<'static>>
     ensures { result ≡ error_of fault }
@@ -43,14 +43,20 @@ fn compact_fault<L: RaftLog>(log: &L, index: u64, applied: u64) -> Option<Compac
 }
 
 // A node's snapshot, as a message.
-fn snapshot_message<L: RaftLog>(node: &Node<L>, from: u64, to: u64) -> Result<Message, AllocError>
+fn snapshot_message<L: RaftLog>(
+    alloc: Global,
+    node: &Node<L>,
+    from: u64,
+    to: u64,
+) -> Result<Message, AllocError>
     ensures { IfOk result (λ m. m ≡ message from to node.now.term (kinds.Snapshot (snapshot_of node.now))) }
 {
+    let install = Install::new(alloc, node.snapshot()?)?;
     Ok(Message {
         from,
         to,
         term: node.status().term,
-        kind: MessageKind::Snapshot(Install::new(node.snapshot()?)),
+        kind: MessageKind::Snapshot(install),
     })
 }
 
@@ -79,7 +85,7 @@ impl<L: RaftLog> Cluster<L> {
         let Some(node) = self.node_with(from) else {
             return Ok(());
         };
-        let message = snapshot_message(node, from, to)?;
+        let message = snapshot_message(self.alloc, node, from, to)?;
         self.queue(message, screen)
     }
 

@@ -2,17 +2,21 @@
 //!
 //! Where a leader's log no longer has what a follower lacks, the leader sends its state in place of entries (`InstallSnapshot` in
 //! Ongaro's thesis, section 5.3).
+//!
+//! Few messages bring one, and all others would have its size: so a message holds a pointer to it, which copies share.
 
-ghost use Rattle.std.specs.Prelude.{◌≡◌, ◌≤◌, ◌↔◌, IsTrue};
+ghost use Rattle.std.specs.Prelude.{◌≡◌, ◌≤◌, ◌↔◌, IsTrue, IfOk};
 ghost use Rattle.rb_raftlog.specs.declared.limits.TheConstants.{MAX_INDEX};
 
 use rb_raftlog::Snapshot;
+use std::alloc::{AllocError, Global};
 use std::marker::Model;
+use std::rc::Rc;
 
-/// A snapshot that is to be installed. Its index is within the limits of an index. Contracts see the snapshot. A copy costs pointers.
-#[derive(Clone, Drop)]
+/// A snapshot that is to be installed. Its index is within the limits of an index. Contracts see the snapshot. A copy costs a pointer.
+#[derive(Drop)]
 pub struct Install {
-    snapshot: Snapshot,
+    snapshot: Rc<Snapshot>,
 }
 
 impl Model for Install {
@@ -22,17 +26,20 @@ impl Model for Install {
 
     ghost Value = { Snapshot };
 
-    ghost view = { λ i. i.snapshot };
+    ghost view = { λ i. i.snapshot.value };
 
-    ghost invariant = { λ i. i.snapshot.index ≤ MAX_INDEX };
+    ghost invariant = { λ i. i.snapshot.value.index ≤ MAX_INDEX };
 }
 
 impl Install {
-    pub fn new(snapshot: Snapshot) -> Install
+    /// This snapshot, to be shared.
+    pub fn new(alloc: Global, snapshot: Snapshot) -> Result<Install, AllocError>
         requires { snapshot.index ≤ MAX_INDEX }
-        ensures { result ≡ snapshot }
+        ensures { IfOk result (λ install. install ≡ snapshot) }
     {
-        Install { snapshot }
+        Ok(Install {
+            snapshot: Rc::new(alloc, snapshot)?,
+        })
     }
 
     /// The snapshot.
@@ -48,5 +55,16 @@ impl Install {
         ensures { IsTrue result ↔ (self.now ≡ other.now) }
     {
         self.snapshot.same(&other.snapshot)
+    }
+}
+
+impl Clone for Install {
+    ghost is_clone = { λ install copy. copy ≡ install };
+
+    // The same snapshot once more: a pointer to it.
+    fn clone(&self) -> Result<Install, AllocError> {
+        Ok(Install {
+            snapshot: self.snapshot.clone()?,
+        })
     }
 }

@@ -142,8 +142,8 @@ impl<L: RaftLog> State<L> {
         requires { place < length self.old.tracker.views }
         ensures { OnOk result (self.new ≡ snapshot_to (view_at self.old.tracker.views place) self.old place to) }
     {
-        let snapshot = self.snapshot()?;
-        self.post(to, MessageKind::Snapshot(Install::new(snapshot)))?;
+        let install = Install::new(self.alloc, self.snapshot()?)?;
+        self.post(to, MessageKind::Snapshot(install))?;
         let applied = self.applied;
         self.tracker.view_mut(place).to_snapshot(applied);
         Ok(())

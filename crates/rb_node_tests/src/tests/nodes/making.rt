@@ -97,7 +97,7 @@ fn append_of(
 fn install_of(rt: &impl Abort, alloc: Global, term: u64, index: u64) -> MessageKind {
     let snapshot = snapshot_of(rt, alloc, (index, term), b"", Members::Three);
     is(rt, snapshot.index <= MAX_INDEX, "an index that there is");
-    MessageKind::Snapshot(Install::new(snapshot))
+    MessageKind::Snapshot(Install::new(alloc, snapshot).expect(rt, "memory"))
 }
 
 fn kind_of(rt: &impl Abort, alloc: Global, term: u64, says: Says) -> MessageKind {
