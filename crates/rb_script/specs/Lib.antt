@@ -1,5 +1,7 @@
 pub mod Bytes
 pub mod Lines
+pub mod ShortTexts
+pub mod LineTexts
 pub mod Flat
 pub mod Kept
 pub mod Marks

@@ -4,6 +4,7 @@ ghost use Rattle.std.specs.Prelude.{◌≡◌, ◌≢◌, ◌<◌, ◌≤◌, �
 ghost use Rattle.rb_script.specs.Lines.{lines, text_of, line_text};
 ghost use Rattle.rb_script.specs.Flat.{ends_of, parted, line_start, between, IsFlat};
 
+use crate::line_text::LineText;
 use crate::lines::{line_feed, next_line};
 use crate::written_line::WrittenLine;
 use memchr::memchr;
@@ -14,9 +15,9 @@ use std::marker::Model;
 /// A list of byte lines in memory of its own. A line may hold any bytes.
 pub(crate) struct FlatLines {
     // each line, with one LF after it
-    text: Vec<u8>,
+    text: LineText,
     // where each line with its LF ends in the text; most lists are short
-    ends: SmallVec<usize, 4>,
+    ends: SmallVec<u32, 4>,
 }
 
 // Written out, so that giving one back is a call wherever it is owned, and is proved here alone.
@@ -32,9 +33,9 @@ impl Model for FlatLines {
 
     ghost Value = { List (List ℕ) };
 
-    ghost view = { λ a. parted 0 a.ends.items a.text.items };
+    ghost view = { λ a. parted 0 a.ends.items a.text };
 
-    ghost invariant = { λ a. IsFlat a.ends.items a.text.items };
+    ghost invariant = { λ a. IsFlat a.ends.items a.text };
 }
 
 impl FlatLines {
@@ -43,7 +44,7 @@ impl FlatLines {
         ensures { result ≡ [] }
     {
         FlatLines {
-            text: Vec::new(alloc),
+            text: LineText::new(alloc),
             ends: SmallVec::new(alloc),
         }
     }
@@ -53,7 +54,7 @@ impl FlatLines {
         ensures { IfOk result (λ all. all ≡ []) }
     {
         Ok(FlatLines {
-            text: Vec::with_capacity(alloc, room)?,
+            text: LineText::with_room(alloc, room)?,
             ends: SmallVec::new(alloc),
         })
     }
@@ -76,7 +77,7 @@ impl FlatLines {
     {
         let ends = line_ends(alloc, bytes)?;
         Ok(FlatLines {
-            text: Vec::from_slice(alloc, bytes)?,
+            text: LineText::of(alloc, bytes)?,
             ends: SmallVec::from_vec(ends),
         })
     }
@@ -96,7 +97,7 @@ impl FlatLines {
 
     /// Where the memory is.
     pub(crate) fn allocator(&self) -> Global {
-        *self.text.allocator()
+        self.text.allocator()
     }
 
     /// Adds a line at the end.
@@ -126,7 +127,7 @@ impl FlatLines {
         requires { i < length self.now }
         ensures { slice_get self.now i ≡ Some result.now }
     {
-        line_of(&self.text, self.ends.as_slice(), i)
+        line_of(self.text.as_slice(), self.ends.as_slice(), i)
     }
 
     /// The lines as one text, each with one LF.
@@ -137,14 +138,14 @@ impl FlatLines {
     }
 
     /// Where the lines end in their text, and where the first of them begins.
-    pub(crate) fn ends(&self) -> (&[usize], usize)
+    pub(crate) fn ends(&self) -> (&[u32], u32)
         ensures { result.0.now ≡ ends_of result.1 self.now }
     {
         (self.ends.as_slice(), 0)
     }
 
     /// The same of the lines from one position up to another, in the text of all.
-    pub(crate) fn ends_between(&self, from: usize, to: usize) -> (&[usize], usize)
+    pub(crate) fn ends_between(&self, from: usize, to: usize) -> (&[u32], u32)
         requires order { from ≤ to }
         requires within { to ≤ length self.now }
         ensures { result.0.now ≡ ends_of result.1 (between from to self.now) }
@@ -159,7 +160,7 @@ impl FlatLines {
         requires within { to ≤ length self.now }
         ensures { result.now ≡ text_of (between from to self.now) }
     {
-        text_part(&self.text, self.ends.as_slice(), from, to)
+        text_part(self.text.as_slice(), self.ends.as_slice(), from, to)
     }
 
     /// The same lines, in memory of their own.
@@ -168,7 +169,7 @@ impl FlatLines {
     {
         let alloc = self.allocator();
         Ok(FlatLines {
-            text: Vec::from_slice(alloc, self.text.as_slice())?,
+            text: LineText::of(alloc, self.text.as_slice())?,
             ends: SmallVec::from_slice(alloc, self.ends.as_slice())?,
         })
     }
@@ -207,8 +208,18 @@ fn is_their_text(bytes: &[u8]) -> bool
     }
 }
 
+// A position in a text. No text is so long that a `u32` doesn't count its bytes: there is no memory for it.
+fn counted(n: usize) -> Result<u32, AllocError>
+    ensures { IfOk result (λ at. at ≡ n) }
+{
+    if n > u32::MAX as usize {
+        return Err(AllocError);
+    }
+    Ok(n as u32)
+}
+
 // Where each line of the bytes, which are their text, ends in it. These are many, so that the list isn't asked with each whether it is short.
-fn line_ends(alloc: Global, bytes: &[u8]) -> Result<Vec<usize>, AllocError>
+fn line_ends(alloc: Global, bytes: &[u8]) -> Result<Vec<u32>, AllocError>
     requires { text_of (lines bytes.now) ≡ bytes.now }
     ensures { IfOk result (λ ends. ends.items ≡ ends_of 0 (lines bytes.now)) }
 {
@@ -217,7 +228,7 @@ fn line_ends(alloc: Global, bytes: &[u8]) -> Result<Vec<usize>, AllocError>
     let mut end = 0;
     while let Some(feed) = line_feed(rest) {
         end += feed + 1;
-        ends.push(end)?;
+        ends.push(counted(end)?)?;
         rest = &rest[feed + 1..];
     }
     Ok(ends)
@@ -225,37 +236,25 @@ fn line_ends(alloc: Global, bytes: &[u8]) -> Result<Vec<usize>, AllocError>
 
 // Adds the line with its LF, and its end. Room comes first, so that a refusal changes nothing.
 fn append_line(
-    text: &mut Vec<u8>,
-    ends: &mut SmallVec<usize, 4>,
+    text: &mut LineText,
+    ends: &mut SmallVec<u32, 4>,
     line: &[u8],
 ) -> Result<(), AllocError>
-    ensures text { OnOk result (text.new.items ≡ text.old.items ++ line_text line.now) }
-    ensures ends { OnOk result (ends.new.items ≡ ends.old.items ++ length text.new.items ∷ []) }
-    ensures err { OnErr result ((text.new.items ≡ text.old.items) × (ends.new.items ≡ ends.old.items)) }
+    ensures text { OnOk result (text.new ≡ text.old ++ line_text line.now) }
+    ensures ends { OnOk result (ends.new.items ≡ ends.old.items ++ length text.new ∷ []) }
+    ensures err { OnErr result ((text.new ≡ text.old) × (ends.new.items ≡ ends.old.items)) }
 {
+    let end = counted(text.len().saturating_add(line.len()).saturating_add(1))?;
     ends.reserve(1)?;
-    text.reserve(line.len() + 1)?;
-    text.extend_from_slice(line)?;
-    text.push(b'\n')?;
-    ends.push(text.len())?;
-    Ok(())
-}
-
-// Makes room in a text that has no line yet.
-fn make_room(text: &mut Vec<u8>, room: usize) -> Result<(), AllocError>
-    ensures { text.new.items ≡ text.old.items }
-{
-    if text.is_empty() {
-        text.reserve(room)?;
-    }
+    text.push_line(line)?;
+    ends.push(end)?;
     Ok(())
 }
 
 // Writes the line with its LF.
-fn write_text<W: WrittenLine>(text: &mut Vec<u8>, line: &W) -> Result<(), AllocError>
-    ensures { OnOk result (text.new.items ≡ text.old.items ++ line_text (W.bytes line.now)) }
+fn write_text<W: WrittenLine>(text: &mut LineText, line: &W) -> Result<(), AllocError>
+    ensures { OnOk result (text.new ≡ text.old ++ line_text (W.bytes line.now)) }
 {
-    make_room(text, line.room())?;
     line.add_to(text)?;
     text.push(b'\n')?;
     Ok(())
@@ -263,27 +262,27 @@ fn write_text<W: WrittenLine>(text: &mut Vec<u8>, line: &W) -> Result<(), AllocE
 
 // Writes the line with its LF, and adds its end.
 fn write_line<W: WrittenLine>(
-    text: &mut Vec<u8>,
-    ends: &mut SmallVec<usize, 4>,
+    text: &mut LineText,
+    ends: &mut SmallVec<u32, 4>,
     line: &W,
 ) -> Result<(), AllocError>
-    ensures text { OnOk result (text.new.items ≡ text.old.items ++ line_text (W.bytes line.now)) }
-    ensures ends { OnOk result (ends.new.items ≡ ends.old.items ++ length text.new.items ∷ []) }
+    ensures text { OnOk result (text.new ≡ text.old ++ line_text (W.bytes line.now)) }
+    ensures ends { OnOk result (ends.new.items ≡ ends.old.items ++ length text.new ∷ []) }
 {
     write_text(text, line)?;
-    ends.push(text.len())?;
+    ends.push(counted(text.len())?)?;
     Ok(())
 }
 
 // Does so, or takes all lines away where a part of this one may be written.
 fn write_or_clear<W: WrittenLine>(
-    text: &mut Vec<u8>,
-    ends: &mut SmallVec<usize, 4>,
+    text: &mut LineText,
+    ends: &mut SmallVec<u32, 4>,
     line: &W,
 ) -> Result<(), AllocError>
-    ensures text { OnOk result (text.new.items ≡ text.old.items ++ line_text (W.bytes line.now)) }
-    ensures ends { OnOk result (ends.new.items ≡ ends.old.items ++ length text.new.items ∷ []) }
-    ensures err { OnErr result ((text.new.items ≡ []) × (ends.new.items ≡ [])) }
+    ensures text { OnOk result (text.new ≡ text.old ++ line_text (W.bytes line.now)) }
+    ensures ends { OnOk result (ends.new.items ≡ ends.old.items ++ length text.new ∷ []) }
+    ensures err { OnErr result ((text.new ≡ []) × (ends.new.items ≡ [])) }
 {
     match write_line(text, ends, line) {
         Ok(()) => Ok(()),
@@ -296,7 +295,7 @@ fn write_or_clear<W: WrittenLine>(
 }
 
 // Where a line begins, or behind the last where the next would.
-fn start_of(ends: &[usize], i: usize) -> usize
+fn start_of(ends: &[u32], i: usize) -> u32
     requires { i ≤ length ends.now }
     ensures { result ≡ line_start 0 ends.now i }
 {
@@ -304,24 +303,24 @@ fn start_of(ends: &[usize], i: usize) -> usize
 }
 
 // A line of the text, without its LF.
-fn line_of<'a>(text: &'a [u8], ends: &[usize], i: usize) -> &'a [u8]
+fn line_of<'a>(text: &'a [u8], ends: &[u32], i: usize) -> &'a [u8]
     requires flat { IsFlat ends.now text.now }
     requires line { i < length ends.now }
     ensures { slice_get (parted 0 ends.now text.now) i ≡ Some result.now }
 {
-    let start = start_of(ends, i);
-    let end = ends[i] - 1;
+    let start = start_of(ends, i) as usize;
+    let end = ends[i] as usize - 1;
     &text[start..end]
 }
 
 // The text of the lines from one position up to another.
-fn text_part<'a>(text: &'a [u8], ends: &[usize], from: usize, to: usize) -> &'a [u8]
+fn text_part<'a>(text: &'a [u8], ends: &[u32], from: usize, to: usize) -> &'a [u8]
     requires flat { IsFlat ends.now text.now }
     requires order { from ≤ to }
     requires within { to ≤ length ends.now }
     ensures { result.now ≡ text_of (between from to (parted 0 ends.now text.now)) }
 {
-    let start = start_of(ends, from);
-    let end = start_of(ends, to);
+    let start = start_of(ends, from) as usize;
+    let end = start_of(ends, to) as usize;
     &text[start..end]
 }

@@ -22,12 +22,14 @@ mod head_cursor;
 mod laws;
 mod limits;
 mod line_part;
+mod line_text;
 mod lines;
 mod marks;
 mod place;
 mod reading;
 mod script;
 mod shared_lines;
+mod short_text;
 mod sink;
 mod span;
 mod tokens;
@@ -45,6 +47,7 @@ pub use laws::{
     reads_once, refusals_are, separators_are, solid_lines_can_be_expected, text_reads_back,
 };
 pub use limits::{MAX_ARGUMENTS, MAX_DIRECTIVES, MAX_LINE, MAX_SCRIPT, MAX_VALUES, limits_are};
+pub use line_text::LineText;
 pub use lines::{Lines, lines_of, without_returns};
 pub use marks::{continues, is_blank, is_rule, is_separator, is_space, without_front};
 pub use script::Script;

@@ -2,16 +2,14 @@
 
 ghost use Rattle.std.specs.Prelude.{◌≡◌, ◌++◌, List, ℕ, OnOk};
 
+use crate::line_text::LineText;
 use std::alloc::AllocError;
 
 /// A line, as whoever puts it together has it. It is written into the text of the lines that it joins.
 pub trait WrittenLine {
     ghost bytes: { Self → List ℕ };
 
-    /// How much room a text is to have of which this is the first line.
-    fn room(&self) -> usize;
-
     /// Adds the bytes of the line at the end of a text. Where memory runs out, nothing is known of what the text holds then.
-    fn add_to(&self, text: &mut Vec<u8>) -> Result<(), AllocError>
-        ensures { OnOk result (text.new.items ≡ text.old.items ++ bytes self.now) };
+    fn add_to(&self, text: &mut LineText) -> Result<(), AllocError>
+        ensures { OnOk result (text.new ≡ text.old ++ bytes self.now) };
 }

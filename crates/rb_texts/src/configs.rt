@@ -7,11 +7,12 @@ ghost use Rattle.std.specs.Prelude.{◌≡◌, ◌++◌, OnOk};
 ghost use Rattle.rb_texts.specs.Configs.{config_text, part_text};
 
 use crate::piece::{Piece, add_bytes, add_pieces, shown_if};
+use rb_script::LineText;
 use rb_tracker::Config;
 use std::alloc::AllocError;
 
-pub(crate) fn add_config(line: &mut Vec<u8>, config: &Config) -> Result<(), AllocError>
-    ensures { OnOk result (line.new.items ≡ line.old.items ++ config_text config.now) }
+pub(crate) fn add_config(line: &mut LineText, config: &Config) -> Result<(), AllocError>
+    ensures { OnOk result (line.new ≡ line.old ++ config_text config.now) }
 {
     let voters = [
         Piece::Bytes(b"voters=("),
@@ -26,8 +27,8 @@ pub(crate) fn add_config(line: &mut Vec<u8>, config: &Config) -> Result<(), Allo
 }
 
 // Adds a part of a configuration, which is shown only where it isn't empty.
-fn add_part<'a>(line: &mut Vec<u8>, name: &'a [u8], ids: &'a [u64]) -> Result<(), AllocError>
-    ensures { OnOk result (line.new.items ≡ line.old.items ++ part_text name.now ids.now) }
+fn add_part<'a>(line: &mut LineText, name: &'a [u8], ids: &'a [u64]) -> Result<(), AllocError>
+    ensures { OnOk result (line.new ≡ line.old ++ part_text name.now ids.now) }
 {
     if ids.is_empty() {
         return Ok(());

@@ -10,6 +10,7 @@ ghost use Rattle.rb_texts.specs.Entries.{transition_text, letter, change_word, b
 use crate::piece::{Piece, add_bytes, add_pieces, add_place, add_quoted};
 use rb_change::{Transition, Word, WordKind};
 use rb_raftlog::{Body, Entry};
+use rb_script::LineText;
 use std::alloc::AllocError;
 
 fn transition_name(transition: Transition) -> &'static [u8]
@@ -33,8 +34,8 @@ fn letter(kind: WordKind) -> &'static [u8]
     }
 }
 
-fn add_word(line: &mut Vec<u8>, word: &Word) -> Result<(), AllocError>
-    ensures { OnOk result (line.new.items ≡ line.old.items ++ change_word word.now) }
+fn add_word(line: &mut LineText, word: &Word) -> Result<(), AllocError>
+    ensures { OnOk result (line.new ≡ line.old ++ change_word word.now) }
 {
     let pieces = [
         Piece::Bytes(b" "),
@@ -44,8 +45,8 @@ fn add_word(line: &mut Vec<u8>, word: &Word) -> Result<(), AllocError>
     add_pieces(line, &pieces)
 }
 
-fn add_words(line: &mut Vec<u8>, words: &[Word]) -> Result<(), AllocError>
-    ensures { OnOk result (line.new.items ≡ line.old.items ++ flat_map change_word words.now) }
+fn add_words(line: &mut LineText, words: &[Word]) -> Result<(), AllocError>
+    ensures { OnOk result (line.new ≡ line.old ++ flat_map change_word words.now) }
 {
     for word in words {
         add_word(line, word)?;
@@ -53,8 +54,8 @@ fn add_words(line: &mut Vec<u8>, words: &[Word]) -> Result<(), AllocError>
     Ok(())
 }
 
-fn add_change(line: &mut Vec<u8>, transition: Transition, words: &[Word]) -> Result<(), AllocError>
-    ensures { OnOk result (line.new.items ≡ line.old.items ++ (codes "change " ++ transition_text transition ++ flat_map change_word words.now)) }
+fn add_change(line: &mut LineText, transition: Transition, words: &[Word]) -> Result<(), AllocError>
+    ensures { OnOk result (line.new ≡ line.old ++ (codes "change " ++ transition_text transition ++ flat_map change_word words.now)) }
 {
     let pieces = [
         Piece::Bytes(b"change "),
@@ -65,8 +66,8 @@ fn add_change(line: &mut Vec<u8>, transition: Transition, words: &[Word]) -> Res
 }
 
 #[tactic(auto, unfolding(crate::specs::Entries::body_text))]
-pub(crate) fn add_body(line: &mut Vec<u8>, body: &Body) -> Result<(), AllocError>
-    ensures { OnOk result (line.new.items ≡ line.old.items ++ body_text body.now) }
+pub(crate) fn add_body(line: &mut LineText, body: &Body) -> Result<(), AllocError>
+    ensures { OnOk result (line.new ≡ line.old ++ body_text body.now) }
 {
     match body {
         Body::Payload(bytes) => add_quoted(line, bytes.as_slice()),
@@ -74,8 +75,8 @@ pub(crate) fn add_body(line: &mut Vec<u8>, body: &Body) -> Result<(), AllocError
     }
 }
 
-pub(crate) fn add_entry(line: &mut Vec<u8>, index: u64, entry: &Entry) -> Result<(), AllocError>
-    ensures { OnOk result (line.new.items ≡ line.old.items ++ entry_text index entry.now) }
+pub(crate) fn add_entry(line: &mut LineText, index: u64, entry: &Entry) -> Result<(), AllocError>
+    ensures { OnOk result (line.new ≡ line.old ++ entry_text index entry.now) }
 {
     add_place(line, entry.term, index)?;
     add_bytes(line, b" ")?;

@@ -7,14 +7,15 @@ ghost use Rattle.rb_texts.specs.Errors.{error_text, word_text};
 
 use crate::piece::{Piece, add_bytes, add_pieces};
 use rb_level::DirectiveError;
+use rb_script::LineText;
 use std::alloc::AllocError;
 
 // How many bytes of a word an error shows.
 const WORD_SHOWN: usize = 64;
 
 #[tactic(auto, unfolding(crate::specs::Errors::error_text))]
-pub(crate) fn add_error(line: &mut Vec<u8>, error: &DirectiveError<'_>) -> Result<(), AllocError>
-    ensures { OnOk result (line.new.items ≡ line.old.items ++ error_text error.now) }
+pub(crate) fn add_error(line: &mut LineText, error: &DirectiveError<'_>) -> Result<(), AllocError>
+    ensures { OnOk result (line.new ≡ line.old ++ error_text error.now) }
 {
     match error {
         DirectiveError::UnknownDirective(name) => {
@@ -44,8 +45,8 @@ pub(crate) fn add_error(line: &mut Vec<u8>, error: &DirectiveError<'_>) -> Resul
 }
 
 // Adds a text, and the first bytes of a word in quotes.
-fn add_word<'a>(line: &mut Vec<u8>, text: &'a [u8], word: &'a [u8]) -> Result<(), AllocError>
-    ensures { OnOk result (line.new.items ≡ line.old.items ++ (text.now ++ word_text word.now)) }
+fn add_word<'a>(line: &mut LineText, text: &'a [u8], word: &'a [u8]) -> Result<(), AllocError>
+    ensures { OnOk result (line.new ≡ line.old ++ (text.now ++ word_text word.now)) }
 {
     let shown = &word[..word.len().min(WORD_SHOWN)];
     add_pieces(line, &[Piece::Bytes(text), Piece::Quoted(shown)])

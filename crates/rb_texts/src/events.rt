@@ -13,6 +13,7 @@ use crate::piece::{Piece, add_bytes, add_pieces};
 use crate::states::role_name;
 use rb_level::{Level, MessageType};
 use rb_message::{Event, Role, WhyNoCampaign, WhyReplaced};
+use rb_script::LineText;
 use rb_tracker::{ChangeFault, Config, VoteResult};
 use std::alloc::AllocError;
 
@@ -97,20 +98,20 @@ fn fault_name(fault: ChangeFault) -> &'static [u8]
 }
 
 // Adds the id of a node, and a text of it.
-fn add_node_text<'a>(line: &mut Vec<u8>, id: u64, text: &'a [u8]) -> Result<(), AllocError>
-    ensures { OnOk result (line.new.items ≡ line.old.items ++ (decimal id ++ text.now)) }
+fn add_node_text<'a>(line: &mut LineText, id: u64, text: &'a [u8]) -> Result<(), AllocError>
+    ensures { OnOk result (line.new ≡ line.old ++ (decimal id ++ text.now)) }
 {
     add_pieces(line, &[Piece::Number(id), Piece::Bytes(text)])
 }
 
 // Adds the id of a node, a text of it, and a reason or a name.
 fn add_named<'a>(
-    line: &mut Vec<u8>,
+    line: &mut LineText,
     id: u64,
     text: &'a [u8],
     name: &'a [u8],
 ) -> Result<(), AllocError>
-    ensures { OnOk result (line.new.items ≡ line.old.items ++ (decimal id ++ text.now ++ name.now)) }
+    ensures { OnOk result (line.new ≡ line.old ++ (decimal id ++ text.now ++ name.now)) }
 {
     add_pieces(
         line,
@@ -119,20 +120,20 @@ fn add_named<'a>(
 }
 
 // Adds the id of a node, a text of it, and a number.
-fn add_counted<'a>(line: &mut Vec<u8>, id: u64, text: &'a [u8], n: u64) -> Result<(), AllocError>
-    ensures { OnOk result (line.new.items ≡ line.old.items ++ (decimal id ++ text.now ++ decimal n)) }
+fn add_counted<'a>(line: &mut LineText, id: u64, text: &'a [u8], n: u64) -> Result<(), AllocError>
+    ensures { OnOk result (line.new ≡ line.old ++ (decimal id ++ text.now ++ decimal n)) }
 {
     add_pieces(line, &[Piece::Number(id), Piece::Field(text, n)])
 }
 
 fn add_started(
-    line: &mut Vec<u8>,
+    line: &mut LineText,
     id: u64,
     term: u64,
     index: u64,
     config: &Config,
 ) -> Result<(), AllocError>
-    ensures { OnOk result (line.new.items ≡ line.old.items ++ started_text id term index config.now) }
+    ensures { OnOk result (line.new ≡ line.old ++ started_text id term index config.now) }
 {
     let pieces = [
         Piece::Number(id),
@@ -144,8 +145,8 @@ fn add_started(
     add_config(line, config)
 }
 
-fn add_became(line: &mut Vec<u8>, id: u64, role: Role, term: u64) -> Result<(), AllocError>
-    ensures { OnOk result (line.new.items ≡ line.old.items ++ became_text id role term) }
+fn add_became(line: &mut LineText, id: u64, role: Role, term: u64) -> Result<(), AllocError>
+    ensures { OnOk result (line.new ≡ line.old ++ became_text id role term) }
 {
     let pieces = [
         Piece::Number(id),
@@ -158,14 +159,14 @@ fn add_became(line: &mut Vec<u8>, id: u64, role: Role, term: u64) -> Result<(), 
 
 // Adds an answer to a campaign, and what the answers come to.
 fn add_vote_counted(
-    line: &mut Vec<u8>,
+    line: &mut LineText,
     id: u64,
     message_type: MessageType,
     granted: bool,
     from: u64,
     votes: VoteResult,
 ) -> Result<(), AllocError>
-    ensures { OnOk result (line.new.items ≡ line.old.items ++ vote_counted_text id message_type granted from votes) }
+    ensures { OnOk result (line.new ≡ line.old ++ vote_counted_text id message_type granted from votes) }
 {
     let pieces = [
         Piece::Number(id),
@@ -181,12 +182,12 @@ fn add_vote_counted(
 }
 
 fn add_ignored(
-    line: &mut Vec<u8>,
+    line: &mut LineText,
     id: u64,
     message_type: MessageType,
     from: u64,
 ) -> Result<(), AllocError>
-    ensures { OnOk result (line.new.items ≡ line.old.items ++ ignored_text id message_type from) }
+    ensures { OnOk result (line.new ≡ line.old ++ ignored_text id message_type from) }
 {
     let pieces = [
         Piece::Number(id),
@@ -197,8 +198,8 @@ fn add_ignored(
     add_pieces(line, &pieces)
 }
 
-fn add_conflict(line: &mut Vec<u8>, id: u64, index: u64, commit: u64) -> Result<(), AllocError>
-    ensures { OnOk result (line.new.items ≡ line.old.items ++ conflict_text id index commit) }
+fn add_conflict(line: &mut LineText, id: u64, index: u64, commit: u64) -> Result<(), AllocError>
+    ensures { OnOk result (line.new ≡ line.old ++ conflict_text id index commit) }
 {
     let pieces = [
         Piece::Number(id),
@@ -209,8 +210,13 @@ fn add_conflict(line: &mut Vec<u8>, id: u64, index: u64, commit: u64) -> Result<
 }
 
 // Adds that no change is made, and why.
-fn add_replaced(line: &mut Vec<u8>, id: u64, index: u64, why: WhyReplaced) -> Result<(), AllocError>
-    ensures { OnOk result (line.new.items ≡ line.old.items ++ replaced_change_text id index why) }
+fn add_replaced(
+    line: &mut LineText,
+    id: u64,
+    index: u64,
+    why: WhyReplaced,
+) -> Result<(), AllocError>
+    ensures { OnOk result (line.new ≡ line.old ++ replaced_change_text id index why) }
 {
     let pieces = [
         Piece::Number(id),
@@ -222,12 +228,12 @@ fn add_replaced(line: &mut Vec<u8>, id: u64, index: u64, why: WhyReplaced) -> Re
 }
 
 fn add_refused(
-    line: &mut Vec<u8>,
+    line: &mut LineText,
     id: u64,
     index: u64,
     fault: ChangeFault,
 ) -> Result<(), AllocError>
-    ensures { OnOk result (line.new.items ≡ line.old.items ++ refused_change_text id index fault) }
+    ensures { OnOk result (line.new ≡ line.old ++ refused_change_text id index fault) }
 {
     let pieces = [
         Piece::Number(id),
@@ -238,15 +244,15 @@ fn add_refused(
     add_pieces(line, &pieces)
 }
 
-fn add_switched(line: &mut Vec<u8>, id: u64, config: &Config) -> Result<(), AllocError>
-    ensures { OnOk result (line.new.items ≡ line.old.items ++ (decimal id ++ codes " switched to " ++ config_text config.now)) }
+fn add_switched(line: &mut LineText, id: u64, config: &Config) -> Result<(), AllocError>
+    ensures { OnOk result (line.new ≡ line.old ++ (decimal id ++ codes " switched to " ++ config_text config.now)) }
 {
     add_node_text(line, id, b" switched to ")?;
     add_config(line, config)
 }
 
-fn add_restored(line: &mut Vec<u8>, id: u64, term: u64, index: u64) -> Result<(), AllocError>
-    ensures { OnOk result (line.new.items ≡ line.old.items ++ (decimal id ++ codes " restored snapshot " ++ place_text term index)) }
+fn add_restored(line: &mut LineText, id: u64, term: u64, index: u64) -> Result<(), AllocError>
+    ensures { OnOk result (line.new ≡ line.old ++ (decimal id ++ codes " restored snapshot " ++ place_text term index)) }
 {
     let pieces = [
         Piece::Number(id),
@@ -258,8 +264,8 @@ fn add_restored(line: &mut Vec<u8>, id: u64, term: u64, index: u64) -> Result<()
 
 // Adds what happened.
 #[tactic(auto, unfolding(crate::specs::Events::happening_text))]
-fn add_happening(line: &mut Vec<u8>, event: &Event) -> Result<(), AllocError>
-    ensures { OnOk result (line.new.items ≡ line.old.items ++ happening_text event.now) }
+fn add_happening(line: &mut LineText, event: &Event) -> Result<(), AllocError>
+    ensures { OnOk result (line.new ≡ line.old ++ happening_text event.now) }
 {
     match event {
         Event::Started {
@@ -299,8 +305,8 @@ fn add_happening(line: &mut Vec<u8>, event: &Event) -> Result<(), AllocError>
     }
 }
 
-pub(crate) fn add_event(line: &mut Vec<u8>, event: &Event) -> Result<(), AllocError>
-    ensures { OnOk result (line.new.items ≡ line.old.items ++ event_text event.now) }
+pub(crate) fn add_event(line: &mut LineText, event: &Event) -> Result<(), AllocError>
+    ensures { OnOk result (line.new ≡ line.old ++ event_text event.now) }
 {
     add_bytes(line, level_name(event_level(event)))?;
     add_happening(line, event)

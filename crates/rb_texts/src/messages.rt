@@ -12,6 +12,7 @@ use crate::item::Verb;
 use crate::piece::{Piece, add_bytes, add_field, add_numbered, add_pieces, add_place, shown_if};
 use rb_message::{Append, Message, MessageKind};
 use rb_raftlog::{Body, Snapshot};
+use rb_script::LineText;
 use std::alloc::AllocError;
 
 pub(crate) fn answer_name(granted: bool) -> &'static [u8]
@@ -32,12 +33,12 @@ pub(crate) fn verb_name(verb: Verb) -> &'static [u8]
 }
 
 fn add_vote(
-    line: &mut Vec<u8>,
+    line: &mut LineText,
     last_term: u64,
     last_index: u64,
     transfer: bool,
 ) -> Result<(), AllocError>
-    ensures { OnOk result (line.new.items ≡ line.old.items ++ vote_text last_term last_index transfer) }
+    ensures { OnOk result (line.new ≡ line.old ++ vote_text last_term last_index transfer) }
 {
     let pieces = [
         Piece::Bytes(b" last="),
@@ -47,15 +48,15 @@ fn add_vote(
     add_pieces(line, &pieces)
 }
 
-fn add_answer(line: &mut Vec<u8>, granted: bool) -> Result<(), AllocError>
-    ensures { OnOk result (line.new.items ≡ line.old.items ++ (codes " " ++ answer_text granted)) }
+fn add_answer(line: &mut LineText, granted: bool) -> Result<(), AllocError>
+    ensures { OnOk result (line.new ≡ line.old ++ (codes " " ++ answer_text granted)) }
 {
     let pieces = [Piece::Bytes(b" "), Piece::Bytes(answer_name(granted))];
     add_pieces(line, &pieces)
 }
 
-fn add_append(line: &mut Vec<u8>, append: &Append) -> Result<(), AllocError>
-    ensures { OnOk result (line.new.items ≡ line.old.items ++ append_text append.now) }
+fn add_append(line: &mut LineText, append: &Append) -> Result<(), AllocError>
+    ensures { OnOk result (line.new ≡ line.old ++ append_text append.now) }
 {
     add_bytes(line, b" prev=")?;
     add_place(line, append.prev_term(), append.prev())?;
@@ -63,8 +64,8 @@ fn add_append(line: &mut Vec<u8>, append: &Append) -> Result<(), AllocError>
     add_field(line, b" entries=", append.entries().len() as u64)
 }
 
-fn add_refusal(line: &mut Vec<u8>, refused: u64, hint: u64) -> Result<(), AllocError>
-    ensures { OnOk result (line.new.items ≡ line.old.items ++ refusal_text refused hint) }
+fn add_refusal(line: &mut LineText, refused: u64, hint: u64) -> Result<(), AllocError>
+    ensures { OnOk result (line.new ≡ line.old ++ refusal_text refused hint) }
 {
     let pieces = [
         Piece::Field(b" refused=", refused),
@@ -73,8 +74,8 @@ fn add_refusal(line: &mut Vec<u8>, refused: u64, hint: u64) -> Result<(), AllocE
     add_pieces(line, &pieces)
 }
 
-fn add_snapshot(line: &mut Vec<u8>, snapshot: &Snapshot) -> Result<(), AllocError>
-    ensures { OnOk result (line.new.items ≡ line.old.items ++ (codes " snapshot=" ++ place_text snapshot.now.term snapshot.now.index)) }
+fn add_snapshot(line: &mut LineText, snapshot: &Snapshot) -> Result<(), AllocError>
+    ensures { OnOk result (line.new ≡ line.old ++ (codes " snapshot=" ++ place_text snapshot.now.term snapshot.now.index)) }
 {
     let pieces = [
         Piece::Bytes(b" snapshot="),
@@ -83,8 +84,8 @@ fn add_snapshot(line: &mut Vec<u8>, snapshot: &Snapshot) -> Result<(), AllocErro
     add_pieces(line, &pieces)
 }
 
-fn add_proposal(line: &mut Vec<u8>, body: &Body) -> Result<(), AllocError>
-    ensures { OnOk result (line.new.items ≡ line.old.items ++ (codes " " ++ body_text body.now)) }
+fn add_proposal(line: &mut LineText, body: &Body) -> Result<(), AllocError>
+    ensures { OnOk result (line.new ≡ line.old ++ (codes " " ++ body_text body.now)) }
 {
     add_bytes(line, b" ")?;
     add_body(line, body)
@@ -92,8 +93,8 @@ fn add_proposal(line: &mut Vec<u8>, body: &Body) -> Result<(), AllocError>
 
 // Adds what a message says.
 #[tactic(auto, unfolding(crate::specs::Messages::kind_text))]
-fn add_kind(line: &mut Vec<u8>, kind: &MessageKind) -> Result<(), AllocError>
-    ensures { OnOk result (line.new.items ≡ line.old.items ++ kind_text kind.now) }
+fn add_kind(line: &mut LineText, kind: &MessageKind) -> Result<(), AllocError>
+    ensures { OnOk result (line.new ≡ line.old ++ kind_text kind.now) }
 {
     match kind {
         MessageKind::Vote {
@@ -120,8 +121,8 @@ fn add_kind(line: &mut Vec<u8>, kind: &MessageKind) -> Result<(), AllocError>
 }
 
 // Adds the term, but of a message that is of no term.
-fn add_term(line: &mut Vec<u8>, message: &Message) -> Result<(), AllocError>
-    ensures { OnOk result (line.new.items ≡ line.old.items ++ term_text message.now) }
+fn add_term(line: &mut LineText, message: &Message) -> Result<(), AllocError>
+    ensures { OnOk result (line.new ≡ line.old ++ term_text message.now) }
 {
     if !message.kind.has_term() {
         return Ok(());
@@ -130,15 +131,15 @@ fn add_term(line: &mut Vec<u8>, message: &Message) -> Result<(), AllocError>
 }
 
 // Adds who sent a message to whom.
-fn add_way(line: &mut Vec<u8>, from: u64, to: u64) -> Result<(), AllocError>
-    ensures { OnOk result (line.new.items ≡ line.old.items ++ (decimal from ++ codes "->" ++ decimal to ++ codes " ")) }
+fn add_way(line: &mut LineText, from: u64, to: u64) -> Result<(), AllocError>
+    ensures { OnOk result (line.new ≡ line.old ++ (decimal from ++ codes "->" ++ decimal to ++ codes " ")) }
 {
     add_numbered(line, from, b"->")?;
     add_numbered(line, to, b" ")
 }
 
-pub(crate) fn add_message(line: &mut Vec<u8>, message: &Message) -> Result<(), AllocError>
-    ensures { OnOk result (line.new.items ≡ line.old.items ++ message_text message.now) }
+pub(crate) fn add_message(line: &mut LineText, message: &Message) -> Result<(), AllocError>
+    ensures { OnOk result (line.new ≡ line.old ++ message_text message.now) }
 {
     add_way(line, message.from, message.to)?;
     add_bytes(line, message.kind.message_type().text())?;

@@ -8,6 +8,7 @@ ghost use Rattle.rb_texts.specs.Entries.{place_text};
 ghost use Rattle.rb_texts.specs.Pieces.{piece_text, pieces_text};
 
 use itoa::Buffer;
+use rb_script::LineText;
 use std::alloc::AllocError;
 
 /// A piece of a line.
@@ -36,23 +37,23 @@ pub(crate) fn shown_if<'a>(shown: bool, text: &'a [u8]) -> &'a [u8]
 
 /// Adds the bytes to the line.
 #[inline(always)]
-pub(crate) fn add_bytes(line: &mut Vec<u8>, bytes: &[u8]) -> Result<(), AllocError>
-    ensures { OnOk result (line.new.items ≡ line.old.items ++ bytes.now) }
+pub(crate) fn add_bytes(line: &mut LineText, bytes: &[u8]) -> Result<(), AllocError>
+    ensures { OnOk result (line.new ≡ line.old ++ bytes.now) }
 {
     line.extend_from_slice(bytes)
 }
 
 #[inline(always)]
-fn add_byte(line: &mut Vec<u8>, byte: u8) -> Result<(), AllocError>
-    ensures { OnOk result (line.new.items ≡ line.old.items ++ byte ∷ []) }
+fn add_byte(line: &mut LineText, byte: u8) -> Result<(), AllocError>
+    ensures { OnOk result (line.new ≡ line.old ++ byte ∷ []) }
 {
     line.push(byte)?;
     Ok(())
 }
 
 /// Adds the pieces to the line.
-pub(crate) fn add_pieces(line: &mut Vec<u8>, pieces: &[Piece<'_>]) -> Result<(), AllocError>
-    ensures { OnOk result (line.new.items ≡ line.old.items ++ pieces_text pieces.now) }
+pub(crate) fn add_pieces(line: &mut LineText, pieces: &[Piece<'_>]) -> Result<(), AllocError>
+    ensures { OnOk result (line.new ≡ line.old ++ pieces_text pieces.now) }
 {
     for piece in pieces {
         add_piece(line, *piece)?;
@@ -60,8 +61,8 @@ pub(crate) fn add_pieces(line: &mut Vec<u8>, pieces: &[Piece<'_>]) -> Result<(),
     Ok(())
 }
 
-fn add_piece(line: &mut Vec<u8>, piece: Piece<'_>) -> Result<(), AllocError>
-    ensures { OnOk result (line.new.items ≡ line.old.items ++ piece_text piece.entry) }
+fn add_piece(line: &mut LineText, piece: Piece<'_>) -> Result<(), AllocError>
+    ensures { OnOk result (line.new ≡ line.old ++ piece_text piece.entry) }
 {
     match piece {
         Piece::Bytes(bytes) => add_bytes(line, bytes),
@@ -74,8 +75,8 @@ fn add_piece(line: &mut Vec<u8>, piece: Piece<'_>) -> Result<(), AllocError>
 }
 
 /// Adds a number in decimal digits.
-pub(crate) fn add_number(line: &mut Vec<u8>, n: u64) -> Result<(), AllocError>
-    ensures { OnOk result (line.new.items ≡ line.old.items ++ decimal n) }
+pub(crate) fn add_number(line: &mut LineText, n: u64) -> Result<(), AllocError>
+    ensures { OnOk result (line.new ≡ line.old ++ decimal n) }
 {
     if n < 10 {
         return add_byte(line, b'0' + n as u8);
@@ -86,18 +87,18 @@ pub(crate) fn add_number(line: &mut Vec<u8>, n: u64) -> Result<(), AllocError>
     add_digits(line, n)
 }
 
-fn add_two_digits(line: &mut Vec<u8>, n: u64) -> Result<(), AllocError>
+fn add_two_digits(line: &mut LineText, n: u64) -> Result<(), AllocError>
     requires least { 10 ≤ n }
     requires most { n < 100 }
-    ensures { OnOk result (line.new.items ≡ line.old.items ++ decimal n) }
+    ensures { OnOk result (line.new ≡ line.old ++ decimal n) }
 {
     add_bytes(line, &[b'0' + (n / 10) as u8, b'0' + (n % 10) as u8])
 }
 
 // It stands apart, since its buffer is cleared as it begins: a short number needs none.
 #[inline(never)]
-fn add_digits(line: &mut Vec<u8>, n: u64) -> Result<(), AllocError>
-    ensures { OnOk result (line.new.items ≡ line.old.items ++ decimal n) }
+fn add_digits(line: &mut LineText, n: u64) -> Result<(), AllocError>
+    ensures { OnOk result (line.new ≡ line.old ++ decimal n) }
 {
     let mut digits = Buffer::new();
     add_bytes(line, digits.format(n).as_bytes())
@@ -105,8 +106,8 @@ fn add_digits(line: &mut Vec<u8>, n: u64) -> Result<(), AllocError>
 
 /// Adds bytes, and a number after them.
 #[inline(always)]
-pub(crate) fn add_field(line: &mut Vec<u8>, name: &[u8], n: u64) -> Result<(), AllocError>
-    ensures { OnOk result (line.new.items ≡ line.old.items ++ (name.now ++ decimal n)) }
+pub(crate) fn add_field(line: &mut LineText, name: &[u8], n: u64) -> Result<(), AllocError>
+    ensures { OnOk result (line.new ≡ line.old ++ (name.now ++ decimal n)) }
 {
     add_bytes(line, name)?;
     add_number(line, n)
@@ -114,24 +115,24 @@ pub(crate) fn add_field(line: &mut Vec<u8>, name: &[u8], n: u64) -> Result<(), A
 
 /// Adds a number, and bytes after it.
 #[inline(always)]
-pub(crate) fn add_numbered(line: &mut Vec<u8>, n: u64, bytes: &[u8]) -> Result<(), AllocError>
-    ensures { OnOk result (line.new.items ≡ line.old.items ++ (decimal n ++ bytes.now)) }
+pub(crate) fn add_numbered(line: &mut LineText, n: u64, bytes: &[u8]) -> Result<(), AllocError>
+    ensures { OnOk result (line.new ≡ line.old ++ (decimal n ++ bytes.now)) }
 {
     add_number(line, n)?;
     add_bytes(line, bytes)
 }
 
 /// Adds a term and an index, with a slash between them.
-pub(crate) fn add_place(line: &mut Vec<u8>, term: u64, index: u64) -> Result<(), AllocError>
-    ensures { OnOk result (line.new.items ≡ line.old.items ++ place_text term index) }
+pub(crate) fn add_place(line: &mut LineText, term: u64, index: u64) -> Result<(), AllocError>
+    ensures { OnOk result (line.new ≡ line.old ++ place_text term index) }
 {
     add_number(line, term)?;
     add_byte(line, b'/')?;
     add_number(line, index)
 }
 
-fn add_ids(line: &mut Vec<u8>, ids: &[u64]) -> Result<(), AllocError>
-    ensures { OnOk result (line.new.items ≡ line.old.items ++ ids_text ids.now) }
+fn add_ids(line: &mut LineText, ids: &[u64]) -> Result<(), AllocError>
+    ensures { OnOk result (line.new ≡ line.old ++ ids_text ids.now) }
 {
     let Some((first, rest)) = ids.split_first() else {
         return Ok(());
@@ -189,8 +190,8 @@ fn numbered(b: u8) -> [u8; 4]
 }
 
 /// Adds the bytes in double quotes: what stands for itself in one piece, and each other byte by its number.
-pub(crate) fn add_quoted(line: &mut Vec<u8>, bytes: &[u8]) -> Result<(), AllocError>
-    ensures { OnOk result (line.new.items ≡ line.old.items ++ quoted bytes.now) }
+pub(crate) fn add_quoted(line: &mut LineText, bytes: &[u8]) -> Result<(), AllocError>
+    ensures { OnOk result (line.new ≡ line.old ++ quoted bytes.now) }
 {
     add_bytes(line, b"\"")?;
     let (front, mut rest) = split_plain(bytes);

@@ -10,6 +10,7 @@ ghost use Rattle.rb_texts.specs.States.{role_text, node_text, hard_state_text, l
 use crate::item::{LogLine, NodeLine};
 use crate::piece::{Piece, add_bytes, add_field, add_pieces, shown_if};
 use rb_message::{HardState, Role};
+use rb_script::LineText;
 use rb_tracker::{Progress, ProgressState};
 use std::alloc::AllocError;
 
@@ -24,8 +25,8 @@ pub(crate) fn role_name(role: Role) -> &'static [u8]
     }
 }
 
-pub(crate) fn add_node(line: &mut Vec<u8>, node: &NodeLine<'_>) -> Result<(), AllocError>
-    ensures { OnOk result (line.new.items ≡ line.old.items ++ node_text (plain_node node.now)) }
+pub(crate) fn add_node(line: &mut LineText, node: &NodeLine<'_>) -> Result<(), AllocError>
+    ensures { OnOk result (line.new ≡ line.old ++ node_text (plain_node node.now)) }
 {
     let pieces = [
         Piece::Number(node.id),
@@ -43,16 +44,16 @@ pub(crate) fn add_node(line: &mut Vec<u8>, node: &NodeLine<'_>) -> Result<(), Al
     add_pieces(line, &pieces)
 }
 
-pub(crate) fn add_hard_state(line: &mut Vec<u8>, hard: &HardState) -> Result<(), AllocError>
-    ensures { OnOk result (line.new.items ≡ line.old.items ++ hard_state_text hard.now) }
+pub(crate) fn add_hard_state(line: &mut LineText, hard: &HardState) -> Result<(), AllocError>
+    ensures { OnOk result (line.new ≡ line.old ++ hard_state_text hard.now) }
 {
     add_field(line, b"  hard term=", hard.term)?;
     add_field(line, b" vote=", hard.vote)?;
     add_field(line, b" commit=", hard.commit)
 }
 
-pub(crate) fn add_log(line: &mut Vec<u8>, log: &LogLine) -> Result<(), AllocError>
-    ensures { OnOk result (line.new.items ≡ line.old.items ++ log_text log.now) }
+pub(crate) fn add_log(line: &mut LineText, log: &LogLine) -> Result<(), AllocError>
+    ensures { OnOk result (line.new ≡ line.old ++ log_text log.now) }
 {
     let pieces = [
         Piece::Bytes(b"base="),
@@ -75,8 +76,8 @@ fn progress_state_name(state: ProgressState) -> &'static [u8]
 }
 
 // Adds what a view has in its state alone.
-fn add_under_way(line: &mut Vec<u8>, view: &Progress) -> Result<(), AllocError>
-    ensures { OnOk result (line.new.items ≡ line.old.items ++ under_way_text view.now.state view.now.waiting view.now.pending) }
+fn add_under_way(line: &mut LineText, view: &Progress) -> Result<(), AllocError>
+    ensures { OnOk result (line.new ≡ line.old ++ under_way_text view.now.state view.now.waiting view.now.pending) }
 {
     match view.state() {
         ProgressState::Probe => add_bytes(line, shown_if(view.waiting(), b" waiting")),
@@ -85,8 +86,8 @@ fn add_under_way(line: &mut Vec<u8>, view: &Progress) -> Result<(), AllocError>
     }
 }
 
-pub(crate) fn add_progress(line: &mut Vec<u8>, id: u64, view: &Progress) -> Result<(), AllocError>
-    ensures { OnOk result (line.new.items ≡ line.old.items ++ progress_text id view.now) }
+pub(crate) fn add_progress(line: &mut LineText, id: u64, view: &Progress) -> Result<(), AllocError>
+    ensures { OnOk result (line.new ≡ line.old ++ progress_text id view.now) }
 {
     let pieces = [
         Piece::Number(id),

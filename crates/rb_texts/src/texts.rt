@@ -17,15 +17,8 @@ use crate::states::{add_hard_state, add_log, add_node, add_progress};
 use rb_level::Level;
 use rb_message::Message;
 use rb_raftlog::Entry;
-use rb_script::{Lines, WrittenLine};
+use rb_script::{LineText, Lines, WrittenLine};
 use std::alloc::AllocError;
-
-// Most lines are shorter, and a line that is longer takes more room. The room of a list's first line is the list's from then on: most lists
-// of two or three lines fit in it.
-const ROOM: usize = 104;
-
-// `ok` stands alone.
-const OK_ROOM: usize = 3;
 
 /// Adds the line of the item, or nothing where the level hides it. Where memory runs out, nothing is known of what
 /// `lines` holds then: it is only good for being dropped.
@@ -44,14 +37,7 @@ impl WrittenLine for Item<'_> {
 
     ghost bytes = { λ item. item_text (plain_item item) };
 
-    fn room(&self) -> usize {
-        match self {
-            Item::NothingElse => OK_ROOM,
-            _ => ROOM,
-        }
-    }
-
-    fn add_to(&self, text: &mut Vec<u8>) -> Result<(), AllocError> {
+    fn add_to(&self, text: &mut LineText) -> Result<(), AllocError> {
         add_item(text, self)
     }
 }
@@ -68,18 +54,18 @@ fn is_shown(level: Level, item: &Item<'_>) -> bool
 
 // Adds a number between two texts.
 fn add_counted<'a>(
-    line: &mut Vec<u8>,
+    line: &mut LineText,
     before: &'a [u8],
     n: u64,
     after: &'a [u8],
 ) -> Result<(), AllocError>
-    ensures { OnOk result (line.new.items ≡ line.old.items ++ (before.now ++ decimal n ++ after.now)) }
+    ensures { OnOk result (line.new ≡ line.old ++ (before.now ++ decimal n ++ after.now)) }
 {
     add_pieces(line, &[Piece::Field(before, n), Piece::Bytes(after)])
 }
 
-fn add_snapshot(line: &mut Vec<u8>, term: u64, index: u64) -> Result<(), AllocError>
-    ensures { OnOk result (line.new.items ≡ line.old.items ++ (codes "  snapshot " ++ place_text term index)) }
+fn add_snapshot(line: &mut LineText, term: u64, index: u64) -> Result<(), AllocError>
+    ensures { OnOk result (line.new ≡ line.old ++ (codes "  snapshot " ++ place_text term index)) }
 {
     add_pieces(
         line,
@@ -89,12 +75,12 @@ fn add_snapshot(line: &mut Vec<u8>, term: u64, index: u64) -> Result<(), AllocEr
 
 // Adds a text, and an entry.
 fn add_entry_after<'a>(
-    line: &mut Vec<u8>,
+    line: &mut LineText,
     text: &'a [u8],
     index: u64,
     entry: &'a Entry,
 ) -> Result<(), AllocError>
-    ensures { OnOk result (line.new.items ≡ line.old.items ++ (text.now ++ entry_text index entry.now)) }
+    ensures { OnOk result (line.new ≡ line.old ++ (text.now ++ entry_text index entry.now)) }
 {
     add_bytes(line, text)?;
     add_entry(line, index, entry)
@@ -102,12 +88,12 @@ fn add_entry_after<'a>(
 
 // Adds an entry of a log, and its mark where it isn't durable.
 fn add_log_entry(
-    line: &mut Vec<u8>,
+    line: &mut LineText,
     index: u64,
     entry: &Entry,
     unsaved: bool,
 ) -> Result<(), AllocError>
-    ensures { OnOk result (line.new.items ≡ line.old.items ++ (entry_text index entry.now ++ unsaved_text unsaved)) }
+    ensures { OnOk result (line.new ≡ line.old ++ (entry_text index entry.now ++ unsaved_text unsaved)) }
 {
     add_entry(line, index, entry)?;
     add_bytes(line, shown_if(unsaved, b" unsaved"))
@@ -115,25 +101,25 @@ fn add_log_entry(
 
 // Adds a text, and a message.
 fn add_message_after<'a>(
-    line: &mut Vec<u8>,
+    line: &mut LineText,
     text: &'a [u8],
     message: &'a Message,
 ) -> Result<(), AllocError>
-    ensures { OnOk result (line.new.items ≡ line.old.items ++ (text.now ++ message_text message.now)) }
+    ensures { OnOk result (line.new ≡ line.old ++ (text.now ++ message_text message.now)) }
 {
     add_bytes(line, text)?;
     add_message(line, message)
 }
 
-fn add_moved(line: &mut Vec<u8>, verb: Verb, message: &Message) -> Result<(), AllocError>
-    ensures { OnOk result (line.new.items ≡ line.old.items ++ (verb_text verb ++ message_text message.now)) }
+fn add_moved(line: &mut LineText, verb: Verb, message: &Message) -> Result<(), AllocError>
+    ensures { OnOk result (line.new ≡ line.old ++ (verb_text verb ++ message_text message.now)) }
 {
     add_message_after(line, verb_name(verb), message)
 }
 
 #[tactic(auto, unfolding(crate::specs::Texts::item_text))]
-fn add_item(line: &mut Vec<u8>, item: &Item<'_>) -> Result<(), AllocError>
-    ensures { OnOk result (line.new.items ≡ line.old.items ++ item_text (plain_item item.now)) }
+fn add_item(line: &mut LineText, item: &Item<'_>) -> Result<(), AllocError>
+    ensures { OnOk result (line.new ≡ line.old ++ item_text (plain_item item.now)) }
 {
     match item {
         Item::NothingElse => add_bytes(line, b"ok"),

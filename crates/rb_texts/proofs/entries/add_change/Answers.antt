@@ -7,5 +7,5 @@ pub returns : goal.returns
 returns c =
     let name = rw c.transition_name.ensures at c.in_ok-add_pieces.ensures in
     on_ok_weaker c.add_words.result
-    (λ e. added_twice c.args.line.now.items c.add_pieces.new.line.items c.add_words.new.line.items _ _ name e ∙ ap (λ l. c.args.line.now.items ++ l) (simp (append_assoc, append-nil)))
+    (λ e. added_twice c.args.line.now c.add_pieces.new.line c.add_words.new.line _ _ name e ∙ ap (λ l. c.args.line.now ++ l) (simp (append_assoc, append-nil)))
     c.add_words.ensures

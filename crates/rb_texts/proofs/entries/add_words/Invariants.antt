@@ -5,4 +5,4 @@ use Rattle.rb_texts.specs.Entries.{change_word}
 use Rattle.rb_texts.proofs.entries.add_words.Given as goal
 
 abbrev pub invariant-loop-word : goal.invariant-loop-word
-invariant-loop-word l = l.line.items ≡ l.initial.line.items ++ flat_map change_word (take l.word-index l.words)
+invariant-loop-word l = l.line ≡ l.initial.line ++ flat_map change_word (take l.word-index l.words)

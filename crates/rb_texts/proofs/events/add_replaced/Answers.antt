@@ -3,4 +3,4 @@ use Rattle.std.proofs.lemmas.Result.{on_ok_weaker}
 use Rattle.rb_texts.proofs.events.add_replaced.Goals as goal
 
 pub returns : goal.returns
-returns c = on_ok_weaker c.add_pieces.result (λ e. e ∙ ap (λ l. c.args.line.now.items ++ l) (simp (append_assoc, append-nil, c.replaced_name.ensures))) c.add_pieces.ensures
+returns c = on_ok_weaker c.add_pieces.result (λ e. e ∙ ap (λ l. c.args.line.now ++ l) (simp (append_assoc, append-nil, c.replaced_name.ensures))) c.add_pieces.ensures

@@ -6,4 +6,4 @@ use Rattle.rb_texts.proofs.piece.add_field.Goals as goal
 pub returns : goal.returns
 returns c =
     on_ok_weaker c.add_number.result
-    (added_twice c.args.line.now.items c.add_bytes.new.line.items c.add_number.new.line.items c.args.name.now (decimal c.args.n) c.in_ok-add_bytes.ensures) c.add_number.ensures
+    (added_twice c.args.line.now c.add_bytes.new.line c.add_number.new.line c.args.name.now (decimal c.args.n) c.in_ok-add_bytes.ensures) c.add_number.ensures

@@ -5,4 +5,4 @@ use Rattle.rb_texts.proofs.PieceLaws.{comma_before}
 use Rattle.rb_texts.proofs.piece.add_ids.Given as goal
 
 abbrev pub invariant-loop-id : goal.invariant-loop-id
-invariant-loop-id l = l.line.items ≡ l.initial.line.items ++ flat_map comma_before (take l.id-index l.rest)
+invariant-loop-id l = l.line ≡ l.initial.line ++ flat_map comma_before (take l.id-index l.rest)

@@ -6,4 +6,4 @@ use Rattle.rb_texts.proofs.piece.add_numbered.Goals as goal
 pub returns : goal.returns
 returns c =
     on_ok_weaker c.add_bytes.result
-    (added_twice c.args.line.now.items c.add_number.new.line.items c.add_bytes.new.line.items (decimal c.args.n) c.args.bytes.now c.in_ok-add_number.ensures) c.add_bytes.ensures
+    (added_twice c.args.line.now c.add_number.new.line c.add_bytes.new.line (decimal c.args.n) c.args.bytes.now c.in_ok-add_number.ensures) c.add_bytes.ensures

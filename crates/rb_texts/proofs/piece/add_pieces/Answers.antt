@@ -4,4 +4,4 @@ use Rattle.rb_texts.proofs.piece.add_pieces.Goals as goal
 
 pub loop-piece-preserved : goal.loop-piece-preserved
 loop-piece-preserved c =
-    added_more piece_text c.args.pieces.now c.loop-piece.piece-index _ c.args.line.now.items c.loop-piece.line.items c.add_piece.new.line.items c.loop-piece-test.true c.loop-piece.invariant c.in_ok-add_piece.ensures
+    added_more piece_text c.args.pieces.now c.loop-piece.piece-index _ c.args.line.now c.loop-piece.line c.add_piece.new.line c.loop-piece-test.true c.loop-piece.invariant c.in_ok-add_piece.ensures

@@ -4,4 +4,4 @@ use Rattle.rb_texts.specs.Pieces.{pieces_text}
 use Rattle.rb_texts.proofs.piece.add_pieces.Given as goal
 
 abbrev pub invariant-loop-piece : goal.invariant-loop-piece
-invariant-loop-piece l = l.line.items ≡ l.initial.line.items ++ pieces_text (take l.piece-index l.pieces)
+invariant-loop-piece l = l.line ≡ l.initial.line ++ pieces_text (take l.piece-index l.pieces)

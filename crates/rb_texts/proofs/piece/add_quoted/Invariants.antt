@@ -7,7 +7,7 @@ use Rattle.rb_texts.proofs.piece.add_quoted.Given as goal
 abbrev pub invariant-loop-b : goal.invariant-loop-b
 invariant-loop-b l = record {
   next : begins_numbered l.rest ≡ true;
-  whole : l.line.items ++ flat_map escaped l.rest ≡ l.fn.line.items ++ 34 ∷ flat_map escaped l.fn.bytes;
+  whole : l.line ++ flat_map escaped l.rest ≡ l.fn.line ++ 34 ∷ flat_map escaped l.fn.bytes;
 }
 
 abbrev pub decreases-loop-b : goal.decreases-loop-b

@@ -1,0 +1,240 @@
+//! The text that lines are written into.
+
+ghost use Rattle.std.specs.Prelude.{◌≡◌, [], ◌∷◌, ◌++◌, length, OnOk, IfOk, OnErr};
+ghost use Rattle.rb_script.specs.Lines.{line_text};
+ghost use Rattle.rb_script.specs.LineTexts.{kept_bytes};
+
+use crate::short_text::{SHORT, ShortText};
+use std::alloc::{AllocError, Global};
+use std::marker::Model;
+
+// The room of a text that becomes longer: most texts of two or three lines fit in it.
+const ROOM: usize = 104;
+
+/// The text of lines. A short one takes no memory.
+pub struct LineText {
+    kept: Bytes,
+    // where memory comes from
+    alloc: Global,
+}
+
+// Written out, so that giving one back is a call wherever it is owned, and is proved here alone.
+impl Drop for LineText {
+    fn drop(self) {
+        let LineText { kept: _, alloc: _ } = self;
+    }
+}
+
+/// Where the bytes of a text are kept.
+pub(crate) enum Bytes {
+    /// In the value itself.
+    Short(ShortText),
+    /// In memory of their own.
+    Long(Vec<u8>),
+}
+
+// Written out, so that giving one back is a call wherever it is owned, and is proved here alone.
+impl Drop for Bytes {
+    fn drop(self) {
+        match self {
+            Bytes::Short(_) | Bytes::Long(_) => {}
+        }
+    }
+}
+
+impl Model for LineText {
+    ghost use Rattle.std.specs.Prelude.{List, ℕ};
+    ghost use Rattle.rb_script.specs.LineTexts.{kept_bytes};
+
+    ghost Value = { List ℕ };
+
+    ghost view = { λ t. kept_bytes t.kept };
+}
+
+impl LineText {
+    /// No bytes. Takes no memory.
+    pub(crate) fn new(alloc: Global) -> Self
+        ensures { result ≡ [] }
+    {
+        LineText {
+            kept: Bytes::Short(ShortText::new()),
+            alloc,
+        }
+    }
+
+    /// No bytes, with room for so many.
+    pub(crate) fn with_room(alloc: Global, room: usize) -> Result<Self, AllocError>
+        ensures { IfOk result (λ text. text ≡ []) }
+    {
+        if room <= SHORT {
+            return Ok(LineText::new(alloc));
+        }
+        Ok(LineText {
+            kept: Bytes::Long(Vec::with_capacity(alloc, room)?),
+            alloc,
+        })
+    }
+
+    /// These bytes.
+    pub(crate) fn of(alloc: Global, bytes: &[u8]) -> Result<Self, AllocError>
+        ensures { IfOk result (λ text. text ≡ bytes.now) }
+    {
+        let mut text = LineText::with_room(alloc, bytes.len())?;
+        text.extend_from_slice(bytes)?;
+        Ok(text)
+    }
+
+    /// Where memory comes from.
+    pub(crate) fn allocator(&self) -> Global {
+        self.alloc
+    }
+
+    /// How many bytes there are.
+    pub fn len(&self) -> usize
+        ensures { result ≡ length self.now }
+    {
+        match &self.kept {
+            Bytes::Short(short) => short.len(),
+            Bytes::Long(long) => long.len(),
+        }
+    }
+
+    /// The bytes.
+    pub fn as_slice(&self) -> &[u8]
+        ensures { result.now ≡ self.now }
+    {
+        match &self.kept {
+            Bytes::Short(short) => short.as_slice(),
+            Bytes::Long(long) => long.as_slice(),
+        }
+    }
+
+    /// Adds a byte at the end.
+    #[inline]
+    pub fn push(&mut self, byte: u8) -> Result<(), AllocError>
+        ensures ok { OnOk result (self.new ≡ self.old ++ byte ∷ []) }
+        ensures err { OnErr result (self.new ≡ self.old) }
+    {
+        self.kept.push(self.alloc, byte)
+    }
+
+    /// Adds bytes at the end.
+    #[inline]
+    pub fn extend_from_slice(&mut self, bytes: &[u8]) -> Result<(), AllocError>
+        ensures ok { OnOk result (self.new ≡ self.old ++ bytes.now) }
+        ensures err { OnErr result (self.new ≡ self.old) }
+    {
+        self.kept.extend_from_slice(self.alloc, bytes)
+    }
+
+    /// Adds a line with its LF at the end.
+    pub(crate) fn push_line(&mut self, line: &[u8]) -> Result<(), AllocError>
+        ensures ok { OnOk result (self.new ≡ self.old ++ line_text line.now) }
+        ensures err { OnErr result (self.new ≡ self.old) }
+    {
+        self.kept.push_line(self.alloc, line)
+    }
+
+    /// Takes all bytes away.
+    pub(crate) fn clear(&mut self)
+        ensures { self.new ≡ [] }
+    {
+        self.kept = Bytes::Short(ShortText::new());
+    }
+}
+
+impl Bytes {
+    ghost use Rattle.std.specs.Prelude.{◌≡◌, [], ◌∷◌, ◌++◌, OnOk, OnErr};
+    ghost use Rattle.rb_script.specs.Lines.{line_text};
+    ghost use Rattle.rb_script.specs.LineTexts.{kept_bytes};
+
+    #[inline]
+    fn push(&mut self, alloc: Global, byte: u8) -> Result<(), AllocError>
+        ensures ok { OnOk result (kept_bytes self.new ≡ kept_bytes self.old ++ byte ∷ []) }
+        ensures err { OnErr result (kept_bytes self.new ≡ kept_bytes self.old) }
+    {
+        match self {
+            Bytes::Short(short) => {
+                if short.len() < SHORT {
+                    short.push(byte);
+                } else {
+                    *self = Bytes::Long(longer(alloc, short, &[byte])?);
+                }
+                Ok(())
+            }
+            Bytes::Long(long) => {
+                long.push(byte)?;
+                Ok(())
+            }
+        }
+    }
+
+    #[inline]
+    fn extend_from_slice(&mut self, alloc: Global, bytes: &[u8]) -> Result<(), AllocError>
+        ensures ok { OnOk result (kept_bytes self.new ≡ kept_bytes self.old ++ bytes.now) }
+        ensures err { OnErr result (kept_bytes self.new ≡ kept_bytes self.old) }
+    {
+        match self {
+            Bytes::Short(short) => {
+                if bytes.len() <= SHORT - short.len() {
+                    short.extend_from_slice(bytes);
+                } else {
+                    *self = Bytes::Long(longer(alloc, short, bytes)?);
+                }
+                Ok(())
+            }
+            Bytes::Long(long) => long.extend_from_slice(bytes),
+        }
+    }
+
+    fn push_line(&mut self, alloc: Global, line: &[u8]) -> Result<(), AllocError>
+        ensures ok { OnOk result (kept_bytes self.new ≡ kept_bytes self.old ++ line_text line.now) }
+        ensures err { OnErr result (kept_bytes self.new ≡ kept_bytes self.old) }
+    {
+        match self {
+            Bytes::Short(short) => {
+                if line.len() < SHORT - short.len() {
+                    short.extend_from_slice(line);
+                    short.push(b'\n');
+                } else {
+                    *self = Bytes::Long(longer_line(alloc, short, line)?);
+                }
+                Ok(())
+            }
+            Bytes::Long(long) => add_line(long, line),
+        }
+    }
+}
+
+// A text that no longer fits in the value, with more bytes, and room for an LF behind them. Few texts come here, and each once.
+#[cold]
+#[inline(never)]
+fn longer(alloc: Global, short: &ShortText, bytes: &[u8]) -> Result<Vec<u8>, AllocError>
+    ensures { IfOk result (λ long. long.items ≡ short.now ++ bytes.now) }
+{
+    let most = short.len().saturating_add(bytes.len()).saturating_add(1);
+    let mut long = Vec::with_capacity(alloc, most.max(ROOM))?;
+    long.extend_from_slice(short.as_slice())?;
+    long.extend_from_slice(bytes)?;
+    Ok(long)
+}
+
+// The same, with a line more.
+fn longer_line(alloc: Global, short: &ShortText, line: &[u8]) -> Result<Vec<u8>, AllocError>
+    ensures { IfOk result (λ long. long.items ≡ short.now ++ line_text line.now) }
+{
+    let mut long = longer(alloc, short, line)?;
+    long.push(b'\n')?;
+    Ok(long)
+}
+
+// Adds the line with its LF. Room comes first, so that a refusal changes nothing.
+fn add_line(long: &mut Vec<u8>, line: &[u8]) -> Result<(), AllocError>
+    ensures ok { OnOk result (long.new.items ≡ long.old.items ++ line_text line.now) }
+    ensures err { OnErr result (long.new.items ≡ long.old.items) }
+{
+    long.reserve(line.len() + 1)?;
+    long.extend_from_slice(line)?;
+    long.push(b'\n')?;
+    Ok(())
+}

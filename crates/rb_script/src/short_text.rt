@@ -1,0 +1,81 @@
+//! A few bytes, in the value itself.
+
+ghost use Rattle.std.specs.Prelude.{◌≡◌, ◌+◌, ◌<◌, ◌≤◌, [], ◌∷◌, ◌++◌, length, take};
+
+use std::marker::Model;
+
+/// How many bytes a short text has at most: `ok`, an error, an event, or what a node does in a line or two.
+pub(crate) const SHORT: usize = 46;
+
+/// At most so many bytes, with how many there are in one more.
+#[derive(Drop)]
+pub(crate) struct ShortText {
+    bytes: [u8; SHORT],
+    len: u8,
+}
+
+impl Model for ShortText {
+    ghost use Rattle.std.specs.Prelude.{List, ℕ, take};
+    ghost use Rattle.rb_script.specs.ShortTexts.{IsShort};
+
+    ghost Value = { List ℕ };
+
+    ghost view = { λ s. take s.len s.bytes };
+
+    ghost invariant = { λ s. IsShort s.bytes s.len };
+}
+
+impl ShortText {
+    /// No bytes.
+    pub(crate) fn new() -> ShortText
+        ensures { result ≡ [] }
+    {
+        ShortText {
+            bytes: [0; SHORT],
+            len: 0,
+        }
+    }
+
+    /// How many bytes there are.
+    pub(crate) fn len(&self) -> usize
+        ensures len { result ≡ length self.now }
+        ensures most { result ≤ SHORT }
+    {
+        self.len as usize
+    }
+
+    /// The bytes.
+    pub(crate) fn as_slice(&self) -> &[u8]
+        ensures { result.now ≡ self.now }
+    {
+        &self.bytes[..self.len as usize]
+    }
+
+    /// Adds bytes at the end.
+    pub(crate) fn extend_from_slice(&mut self, bytes: &[u8])
+        requires { length self.old + length bytes.now ≤ SHORT }
+        ensures { self.new ≡ self.old ++ bytes.now }
+    {
+        let start = self.len as usize;
+        put_at(&mut self.bytes, start, bytes);
+        self.len = (start + bytes.len()) as u8;
+    }
+
+    /// Adds a byte at the end.
+    pub(crate) fn push(&mut self, byte: u8)
+        requires { length self.old < SHORT }
+        ensures { self.new ≡ self.old ++ byte ∷ [] }
+    {
+        self.bytes[self.len as usize] = byte;
+        self.len += 1;
+    }
+}
+
+// Puts the bytes there.
+fn put_at(all: &mut [u8], start: usize, bytes: &[u8])
+    requires { start + length bytes.now ≤ length all.old }
+    ensures len { length all.new ≡ length all.old }
+    ensures put { take (start + length bytes.now) all.new ≡ take start all.old ++ bytes.now }
+{
+    all[start..start + bytes.len()].copy_from_slice(bytes);
+}
