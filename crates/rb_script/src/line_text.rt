@@ -90,6 +90,7 @@ impl LineText {
     }
 
     /// How many bytes there are.
+    #[inline(always)]
     pub fn len(&self) -> usize
         ensures { result ≡ length self.now }
     {
@@ -100,6 +101,7 @@ impl LineText {
     }
 
     /// The bytes.
+    #[inline(always)]
     pub fn as_slice(&self) -> &[u8]
         ensures { result.now ≡ self.now }
     {
@@ -110,7 +112,7 @@ impl LineText {
     }
 
     /// Adds a byte at the end.
-    #[inline]
+    #[inline(always)]
     pub fn push(&mut self, byte: u8) -> Result<(), AllocError>
         ensures ok { OnOk result (self.new ≡ self.old ++ byte ∷ []) }
         ensures err { OnErr result (self.new ≡ self.old) }
@@ -119,7 +121,7 @@ impl LineText {
     }
 
     /// Adds bytes at the end.
-    #[inline]
+    #[inline(always)]
     pub fn extend_from_slice(&mut self, bytes: &[u8]) -> Result<(), AllocError>
         ensures ok { OnOk result (self.new ≡ self.old ++ bytes.now) }
         ensures err { OnErr result (self.new ≡ self.old) }
@@ -148,39 +150,55 @@ impl Bytes {
     ghost use Rattle.rb_script.specs.Lines.{line_text};
     ghost use Rattle.rb_script.specs.LineTexts.{kept_bytes};
 
-    #[inline]
+    #[inline(always)]
     fn push(&mut self, alloc: Global, byte: u8) -> Result<(), AllocError>
         ensures ok { OnOk result (kept_bytes self.new ≡ kept_bytes self.old ++ byte ∷ []) }
         ensures err { OnErr result (kept_bytes self.new ≡ kept_bytes self.old) }
     {
         match self {
-            Bytes::Short(short) => {
-                if short.len() < SHORT {
-                    short.push(byte);
-                } else {
-                    *self = Bytes::Long(longer(alloc, short, &[byte])?);
-                }
-                Ok(())
-            }
             Bytes::Long(long) => {
                 long.push(byte)?;
                 Ok(())
             }
+            Bytes::Short(short) => {
+                if short.len() < SHORT {
+                    short.push(byte);
+                    Ok(())
+                } else {
+                    self.grow(alloc, &[byte])
+                }
+            }
         }
     }
 
-    #[inline]
+    #[inline(always)]
     fn extend_from_slice(&mut self, alloc: Global, bytes: &[u8]) -> Result<(), AllocError>
         ensures ok { OnOk result (kept_bytes self.new ≡ kept_bytes self.old ++ bytes.now) }
         ensures err { OnErr result (kept_bytes self.new ≡ kept_bytes self.old) }
     {
         match self {
+            Bytes::Long(long) => long.extend_from_slice(bytes),
             Bytes::Short(short) => {
                 if bytes.len() <= SHORT - short.len() {
                     short.extend_from_slice(bytes);
+                    Ok(())
                 } else {
-                    *self = Bytes::Long(longer(alloc, short, bytes)?);
+                    self.grow(alloc, bytes)
                 }
+            }
+        }
+    }
+
+    // Adds bytes to a text that has no place for them in the value. Few texts come here, and each once.
+    #[cold]
+    #[inline(never)]
+    fn grow(&mut self, alloc: Global, bytes: &[u8]) -> Result<(), AllocError>
+        ensures ok { OnOk result (kept_bytes self.new ≡ kept_bytes self.old ++ bytes.now) }
+        ensures err { OnErr result (kept_bytes self.new ≡ kept_bytes self.old) }
+    {
+        match self {
+            Bytes::Short(short) => {
+                *self = Bytes::Long(longer(alloc, short, bytes)?);
                 Ok(())
             }
             Bytes::Long(long) => long.extend_from_slice(bytes),
@@ -206,9 +224,7 @@ impl Bytes {
     }
 }
 
-// A text that no longer fits in the value, with more bytes, and room for an LF behind them. Few texts come here, and each once.
-#[cold]
-#[inline(never)]
+// A text that no longer fits in the value, with more bytes, and room for an LF behind them.
 fn longer(alloc: Global, short: &ShortText, bytes: &[u8]) -> Result<Vec<u8>, AllocError>
     ensures { IfOk result (λ long. long.items ≡ short.now ++ bytes.now) }
 {

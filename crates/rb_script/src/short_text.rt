@@ -37,6 +37,7 @@ impl ShortText {
     }
 
     /// How many bytes there are.
+    #[inline(always)]
     pub(crate) fn len(&self) -> usize
         ensures len { result ≡ length self.now }
         ensures most { result ≤ SHORT }
@@ -45,6 +46,7 @@ impl ShortText {
     }
 
     /// The bytes.
+    #[inline(always)]
     pub(crate) fn as_slice(&self) -> &[u8]
         ensures { result.now ≡ self.now }
     {
@@ -52,6 +54,7 @@ impl ShortText {
     }
 
     /// Adds bytes at the end.
+    #[inline(always)]
     pub(crate) fn extend_from_slice(&mut self, bytes: &[u8])
         requires { length self.old + length bytes.now ≤ SHORT }
         ensures { self.new ≡ self.old ++ bytes.now }
@@ -62,6 +65,7 @@ impl ShortText {
     }
 
     /// Adds a byte at the end.
+    #[inline(always)]
     pub(crate) fn push(&mut self, byte: u8)
         requires { length self.old < SHORT }
         ensures { self.new ≡ self.old ++ byte ∷ [] }
@@ -72,6 +76,7 @@ impl ShortText {
 }
 
 // Puts the bytes there.
+#[inline(always)]
 fn put_at(all: &mut [u8], start: usize, bytes: &[u8])
     requires { start + length bytes.now ≤ length all.old }
     ensures len { length all.new ≡ length all.old }
