@@ -8,7 +8,7 @@ use Rattle.rb_script.specs.Reads.{Reads}
 use Rattle.rb_script.proofs.ScriptLaws.{read_complete}
 use Rattle.rb_replay.specs.Report.{same_lines}
 use Rattle.rb_replay.proofs.DifferingLaws.{same_lines-Decides}
-use Rattle.rb_check.proofs.PieceLaws.{drop-get}
+use Rattle.rb_text.proofs.SentLaws.{drop-get}
 use Rattle.rb_checked.specs.Accepting.{accepted_lines}
 use Rattle.rb_checked.specs.Errors.{is_unexpected}
 use Rattle.rb_document.specs.declared.position.Encoding.{Encoding}

@@ -8,7 +8,7 @@ use Rattle.rb_script.specs.Reads.{Reads}
 use Rattle.rb_script.proofs.ScriptLaws.{read_complete}
 use Rattle.rb_replay.specs.Run.{outputs}
 use Rattle.rb_look.specs.Looks.{looked}
-use Rattle.rb_check.proofs.PieceLaws.{drop-get}
+use Rattle.rb_text.proofs.SentLaws.{drop-get}
 use Rattle.rb_document.specs.declared.position.Encoding.{Encoding}
 use Rattle.rb_document.specs.declared.position.Position.{Position}
 use Rattle.rb_offers.specs.Heads.{heads_of}

@@ -1,49 +1,6 @@
--- A text that is written in pieces.
-use Rattle.std.proofs.Common.{◌≡◌, ℕ, List, [], ◌∷◌, ◌++◌, Option, Result, Ok, Err, ap, sym, subst, ◌∙◌, append_assoc, append-nil}
-use Rattle.std.specs.Prelude.{IsErr}
-use Rattle.std.specs.Io.KnownBytes.{Appends}
-use Rattle.std.proofs.KnownBytes.{Appends-nil, Appends-trans}
-use Rattle.rb_script.specs.declared.sink.WriteFault.{WriteFault}
+-- A text by its pieces.
+use Rattle.std.proofs.Common.{◌≡◌, ℕ, List, [], ◌∷◌, ◌++◌, ◌∙◌, append_assoc}
 use Rattle.rb_script.specs.Lines.{line_text}
-use Rattle.rb_script.specs.Writes.{AppendsFront, Writes}
-
--- a front of the text went out, and the rest is still to go
-pub record Sent (old new : Option (List ℕ)) (text rest : List ℕ) : Type 0 where
-  pub front : List ℕ
-  pub parts : text ≡ front ++ rest
-  pub appended : Appends old new front
-
-pub sent_none : (old : Option (List ℕ)) (text rest : List ℕ) → text ≡ rest → Sent old old text rest
-sent_none old text rest e = record { front = []; parts = e; appended = Appends-nil old }
-
--- a piece went out
-pub sent_piece : {old mid : Option (List ℕ)} {text : List ℕ} (new : Option (List ℕ)) (a rest : List ℕ) → Sent old mid text (a ++ rest) → Appends mid new a → Sent old new text rest
-sent_piece {old} {mid} new a rest s h = record {
-  front = s.front ++ a;
-  parts = s.parts ∙ sym (append_assoc s.front a rest);
-  appended = Appends-trans old mid new s.front a s.appended h;
-}
-
--- a beginning of a piece went out
-pub piece_front : {old mid : Option (List ℕ)} {text : List ℕ} (new : Option (List ℕ)) (a rest : List ℕ) → Sent old mid text (a ++ rest) → AppendsFront mid new a → AppendsFront old new text
-piece_front {old} {mid} new a rest s f = record {
-  front = s.front ++ f.front;
-  rest = f.rest ++ rest;
-  parts = s.parts ∙ ap (λ (l : List ℕ). s.front ++ (l ++ rest)) f.parts ∙ ap (λ (l : List ℕ). s.front ++ l) (append_assoc f.front f.rest rest) ∙ sym (append_assoc s.front f.front (f.rest ++ rest));
-  appended = Appends-trans old mid new s.front f.front s.appended f.appended;
-}
-
--- the write of a piece failed, and so does the whole
-pub piece_exit : {X : Type 0} {old mid : Option (List ℕ)} {text : List ℕ} (r : Result X WriteFault) (new : Option (List ℕ)) (a rest : List ℕ) → IsErr r → Sent old mid text (a ++ rest) → AppendsFront mid new a → Writes r old new text
-piece_exit (Ok x) new a rest is s f = absurd cc
-piece_exit (Err d) new a rest is s f = piece_front new a rest s f
-
--- the last piece, whatever its write answered
-pub piece_last : {X : Type 0} {old mid : Option (List ℕ)} {text : List ℕ} (r : Result X WriteFault) (new : Option (List ℕ)) (a : List ℕ) → Sent old mid text a → Writes r mid new a → Writes r old new text
-piece_last {old = old} {mid = mid} (Ok x) new a s h = subst (λ (l : List ℕ). Appends old new l) (sym s.parts) (Appends-trans old mid new s.front a s.appended h)
-piece_last {old = old} {mid = mid} {text = text} (Err d) new a s h = piece_front new a [] (subst (λ (l : List ℕ). Sent old mid text l) (sym (append-nil a)) s) h
-
--- ---- texts by their pieces
 
 pub done_pieces : (a e b m : List ℕ) → line_text (a ++ e ++ b ++ m) ≡ a ++ (e ++ (b ++ (m ++ 10 ∷ [])))
 done_pieces a e b m = append_assoc (a ++ e ++ b) m (10 ∷ []) ∙ append_assoc (a ++ e) b (m ++ 10 ∷ []) ∙ append_assoc a e (b ++ (m ++ 10 ∷ []))

@@ -1,4 +1,3 @@
-pub mod PieceLaws
 pub mod StepLaws
 pub mod HeadLaws
 pub mod ShownLaws

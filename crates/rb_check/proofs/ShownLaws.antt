@@ -10,7 +10,7 @@ use Rattle.rb_check.specs.declared.side.Side.{Side}
 use Rattle.rb_check.specs.Shown.{last_or, begins_fold, needs_mark, marked, dollar_sign, line_shown}
 use Rattle.rb_check.specs.Diffs.{between, on_side, diff_text}
 use Rattle.rb_check.specs.Whys.{told_line, told_lines}
-use Rattle.rb_check.proofs.PieceLaws.{drop-get}
+use Rattle.rb_text.proofs.SentLaws.{drop-get}
 
 -- ---- the mark at the end
 

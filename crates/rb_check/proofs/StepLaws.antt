@@ -4,7 +4,7 @@ use Rattle.std.specs.Prelude.{slice_get}
 use Rattle.rb_script.specs.Lines.{Line}
 use Rattle.rb_check.specs.Steps.{is_delivered}
 use Rattle.rb_check.specs.Whys.{told_step, told_steps}
-use Rattle.rb_check.proofs.PieceLaws.{drop-get}
+use Rattle.rb_text.proofs.SentLaws.{drop-get}
 
 -- one line more
 pub steps-step : (delivered : Bool) (why ls : List Line) (i : ℕ) (line : Line) → slice_get ls i ≡ Some line

@@ -1,6 +1,5 @@
 -- The pieces that a text is put together of. (This project's.)
 use Rattle.std.specs.Prelude.{ℕ, ◌==◌, if◌then◌else◌, List, [], ◌++◌, codes, decimal}
-use Rattle.std.specs.List.{flat_map}
 use Rattle.rb_check.specs.declared.piece.Piece.{Piece}
 use Rattle.rb_check.specs.declared.piece.Piece.TheVariants as pieces
 
@@ -16,6 +15,3 @@ abbrev pub piece_text : Piece → List ℕ
 piece_text (pieces.Bytes bytes) = bytes.now
 piece_text (pieces.Number n) = decimal n
 piece_text (pieces.Count n word) = count_text n word.now
-
-abbrev pub pieces_text : List Piece → List ℕ
-pieces_text ps = flat_map piece_text ps

@@ -27,7 +27,7 @@ pub(crate) fn put_hint<S: Sink>(sink: &mut S, hint: &[u8]) -> Result<(), WriteFa
     ensures all { S.takes_all sink.old → IsOk result × S.takes_all sink.new }
 {
     if hint.is_empty() {
-        return put_pieces(sink, &[]);
+        return put_pieces::<S, Piece<'_>>(sink, &[]);
     }
     put_question(sink, hint)
 }

@@ -2,10 +2,11 @@
 
 ghost use Rattle.std.specs.Prelude.{◌≡◌, IsOk, decimal};
 ghost use Rattle.rb_script.specs.Writes.{Writes};
-ghost use Rattle.rb_check.specs.Pieces.{count_text, noun, piece_text, pieces_text};
+ghost use Rattle.rb_check.specs.Pieces.{count_text, noun, piece_text};
 
 use rb_script::{Sink, WriteFault};
-use rb_text::put_number;
+pub(crate) use rb_text::put_pieces;
+use rb_text::{WrittenPiece, put_number};
 
 /// A piece of a text.
 #[derive(Clone, Copy)]
@@ -25,25 +26,15 @@ pub(crate) fn noun<'a>(n: u64, one: &'a [u8], many: &'a [u8]) -> &'a [u8]
     if n == 1 { one } else { many }
 }
 
-/// Writes the pieces.
-pub(crate) fn put_pieces<S: Sink>(sink: &mut S, pieces: &[Piece<'_>]) -> Result<(), WriteFault>
-    ensures wrote { Writes result (S.held sink.old) (S.held sink.new) (pieces_text pieces.now) }
-    ensures all { S.takes_all sink.old → IsOk result × S.takes_all sink.new }
-{
-    for piece in pieces {
-        put_piece(sink, *piece)?;
-    }
-    Ok(())
-}
+impl WrittenPiece for Piece<'_> {
+    ghost text = { piece_text };
 
-fn put_piece<S: Sink>(sink: &mut S, piece: Piece<'_>) -> Result<(), WriteFault>
-    ensures wrote { Writes result (S.held sink.old) (S.held sink.new) (piece_text piece.entry) }
-    ensures all { S.takes_all sink.old → IsOk result × S.takes_all sink.new }
-{
-    match piece {
-        Piece::Bytes(bytes) => sink.put(bytes),
-        Piece::Number(n) => put_number(sink, n),
-        Piece::Count(n, word) => put_count(sink, n, word),
+    fn put<S: Sink>(&self, sink: &mut S) -> Result<(), WriteFault> {
+        match *self {
+            Piece::Bytes(bytes) => sink.put(bytes),
+            Piece::Number(n) => put_number(sink, n),
+            Piece::Count(n, word) => put_count(sink, n, word),
+        }
     }
 }
 

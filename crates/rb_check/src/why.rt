@@ -40,7 +40,7 @@ fn put_below<S: Sink>(sink: &mut S, reason: &[u8]) -> Result<(), WriteFault>
     ensures all { S.takes_all sink.old → IsOk result × S.takes_all sink.new }
 {
     if reason.is_empty() {
-        return put_pieces(sink, &[]);
+        return put_pieces::<S, Piece<'_>>(sink, &[]);
     }
     put_pointed(sink, reason)
 }
@@ -52,7 +52,7 @@ fn put_one_of<S: Sink>(sink: &mut S, reasons: &Lines, at: usize) -> Result<(), W
     if at < reasons.len() {
         return put_below(sink, reasons.line(at));
     }
-    put_pieces(sink, &[])
+    put_pieces::<S, Piece<'_>>(sink, &[])
 }
 
 /// Writes the reason that stands below the line at a place of an output, where there is one.
@@ -61,7 +61,7 @@ pub(crate) fn put_reason<S: Sink>(sink: &mut S, why: Why<'_>, at: usize) -> Resu
     ensures all { S.takes_all sink.old → IsOk result × S.takes_all sink.new }
 {
     match why {
-        Why::Untold => put_pieces(sink, &[]),
+        Why::Untold => put_pieces::<S, Piece<'_>>(sink, &[]),
         Why::Told(reasons) => put_one_of(sink, reasons, at),
     }
 }

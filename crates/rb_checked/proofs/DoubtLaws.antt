@@ -12,7 +12,7 @@ use Rattle.rb_script.specs.Joined.{joined}
 use Rattle.rb_script.specs.Reading.{directive_of}
 use Rattle.rb_replay.specs.Report.{same_lines}
 use Rattle.rb_check.specs.declared.doubt.Doubt.TheVariants.{InExpectation, InInput, Unread}
-use Rattle.rb_check.proofs.PieceLaws.{drop-get}
+use Rattle.rb_text.proofs.SentLaws.{drop-get}
 use Rattle.rb_checked.specs.declared.part.Part.{Part}
 use Rattle.rb_checked.specs.declared.part.Part.TheVariants.{Head, Input, Expected}
 use Rattle.rb_checked.specs.declared.warning.Warning.{Warning}

@@ -7,7 +7,7 @@ use Rattle.rb_script.specs.declared.sink.WriteFault.{WriteFault}
 use Rattle.rb_script.specs.Lines.{Line}
 use Rattle.rb_script.specs.Script.{PlainBlock}
 use Rattle.rb_script.specs.Writes.{AppendsFront, Writes}
-use Rattle.rb_check.proofs.PieceLaws.{Sent, sent_along, sent_piece, sent_all, piece_exit, drop-get}
+use Rattle.rb_text.proofs.SentLaws.{Sent, sent_along, sent_piece, sent_all, piece_exit, drop-get}
 use Rattle.rb_checked.specs.Checked.{of_each}
 
 -- one directive more

@@ -12,7 +12,7 @@ use Rattle.rb_replay.specs.Report.{mismatches}
 use Rattle.rb_replay.proofs.RunLaws.{both, length-outputs}
 use Rattle.rb_replay.proofs.DifferingLaws.{AreAtMost}
 use Rattle.rb_check.specs.Briefs.{brief_text}
-use Rattle.rb_check.proofs.PieceLaws.{drop-get}
+use Rattle.rb_text.proofs.SentLaws.{drop-get}
 use Rattle.rb_checked.specs.Checked.{brief_at, of_first, head_line, IsFirst}
 use Rattle.rb_checked.specs.Errors.{is_error, is_mark, marked, error_count}
 

@@ -14,7 +14,7 @@ use Rattle.rb_replay.specs.Report.{same_lines, mismatches}
 use Rattle.rb_replay.proofs.RunLaws.{both}
 use Rattle.rb_check.specs.declared.colors.Colors.{Colors}
 use Rattle.rb_check.specs.Whys.{OnlyAdds}
-use Rattle.rb_check.proofs.PieceLaws.{Sent, sent_along, sent_piece, sent_all, piece_exit, drop-get}
+use Rattle.rb_text.proofs.SentLaws.{Sent, sent_along, sent_piece, sent_all, piece_exit, drop-get}
 use Rattle.rb_check.proofs.UntoldLaws.{either, untold-mismatch, untold-run}
 use Rattle.rb_check.proofs.AddedLaws.{as_it_is, both_add, either_adds, mismatch-adds, run-adds}
 use Rattle.rb_checked.specs.declared.view.Shown.{Shown}

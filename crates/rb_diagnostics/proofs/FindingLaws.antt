@@ -11,7 +11,7 @@ use Rattle.rb_script.specs.Reading.{read_of}
 use Rattle.rb_script.specs.HeadLines.{AreHeadLines}
 use Rattle.rb_script.proofs.ScriptLaws.{read_complete}
 use Rattle.rb_replay.specs.Run.{outputs}
-use Rattle.rb_check.proofs.PieceLaws.{drop-get}
+use Rattle.rb_text.proofs.SentLaws.{drop-get}
 use Rattle.rb_offers.specs.BlockLines.{StandsIn}
 use Rattle.rb_offers.proofs.BlockLaws.{all_stand}
 use Rattle.rb_offers.proofs.HeadLaws.{heads_are}

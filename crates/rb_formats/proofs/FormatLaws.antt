@@ -3,7 +3,7 @@ use Rattle.std.proofs.Common.{◌≡◌, ◌∙◌, ℕ, ◌+◌, List, [], ◌+
 use Rattle.std.specs.Prelude.{slice_get}
 use Rattle.rb_script.specs.Lines.{Line}
 use Rattle.rb_check.specs.Heads.{before_value}
-use Rattle.rb_check.proofs.PieceLaws.{drop-get}
+use Rattle.rb_text.proofs.SentLaws.{drop-get}
 use Rattle.rb_formats.specs.Objects.{quoted, strings_from}
 use Rattle.rb_formats.specs.Commands.{command_with}
 

@@ -21,7 +21,7 @@ use Rattle.rb_script.specs.HeadLines.{IsHeadLine, AreHeadLines}
 use Rattle.rb_script.proofs.RunLaws.{head_run}
 use Rattle.rb_script.proofs.BlockLaws.{cut_lead, block_complete}
 use Rattle.rb_script.proofs.ScriptLaws.{read_sound, read_complete}
-use Rattle.rb_check.proofs.PieceLaws.{drop-get}
+use Rattle.rb_text.proofs.SentLaws.{drop-get}
 use Rattle.rb_offers.proofs.HeadLaws.{heads_are}
 use Rattle.rb_offers.specs.declared.block_lines.BlockLines.{BlockLines}
 use Rattle.rb_offers.specs.declared.block_lines.TheConstants.{DOUBLE_LINES}

@@ -2,7 +2,7 @@
 use Rattle.std.proofs.Common.{◌≡◌, ℕ, ◌+◌, ◌≤◌, List, length, drop, Some, ap}
 use Rattle.std.specs.Prelude.{slice_get}
 use Rattle.std.proofs.lemmas.List.{drop_all}
-use Rattle.rb_check.proofs.PieceLaws.{drop-get}
+use Rattle.rb_text.proofs.SentLaws.{drop-get}
 use Rattle.rb_script.specs.Lines.{Line}
 use Rattle.rb_offers.specs.declared.part.Part.{Part}
 use Rattle.rb_offers.specs.Above.{kept, next}

@@ -1,4 +1,3 @@
-pub mod SentLaws
 pub mod InertLaws
 pub mod JsonLaws
 pub mod SizeLaws

@@ -16,6 +16,7 @@ use crate::span::{Span, put_spans};
 use rb_change::{Transition, Word};
 use rb_raftlog::Body;
 use rb_script::{Sink, WriteFault};
+use rb_text::WrittenPiece;
 use rb_tracker::Config;
 
 // How many bytes of a word an error shows.
@@ -38,18 +39,19 @@ pub enum Cell<'a> {
     Counting(&'a [u8], u64),
 }
 
-/// Writes a cell, with the comma before it.
-pub(crate) fn put_cell<S: Sink>(sink: &mut S, cell: Cell<'_>) -> Result<(), WriteFault>
-    ensures wrote { Writes result (S.held sink.old) (S.held sink.new) (cell_text (plain_cell cell.entry)) }
-    ensures all { S.takes_all sink.old → IsOk result × S.takes_all sink.new }
-{
-    match cell {
-        Cell::Number(n) => put_pieces(sink, &[Piece::Bytes(b","), Piece::Number(n)]),
-        Cell::Text(bytes) => put_text(sink, &[Span::Bytes(bytes)]),
-        Cell::Body(body) => put_body(sink, body),
-        Cell::Config(config) => put_config(sink, config),
-        Cell::Quoting(front, word) => put_quoting(sink, front, word),
-        Cell::Counting(front, n) => put_text(sink, &[Span::Bytes(front), Span::Number(n)]),
+// A cell, with the comma before it.
+impl WrittenPiece for Cell<'_> {
+    ghost text = { λ c. cell_text (plain_cell c) };
+
+    fn put<S: Sink>(&self, sink: &mut S) -> Result<(), WriteFault> {
+        match *self {
+            Cell::Number(n) => put_pieces(sink, &[Piece::Bytes(b","), Piece::Number(n)]),
+            Cell::Text(bytes) => put_text(sink, &[Span::Bytes(bytes)]),
+            Cell::Body(body) => put_body(sink, body),
+            Cell::Config(config) => put_config(sink, config),
+            Cell::Quoting(front, word) => put_quoting(sink, front, word),
+            Cell::Counting(front, n) => put_text(sink, &[Span::Bytes(front), Span::Number(n)]),
+        }
     }
 }
 

@@ -5,7 +5,7 @@ ghost use Rattle.std.specs.List.{flat_map};
 ghost use Rattle.rb_script.specs.Writes.{Writes};
 ghost use Rattle.rb_page.specs.Rows.{cell_text, front_text, next_text, plain_cell, row_text, row, before};
 
-use crate::cell::{Cell, put_cell};
+use crate::cell::Cell;
 use crate::piece::{Piece, put_pieces};
 use rb_script::{Sink, WriteFault};
 
@@ -60,10 +60,7 @@ fn put_cells<S: Sink>(sink: &mut S, cells: &[Cell<'_>]) -> Result<(), WriteFault
     ensures wrote { Writes result (S.held sink.old) (S.held sink.new) (flat_map cell_text (map plain_cell cells.now)) }
     ensures all { S.takes_all sink.old → IsOk result × S.takes_all sink.new }
 {
-    for cell in cells {
-        put_cell(sink, *cell)?;
-    }
-    Ok(())
+    put_pieces(sink, cells)
 }
 
 // Writes a row of this name, with the cells of both lists.

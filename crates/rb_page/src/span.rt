@@ -17,6 +17,7 @@ use crate::escape::{hex_digit, put_escaped};
 use itoa::Buffer;
 use rb_change::{Word, WordKind};
 use rb_script::{Sink, WriteFault};
+use rb_text::{WrittenPiece, put_pieces};
 
 /// A part of a text.
 #[derive(Clone, Copy)]
@@ -40,23 +41,22 @@ pub(crate) fn put_spans<S: Sink>(sink: &mut S, spans: &[Span<'_>]) -> Result<(),
     ensures wrote { Writes result (S.held sink.old) (S.held sink.new) (flat_map escaped (spans_text spans.now)) }
     ensures all { S.takes_all sink.old → IsOk result × S.takes_all sink.new }
 {
-    for span in spans {
-        put_span(sink, *span)?;
-    }
-    Ok(())
+    put_pieces(sink, spans)
 }
 
-fn put_span<S: Sink>(sink: &mut S, span: Span<'_>) -> Result<(), WriteFault>
-    ensures wrote { Writes result (S.held sink.old) (S.held sink.new) (flat_map escaped (span_text span.entry)) }
-    ensures all { S.takes_all sink.old → IsOk result × S.takes_all sink.new }
-{
-    match span {
-        Span::Bytes(bytes) => put_escaped(sink, bytes),
-        Span::Number(n) => put_digits(sink, n),
-        Span::Inside(bytes) => put_inside(sink, bytes),
-        Span::Ids(ids) => put_ids(sink, ids),
-        Span::Part(name, ids) => put_part(sink, name, ids),
-        Span::Words(words) => put_words(sink, words),
+// A part, as it stands between quotes.
+impl WrittenPiece for Span<'_> {
+    ghost text = { λ s. flat_map escaped (span_text s) };
+
+    fn put<S: Sink>(&self, sink: &mut S) -> Result<(), WriteFault> {
+        match *self {
+            Span::Bytes(bytes) => put_escaped(sink, bytes),
+            Span::Number(n) => put_digits(sink, n),
+            Span::Inside(bytes) => put_inside(sink, bytes),
+            Span::Ids(ids) => put_ids(sink, ids),
+            Span::Part(name, ids) => put_part(sink, name, ids),
+            Span::Words(words) => put_words(sink, words),
+        }
     }
 }
 

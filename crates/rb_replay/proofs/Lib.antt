@@ -16,4 +16,3 @@ pub mod RunLaws
 pub mod RunningLaws
 pub mod TestLaws
 pub mod TurnLaws
-pub mod WriteLaws

@@ -1,5 +1,5 @@
 -- One write after another.
-use Rattle.std.proofs.Common.{◌≡◌, ℕ, Bool, true, false, cond, ◌||◌, ◌+◌, ◌-◌, List, [], ◌∷◌, ◌++◌, length, take, drop, Option, Some, Result, Ok, Err, refl, ap, sym, subst, ◌∙◌, append_assoc, append-nil, take-append-drop, arith}
+use Rattle.std.proofs.Common.{◌≡◌, ℕ, Bool, true, false, cond, ◌||◌, ◌+◌, ◌-◌, List, [], ◌∷◌, ◌++◌, length, take, drop, Option, Some, Result, Ok, Err, ap, sym, subst, ◌∙◌, append_assoc, append-nil, take-append-drop, arith}
 use Rattle.std.specs.Prelude.{slice_get, IsErr}
 use Rattle.std.specs.List.{flat_map}
 use Rattle.std.specs.Io.KnownBytes.{Appends}
@@ -20,10 +20,6 @@ pub record Sent (old new : Option (List ℕ)) (text rest : List ℕ) : Type 0 wh
   pub front : List ℕ
   pub parts : text ≡ front ++ rest
   pub appended : Appends old new front
-
--- nothing went out yet
-pub sent_init : (old : Option (List ℕ)) (text : List ℕ) → Sent old old text text
-sent_init old text = record { front = []; parts = refl; appended = Appends-nil old }
 
 -- a write took n bytes of the rest
 pub sent_more : {old mid : Option (List ℕ)} {text rest : List ℕ} (new : Option (List ℕ)) (n : ℕ) → Sent old mid text rest → Appends mid new (take n rest) → Sent old new text (take (length rest - n) (drop n rest))

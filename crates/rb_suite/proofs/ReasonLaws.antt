@@ -7,7 +7,7 @@ use Rattle.rb_script.specs.Script.{PlainBlock}
 use Rattle.rb_script.specs.Reading.{directive_of}
 use Rattle.rb_machine.specs.Cluster.{Cluster}
 use Rattle.rb_machine.specs.Outcome.{outcome, explanation}
-use Rattle.rb_check.proofs.PieceLaws.{drop-get}
+use Rattle.rb_text.proofs.SentLaws.{drop-get}
 use Rattle.rb_checked.specs.Whys.{reasons_of, explanations}
 
 -- those of the blocks from an index on

@@ -1,7 +1,7 @@
 use Rattle.std.proofs.Common.{[], ◌∷◌, ◌++◌, refl}
 use Rattle.std.specs.Prelude.{codes}
 use Rattle.rb_bench.specs.Responses.{refused, fault_text}
-use Rattle.rb_bench.proofs.PieceLaws.{sent_none, sent_piece, piece_exit, piece_last}
+use Rattle.rb_text.proofs.SentLaws.{sent_none, sent_piece, piece_exit, piece_last}
 use Rattle.rb_bench.proofs.send.put_bad_block.Goals as goal
 
 pub returns-in_err-put-clause-wrote : goal.returns-in_err-put-clause-wrote

@@ -1,7 +1,8 @@
 use Rattle.std.proofs.Common.{[], ◌∷◌, ◌++◌, decimal}
 use Rattle.std.specs.Prelude.{codes}
 use Rattle.rb_bench.specs.Responses.{done}
-use Rattle.rb_bench.proofs.PieceLaws.{sent_none, sent_piece, piece_exit, piece_last, done_pieces}
+use Rattle.rb_text.proofs.SentLaws.{sent_none, sent_piece, piece_exit, piece_last}
+use Rattle.rb_bench.proofs.PieceLaws.{done_pieces}
 use Rattle.rb_bench.proofs.send.put_done.Goals as goal
 
 pub returns-in_err-put-clause-wrote : goal.returns-in_err-put-clause-wrote

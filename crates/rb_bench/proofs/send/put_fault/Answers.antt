@@ -2,7 +2,7 @@ use Rattle.std.proofs.Common.{◌≡◌, ◌++◌, ap, sym, ◌∙◌}
 use Rattle.rb_check.specs.Refusals.{fault_line}
 use Rattle.rb_bench.specs.Names.{script_name}
 use Rattle.rb_bench.specs.Responses.{at_line, fault_text}
-use Rattle.rb_bench.proofs.PieceLaws.{sent_none, sent_piece, piece_exit, piece_last}
+use Rattle.rb_text.proofs.SentLaws.{sent_none, sent_piece, piece_exit, piece_last}
 use Rattle.rb_bench.proofs.send.put_fault.Goals as goal
 
 pub returns-in_err-put-clause-wrote : goal.returns-in_err-put-clause-wrote

@@ -1,7 +1,7 @@
 use Rattle.std.proofs.Common.{◌++◌, decimal, ap}
 use Rattle.std.specs.Prelude.{codes}
 use Rattle.rb_bench.specs.Responses.{at_line}
-use Rattle.rb_bench.proofs.PieceLaws.{sent_none, sent_piece, piece_exit, piece_last}
+use Rattle.rb_text.proofs.SentLaws.{sent_none, sent_piece, piece_exit, piece_last}
 use Rattle.rb_bench.proofs.send.put_line_number.Goals as goal
 
 pub returns-in_err-put-clause-wrote : goal.returns-in_err-put-clause-wrote

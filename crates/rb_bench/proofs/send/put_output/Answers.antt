@@ -2,7 +2,8 @@ use Rattle.std.proofs.Common.{[], ◌∷◌, ◌++◌, length, decimal}
 use Rattle.std.specs.Prelude.{codes}
 use Rattle.rb_script.specs.Lines.{text_of}
 use Rattle.rb_bench.specs.Responses.{output_text}
-use Rattle.rb_bench.proofs.PieceLaws.{sent_none, sent_piece, piece_exit, piece_last, output_pieces}
+use Rattle.rb_text.proofs.SentLaws.{sent_none, sent_piece, piece_exit, piece_last}
+use Rattle.rb_bench.proofs.PieceLaws.{output_pieces}
 use Rattle.rb_bench.proofs.send.put_output.Goals as goal
 
 pub returns-in_err-put-clause-wrote : goal.returns-in_err-put-clause-wrote

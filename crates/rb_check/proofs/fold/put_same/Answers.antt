@@ -3,7 +3,7 @@ use Rattle.std.specs.Prelude.{codes, decimal}
 use Rattle.rb_check.specs.declared.side.Side.TheVariants.{Both}
 use Rattle.rb_check.specs.Diffs.{between}
 use Rattle.rb_check.specs.Whys.{reasons_in, told_lines}
-use Rattle.rb_check.proofs.PieceLaws.{and_then, no_more, writes_along}
+use Rattle.rb_text.proofs.SentLaws.{and_then, no_more, writes_along}
 use Rattle.rb_check.proofs.FoldLaws.{same-many}
 use Rattle.rb_check.proofs.fold.put_same.Goals as goal
 

@@ -3,7 +3,7 @@ use Rattle.std.proofs.lemmas.List.{drop_all}
 use Rattle.rb_script.specs.Directive.{plain_argument}
 use Rattle.rb_script.specs.Tokens.{plain}
 use Rattle.rb_check.specs.Heads.{argument_text, arguments_text}
-use Rattle.rb_check.proofs.PieceLaws.{sent_piece, sent_along, sent_all, piece_exit}
+use Rattle.rb_text.proofs.SentLaws.{sent_piece, sent_along, sent_all, piece_exit}
 use Rattle.rb_check.proofs.HeadLaws.{arguments-step}
 use Rattle.rb_check.proofs.head.put_arguments.Goals as goal
 

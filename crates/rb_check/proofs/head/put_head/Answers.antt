@@ -1,7 +1,7 @@
 use Rattle.std.proofs.Common.{ℕ, List, ◌++◌, ap}
 use Rattle.rb_script.specs.Tokens.{plain}
 use Rattle.rb_check.specs.Heads.{arguments_text}
-use Rattle.rb_check.proofs.PieceLaws.{and_then, no_more, writes_along}
+use Rattle.rb_text.proofs.SentLaws.{and_then, no_more, writes_along}
 use Rattle.rb_check.proofs.head.put_head.Goals as goal
 
 pub returns-in_err-put-clause-wrote : goal.returns-in_err-put-clause-wrote

@@ -3,7 +3,7 @@ use Rattle.std.proofs.Common.{drop}
 use Rattle.rb_script.specs.Directive.{plain_argument}
 use Rattle.rb_script.specs.Tokens.{plain}
 use Rattle.rb_check.specs.Heads.{listed}
-use Rattle.rb_check.proofs.PieceLaws.{Sent}
+use Rattle.rb_text.proofs.SentLaws.{Sent}
 use Rattle.rb_check.proofs.head.put_listed.Given as goal
 
 abbrev pub invariant-loop-i : goal.invariant-loop-i

@@ -1,7 +1,7 @@
 use Rattle.std.proofs.Common.{◌∙◌, sym}
 use Rattle.rb_script.specs.Directive.{plain_argument}
 use Rattle.rb_script.specs.Tokens.{plain}
-use Rattle.rb_check.proofs.PieceLaws.{and_then, no_more, writes_along}
+use Rattle.rb_text.proofs.SentLaws.{and_then, no_more, writes_along}
 use Rattle.rb_check.proofs.HeadLaws.{values-other}
 use Rattle.rb_check.proofs.head.put_values.Goals as goal
 

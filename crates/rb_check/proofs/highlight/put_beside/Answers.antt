@@ -1,7 +1,7 @@
 use Rattle.rb_check.specs.declared.colors.Colors.TheVariants.{On}
 use Rattle.rb_check.specs.Shown.{line_shown}
 use Rattle.rb_check.specs.Highlights.{Parts, highlighted_text, beside_text}
-use Rattle.rb_check.proofs.PieceLaws.{writes_along}
+use Rattle.rb_text.proofs.SentLaws.{writes_along}
 use Rattle.rb_check.proofs.HighlightLaws.{beside-plain, beside-highlighted}
 use Rattle.rb_check.proofs.highlight.put_beside.Goals as goal
 

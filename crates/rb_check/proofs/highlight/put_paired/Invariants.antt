@@ -2,7 +2,7 @@
 use Rattle.std.proofs.Common.{◌+◌, ◌-◌}
 use Rattle.rb_check.specs.Diffs.{between}
 use Rattle.rb_check.specs.Whys.{reasons_in, told_paired}
-use Rattle.rb_check.proofs.PieceLaws.{Sent}
+use Rattle.rb_text.proofs.SentLaws.{Sent}
 use Rattle.rb_check.proofs.highlight.put_paired.Given as goal
 
 abbrev pub invariant-loop-i : goal.invariant-loop-i

@@ -1,4 +1,4 @@
-use Rattle.rb_check.proofs.PieceLaws.{and_then, no_more}
+use Rattle.rb_text.proofs.SentLaws.{and_then, no_more}
 use Rattle.rb_check.proofs.left.put_left.Goals as goal
 
 pub returns-in_err-put_heading-clause-wrote : goal.returns-in_err-put_heading-clause-wrote

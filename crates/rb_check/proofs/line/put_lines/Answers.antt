@@ -1,7 +1,7 @@
 use Rattle.std.proofs.Common.{◌+◌, arith}
 use Rattle.rb_check.specs.Shown.{line_shown}
 use Rattle.rb_check.specs.Diffs.{on_side, between, diff_text}
-use Rattle.rb_check.proofs.PieceLaws.{sent_piece, sent_along, sent_all, piece_exit}
+use Rattle.rb_text.proofs.SentLaws.{sent_piece, sent_along, sent_all, piece_exit}
 use Rattle.rb_check.proofs.ShownLaws.{shown-step, shown-done}
 use Rattle.rb_check.proofs.line.put_lines.Goals as goal
 

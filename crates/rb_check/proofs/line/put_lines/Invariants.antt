@@ -1,6 +1,6 @@
 -- The lines so far went out whole.
 use Rattle.rb_check.specs.Diffs.{on_side, between, diff_text}
-use Rattle.rb_check.proofs.PieceLaws.{Sent}
+use Rattle.rb_text.proofs.SentLaws.{Sent}
 use Rattle.rb_check.proofs.line.put_lines.Given as goal
 
 abbrev pub invariant-loop-i : goal.invariant-loop-i

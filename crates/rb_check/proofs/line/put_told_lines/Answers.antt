@@ -1,7 +1,7 @@
 use Rattle.std.proofs.Common.{◌≡◌, ◌+◌, ◌-◌, ℕ, ap, arith}
 use Rattle.rb_check.specs.Diffs.{between}
 use Rattle.rb_check.specs.Whys.{reasons_in, told_line, told_lines}
-use Rattle.rb_check.proofs.PieceLaws.{sent_piece, sent_along, sent_all, piece_exit}
+use Rattle.rb_text.proofs.SentLaws.{sent_piece, sent_along, sent_all, piece_exit}
 use Rattle.rb_check.proofs.ShownLaws.{told-step, told-done}
 use Rattle.rb_check.proofs.line.put_told_lines.Goals as goal
 

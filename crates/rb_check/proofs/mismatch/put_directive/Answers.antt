@@ -1,7 +1,7 @@
 use Rattle.std.proofs.Common.{ℕ, List, ◌++◌, ap}
 use Rattle.rb_check.specs.declared.colors.Colors.TheVariants.{Off}
 use Rattle.rb_check.specs.Hints.{hint_text}
-use Rattle.rb_check.proofs.PieceLaws.{and_then, no_more, writes_along}
+use Rattle.rb_text.proofs.SentLaws.{and_then, no_more, writes_along}
 use Rattle.rb_check.proofs.DiffLaws.{text-all}
 use Rattle.rb_check.proofs.mismatch.put_directive.Goals as goal
 

@@ -1,5 +1,6 @@
 use Rattle.std.proofs.Common.{sym}
-use Rattle.rb_check.proofs.PieceLaws.{and_then, no_more, writes_along, count_some}
+use Rattle.rb_text.proofs.SentLaws.{and_then, no_more, writes_along}
+use Rattle.rb_check.proofs.CountLaws.{count_some}
 use Rattle.rb_check.proofs.piece.put_count.Goals as goal
 
 pub returns-in_err-put-clause-wrote : goal.returns-in_err-put-clause-wrote

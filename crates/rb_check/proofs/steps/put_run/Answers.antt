@@ -1,6 +1,6 @@
 use Rattle.rb_script.specs.Tokens.{plain}
 use Rattle.rb_check.specs.Heads.{head_text}
-use Rattle.rb_check.proofs.PieceLaws.{writes_along}
+use Rattle.rb_text.proofs.SentLaws.{writes_along}
 use Rattle.rb_check.proofs.UntoldLaws.{untold-run}
 use Rattle.rb_check.proofs.steps.put_run.Goals as goal
 

@@ -3,7 +3,7 @@ use Rattle.std.proofs.lemmas.List.{drop_all}
 use Rattle.rb_script.specs.Lines.{Line}
 use Rattle.rb_check.specs.Steps.{is_delivered}
 use Rattle.rb_check.specs.Whys.{reasons_in, told_step, told_steps}
-use Rattle.rb_check.proofs.PieceLaws.{sent_piece, sent_along, sent_all, piece_exit}
+use Rattle.rb_text.proofs.SentLaws.{sent_piece, sent_along, sent_all, piece_exit}
 use Rattle.rb_check.proofs.StepLaws.{steps-step}
 use Rattle.rb_check.proofs.steps.put_steps.Goals as goal
 

@@ -1,7 +1,7 @@
 -- The lines so far went out whole.
 use Rattle.std.proofs.Common.{false, drop}
 use Rattle.rb_check.specs.Whys.{reasons_in, told_steps}
-use Rattle.rb_check.proofs.PieceLaws.{Sent}
+use Rattle.rb_text.proofs.SentLaws.{Sent}
 use Rattle.rb_check.proofs.steps.put_steps.Given as goal
 
 abbrev pub invariant-loop-i : goal.invariant-loop-i

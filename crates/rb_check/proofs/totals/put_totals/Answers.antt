@@ -1,6 +1,6 @@
 use Rattle.std.proofs.Common.{◌++◌, decimal}
 use Rattle.rb_check.specs.Counts.{totals_text}
-use Rattle.rb_check.proofs.PieceLaws.{writes_along}
+use Rattle.rb_text.proofs.SentLaws.{writes_along}
 use Rattle.rb_check.proofs.CountLaws.{rest_with, totals_pieces}
 use Rattle.rb_check.proofs.totals.put_totals.Goals as goal
 

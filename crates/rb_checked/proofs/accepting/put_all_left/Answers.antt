@@ -2,7 +2,7 @@ use Rattle.std.proofs.Common.{ℕ, List, refl, arith}
 use Rattle.rb_script.specs.Lines.{Line}
 use Rattle.rb_script.specs.Script.{PlainBlock}
 use Rattle.rb_replay.specs.Run.{outputs}
-use Rattle.rb_check.proofs.PieceLaws.{sent_none}
+use Rattle.rb_text.proofs.SentLaws.{sent_none}
 use Rattle.rb_checked.specs.Accepting.{left_shown, all_left}
 use Rattle.rb_checked.proofs.EachLaws.{each_sent, each_exit, all_sent}
 use Rattle.rb_checked.proofs.accepting.put_all_left.Goals as goal

@@ -1,7 +1,7 @@
 -- What is said of the directives so far went out whole.
 use Rattle.std.proofs.Common.{drop}
 use Rattle.rb_replay.specs.Run.{outputs}
-use Rattle.rb_check.proofs.PieceLaws.{Sent}
+use Rattle.rb_text.proofs.SentLaws.{Sent}
 use Rattle.rb_checked.specs.Accepting.{all_left}
 use Rattle.rb_checked.proofs.accepting.put_all_left.Given as goal
 

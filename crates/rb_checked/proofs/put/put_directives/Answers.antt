@@ -1,7 +1,7 @@
 use Rattle.std.proofs.Common.{ℕ, List, refl, arith}
 use Rattle.rb_replay.specs.Run.{outputs}
 use Rattle.rb_check.specs.Whys.{reasons_in}
-use Rattle.rb_check.proofs.PieceLaws.{sent_none}
+use Rattle.rb_text.proofs.SentLaws.{sent_none}
 use Rattle.rb_checked.specs.Whys.{all_told}
 use Rattle.rb_checked.proofs.WhyLaws.{told_sent, told_exit, told_all}
 use Rattle.rb_checked.proofs.put.put_directives.Goals as goal

@@ -1,7 +1,7 @@
 -- The directives so far went out whole.
 use Rattle.std.proofs.Common.{drop}
 use Rattle.rb_replay.specs.Run.{outputs}
-use Rattle.rb_check.proofs.PieceLaws.{Sent}
+use Rattle.rb_text.proofs.SentLaws.{Sent}
 use Rattle.rb_checked.specs.Whys.{all_told}
 use Rattle.rb_checked.proofs.put.put_directives.Given as goal
 

@@ -1,6 +1,6 @@
 use Rattle.std.proofs.Common.{◌+◌}
 use Rattle.rb_replay.specs.Report.{mismatches}
-use Rattle.rb_check.proofs.PieceLaws.{writes_along}
+use Rattle.rb_text.proofs.SentLaws.{writes_along}
 use Rattle.rb_checked.specs.Checked.{of_first}
 use Rattle.rb_checked.specs.Whys.{told_at}
 use Rattle.rb_checked.proofs.ShownLaws.{of_first-is}

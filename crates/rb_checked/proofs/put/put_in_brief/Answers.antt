@@ -1,7 +1,7 @@
 use Rattle.std.proofs.Common.{length, ap}
 use Rattle.rb_replay.specs.Report.{mismatches}
 use Rattle.rb_check.specs.Briefs.{brief_text}
-use Rattle.rb_check.proofs.PieceLaws.{writes_along}
+use Rattle.rb_text.proofs.SentLaws.{writes_along}
 use Rattle.rb_checked.specs.Checked.{brief_at, of_first}
 use Rattle.rb_checked.proofs.ShownLaws.{first-brief}
 use Rattle.rb_checked.proofs.put.put_in_brief.Goals as goal

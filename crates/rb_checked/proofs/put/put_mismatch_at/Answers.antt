@@ -1,6 +1,6 @@
 use Rattle.std.proofs.Common.{◌+◌}
 use Rattle.rb_check.specs.Whys.{reasons_in}
-use Rattle.rb_check.proofs.PieceLaws.{writes_along}
+use Rattle.rb_text.proofs.SentLaws.{writes_along}
 use Rattle.rb_checked.specs.Whys.{told_differing, told_at}
 use Rattle.rb_checked.proofs.WhyLaws.{told-is}
 use Rattle.rb_checked.proofs.put.put_mismatch_at.Goals as goal

@@ -4,7 +4,7 @@ use Rattle.std.specs.List.{list_any}
 use Rattle.std.specs.Str.{bytes_eq}
 use Rattle.std.proofs.lemmas.List.{drop_all}
 use Rattle.rb_script.specs.Lines.{Line}
-use Rattle.rb_check.proofs.PieceLaws.{drop-get}
+use Rattle.rb_text.proofs.SentLaws.{drop-get}
 use Rattle.rb_checked.proofs.warning.is_among.Goals as goal
 
 pub returns-then-is_same_text : goal.returns-then-is_same_text

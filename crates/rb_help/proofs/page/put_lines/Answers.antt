@@ -1,6 +1,6 @@
 use Rattle.std.proofs.Common.{ℕ, ◌+◌, List, drop, get_or, map, ap, arith, Bor}
 use Rattle.std.proofs.lemmas.List.{drop_more, drop_all}
-use Rattle.rb_check.proofs.PieceLaws.{sent_piece, sent_along, sent_all, piece_exit}
+use Rattle.rb_text.proofs.SentLaws.{sent_piece, sent_along, sent_all, piece_exit}
 use Rattle.rb_help.specs.Manual.{lines_text}
 use Rattle.rb_help.proofs.page.put_lines.Goals as goal
 

@@ -1,6 +1,6 @@
 -- The lines so far went out whole.
 use Rattle.std.proofs.Common.{drop, map}
-use Rattle.rb_check.proofs.PieceLaws.{Sent}
+use Rattle.rb_text.proofs.SentLaws.{Sent}
 use Rattle.rb_help.specs.Manual.{lines_text}
 use Rattle.rb_help.proofs.page.put_lines.Given as goal
 

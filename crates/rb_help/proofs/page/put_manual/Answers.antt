@@ -1,4 +1,4 @@
-use Rattle.rb_check.proofs.PieceLaws.{and_then, no_more}
+use Rattle.rb_text.proofs.SentLaws.{and_then, no_more}
 use Rattle.rb_help.specs.Manual.{pages, manual_text}
 use Rattle.rb_help.proofs.page.put_manual.Goals as goal
 

@@ -4,7 +4,7 @@ use Rattle.std.specs.List.{flat_map}
 use Rattle.rb_page.specs.Escapes.{escaped}
 use Rattle.rb_page.specs.Rows.{cell_text, text}
 use Rattle.rb_page.specs.Spans.{spans_text}
-use Rattle.rb_page.proofs.SentLaws.{first_failed, second_written}
+use Rattle.rb_text.proofs.SentLaws.{first_failed, second_written}
 use Rattle.rb_page.proofs.cell.put_text.Goals as goal
 
 pub returns-in_err-put-clause-wrote : goal.returns-in_err-put-clause-wrote

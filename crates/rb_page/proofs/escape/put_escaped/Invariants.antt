@@ -2,7 +2,7 @@
 use Rattle.std.proofs.Common.{drop}
 use Rattle.std.specs.List.{flat_map}
 use Rattle.rb_page.specs.Escapes.{escaped}
-use Rattle.rb_page.proofs.SentLaws.{Sent}
+use Rattle.rb_text.proofs.SentLaws.{Sent}
 use Rattle.rb_page.proofs.escape.put_escaped.Given as goal
 
 abbrev pub invariant-loop-b : goal.invariant-loop-b

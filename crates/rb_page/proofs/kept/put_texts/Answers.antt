@@ -3,7 +3,7 @@ use Rattle.std.proofs.lemmas.List.{drop_all}
 use Rattle.rb_script.specs.Lines.{Line}
 use Rattle.rb_page.specs.Kept.{joined}
 use Rattle.rb_page.proofs.KeptLaws.{left_some}
-use Rattle.rb_page.proofs.SentLaws.{sent_piece, sent_along, sent_all, piece_exit}
+use Rattle.rb_text.proofs.SentLaws.{sent_piece, sent_along, sent_all, piece_exit}
 use Rattle.rb_page.proofs.kept.put_texts.Goals as goal
 
 pub returns-in_err-put-clause-wrote : goal.returns-in_err-put-clause-wrote

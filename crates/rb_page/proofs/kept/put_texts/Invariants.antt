@@ -1,7 +1,7 @@
 -- What came so far went out whole.
 use Rattle.std.proofs.Common.{drop}
 use Rattle.rb_page.specs.Kept.{joined}
-use Rattle.rb_page.proofs.SentLaws.{Sent}
+use Rattle.rb_text.proofs.SentLaws.{Sent}
 use Rattle.rb_page.proofs.kept.put_texts.Given as goal
 
 abbrev pub invariant-loop-i : goal.invariant-loop-i

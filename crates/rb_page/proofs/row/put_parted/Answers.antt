@@ -3,7 +3,7 @@ use Rattle.std.specs.Prelude.{codes}
 use Rattle.std.specs.List.{flat_map}
 use Rattle.std.proofs.lemmas.List.Concat.{flat_map-append}
 use Rattle.rb_page.specs.Rows.{before, cell_text, front_text, plain_cell, row, row_text}
-use Rattle.rb_page.proofs.SentLaws.{first_failed, second_written}
+use Rattle.rb_text.proofs.SentLaws.{first_failed, second_written}
 use Rattle.rb_page.proofs.row.put_parted.Goals as goal
 
 -- a row in the parts in which it goes out

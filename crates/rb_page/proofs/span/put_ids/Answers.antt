@@ -6,7 +6,7 @@ use Rattle.rb_texts.specs.Configs.{ids_text}
 use Rattle.rb_texts.proofs.PieceLaws.{ids_text-nil, ids_text-cons}
 use Rattle.rb_page.specs.Commas.{comma_before}
 use Rattle.rb_page.specs.Escapes.{escaped}
-use Rattle.rb_page.proofs.SentLaws.{first_failed, second_written, sent_all, sent_none}
+use Rattle.rb_text.proofs.SentLaws.{first_failed, second_written, sent_all, sent_none}
 use Rattle.rb_page.proofs.span.put_ids.Goals as goal
 
 -- the ids are the first and the others

@@ -3,7 +3,7 @@ use Rattle.std.specs.Prelude.{codes}
 use Rattle.std.specs.List.{flat_map}
 use Rattle.rb_page.specs.Commas.{comma_before}
 use Rattle.rb_page.specs.Escapes.{escaped}
-use Rattle.rb_page.proofs.SentLaws.{first_failed, second_written}
+use Rattle.rb_text.proofs.SentLaws.{first_failed, second_written}
 use Rattle.rb_page.proofs.span.put_next_id.Goals as goal
 
 pub returns-in_err-put_escaped-clause-wrote : goal.returns-in_err-put_escaped-clause-wrote

@@ -5,7 +5,7 @@ use Rattle.std.proofs.lemmas.Bool.{eqb-true, false≢true}
 use Rattle.std.proofs.lemmas.List.Concat.{flat_map-append}
 use Rattle.rb_texts.specs.Configs.{ids_text, part_text}
 use Rattle.rb_page.specs.Escapes.{escaped}
-use Rattle.rb_page.proofs.SentLaws.{first_failed, second_written, sent_all, sent_none}
+use Rattle.rb_text.proofs.SentLaws.{first_failed, second_written, sent_all, sent_none}
 use Rattle.rb_page.proofs.span.put_part.Goals as goal
 
 part_none : (name ids : List ℕ) → (length ids == 0) ≡ true → part_text name ids ≡ []

@@ -4,7 +4,7 @@ use Rattle.std.specs.List.{flat_map}
 use Rattle.std.proofs.lemmas.List.Concat.{flat_map-append}
 use Rattle.rb_texts.specs.Entries.{change_word, letter}
 use Rattle.rb_page.specs.Escapes.{escaped}
-use Rattle.rb_page.proofs.SentLaws.{first_failed, second_written}
+use Rattle.rb_text.proofs.SentLaws.{first_failed, second_written}
 use Rattle.rb_page.proofs.span.put_word.Goals as goal
 
 pub returns-in_err-put_escaped-clause-wrote : goal.returns-in_err-put_escaped-clause-wrote

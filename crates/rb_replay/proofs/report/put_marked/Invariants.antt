@@ -2,7 +2,7 @@
 use Rattle.std.proofs.Common.{drop}
 use Rattle.rb_script.specs.Lines.{text_of}
 use Rattle.rb_replay.specs.Report.{marked}
-use Rattle.rb_replay.proofs.WriteLaws.{Sent}
+use Rattle.rb_text.proofs.SentLaws.{Sent}
 use Rattle.rb_replay.proofs.report.put_marked.Given as goal
 
 abbrev pub invariant-loop-i : goal.invariant-loop-i

@@ -1,5 +1,5 @@
 use Rattle.std.proofs.Common.{◌++◌, refl}
-use Rattle.rb_page.proofs.SentLaws.{first_failed, second_written}
+use Rattle.rb_text.proofs.SentLaws.{first_failed, second_written}
 use Rattle.rb_steps.specs.Pages.{parts_joined, rows_joined}
 use Rattle.rb_steps.proofs.page.put_page.Goals as goal
 

@@ -1,6 +1,6 @@
 use Rattle.std.proofs.Common.{ℕ, ◌+◌, List, drop, get_or, ap, arith, Bor}
 use Rattle.std.proofs.lemmas.List.{drop_more, drop_all}
-use Rattle.rb_page.proofs.SentLaws.{sent_piece, sent_along, sent_all, piece_exit}
+use Rattle.rb_text.proofs.SentLaws.{sent_piece, sent_along, sent_all, piece_exit}
 use Rattle.rb_steps.specs.Pages.{parts_joined}
 use Rattle.rb_steps.proofs.page.put_parts.Goals as goal
 

@@ -1,6 +1,6 @@
 -- What came so far went out whole.
 use Rattle.std.proofs.Common.{drop}
-use Rattle.rb_page.proofs.SentLaws.{Sent}
+use Rattle.rb_text.proofs.SentLaws.{Sent}
 use Rattle.rb_steps.specs.Pages.{parts_joined}
 use Rattle.rb_steps.proofs.page.put_parts.Given as goal
 

@@ -3,7 +3,7 @@ use Rattle.std.specs.Prelude.{codes}
 use Rattle.rb_page.specs.declared.row.RowPlace.TheVariants.{First}
 use Rattle.rb_page.specs.Kept.{joined}
 use Rattle.rb_page.specs.Rows.{before, row_text}
-use Rattle.rb_page.proofs.SentLaws.{first_failed, second_written}
+use Rattle.rb_text.proofs.SentLaws.{first_failed, second_written}
 use Rattle.rb_steps.specs.Pages.{first_row, rows_joined}
 use Rattle.rb_steps.proofs.page.put_steps.Goals as goal
 

@@ -1,6 +1,7 @@
 use Rattle.std.proofs.Common.{◌≡◌, ◌+◌, ◌<◌, ◌≤◌, ◌++◌, [], ◌∷◌, ap, sym, ◌∙◌, List, ℕ, length, drop, get_or, arith, append_assoc, append-nil, subst}
 use Rattle.std.specs.List.{flat_map}
 use Rattle.std.proofs.lemmas.List.{drop_more, drop_all}
+use Rattle.std.proofs.lemmas.List.Concat.{flat_map-append}
 use Rattle.rb_script.specs.Lines.{Line, line_text, text_of}
 use Rattle.rb_replay.specs.Run.{outputs}
 use Rattle.rb_replay.specs.Report.{mismatches, mismatch_lines, total_line, report}
@@ -8,13 +9,13 @@ use Rattle.rb_replay.specs.Holding.{Holding, IsFresh}
 use Rattle.rb_replay.proofs.RunLaws.{both}
 use Rattle.rb_replay.proofs.NextLaws.{rising-first}
 use Rattle.rb_replay.proofs.DifferingLaws.{differing-rising, mismatches-within, at_most-get}
-use Rattle.rb_replay.proofs.WriteLaws.{sent_more, sent_exit, sent_last, sent_along, text-append}
+use Rattle.rb_text.proofs.SentLaws.{sent_piece, piece_exit, piece_last, sent_along}
 use Rattle.rb_replay.proofs.session.Session.write_report.Goals as goal
 
 -- a mismatch more is to go
 step : (f : ℕ → List Line) (ms rest : List ℕ) (p : ℕ) (total : List Line) → ms ≡ p ∷ rest → text_of (flat_map f ms ++ total) ≡ text_of (f p) ++ text_of (flat_map f rest ++ total)
 step f ms rest p total e =
-    ap (λ (l : List ℕ). text_of (flat_map f l ++ total)) e ∙ ap text_of (append_assoc (f p) (flat_map f rest) total) ∙ text-append (f p) (flat_map f rest ++ total)
+    ap (λ (l : List ℕ). text_of (flat_map f l ++ total)) e ∙ ap text_of (append_assoc (f p) (flat_map f rest) total) ∙ flat_map-append line_text (f p) (flat_map f rest ++ total)
 
 pub put_mismatch_at-requires-clause-first : goal.put_mismatch_at-requires-clause-first
 put_mismatch_at-requires-clause-first g c =
@@ -42,7 +43,7 @@ returns-in_err-put_mismatch_at-clause-wrote g c =
     let next : drop c.loop-place.place-index (mismatches c.args.self.now.script) ≡ get_or c.deref-place-items.result.now c.loop-place.place-index 0 ∷ drop (c.loop-place.place-index + 1) (mismatches c.args.self.now.script) =
     drop_more (mismatches c.args.self.now.script) c.loop-place.place-index 0 lt ∙ ap (λ (ms : List ℕ). get_or ms c.loop-place.place-index 0 ∷ drop (c.loop-place.place-index + 1) (mismatches c.args.self.now.script)) (sym held) in
     let more = step (mismatch_lines s) (drop i (mismatches s)) (drop (i + 1) (mismatches s)) (get_or c.deref-place-items.result.now i 0) total next in
-    sent_exit c.from_residual.result (g.S.Sink.held c.put_mismatch_at.new.sink) (text_of (mismatch_lines s (get_or c.deref-place-items.result.now i 0))) (text_of (flat_map (mismatch_lines s) (drop (i + 1) (mismatches s)) ++ total))
+    piece_exit c.from_residual.result (g.S.Sink.held c.put_mismatch_at.new.sink) (text_of (mismatch_lines s (get_or c.deref-place-items.result.now i 0))) (text_of (flat_map (mismatch_lines s) (drop (i + 1) (mismatches s)) ++ total))
     c.from_residual.ensures.0 (sent_along more c.loop-place.invariant.sent) c.in_err-put_mismatch_at.ensures.wrote
 
 pub loop-place-preserved : goal.loop-place-preserved
@@ -57,7 +58,7 @@ loop-place-preserved g c =
     drop_more (mismatches c.args.self.now.script) c.loop-place.place-index 0 lt ∙ ap (λ (ms : List ℕ). get_or ms c.loop-place.place-index 0 ∷ drop (c.loop-place.place-index + 1) (mismatches c.args.self.now.script)) (sym held) in
     let more = step (mismatch_lines s) (drop i (mismatches s)) (drop (i + 1) (mismatches s)) (get_or c.deref-place-items.result.now i 0) total next in
     record {
-      sent = sent_more (g.S.Sink.held c.put_mismatch_at.new.sink) (text_of (mismatch_lines s (get_or c.deref-place-items.result.now i 0))) (text_of (flat_map (mismatch_lines s) (drop (i + 1) (mismatches s)) ++ total))
+      sent = sent_piece (g.S.Sink.held c.put_mismatch_at.new.sink) (text_of (mismatch_lines s (get_or c.deref-place-items.result.now i 0))) (text_of (flat_map (mismatch_lines s) (drop (i + 1) (mismatches s)) ++ total))
           (sent_along more c.loop-place.invariant.sent) c.in_ok-put_mismatch_at.ensures.wrote;
       takes = λ t. (c.in_ok-put_mismatch_at.ensures.all (c.loop-place.invariant.takes t)).1;
     }
@@ -76,4 +77,4 @@ returns-clause-wrote g c =
     let last : text_of (flat_map (mismatch_lines c.args.self.now.script) (drop c.loop-place.place-index (mismatches c.args.self.now.script)) ++ total_line (length c.args.self.now.script.blocks) (length (mismatches c.args.self.now.script)) ∷ []) ≡ line_text (total_line c.len.result c.len-2.result) =
     ap (λ (ms : List ℕ). text_of (flat_map (mismatch_lines c.args.self.now.script) ms ++ total_line (length c.args.self.now.script.blocks) (length (mismatches c.args.self.now.script)) ∷ [])) none
     ∙ both (λ (n m : ℕ). text_of (total_line n m ∷ [])) (sym few) (sym many) ∙ append-nil (line_text (total_line c.len.result c.len-2.result)) in
-    sent_last c.put_total.result (g.S.Sink.held c.put_total.new.sink) (line_text (total_line c.len.result c.len-2.result)) (sent_along last c.loop-place.invariant.sent) c.put_total.ensures.wrote
+    piece_last c.put_total.result (g.S.Sink.held c.put_total.new.sink) (line_text (total_line c.len.result c.len-2.result)) (sent_along last c.loop-place.invariant.sent) c.put_total.ensures.wrote

@@ -3,7 +3,7 @@ use Rattle.std.proofs.Common.{◌++◌, ◌∷◌, [], drop, length}
 use Rattle.std.specs.List.{flat_map}
 use Rattle.rb_script.specs.Lines.{text_of}
 use Rattle.rb_replay.specs.Report.{mismatches, mismatch_lines, total_line, report_lines}
-use Rattle.rb_replay.proofs.WriteLaws.{Sent}
+use Rattle.rb_text.proofs.SentLaws.{Sent}
 use Rattle.rb_replay.proofs.session.Session.write_report.Given as goal
 
 abbrev pub invariant-loop-place : goal.invariant-loop-place

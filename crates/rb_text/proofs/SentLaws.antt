@@ -1,8 +1,10 @@
 -- A text that goes out in parts.
-use Rattle.std.proofs.Common.{◌≡◌, ℕ, List, [], ◌++◌, Option, Result, Ok, Err, ap, sym, subst, ◌∙◌, append_assoc, append-nil}
-use Rattle.std.specs.Prelude.{IsErr}
+use Rattle.std.proofs.Common.{◌≡◌, ℕ, ◌+◌, List, [], ◌∷◌, ◌++◌, drop, Option, Some, Result, Ok, Err, refl, ap, sym, subst, ◌∙◌, append_assoc, append-nil}
+use Rattle.std.specs.Prelude.{IsErr, slice_get}
 use Rattle.std.specs.Io.KnownBytes.{Appends}
 use Rattle.std.proofs.KnownBytes.{Appends-nil, Appends-trans}
+use Rattle.std.proofs.lemmas.List.{drop_more}
+use Rattle.std.proofs.lemmas.Option.{slice_get_within, get_or_from_slice_get}
 use Rattle.rb_script.specs.declared.sink.WriteFault.{WriteFault}
 use Rattle.rb_script.specs.Writes.{AppendsFront, Writes}
 
@@ -29,7 +31,7 @@ pub sent_along : {old new : Option (List ℕ)} {text rest other : List ℕ} → 
 sent_along {old} {new} {text} e s = subst (λ (l : List ℕ). Sent old new text l) e s
 
 -- a beginning of a piece went out
-pub piece_front : {old mid : Option (List ℕ)} {text : List ℕ} (new : Option (List ℕ)) (a rest : List ℕ) → Sent old mid text (a ++ rest) → AppendsFront mid new a → AppendsFront old new text
+piece_front : {old mid : Option (List ℕ)} {text : List ℕ} (new : Option (List ℕ)) (a rest : List ℕ) → Sent old mid text (a ++ rest) → AppendsFront mid new a → AppendsFront old new text
 piece_front {old} {mid} new a rest s f = record {
   front = s.front ++ f.front;
   rest = f.rest ++ rest;
@@ -60,3 +62,19 @@ first_failed {old = old} r new text a b e is f = piece_exit r new a b is (sent_n
 -- the first part went out, and so the whole is what became of the second
 pub second_written : {X : Type 0} (old mid : Option (List ℕ)) (r : Result X WriteFault) (new : Option (List ℕ)) (text a b : List ℕ) → text ≡ a ++ b → Appends old mid a → Writes r mid new b → Writes r old new text
 second_written old mid r new text a b e first w = piece_last r new b (sent_piece mid a b (sent_none old text (a ++ b) e) first) w
+
+-- a piece went out, and then what another write answered
+pub and_then : {X : Type 0} (old mid new : Option (List ℕ)) (a rest : List ℕ) (r : Result X WriteFault) → Appends old mid a → Writes r mid new rest → Writes r old new (a ++ rest)
+and_then old mid new a rest r h w = second_written old mid r new (a ++ rest) a rest refl h w
+
+-- the write of a piece failed
+pub no_more : {X : Type 0} (old new : Option (List ℕ)) (a rest : List ℕ) (r : Result X WriteFault) → IsErr r → AppendsFront old new a → Writes r old new (a ++ rest)
+no_more old new a rest r failed h = first_failed r new (a ++ rest) a rest refl failed h
+
+-- the same text, seen otherwise
+pub writes_along : {X : Type 0} (r : Result X WriteFault) (old new : Option (List ℕ)) (text other : List ℕ) → text ≡ other → Writes r old new text → Writes r old new other
+writes_along r old new text other e w = subst (λ (l : List ℕ). Writes r old new l) e w
+
+-- the element at a place, and those after it
+pub drop-get : {A : Type 0} (xs : List A) (i : ℕ) (x : A) → slice_get xs i ≡ Some x → drop i xs ≡ x ∷ drop (i + 1) xs
+drop-get xs i x got = drop_more xs i x (slice_get_within xs i x got) ∙ ap (λ (y : _). y ∷ drop (i + 1) xs) (get_or_from_slice_get xs i x x got)
