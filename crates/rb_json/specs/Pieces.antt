@@ -9,6 +9,3 @@ abbrev pub piece_text : Piece → List ℕ
 piece_text (pieces.Bytes bytes) = bytes.now
 piece_text (pieces.Number n) = decimal n
 piece_text (pieces.Escaped bytes) = flat_map escaped bytes.now
-
-abbrev pub pieces_text : List Piece → List ℕ
-pieces_text ps = flat_map piece_text ps

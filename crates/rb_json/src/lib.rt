@@ -8,4 +8,5 @@ mod escape;
 mod piece;
 
 pub use escape::add_ascii;
-pub use piece::{Piece, add_pieces};
+pub use piece::Piece;
+pub use rb_text::add_pieces;

@@ -1,9 +1,9 @@
 //! The pieces that a line is put together of.
 
-ghost use Rattle.std.specs.Prelude.{◌≡◌, ◌++◌, OnOk, decimal};
-ghost use Rattle.rb_why.specs.Pieces.{piece_text, pieces_text};
+ghost use Rattle.rb_why.specs.Pieces.{piece_text};
 
-use itoa::Buffer;
+pub(crate) use rb_text::add_pieces;
+use rb_text::{AddedPiece, add_number};
 use std::alloc::AllocError;
 
 /// A piece of a line.
@@ -15,28 +15,13 @@ pub(crate) enum Piece<'a> {
     Number(u64),
 }
 
-/// Adds the pieces to the line.
-pub(crate) fn add_pieces(line: &mut Vec<u8>, pieces: &[Piece<'_>]) -> Result<(), AllocError>
-    ensures { OnOk result (line.new.items ≡ line.old.items ++ pieces_text pieces.now) }
-{
-    for piece in pieces {
-        add_piece(line, *piece)?;
-    }
-    Ok(())
-}
+impl AddedPiece for Piece<'_> {
+    ghost text = { piece_text };
 
-fn add_piece(line: &mut Vec<u8>, piece: Piece<'_>) -> Result<(), AllocError>
-    ensures { OnOk result (line.new.items ≡ line.old.items ++ piece_text piece.entry) }
-{
-    match piece {
-        Piece::Bytes(bytes) => line.extend_from_slice(bytes),
-        Piece::Number(n) => add_digits(line, n),
+    fn add(&self, to: &mut Vec<u8>) -> Result<(), AllocError> {
+        match *self {
+            Piece::Bytes(bytes) => to.extend_from_slice(bytes),
+            Piece::Number(n) => add_number(to, n),
+        }
     }
-}
-
-fn add_digits(line: &mut Vec<u8>, n: u64) -> Result<(), AllocError>
-    ensures { OnOk result (line.new.items ≡ line.old.items ++ decimal n) }
-{
-    let mut digits = Buffer::new();
-    line.extend_from_slice(digits.format(n).as_bytes())
 }
