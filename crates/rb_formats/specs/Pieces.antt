@@ -12,6 +12,3 @@ piece_text (pieces.Number n) = decimal n
 piece_text (pieces.Json bytes) = flat_map ascii bytes.now
 piece_text (pieces.Property bytes) = flat_map in_property bytes.now
 piece_text (pieces.Message bytes) = flat_map in_message bytes.now
-
-abbrev pub pieces_text : List Piece → List ℕ
-pieces_text ps = flat_map piece_text ps

@@ -1,11 +1,11 @@
 //! The pieces that a text is put together of.
 
-ghost use Rattle.std.specs.Prelude.{◌≡◌, ◌++◌, OnOk, decimal};
-ghost use Rattle.rb_formats.specs.Pieces.{piece_text, pieces_text};
+ghost use Rattle.rb_formats.specs.Pieces.{piece_text};
 
 use crate::escape::{add_message, add_property};
-use itoa::Buffer;
 use rb_json::add_ascii;
+pub(crate) use rb_text::add_pieces;
+use rb_text::{AddedPiece, add_number};
 use std::alloc::AllocError;
 
 /// A piece of a text.
@@ -23,31 +23,16 @@ pub(crate) enum Piece<'a> {
     Message(&'a [u8]),
 }
 
-/// Puts the pieces behind the text. Where memory is refused some of them may have been added.
-pub(crate) fn add_pieces(text: &mut Vec<u8>, pieces: &[Piece<'_>]) -> Result<(), AllocError>
-    ensures { OnOk result (text.new.items ≡ text.old.items ++ pieces_text pieces.now) }
-{
-    for piece in pieces {
-        add_piece(text, *piece)?;
-    }
-    Ok(())
-}
+impl AddedPiece for Piece<'_> {
+    ghost text = { piece_text };
 
-fn add_piece(text: &mut Vec<u8>, piece: Piece<'_>) -> Result<(), AllocError>
-    ensures { OnOk result (text.new.items ≡ text.old.items ++ piece_text piece.entry) }
-{
-    match piece {
-        Piece::Bytes(bytes) => text.extend_from_slice(bytes),
-        Piece::Number(n) => add_number(text, n),
-        Piece::Json(bytes) => add_ascii(text, bytes),
-        Piece::Property(bytes) => add_property(text, bytes),
-        Piece::Message(bytes) => add_message(text, bytes),
+    fn add(&self, to: &mut Vec<u8>) -> Result<(), AllocError> {
+        match *self {
+            Piece::Bytes(bytes) => to.extend_from_slice(bytes),
+            Piece::Number(n) => add_number(to, n),
+            Piece::Json(bytes) => add_ascii(to, bytes),
+            Piece::Property(bytes) => add_property(to, bytes),
+            Piece::Message(bytes) => add_message(to, bytes),
+        }
     }
-}
-
-fn add_number(text: &mut Vec<u8>, n: u64) -> Result<(), AllocError>
-    ensures { OnOk result (text.new.items ≡ text.old.items ++ decimal n) }
-{
-    let mut digits = Buffer::new();
-    text.extend_from_slice(digits.format(n).as_bytes())
 }
