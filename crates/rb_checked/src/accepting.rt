@@ -4,6 +4,7 @@
 //! no comment says is expected.
 
 ghost use Rattle.std.specs.Prelude.{◌≡◌, ◌&&◌, ◌∷◌, ◌++◌, [], not, IfOk, IsOk, length};
+ghost use Rattle.rb_script.specs.Shared.{values};
 ghost use Rattle.rb_script.specs.Writes.{Writes};
 ghost use Rattle.rb_replay.specs.Run.{outputs};
 ghost use Rattle.rb_checked.specs.Errors.{is_unexpected};
@@ -16,8 +17,9 @@ use crate::wanted::{Wanted, is_picked};
 use rb_check::{FileLine, put_left};
 use rb_machine::Machine;
 use rb_replay::Session;
-use rb_script::{Block, Lines, Sink, WriteFault};
+use rb_script::{Block, Grouped, Lines, Sink, WriteFault};
 use std::alloc::{AllocError, Global};
+use std::rc::Rc;
 
 // Whether the output is an error that is to be left.
 fn is_refused(errors: bool, text: &Lines, line: usize, output: &Lines) -> bool
@@ -52,17 +54,18 @@ fn accepted_lines(
 
 // The same, after others.
 fn push_accepted(
-    all: &mut Vec<Lines>,
+    alloc: Global,
+    all: &mut Vec<Rc<Lines>>,
     wanted: Wanted<'_>,
     text: &Lines,
     line: usize,
     block: &Block,
     output: &Lines,
 ) -> Result<(), AllocError>
-    ensures { IfOk result (λ _. all.new.items ≡ all.old.items ++ accepted_lines wanted.entry text.now line block.now output.now ∷ []) }
+    ensures { IfOk result (λ _. values all.new.items ≡ values all.old.items ++ accepted_lines wanted.entry text.now line block.now output.now ∷ []) }
 {
     let lines = accepted_lines(wanted, text, line, block, output)?;
-    all.push(lines)?;
+    all.push(Rc::new(alloc, lines)?)?;
     Ok(())
 }
 
@@ -73,18 +76,18 @@ pub(crate) fn accepted_of<M: Machine>(
     heads: &[usize],
     text: &Lines,
     wanted: Wanted<'_>,
-) -> Result<Vec<Lines>, AllocError>
+) -> Result<Grouped<Lines>, AllocError>
     requires { length heads.now ≡ length session.now.script.blocks }
-    ensures { IfOk result (λ all. all.items ≡ accepted_of wanted.entry text.now heads.now session.now.script.blocks (outputs session.now.script)) }
+    ensures { IfOk result (λ all. all ≡ accepted_of wanted.entry text.now heads.now session.now.script.blocks (outputs session.now.script)) }
 {
     let mut all = Vec::new(alloc);
     for i in 0..session.len() {
         let block = block_at(session, i);
         let output = output_at(session, i);
         let line = number_at(heads, i);
-        push_accepted(&mut all, wanted, text, line, block, output)?;
+        push_accepted(alloc, &mut all, wanted, text, line, block, output)?;
     }
-    Ok(all)
+    Grouped::of(alloc, all)
 }
 
 // The line of the head, where its output is not accepted, after others.

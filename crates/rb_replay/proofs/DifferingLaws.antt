@@ -1,11 +1,11 @@
 -- Laws of mismatches.
-use Rattle.std.proofs.Common.{◌≡◌, ℕ, zero, suc, ◌+◌, ◌-◌, ◌<◌, ◌≤◌, List, [], ◌∷◌, ◌++◌, length, take, drop, map, refl, ap, sym, ◌∙◌, arith, get_or, Bool, true, false, append_assoc, subst}
-use Rattle.std.specs.Prelude.{filter, nat_lt, nat_le, ◌&&◌, Decides}
+use Rattle.std.proofs.Common.{◌≡◌, ℕ, zero, suc, ◌+◌, ◌-◌, ◌<◌, ◌≤◌, List, [], ◌∷◌, ◌++◌, length, take, drop, map, refl, ap, sym, ◌∙◌, arith, get_or, Bool, Some, true, false, append_assoc, subst}
+use Rattle.std.specs.Prelude.{filter, nat_lt, nat_le, ◌&&◌, Decides, slice_get}
 use Rattle.std.specs.Str.{bytes_eq}
 use Rattle.std.proofs.lemmas.Bool.{le-leb}
 use Rattle.std.proofs.lemmas.Bool.Decides.{nat_tests}
 use Rattle.std.proofs.lemmas.Slice.Eq.{bytes_eq-Decides}
-use Rattle.std.proofs.lemmas.List.{drop_more, length-take-le, length-drop, length-append, take-append-drop, drop-drop, take_rest}
+use Rattle.std.proofs.lemmas.List.{take_all, length-take-le, length-drop, take-append-drop, drop-drop, take_rest}
 use Rattle.rb_script.specs.Lines.{Line}
 use Rattle.rb_script.specs.Script.{PlainBlock, PlainScript, all_expecting}
 use Rattle.rb_replay.specs.declared.splice.Splice.{Splice}
@@ -15,6 +15,7 @@ use Rattle.rb_replay.specs.Points.{IsRising}
 use Rattle.rb_replay.specs.Splices.{IsMended}
 use Rattle.rb_replay.proofs.RunLaws.{both, length-outputs}
 use Rattle.rb_replay.proofs.PartLaws.{nothing_below}
+use Rattle.rb_text.proofs.SentLaws.{drop-get}
 
 -- ---- the test of lines
 
@@ -38,15 +39,29 @@ same_lines-Decides ls os = (same_lines-true ls os, λ e. subst (λ (x : List Lin
 
 -- ---- one block on
 
-pub differing_same : (place i j : ℕ) (bs : List PlainBlock) (os : List (List Line)) (b : PlainBlock) (o : List Line) → i < length bs → j < length os → same_lines (get_or bs i b).expected (get_or os j o) ≡ true → differing place (drop i bs) (drop j os) ≡ differing (place + 1) (drop (i + 1) bs) (drop (j + 1) os)
-differing_same place i j bs os b o lt lt' same = both (differing place) (drop_more bs i b lt) (drop_more os j o lt') ∙ (rw same refl)
+module _ (to i : ℕ) (bs : List PlainBlock) (os : List (List Line)) (b : PlainBlock) (o : List Line) (within : i < to) (block : slice_get bs i ≡ Some b) (output : slice_get os i ≡ Some o) where
+  -- what is to be compared from a place on: the block there, and those after it
+  one_on : differing (i + 1) (drop i bs) (take (to - i) (drop i os)) ≡ differing (i + 1) (b ∷ drop (i + 1) bs) (o ∷ take (to - (i + 1)) (drop (i + 1) os))
+  one_on =
+      let more : to - i ≡ suc (to - (i + 1)) = omega arith in
+      both (differing (i + 1)) (drop-get bs i b block) (both (λ (n : ℕ) (l : List (List Line)). take n l) more (drop-get os i o output))
 
-pub differing_other : (place i j : ℕ) (bs : List PlainBlock) (os : List (List Line)) (b : PlainBlock) (o : List Line) → i < length bs → j < length os → same_lines (get_or bs i b).expected (get_or os j o) ≡ false → differing place (drop i bs) (drop j os) ≡ place ∷ differing (place + 1) (drop (i + 1) bs) (drop (j + 1) os)
-differing_other place i j bs os b o lt lt' other = both (differing place) (drop_more bs i b lt) (drop_more os j o lt') ∙ (rw other refl)
+  pub differing_same : same_lines b.expected o ≡ true → differing (i + 1) (drop i bs) (take (to - i) (drop i os)) ≡ differing (i + 1 + 1) (drop (i + 1) bs) (take (to - (i + 1)) (drop (i + 1) os))
+  differing_same same = one_on ∙ (rw same refl)
+
+  pub differing_other : same_lines b.expected o ≡ false → differing (i + 1) (drop i bs) (take (to - i) (drop i os)) ≡ (i + 1) ∷ differing (i + 1 + 1) (drop (i + 1) bs) (take (to - (i + 1)) (drop (i + 1) os))
+  differing_other other = one_on ∙ (rw other refl)
 
 pub differing_none : (place : ℕ) (bs : List PlainBlock) → differing place bs [] ≡ []
 differing_none place [] = refl
 differing_none place (b ∷ bs) = refl
+
+-- of all outputs of a script
+pub differing-all : (s : PlainScript) (os : List (List Line)) (n : ℕ) → os ≡ outputs s → n ≡ length s.blocks → differing (0 + 1) (drop 0 s.blocks) (take (n - 0) (drop 0 os)) ≡ mismatches s
+differing-all s os n is len =
+    let long : length os ≤ n - 0 = omega (arith, ap length is, length-outputs s, len) in
+    let one : 0 + 1 ≡ 1 = omega arith in
+    ap (λ (m : ℕ). differing m s.blocks (take (n - 0) os)) one ∙ ap (differing 1 s.blocks) (take_all (n - 0) os long ∙ is)
 
 -- ---- parts of the list
 
@@ -103,40 +118,6 @@ differing-append place (b ∷ bs) (o ∷ os) more rest e =
     let on : place + 1 + length bs ≡ place + suc (length bs) = omega arith in
     let ih : differing (place + 1) (bs ++ rest) (os ++ more) ≡ differing (place + 1) bs os ++ differing (place + suc (length bs)) rest more = differing-append (place + 1) bs os more rest (omega arith) ∙ ap (λ (n : ℕ). differing (place + 1) bs os ++ differing n rest more) on in
     test_cases (same_lines b.expected o) (λ yes. rw yes ih) (λ no. rw no (ap (λ (ps : List ℕ). place ∷ ps) ih))
-
--- of outputs one behind others
-pub differing-split : (place : ℕ) (bs : List PlainBlock) (os more : List (List Line)) → differing place bs (os ++ more) ≡ differing place bs os ++ differing (place + length os) (drop (length os) bs) more
-differing-split place bs [] more =
-    let here : place + 0 ≡ place = omega arith in
-    sym (both (λ (ps : List ℕ) (n : ℕ). ps ++ differing n bs more) (differing_none place bs) here)
-differing-split place [] (o ∷ os) more = refl
-differing-split place (b ∷ bs) (o ∷ os) more =
-    let on : place + 1 + length os ≡ place + suc (length os) = omega arith in
-    let ih : differing (place + 1) bs (os ++ more) ≡ differing (place + 1) bs os ++ differing (place + suc (length os)) (drop (length os) bs) more =
-    differing-split (place + 1) bs os more ∙ ap (λ (n : ℕ). differing (place + 1) bs os ++ differing n (drop (length os) bs) more) on in
-    test_cases (same_lines b.expected o) (λ yes. rw yes ih) (λ no. rw no (ap (λ (ps : List ℕ). place ∷ ps) ih))
-
--- of those before a run, of the run and behind it
-pub differing-three : (bs : List PlainBlock) (front run rest : List (List Line)) (from at : ℕ) → length front ≡ from → from + length run ≡ at
-    → (differing (0 + 1) (drop 0 bs) front ++ differing (from + 1) (drop from bs) run) ++ differing (at + 1) (drop at bs) rest ≡ differing 1 bs (front ++ (run ++ rest))
-differing-three bs front run rest from at long end =
-    let one : 1 + length front ≡ from + 1 = omega arith in
-    let two : from + 1 + length run ≡ at + 1 = omega arith in
-    let first : differing 1 bs (front ++ (run ++ rest)) ≡ differing 1 bs front ++ differing (from + 1) (drop from bs) (run ++ rest) =
-    differing-split 1 bs front (run ++ rest) ∙ both (λ (n k : ℕ). differing 1 bs front ++ differing n (drop k bs) (run ++ rest)) one long in
-    let behind : differing (from + 1) (drop from bs) (run ++ rest) ≡ differing (from + 1) (drop from bs) run ++ differing (at + 1) (drop at bs) rest =
-    differing-split (from + 1) (drop from bs) run rest
-    ∙ both (λ (n : ℕ) (cs : List PlainBlock). differing (from + 1) (drop from bs) run ++ differing n cs rest) two (drop-drop (length run) from bs ∙ ap (λ (n : ℕ). drop n bs) end) in
-    append_assoc (differing 1 bs front) (differing (from + 1) (drop from bs) run) (differing (at + 1) (drop at bs) rest)
-    ∙ sym (first ∙ ap (λ (ps : List ℕ). differing 1 bs front ++ ps) behind)
-
--- how many there are then
-pub three-lengths : (old new : PlainScript) (from stop : ℕ) (run : List (List Line)) → from ≤ length old.blocks → take from (outputs old) ++ (run ++ drop stop (outputs old)) ≡ outputs new → from + (length run + (length old.blocks - stop)) ≡ length new.blocks
-three-lengths old new from stop run within parts =
-    let front : length (take from (outputs old)) ≡ from = length-take-le from (outputs old) (omega (arith, length-outputs old)) in
-    let one : length (take from (outputs old) ++ (run ++ drop stop (outputs old))) ≡ length (take from (outputs old)) + length (run ++ drop stop (outputs old)) = length-append (take from (outputs old)) (run ++ drop stop (outputs old)) in
-    let two : length (run ++ drop stop (outputs old)) ≡ length run + length (drop stop (outputs old)) = length-append run (drop stop (outputs old)) in
-    omega (arith, ap length parts, length-drop stop (outputs old), length-outputs old, length-outputs new)
 
 -- places that move
 pub differing-moved : (r t place to : ℕ) (bs : List PlainBlock) (os : List (List Line)) → r ≤ place → to ≡ place - r + t → map (λ (p : ℕ). p - r + t) (differing place bs os) ≡ differing to bs os

@@ -7,7 +7,7 @@ use Rattle.rb_script.specs.Script.{PlainScript}
 use Rattle.rb_machine.specs.Cluster.{Cluster}
 use Rattle.rb_script.specs.Lines.{Line}
 use Rattle.rb_replay.specs.Run.{directives, state, outputs}
-use Rattle.rb_replay.specs.Report.{differing, mismatches}
+use Rattle.rb_replay.specs.Report.{mismatches}
 use Rattle.rb_replay.specs.Points.{AreKept, every, start_points}
 use Rattle.rb_replay.specs.Holding.{Holding, IsFresh}
 use Rattle.rb_replay.proofs.NearLaws.{start-kept}
@@ -39,11 +39,11 @@ pub start-alone : (n : ℕ) → start_points (n + 1) n ≡ 0 ∷ []
 start-alone n = let none : n / (n + 1) ≡ 0 = div-eq_of_lt (omega arith) in ap (λ (j : ℕ). 0 ∷ every (n + 1) 0 j) none
 
 -- what a run of the whole script gives
-pub fresh-whole : (s : PlainScript) (K : ℕ) (os : List (List Line)) (ms points : List ℕ) (kept : List Cluster) → 1 ≤ K → length s.blocks ≤ MAX_DIRECTIVES → os ≡ outputs s → ms ≡ differing (0 + 1) (drop 0 s.blocks) os → points ≡ start_points K (length s.blocks) → kept ≡ map (state s) points
+pub fresh-whole : (s : PlainScript) (K : ℕ) (os : List (List Line)) (ms points : List ℕ) (kept : List Cluster) → 1 ≤ K → length s.blocks ≤ MAX_DIRECTIVES → os ≡ outputs s → ms ≡ mismatches s → points ≡ start_points K (length s.blocks) → kept ≡ map (state s) points
     → IsFresh (record { script = s; spacing = K; outputs = os; mismatches = ms; points = points; kept = kept })
 fresh-whole s K os ms points kept spaced few answered compared placed states = record {
   answered = answered;
-  compared = compared ∙ ap (λ (n : ℕ). differing n s.blocks os) (omega arith) ∙ ap (differing 1 s.blocks) answered;
+  compared = compared;
   states = states;
   near = subst (AreKept K (length s.blocks)) (sym placed) (start-kept K (length s.blocks) spaced);
   spaced = spaced;

@@ -1,5 +1,5 @@
 -- Laws of one run.
-use Rattle.std.proofs.Common.{◌≡◌, ℕ, zero, suc, ◌+◌, ◌<◌, List, [], ◌∷◌, ◌++◌, length, take, drop, map, refl, ap, sym, ◌∙◌, arith, add-one, get_or}
+use Rattle.std.proofs.Common.{◌≡◌, ℕ, zero, suc, ◌+◌, ◌-◌, ◌<◌, ◌≤◌, List, [], ◌∷◌, ◌++◌, length, take, drop, map, refl, ap, sym, ◌∙◌, arith, add-one, get_or}
 use Rattle.std.proofs.lemmas.List.{length-map}
 use Rattle.std.proofs.Math.Seq.{take-add}
 use Rattle.rb_script.specs.Lines.{Line}
@@ -13,6 +13,12 @@ use Rattle.rb_replay.specs.Run.{directives, led, answers, state, outputs}
 -- a function of two equal arguments
 pub both : {A B C : Type 0} (f : A → B → C) {a b : A} {x y : B} → a ≡ b → x ≡ y → f a x ≡ f b y
 both {A} {B} {C} f {a} {b} {x} {y} p q = ap (λ (t : A). f t x) p ∙ ap (f b) q
+
+-- the first, and those behind them up to a place
+pub take-between : {T : Type 0} (from to : ℕ) (xs : List T) → from ≤ to → take from xs ++ take (to - from) (drop from xs) ≡ take to xs
+take-between from to xs le =
+    let whole : from + (to - from) ≡ to = omega arith in
+    sym (take-add from (to - from) xs) ∙ ap (λ (n : ℕ). take n xs) whole
 
 pub led-append : (c : Cluster) (xs ys : List PlainDirective) → led c (xs ++ ys) ≡ led (led c xs) ys
 led-append c [] ys = refl

@@ -1,6 +1,7 @@
 -- A run under way, as the code sees it. (This project's.)
 use Rattle.std.specs.Prelude.{◌≡◌, ℕ, ◌+◌, ◌*◌, ◌≤◌, List, ◌++◌, length, take, map}
 use Rattle.rb_script.specs.Script.{PlainScript}
+use Rattle.rb_script.specs.Shared.{values}
 use Rattle.rb_machine.specs.Cluster.{Cluster}
 use Rattle.rb_replay.specs.declared.run.Run.{Run}
 use Rattle.rb_replay.specs.Run.{state, outputs}
@@ -25,7 +26,7 @@ pub record IsPacedOn (K from at due : ℕ) (points : List ℕ) : Type 0 where
 pub record HasRun {M : Type 0} (meaning : M → Cluster) (s : PlainScript) (c : Run M) : Type 0 where
   pub from_first : c.from ≤ c.at
   pub within : c.at ≤ length s.blocks
-  pub outputs_on : take c.from (outputs s) ++ c.outputs.items ≡ take c.at (outputs s)
+  pub outputs_on : take c.from (outputs s) ++ values c.outputs.items ≡ take c.at (outputs s)
   pub states_are : map meaning c.kept.items ≡ map (state s) c.points.items
 
 -- and its points, when it comes to a point, and when it goes on from it

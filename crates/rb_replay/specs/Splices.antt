@@ -87,12 +87,10 @@ pub record IsReady {M : Type 0} (meaning : M → Cluster) (c : Change) (kept : L
   -- the new points, before thinning, and the new mismatches stand ready whole
   pub points_are : r.points.items ≡ points_before c meeting
   pub mismatches_are : r.mismatches.items ≡ mismatches c.new
-  -- old outputs, those that were run, and old ones again are the outputs of the new script
-  pub outputs_are : take r.running.from (outputs c.old) ++ (r.running.outputs.items ++ drop r.rejoin.old_stop (outputs c.old)) ≡ outputs c.new
-  -- and in the same way kept clusters those of the new points
+  -- and so do its outputs
+  pub outputs_are : r.outputs ≡ outputs c.new
+  -- old clusters, those that were kept on the way, and old ones again are those of the new points
   pub states_are : take r.rejoin.front kept ++ (map meaning r.running.kept.items ++ drop r.rejoin.rest kept) ≡ map (state c.new) r.points.items
   -- what stays and what is used again don't overlap, and lie within what there was
-  pub order : r.running.from ≤ r.rejoin.old_stop
-  pub old_within : r.rejoin.old_stop ≤ length c.old.blocks
   pub front_first : r.rejoin.front ≤ r.rejoin.rest
   pub rest_within : r.rejoin.rest ≤ length c.points

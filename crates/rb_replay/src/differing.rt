@@ -1,11 +1,11 @@
 //! Where expectations are not the outputs.
 
-ghost use Rattle.std.specs.Prelude.{◌≡◌, ◌+◌, ◌≤◌, ◌==◌, length, drop, take, IfOk, true};
+ghost use Rattle.std.specs.Prelude.{◌≡◌, ◌+◌, ◌-◌, ◌≤◌, ◌==◌, length, drop, take, IfOk, true};
 ghost use Rattle.rb_script.specs.declared.limits.TheConstants.{MAX_DIRECTIVES};
 ghost use Rattle.rb_replay.specs.Report.{differing, same_lines};
 
 use crate::blocks::block_at;
-use rb_script::{Lines, Script};
+use rb_script::{Grouped, Lines, Script};
 use std::alloc::{AllocError, Global};
 
 /// Whether these are the same lines.
@@ -15,23 +15,25 @@ fn is_same(a: &Lines, b: &Lines) -> bool
     a.same(b)
 }
 
-/// The places after `from` where the expectation is not the output. The first output is that of the
-/// directive after `from`.
+/// The places after `from`, up to `to`, where the expectation is not the output.
 pub(crate) fn list_differing(
     alloc: Global,
     script: &Script,
+    outputs: &Grouped<Lines>,
     from: usize,
-    outputs: &[Lines],
+    to: usize,
 ) -> Result<Vec<usize>, AllocError>
     requires few { length script.now.blocks ≤ MAX_DIRECTIVES }
-    requires within { from + length outputs.now ≤ length script.now.blocks }
-    ensures { IfOk result (λ v. v.items ≡ differing (from + 1) (drop from script.now.blocks) outputs.now) }
+    requires within { to ≤ length script.now.blocks }
+    requires there { to ≤ length outputs.now }
+    ensures { IfOk result (λ v. v.items ≡ differing (from + 1) (drop from script.now.blocks) (take (to - from) (drop from outputs.now))) }
 {
     let mut places = Vec::new(alloc);
-    for (i, output) in outputs.iter().enumerate() {
-        let block = block_at(script, from + i);
+    for i in from..to {
+        let block = block_at(script, i);
+        let output = outputs.at(i);
         if !is_same(block.expected(), output) {
-            places.push(from + i + 1)?;
+            places.push(i + 1)?;
         }
     }
     Ok(places)

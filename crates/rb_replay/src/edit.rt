@@ -105,17 +105,17 @@ impl<M: Machine> Session<M> {
         ensures most { M.Meter.count_of meter.new ≤ M.Meter.count_of meter.old + length new.blocks }
     {
         let ready = self.prepare(&new, splice, common, meter)?;
-        make_room(&ready.running, &mut self.outputs, &mut self.kept)?;
+        make_room(&ready.running, &mut self.kept)?;
         // From here on nothing can fail.
         let executed = (ready.running.at - ready.running.from) as u64;
         let mismatches = ready.mismatches.len();
+        self.outputs = ready.outputs;
         self.points = ready.points;
         self.mismatches = ready.mismatches;
         self.script = new;
         take_over(
             ready.running,
             ready.rejoin,
-            &mut self.outputs,
             &mut self.points,
             &mut self.kept,
         );

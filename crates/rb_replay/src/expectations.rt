@@ -33,13 +33,7 @@ impl<M: Machine> Session<M> {
             old_rest: 0,
             new_rest: 0,
         };
-        let mismatches = self.mended(
-            &new,
-            splice,
-            place - 1,
-            &self.outputs[place - 1..place],
-            place,
-        )?;
+        let mismatches = self.mended(&new, splice, &self.outputs, place - 1, place, place)?;
         self.mismatches = mismatches;
         self.script = new;
         Ok(Changed {

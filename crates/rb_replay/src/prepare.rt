@@ -3,11 +3,11 @@
 use crate::differing::list_differing;
 use crate::points::{count_below, joined};
 use crate::ready::Ready;
-use crate::run::{Rerun, Run};
+use crate::run::Rerun;
 use crate::session::Session;
 use crate::splice::{Common, Splice};
 use rb_machine::{Count, Machine};
-use rb_script::{Lines, Script};
+use rb_script::{Grouped, Lines, Script};
 use std::alloc::AllocError;
 
 impl<M: Machine> Session<M> {
@@ -19,22 +19,25 @@ impl<M: Machine> Session<M> {
     ghost use Rattle.rb_replay.specs.Reuse.{change_by, IsChange, StayWhole, IsCost};
     ghost use Rattle.rb_replay.specs.Splices.{old_stop as old_stop_of, IsRerun, IsRejoin, IsMended, IsReady};
 
-    /// The mismatches of the new script: those of the front stay, the outputs that may have changed are
+    /// The mismatches of the new script: those of the front stay, the outputs that may have changed, those after `from` up to `to`, are
     /// compared, and those of the rest move with it.
     pub(crate) fn mended(
         &self,
         new: &Script,
         splice: Splice,
+        answers: &Grouped<Lines>,
         from: usize,
-        outputs: &[Lines],
+        to: usize,
         old_stop: usize,
     ) -> Result<Vec<usize>, AllocError>
         requires few { length new.now.blocks ≤ MAX_DIRECTIVES }
         requires small { splice.new_rest ≤ MAX_DIRECTIVES }
-        requires mended { IsMended self.now.script new.now splice from outputs.now old_stop }
+        requires order { from ≤ to }
+        requires there { to ≤ length answers.now }
+        requires mended { IsMended self.now.script new.now splice from (take (to - from) (drop from answers.now)) old_stop }
         ensures { IfOk result (λ v. v.items ≡ mismatches new.now) }
     {
-        let fresh = list_differing(self.alloc, new, from, outputs)?;
+        let fresh = list_differing(self.alloc, new, answers, from, to)?;
         let front = count_below(&self.mismatches, from + 1);
         let rest = count_below(&self.mismatches, old_stop + 1);
         joined(
@@ -46,49 +49,47 @@ impl<M: Machine> Session<M> {
         )
     }
 
-    /// The same where other lines may be expected of any directive: all outputs are compared, the old ones before the run, those
-    /// of the run, and the old ones behind it.
-    fn compared(
+    /// The outputs of the new script after a run: the old ones before it, those of the run, and the old ones behind it.
+    fn outputs_after(
         &self,
         new: &Script,
-        running: &Run<M>,
+        splice: Splice,
+        run: &Rerun<M>,
         old_stop: usize,
-    ) -> Result<Vec<usize>, AllocError>
+    ) -> Result<Grouped<Lines>, AllocError>
+        requires change { IsChange (change_by self.now new.now splice) }
         requires few { length new.now.blocks ≤ MAX_DIRECTIVES }
-        requires from { running.now.from ≤ length self.now.script.blocks }
-        requires at { running.now.from + length running.now.outputs.items ≡ running.now.at }
-        requires outputs { take running.now.from (outputs self.now.script) ++ (running.now.outputs.items ++ drop old_stop (outputs self.now.script)) ≡ outputs new.now }
-        requires old_stop { old_stop ≤ length self.now.script.blocks }
-        ensures { IfOk result (λ v. v.items ≡ mismatches new.now) }
+        requires run { IsRerun M.meaning (change_by self.now new.now splice) run.now }
+        requires old_stop { old_stop ≡ old_stop_of (change_by self.now new.now splice) run.now.met }
+        ensures { IfOk result (λ answers. answers ≡ outputs new.now) }
     {
-        let mut places = list_differing(self.alloc, new, 0, &self.outputs[..running.from])?;
-        let run = list_differing(self.alloc, new, running.from, &running.outputs)?;
-        let rest = list_differing(self.alloc, new, running.at, &self.outputs[old_stop..])?;
-        places.extend_from_slice(&run)?;
-        places.extend_from_slice(&rest)?;
-        Ok(places)
+        let running = &run.running;
+        self.outputs
+            .with_part(self.alloc, running.from, &running.outputs, old_stop)
     }
 
-    /// The mismatches of the new script after a run.
+    /// The mismatches of the new script after a run. Where other lines may be expected of any directive, all outputs are compared.
     fn mismatches_after(
         &self,
         new: &Script,
         splice: Splice,
         common: Common,
         run: &Rerun<M>,
+        answers: &Grouped<Lines>,
         old_stop: usize,
     ) -> Result<Vec<usize>, AllocError>
         requires change { IsChange (change_by self.now new.now splice) }
         requires whole { common ≡ Common.Blocks → StayWhole (change_by self.now new.now splice) }
         requires few { length new.now.blocks ≤ MAX_DIRECTIVES }
         requires run { IsRerun M.meaning (change_by self.now new.now splice) run.now }
+        requires answers { answers.now ≡ outputs new.now }
         requires old_stop { old_stop ≡ old_stop_of (change_by self.now new.now splice) run.now.met }
         ensures { IfOk result (λ v. v.items ≡ mismatches new.now) }
     {
         let running = &run.running;
         match common {
-            Common::Blocks => self.mended(new, splice, running.from, &running.outputs, old_stop),
-            Common::Directives => self.compared(new, running, old_stop),
+            Common::Blocks => self.mended(new, splice, answers, running.from, running.at, old_stop),
+            Common::Directives => list_differing(self.alloc, new, answers, 0, new.len()),
         }
     }
 
@@ -109,7 +110,15 @@ impl<M: Machine> Session<M> {
         ensures ready { IfOk result (IsReady M.meaning (change_by self.now new.now splice) self.now.kept) }
         ensures running { IfOk result (λ ready. ready.running ≡ run.running) }
     {
-        let mismatches = self.mismatches_after(new, splice, common, &run, rejoin.old_stop)?;
+        let outputs = self.outputs_after(new, splice, &run, rejoin.old_stop)?;
+        let mismatches = self.mismatches_after(
+            new,
+            splice,
+            common,
+            &run,
+            &outputs,
+            rejoin.old_stop,
+        )?;
         let points = joined(
             self.alloc,
             &self.points[..rejoin.front],
@@ -120,6 +129,7 @@ impl<M: Machine> Session<M> {
         Ok(Ready {
             running: run.running,
             rejoin,
+            outputs,
             points,
             mismatches,
         })

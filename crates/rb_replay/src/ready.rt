@@ -8,55 +8,43 @@ use crate::points::{put_between, thin};
 use crate::prepare::Rejoin;
 use crate::run::Run;
 use rb_machine::Machine;
-use rb_script::Lines;
+use rb_script::{Grouped, Lines};
 use std::alloc::AllocError;
 
-/// What stands ready: what was run, where the old run goes on, and the points and mismatches that there
+/// What stands ready: what was run, where the old run goes on, and the outputs, points and mismatches that there
 /// will be.
 #[derive(Drop)]
 pub(crate) struct Ready<M> {
     pub(crate) running: Run<M>,
     pub(crate) rejoin: Rejoin,
+    pub(crate) outputs: Grouped<Lines>,
     pub(crate) points: Vec<usize>,
     pub(crate) mismatches: Vec<usize>,
 }
 
 /// Makes the room that taking over needs. What is held stays.
-pub(crate) fn make_room<M: Machine>(
-    running: &Run<M>,
-    outputs: &mut Vec<Lines>,
-    kept: &mut Vec<M>,
-) -> Result<(), AllocError>
-    ensures outputs { outputs.new.items ≡ outputs.old.items }
+pub(crate) fn make_room<M: Machine>(running: &Run<M>, kept: &mut Vec<M>) -> Result<(), AllocError>
     ensures kept { kept.new.items ≡ kept.old.items }
-    ensures outputs_room { OnOk result (vec_len outputs.new + vec_len running.now.outputs ≤ vec_capacity outputs.new) }
-    ensures kept_room { OnOk result (vec_len kept.new + vec_len running.now.kept ≤ vec_capacity kept.new) }
+    ensures room { OnOk result (vec_len kept.new + vec_len running.now.kept ≤ vec_capacity kept.new) }
 {
-    outputs.reserve(running.outputs.len())?;
     kept.reserve(running.kept.len())?;
     Ok(())
 }
 
-/// Puts what was run in place of the old. It takes no memory.
+/// Puts the clusters that were kept on the way in place of the old, and thins them. It takes no memory.
 pub(crate) fn take_over<M: Machine>(
     mut running: Run<M>,
     rejoin: Rejoin,
-    outputs: &mut Vec<Lines>,
     points: &mut Vec<usize>,
     kept: &mut Vec<M>,
 )
-    requires outputs_order { running.from ≤ rejoin.old_stop }
-    requires outputs_within { rejoin.old_stop ≤ vec_len outputs.old }
-    requires outputs_room { vec_len outputs.old + vec_len running.outputs ≤ vec_capacity outputs.old }
-    requires kept_order { rejoin.front ≤ rejoin.rest }
-    requires kept_within { rejoin.rest ≤ vec_len kept.old }
-    requires kept_room { vec_len kept.old + vec_len running.kept ≤ vec_capacity kept.old }
+    requires order { rejoin.front ≤ rejoin.rest }
+    requires within { rejoin.rest ≤ vec_len kept.old }
+    requires room { vec_len kept.old + vec_len running.kept ≤ vec_capacity kept.old }
     requires paired { length (take rejoin.front kept.old.items ++ (running.kept.items ++ drop rejoin.rest kept.old.items)) ≡ length points.old.items }
-    ensures outputs { outputs.new.items ≡ take running.from outputs.old.items ++ (running.outputs.items ++ drop rejoin.old_stop outputs.old.items) }
     ensures points { points.new.items ≡ thin running.spacing points.old.items }
     ensures kept { (f : ℕ → Cluster) → map M.meaning (take rejoin.front kept.old.items ++ (running.kept.items ++ drop rejoin.rest kept.old.items)) ≡ map f points.old.items → map M.meaning kept.new.items ≡ map f points.new.items }
 {
-    put_between(outputs, running.from, rejoin.old_stop, &mut running.outputs);
     put_between(kept, rejoin.front, rejoin.rest, &mut running.kept);
     thin(points, kept, running.spacing);
 }

@@ -114,6 +114,6 @@ impl<M: Machine> Session<M> {
         ensures all { S.takes_all sink.old → IsOk result × S.takes_all sink.new }
     {
         let block = block_at(&self.script, place - 1);
-        put_mismatch(sink, place, block.expected(), &self.outputs[place - 1])
+        put_mismatch(sink, place, block.expected(), self.outputs.at(place - 1))
     }
 }

@@ -16,11 +16,14 @@ use crate::splice::Splice;
 use rb_machine::{Count, Machine};
 use rb_script::{Lines, Script};
 use std::alloc::{AllocError, Global};
+use std::rc::Rc;
 
 /// What a run of a script from a point on has brought so far.
 #[derive(Drop)]
 pub(crate) struct Run<M> {
-    pub(crate) outputs: Vec<Lines>,
+    pub(crate) alloc: Global,
+    // to be shared
+    pub(crate) outputs: Vec<Rc<Lines>>,
     // the points at which the machine was kept on the way, and what was kept
     pub(crate) points: Vec<usize>,
     pub(crate) kept: Vec<M>,
@@ -44,6 +47,7 @@ impl<M: Machine> Run<M> {
         ensures due { result.due ≡ spacing }
     {
         Run {
+            alloc,
             outputs: Vec::new(alloc),
             points: Vec::new(alloc),
             kept: Vec::new(alloc),
@@ -96,7 +100,7 @@ impl<M: Machine> Run<M> {
     {
         let block = block_at(script, self.at);
         let (next, lines) = machine.run(block.directive(), meter)?;
-        self.outputs.push(lines)?;
+        self.outputs.push(Rc::new(self.alloc, lines)?)?;
         self.at += 1;
         self.due -= 1;
         Ok(next)

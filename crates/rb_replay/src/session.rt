@@ -1,7 +1,7 @@
 //! A session, and what can be read of it.
 
 use rb_machine::Machine;
-use rb_script::{Block, Lines, Script};
+use rb_script::{Block, Grouped, Lines, Script};
 use std::alloc::Global;
 use std::marker::Model;
 
@@ -10,7 +10,7 @@ pub struct Session<M: Machine> {
     pub(crate) alloc: Global,
     pub(crate) script: Script,
     pub(crate) spacing: usize,
-    pub(crate) outputs: Vec<Lines>,
+    pub(crate) outputs: Grouped<Lines>,
     pub(crate) mismatches: Vec<usize>,
     // where clusters are kept, and those clusters
     pub(crate) points: Vec<usize>,
@@ -38,9 +38,9 @@ impl<M: Machine> Model for Session<M> {
 
     ghost Value = { Holding };
 
-    ghost view = { λ s. record { script = s.script; spacing = s.spacing; outputs = s.outputs.items; mismatches = s.mismatches.items; points = s.points.items; kept = map M.meaning s.kept.items } };
+    ghost view = { λ s. record { script = s.script; spacing = s.spacing; outputs = s.outputs; mismatches = s.mismatches.items; points = s.points.items; kept = map M.meaning s.kept.items } };
 
-    ghost invariant = { λ s. IsFresh (record { script = s.script; spacing = s.spacing; outputs = s.outputs.items; mismatches = s.mismatches.items; points = s.points.items; kept = map M.meaning s.kept.items }) };
+    ghost invariant = { λ s. IsFresh (record { script = s.script; spacing = s.spacing; outputs = s.outputs; mismatches = s.mismatches.items; points = s.points.items; kept = map M.meaning s.kept.items }) };
 }
 
 /// What an edit came to.

@@ -5,6 +5,7 @@ ghost use Rattle.rb_script.specs.declared.limits.TheConstants.{MAX_DIRECTIVES};
 ghost use Rattle.rb_script.specs.Script.{PlainScript};
 ghost use Rattle.rb_script.specs.Reads.{Reads};
 ghost use Rattle.rb_script.specs.Reading.{read_of, early_fault};
+ghost use Rattle.rb_script.specs.Shared.{values};
 ghost use Rattle.rb_replay.specs.Run.{state, outputs};
 ghost use Rattle.rb_replay.specs.Points.{start_points};
 ghost use Rattle.rb_replay.specs.Start.{TellsStartFault};
@@ -15,7 +16,7 @@ use crate::run::Run;
 use crate::session::Session;
 use crate::spacing::is_spacing;
 use rb_machine::{Count, Machine};
-use rb_script::{Script, ScriptFault};
+use rb_script::{Grouped, Script, ScriptFault};
 use std::alloc::{AllocError, Global};
 
 /// The fault of a start for one of reading. Want of memory is the start's own.
@@ -129,12 +130,13 @@ impl<M: Machine> Session<M> {
         ensures refused { OnErr result (M.Meter.count_of meter.new ≤ M.Meter.count_of meter.old + length script.blocks) }
     {
         let running = run_whole(alloc, &script, spacing, meter)?;
-        let mismatches = list_differing(alloc, &script, 0, &running.outputs)?;
+        let outputs = Grouped::of(alloc, running.outputs)?;
+        let mismatches = list_differing(alloc, &script, &outputs, 0, script.len())?;
         Ok(Session {
             alloc,
             script,
             spacing,
-            outputs: running.outputs,
+            outputs,
             mismatches,
             points: running.points,
             kept: running.kept,
@@ -152,7 +154,7 @@ fn run_whole<M: Machine>(
     requires least { 1 ≤ spacing }
     requires few { length script.now.blocks ≤ MAX_DIRECTIVES }
     requires meter { M.Meter.count_of meter.old ≤ 2 ^ 62 }
-    ensures outputs { IfOk result (λ c. c.outputs.items ≡ outputs script.now) }
+    ensures outputs { IfOk result (λ c. values c.outputs.items ≡ outputs script.now) }
     ensures points { IfOk result (λ c. c.points.items ≡ start_points spacing (length script.now.blocks)) }
     ensures states { IfOk result (λ c. map M.meaning c.kept.items ≡ map (state script.now) c.points.items) }
     ensures counted { OnOk result (M.Meter.count_of meter.new ≡ M.Meter.count_of meter.old + length script.now.blocks) }

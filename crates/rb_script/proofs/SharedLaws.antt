@@ -16,7 +16,6 @@ use Rattle.rb_script.specs.Reads.{is_readable}
 use Rattle.rb_script.specs.Valid.{IsLine, IsBlock}
 use Rattle.rb_script.specs.Edits.{ends_in_return, is_text_line, is_expectation}
 use Rattle.rb_script.specs.Shared.{values}
-use Rattle.rb_script.proofs.ReadingLaws.{drop_found}
 
 -- ---- what holds of each element
 
@@ -114,23 +113,33 @@ expecting_valid b e h is =
       lines = every-append IsLine b.lead (b.head ++ (b.input ++ rule ∷ new)) x.0 (every-append IsLine b.head (b.input ++ rule ∷ new) y.0 (every-append IsLine b.input (rule ∷ new) z.0 (rule_line, ends)));
     }
 
--- ---- testing lines one after another
+-- what stands at a place, and those after it
+pub drop_there : {X : Type 0} (xs : List X) (i : ℕ) (x : X) → slice_get xs i ≡ Some x → drop i xs ≡ x ∷ drop (i + 1) xs
+drop_there {X} xs i x found = drop_more xs i x (slice_get_within xs i x found) ∙ ap (λ (y : X). y ∷ drop (i + 1) xs) (get_or_from_slice_get xs i x x found)
 
-module _ (ls : List Line) (i : ℕ) (line : Line) (found : slice_get ls i ≡ Some line) where
-  lines_split : list_all is_text_line (drop i ls) ≡ (is_text_line line && list_all is_text_line (drop (i + 1) ls))
-  lines_split = ap (list_all is_text_line) (drop_found ls i line found)
+-- ---- testing items one after another
 
-  -- a line passed
-  pub text_lines_more : (total : Bool) → is_text_line line ≡ true → list_all is_text_line (drop i ls) ≡ total → list_all is_text_line (drop (i + 1) ls) ≡ total
-  text_lines_more total h so_far = sym (ap (λ t. t && list_all is_text_line (drop (i + 1) ls)) h) ∙ sym lines_split ∙ so_far
+module _ {X : Type 0} (test : X → Bool) (xs : List X) (i : ℕ) (x : X) (found : slice_get xs i ≡ Some x) where
+  tests_split : list_all test (drop i xs) ≡ (test x && list_all test (drop (i + 1) xs))
+  tests_split = ap (list_all test) (drop_there xs i x found)
 
-  -- a line failed
-  pub text_lines_not : (total : Bool) → is_text_line line ≡ false → list_all is_text_line (drop i ls) ≡ total → false ≡ total
-  text_lines_not total h so_far = sym (ap (λ t. t && list_all is_text_line (drop (i + 1) ls)) h) ∙ sym lines_split ∙ so_far
+  -- one passed
+  pub tests_more : (total : Bool) → test x ≡ true → list_all test (drop i xs) ≡ total → list_all test (drop (i + 1) xs) ≡ total
+  tests_more total h so_far = sym (ap (λ t. t && list_all test (drop (i + 1) xs)) h) ∙ sym tests_split ∙ so_far
 
--- all lines passed
-pub text_lines_end : (ls : List Line) (i : ℕ) (total : Bool) → length ls ≤ i → list_all is_text_line (drop i ls) ≡ total → true ≡ total
-text_lines_end ls i total le so_far = sym (ap (list_all is_text_line) (drop_all i ls le)) ∙ so_far
+  -- one failed
+  pub tests_not : (total : Bool) → test x ≡ false → list_all test (drop i xs) ≡ total → false ≡ total
+  tests_not total h so_far = sym (ap (λ t. t && list_all test (drop (i + 1) xs)) h) ∙ sym tests_split ∙ so_far
+
+-- where all pass, this one does
+pub test_there : {X : Type 0} (test : X → Bool) (xs : List X) (i : ℕ) (x : X) → slice_get xs i ≡ Some x → list_all test xs ≡ true → test x ≡ true
+test_there test [] i x found all = absurd (let within = slice_get_within [] i x found in omega (arith, within))
+test_there test (y ∷ xs) zero x found all = ap test (sym (same_Some y x found)) ∙ (and_parts (test y) (list_all test xs) all).0
+test_there test (y ∷ xs) (suc i) x found all = test_there test xs i x found (and_parts (test y) (list_all test xs) all).1
+
+-- all passed
+pub tests_end : {X : Type 0} (test : X → Bool) (xs : List X) (i : ℕ) (total : Bool) → length xs ≤ i → list_all test (drop i xs) ≡ total → true ≡ total
+tests_end test xs i total le so_far = sym (ap (list_all test) (drop_all i xs le)) ∙ so_far
 
 -- ---- blocks behind their pointers, one after another
 
@@ -167,19 +176,15 @@ values_none ps i le = drop_all i (values ps) (subst (λ (n : ℕ). n ≤ i) (sym
 pub pushed : {T : Type 0} (into next : List (Rc T Global)) (p : Rc T Global) (v : T) → next ≡ into ++ p ∷ [] → p.value ≡ v → values next ≡ values into ++ v ∷ []
 pushed {T} into next p v e is = ap values e ∙ map-append (λ (q : Rc T Global). q.value) into (p ∷ []) ∙ ap (λ (x : T). values into ++ x ∷ []) is
 
--- what stands at a place, and those after it
-pub drop_there : {X : Type 0} (xs : List X) (i : ℕ) (x : X) → slice_get xs i ≡ Some x → drop i xs ≡ x ∷ drop (i + 1) xs
-drop_there {X} xs i x found = drop_more xs i x (slice_get_within xs i x found) ∙ ap (λ (y : X). y ∷ drop (i + 1) xs) (get_or_from_slice_get xs i x x found)
-
 -- ---- each block with its output
 
-module _ (bs : List PlainBlock) (outputs : List (List Line)) (i : ℕ) (b : PlainBlock) (output : List Line) (found : slice_get bs i ≡ Some b) (some : i < length outputs) (output_is : output ≡ get_or outputs i output) where
+module _ (bs : List PlainBlock) (outputs : List (List Line)) (i : ℕ) (b : PlainBlock) (output : List Line) (found : slice_get bs i ≡ Some b) (output_found : slice_get outputs i ≡ Some output) where
   -- the block at a place with its output, and those after it
   pub expecting_split : all_expecting (drop i bs) (drop i outputs) ≡ expecting b output ∷ all_expecting (drop (i + 1) bs) (drop (i + 1) outputs)
   unfolding all_expecting
   expecting_split =
       ap (λ (l : List PlainBlock). all_expecting l (drop i outputs)) (drop_there bs i b found)
-      ∙ ap (all_expecting (b ∷ drop (i + 1) bs)) (drop_more outputs i output some ∙ ap (λ (o : List Line). o ∷ drop (i + 1) outputs) (sym output_is))
+      ∙ ap (all_expecting (b ∷ drop (i + 1) bs)) (drop_there outputs i output output_found)
 
   -- one more block with its output was made
   pub expecting_more : (all made next : List PlainBlock) → next ≡ made ++ expecting b output ∷ [] → made ++ all_expecting (drop i bs) (drop i outputs) ≡ all → next ++ all_expecting (drop (i + 1) bs) (drop (i + 1) outputs) ≡ all

@@ -9,9 +9,9 @@ ghost use Rattle.rb_script.specs.Shared.{values};
 ghost use Rattle.rb_script.specs.Edits.{ends_in_return, is_text_line, is_expectation};
 
 use crate::block::Block;
-use crate::blocks::Blocks;
 use crate::edit::Edit;
 use crate::fault::EditFault;
+use crate::grouped::Grouped;
 use crate::limits::{MAX_DIRECTIVES, MAX_LINE, MAX_SCRIPT};
 use crate::lines::Lines;
 use crate::reading::is_readable;
@@ -59,10 +59,15 @@ fn is_expectation(lines: &Lines) -> bool
 }
 
 /// Whether each output can be an expectation.
-fn are_expectations(outputs: &[Lines]) -> bool
+fn are_expectations(outputs: &Grouped<Lines>) -> bool
     ensures { result ≡ list_all is_expectation outputs.now }
 {
-    outputs.iter().all(is_expectation)
+    for i in 0..outputs.len() {
+        if !is_expectation(outputs.at(i)) {
+            return false;
+        }
+    }
+    true
 }
 
 impl Script {
@@ -75,7 +80,7 @@ impl Script {
 
     /// The script that the edit makes. `outputs` has one output a directive; only [`Edit::Accept`] uses them.
     /// Refusals come in the order of [`EditFault`], and all but want of memory before any growth.
-    pub fn edited(&self, edit: &Edit, outputs: &[Lines]) -> Result<Script, EditFault>
+    pub fn edited(&self, edit: &Edit, outputs: &Grouped<Lines>) -> Result<Script, EditFault>
         requires { length outputs.now ≡ length self.now.blocks }
         ensures exact { Makes result (edited self.now edit.now outputs.now) }
         ensures early { IfErr (edited self.now edit.now outputs.now) (λ fault. result ≡ Err fault) }
@@ -154,7 +159,7 @@ impl Script {
         self.with_part(place - 1, Some(block), place, text_len)
     }
 
-    fn accepting(&self, outputs: &[Lines]) -> Result<Script, EditFault>
+    fn accepting(&self, outputs: &Grouped<Lines>) -> Result<Script, EditFault>
         requires { length outputs.now ≡ length self.now.blocks }
         ensures exact { Makes result (edited self.now Accept outputs.now) }
         ensures early { IfErr (edited self.now Accept outputs.now) (λ fault. result ≡ Err fault) }
@@ -179,7 +184,7 @@ impl Script {
     }
 
     // How long the canonical text would be with these outputs as expectations.
-    fn text_len_with(&self, outputs: &[Lines]) -> usize
+    fn text_len_with(&self, outputs: &Grouped<Lines>) -> usize
         requires { length outputs.now ≡ length self.now.blocks }
         ensures { result ≡ capped (length (text (with_outputs self.now outputs.now))) }
     {
@@ -188,7 +193,7 @@ impl Script {
     }
 
     // The script with these outputs as expectations.
-    fn with_outputs(&self, outputs: &[Lines], text_len: usize) -> Result<Script, EditFault>
+    fn with_outputs(&self, outputs: &Grouped<Lines>, text_len: usize) -> Result<Script, EditFault>
         requires count { length outputs.now ≡ length self.now.blocks }
         requires readable { list_all is_expectation outputs.now ≡ true }
         requires len { text_len ≡ length (text (with_outputs self.now outputs.now)) }
@@ -197,7 +202,7 @@ impl Script {
         ensures err { IfErr result (λ e. e ≡ EditFault.OutOfMemory) }
     {
         let made = all_expecting(self.alloc, &self.blocks, outputs)?;
-        let blocks = Blocks::of(self.alloc, made)?;
+        let blocks = Grouped::of(self.alloc, made)?;
         self.with_blocks(blocks, text_len)
     }
 
@@ -215,12 +220,13 @@ impl Script {
         ensures ok { IfOk result (λ s. s ≡ with_blocks self.now (take from self.now.blocks ++ (option_to_list new ++ drop to self.now.blocks))) }
         ensures err { IfErr result (λ e. e ≡ EditFault.OutOfMemory) }
     {
-        let blocks = self.blocks.with_part(self.alloc, from, new, to)?;
+        let new = shared(self.alloc, new)?;
+        let blocks = self.blocks.with_part(self.alloc, from, &new, to)?;
         self.with_blocks(blocks, text_len)
     }
 
     // The script with these blocks in place of its own.
-    fn with_blocks(&self, blocks: Blocks, text_len: usize) -> Result<Script, EditFault>
+    fn with_blocks(&self, blocks: Grouped<Block>, text_len: usize) -> Result<Script, EditFault>
         requires { IsKeptScript (with_blocks self.now blocks) text_len }
         ensures ok { IfOk result (λ s. s ≡ with_blocks self.now blocks) }
         ensures err { IfErr result (λ e. e ≡ EditFault.OutOfMemory) }
@@ -234,15 +240,27 @@ impl Script {
     }
 }
 
+/// The new block, to be shared, if there is one.
+fn shared(alloc: Global, new: Option<Block>) -> Result<Vec<Rc<Block>>, AllocError>
+    ensures { IfOk result (λ v. values v.items ≡ option_to_list new) }
+{
+    let mut pointers = Vec::new(alloc);
+    if let Some(block) = new {
+        pointers.push(Rc::new(alloc, block)?)?;
+    }
+    Ok(pointers)
+}
+
 /// How long the texts of the blocks are with these outputs as expectations.
-fn text_len_with(blocks: &Blocks, outputs: &[Lines]) -> usize
+fn text_len_with(blocks: &Grouped<Block>, outputs: &Grouped<Lines>) -> usize
     requires { length outputs.now ≡ length blocks.now }
     ensures { result ≡ capped (length (text_of (flat_map block_lines (all_expecting blocks.now outputs.now)))) }
 {
     let mut total: usize = 0;
     for i in 0..blocks.len() {
         let block = blocks.at(i);
-        total = total.saturating_add(block.text_len_with(&outputs[i]));
+        let output = outputs.at(i);
+        total = total.saturating_add(block.text_len_with(output));
     }
     total
 }
@@ -250,8 +268,8 @@ fn text_len_with(blocks: &Blocks, outputs: &[Lines]) -> usize
 /// Each block with its output as its expectation. A block that expects its output already is shared.
 fn all_expecting(
     alloc: Global,
-    blocks: &Blocks,
-    outputs: &[Lines],
+    blocks: &Grouped<Block>,
+    outputs: &Grouped<Lines>,
 ) -> Result<Vec<Rc<Block>>, AllocError>
     requires count { length outputs.now ≡ length blocks.now }
     requires readable { list_all is_expectation outputs.now ≡ true }
@@ -259,7 +277,8 @@ fn all_expecting(
 {
     let mut made = Vec::with_capacity(alloc, blocks.len())?;
     for i in 0..blocks.len() {
-        push_expecting(alloc, &mut made, blocks.at(i), &outputs[i])?;
+        let output = outputs.at(i);
+        push_expecting(alloc, &mut made, blocks.at(i), output)?;
     }
     Ok(made)
 }

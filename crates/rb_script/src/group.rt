@@ -1,62 +1,60 @@
-//! A group of blocks.
+//! A group of a list.
 //!
-//! A group never changes: an edit makes another in its place, and scripts share all others.
+//! A group never changes: another list has another in its place, and lists share all that they have in common.
 
 ghost use Rattle.std.specs.Prelude.{◌≡◌, length, IfOk};
 ghost use Rattle.rb_script.specs.Shared.{values};
 
-use crate::block::Block;
 use std::alloc::{AllocError, Global};
 use std::marker::Model;
 use std::rc::Rc;
 
-/// Blocks one after another, which copies share.
+/// Items one after another, which copies share.
 #[derive(Drop)]
-pub(crate) struct Group {
-    blocks: Rc<Vec<Rc<Block>>>,
+pub(crate) struct Group<T> {
+    shared: Rc<Vec<Rc<T>>>,
 }
 
-impl Model for Group {
+impl<T> Model for Group<T> {
     ghost use Rattle.std.specs.Prelude.{List};
-    ghost use Rattle.rb_script.specs.Script.{PlainBlock};
     ghost use Rattle.rb_script.specs.Shared.{values};
 
-    ghost Value = { List PlainBlock };
+    ghost Value = { List T };
 
-    ghost view = { λ g. values g.blocks.value.items };
+    ghost view = { λ g. values g.shared.value.items };
 }
 
-impl Group {
-    pub(crate) fn new(alloc: Global, blocks: Vec<Rc<Block>>) -> Result<Group, AllocError>
-        ensures { IfOk result (λ g. g ≡ values blocks.items) }
+impl<T: Drop> Group<T> {
+    pub(crate) fn new(alloc: Global, items: Vec<Rc<T>>) -> Result<Group<T>, AllocError>
+        ensures { IfOk result (λ g. g ≡ values items.items) }
     {
         Ok(Group {
-            blocks: Rc::new(alloc, blocks)?,
+            shared: Rc::new(alloc, items)?,
         })
     }
 
     pub(crate) fn len(&self) -> usize
         ensures { result ≡ length self.now }
     {
-        self.blocks.len()
+        self.shared.len()
     }
 
-    pub(crate) fn as_slice(&self) -> &[Rc<Block>]
+    pub(crate) fn as_slice(&self) -> &[Rc<T>]
         ensures { values result.now ≡ self.now }
     {
-        self.blocks.as_slice()
+        self.shared.as_slice()
     }
 }
 
 // A clone is the same group once more: a pointer to it.
-impl Clone for Group {
+impl<T: Drop> Clone for Group<T> {
     ghost use Rattle.std.specs.Prelude.{◌≡◌};
 
     ghost is_clone = { λ group clone. clone ≡ group };
 
-    fn clone(&self) -> Result<Group, AllocError> {
+    fn clone(&self) -> Result<Group<T>, AllocError> {
         Ok(Group {
-            blocks: self.blocks.clone()?,
+            shared: self.shared.clone()?,
         })
     }
 }

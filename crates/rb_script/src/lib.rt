@@ -9,7 +9,6 @@
 
 mod argument;
 mod block;
-mod blocks;
 mod directive;
 mod edit;
 mod edits;
@@ -18,6 +17,7 @@ mod fault;
 mod flat;
 mod front;
 mod group;
+mod grouped;
 mod head_cursor;
 mod laws;
 mod limits;
@@ -41,6 +41,7 @@ pub use block::Block;
 pub use directive::DirectiveRef;
 pub use edit::Edit;
 pub use fault::{EditFault, ScriptFault};
+pub use grouped::Grouped;
 pub use laws::{
     blanks_are, directive_is_derived, double_expectations_end, expectations_are, faults_are,
     head_lines_are, heads_are_joined, lead_lines_are, plain_expectations_end, read_is_valid,

@@ -1,6 +1,6 @@
-//! A place between the blocks of a script.
+//! A place between the items of a list in groups.
 
-/// A place between blocks in groups: a group, and how many of its blocks come before.
+/// A place between items in groups: a group, and how many of its items come before.
 #[derive(Clone, Copy)]
 pub(crate) struct Place {
     pub(crate) group: usize,

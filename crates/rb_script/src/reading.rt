@@ -21,11 +21,11 @@ ghost use Rattle.rb_script.specs.Shared.{values, parts_view, IsKeptScript};
 ghost use Rattle.rb_script.specs.HeadLines.{AreHeadLines};
 
 use crate::block::Block;
-use crate::blocks::Blocks;
 use crate::expected::Expected;
 use crate::fault::ScriptFault;
 use crate::flat::FlatLines;
 use crate::front::Front;
+use crate::grouped::Grouped;
 use crate::limits::{MAX_DIRECTIVES, MAX_LINE, MAX_SCRIPT};
 use crate::line_part::LinePart;
 use crate::lines::{Lines, next_line};
@@ -372,7 +372,7 @@ fn whole(
     requires { IsKeptScript (record { blocks = values blocks.items; tail = tail }) text_len }
     ensures { IfOk result (λ s. s ≡ record { blocks = values blocks.items; tail = tail }) }
 {
-    let blocks = Blocks::of(alloc, blocks)?;
+    let blocks = Grouped::of(alloc, blocks)?;
     let tail = Rc::new(alloc, tail)?;
     Ok(Script {
         alloc,

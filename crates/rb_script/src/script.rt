@@ -1,8 +1,8 @@
 //! A script: blocks, and the lines after them.
 
 use crate::block::Block;
-use crate::blocks::Blocks;
 use crate::fault::ScriptFault;
+use crate::grouped::Grouped;
 use crate::line_part::LinePart;
 use crate::reading;
 use std::alloc::Global;
@@ -12,7 +12,7 @@ use std::rc::Rc;
 /// A script.
 pub struct Script {
     pub(crate) alloc: Global,
-    pub(crate) blocks: Blocks,
+    pub(crate) blocks: Grouped<Block>,
     pub(crate) tail: Rc<LinePart>,
     // the length of the canonical text
     pub(crate) text_len: usize,

@@ -7,6 +7,7 @@ ghost use Rattle.rb_script.specs.Reading.{capped};
 ghost use Rattle.rb_script.specs.Writes.{Writes};
 
 use crate::block::Block;
+use crate::grouped::Grouped;
 use crate::lines::Lines;
 use crate::marks::{RULE_LINE, is_blank, is_rule};
 use crate::script::Script;
@@ -101,14 +102,19 @@ impl Script {
 
     /// Writes the canonical text with the outputs, one a block, in place of the expectations. Takes no memory.
     /// On a failure what went out is a beginning of the text.
-    pub fn write_with<S: Sink>(&self, outputs: &[Lines], sink: &mut S) -> Result<(), WriteFault>
+    pub fn write_with<S: Sink>(
+        &self,
+        outputs: &Grouped<Lines>,
+        sink: &mut S,
+    ) -> Result<(), WriteFault>
         requires { length outputs.now ≡ length self.now.blocks }
         ensures wrote { Writes result (S.held sink.old) (S.held sink.new) (text (with_outputs self.now outputs.now)) }
         ensures all { S.takes_all sink.old → IsOk result × S.takes_all sink.new }
     {
         for i in 0..self.blocks.len() {
             let block = self.blocks.at(i);
-            put_block(sink, block, &outputs[i])?;
+            let output = outputs.at(i);
+            put_block(sink, block, output)?;
         }
         sink.put(self.tail.text())
     }

@@ -1,9 +1,10 @@
 //! Edits that no command asks for: what directives print, and what a line of input is, no session can be given otherwise.
 
 use super::{is, is_text};
-use rb_script::{Edit, EditFault, Lines, Script, Through};
+use rb_script::{Edit, EditFault, Grouped, Lines, Script, Through};
 use std::alloc::Global;
 use std::process::Abort;
+use std::rc::Rc;
 
 const SCRIPT: &[u8] = b"a\n----\n1\n\nb\n----\n2\n\nc\n----\n\n# tail\n";
 
@@ -17,12 +18,13 @@ fn lines_of(rt: &impl Abort, alloc: Global, texts: &[&[u8]]) -> Lines {
 }
 
 /// One output for each of these lists of lines.
-fn outputs_of(rt: &impl Abort, alloc: Global, outputs: &[&[&[u8]]]) -> Vec<Lines> {
+fn outputs_of(rt: &impl Abort, alloc: Global, outputs: &[&[&[u8]]]) -> Grouped<Lines> {
     let mut all = Vec::new(alloc);
     for lines in outputs {
-        all.push(lines_of(rt, alloc, lines)).expect(rt, "memory");
+        let output = Rc::new(alloc, lines_of(rt, alloc, lines)).expect(rt, "memory");
+        all.push(output).expect(rt, "memory");
     }
-    all
+    Grouped::of(alloc, all).expect(rt, "memory")
 }
 
 fn script_of(rt: &impl Abort, alloc: Global) -> Script {
@@ -42,7 +44,7 @@ fn edited(
     rt: &impl Abort,
     script: &Script,
     edit: &Edit,
-    outputs: &[Lines],
+    outputs: &Grouped<Lines>,
 ) -> Result<Script, EditFault> {
     is(rt, outputs.len() == script.len(), "an output for each");
     script.edited(edit, outputs)
@@ -57,7 +59,7 @@ fn made(
 ) -> Result<Script, EditFault> {
     let outputs = outputs_of(rt, alloc, outputs);
     let script = script_of(rt, alloc);
-    let made = edited(rt, &script, edit, outputs.as_slice());
+    let made = edited(rt, &script, edit, &outputs);
     drop(script);
     drop(outputs);
     made
@@ -105,7 +107,7 @@ fn is_written_with(
     rt: &impl Abort,
     alloc: Global,
     script: &Script,
-    outputs: &[Lines],
+    outputs: &Grouped<Lines>,
     want: &[u8],
 ) {
     is(rt, outputs.len() == script.len(), "an output for each");
@@ -121,7 +123,7 @@ fn outputs_in_place_of_expectations(rt: HostRuntime) {
     let outputs = outputs_of(&rt, rt.alloc(), &[&[b"x"], &[b"----", b"y"], &[]]);
     let want = b"a\n----\nx\n\nb\n----\n----\n----\ny\n----\n----\n\nc\n----\n\n# tail\n";
     let script = script_of(&rt, rt.alloc());
-    is_written_with(&rt, rt.alloc(), &script, outputs.as_slice(), want);
+    is_written_with(&rt, rt.alloc(), &script, &outputs, want);
     drop(script);
     drop(outputs);
 }

@@ -1,6 +1,8 @@
-use Rattle.std.proofs.Common.{ℕ, List, ◌∷◌, [], arith}
+use Rattle.std.proofs.Common.{ℕ, List, ◌∷◌, [], ◌∙◌, arith}
+use Rattle.std.proofs.lemmas.Result.{IfOk-weaker}
 use Rattle.rb_script.specs.Lines.{Line}
 use Rattle.rb_script.specs.Script.{PlainBlock}
+use Rattle.rb_script.specs.Shared.{values}
 use Rattle.rb_replay.specs.Run.{outputs}
 use Rattle.rb_checked.specs.Accepting.{accepted_lines, accepted_of}
 use Rattle.rb_checked.proofs.EachLaws.{each_more, each_all}
@@ -12,7 +14,7 @@ loop-i-preserved g c =
     let text = c.args.text.now in
     let heads = c.args.heads.now in
     let s = c.args.session.now.script in
-    each_more (λ (line : ℕ) (b : PlainBlock) (output : List Line). accepted_lines e text line b output ∷ []) heads s.blocks (outputs s) c.loop-i.i c.number_at-line.result c.block_at-block.result.now c.output_at-output.result.now c.loop-i.all.items c.push_accepted.new.all.items (accepted_of e text heads s.blocks (outputs s))
+    each_more (λ (line : ℕ) (b : PlainBlock) (output : List Line). accepted_lines e text line b output ∷ []) heads s.blocks (outputs s) c.loop-i.i c.number_at-line.result c.block_at-block.result.now c.output_at-output.result.now (values c.loop-i.all.items) (values c.push_accepted.new.all.items) (accepted_of e text heads s.blocks (outputs s))
     c.number_at-line.ensures c.block_at-block.ensures c.output_at-output.ensures c.in_ok-push_accepted.ensures c.loop-i.invariant
 
 pub returns : goal.returns
@@ -21,4 +23,5 @@ returns g c =
     let text = c.args.text.now in
     let heads = c.args.heads.now in
     let s = c.args.session.now.script in
-    each_all (λ (line : ℕ) (b : PlainBlock) (output : List Line). accepted_lines e text line b output ∷ []) heads s.blocks (outputs s) c.loop-i.i c.loop-i.all.items (accepted_of e text heads s.blocks (outputs s)) (omega (arith, c.loop-i-test.false, c.len-i-end.ensures.len)) c.loop-i.invariant
+    let all = each_all (λ (line : ℕ) (b : PlainBlock) (output : List Line). accepted_lines e text line b output ∷ []) heads s.blocks (outputs s) c.loop-i.i (values c.loop-i.all.items) (accepted_of e text heads s.blocks (outputs s)) (omega (arith, c.loop-i-test.false, c.len-i-end.ensures.len)) c.loop-i.invariant in
+    IfOk-weaker c.of.result _ _ (λ made is. is ∙ all) c.of.ensures

@@ -11,7 +11,7 @@ spliced-requires-clause-expected g c =
     let s = c.args.session.now.script in
     let heads = c.as_slice-heads.result.now in
     let count : length heads ≡ length s.blocks = ap length c.as_slice-heads.ensures.value ∙ c.requires.count in
-    ap length c.deref.ensures.value ∙ ap length c.in_ok-expected.ensures ∙ accepted_len c.args.wanted c.args.layout.now.text heads s.blocks (outputs s) count (outputs_len s)
+    ap length c.in_ok-expected.ensures ∙ accepted_len c.args.wanted c.args.layout.now.text heads s.blocks (outputs s) count (outputs_len s)
 
 pub expecting-requires : goal.expecting-requires
 expecting-requires g c = λ t reads.
@@ -19,5 +19,5 @@ expecting-requires g c = λ t reads.
     let heads = c.as_slice-heads.result.now in
     let count : length heads ≡ length s.blocks = ap length c.as_slice-heads.ensures.value ∙ c.requires.count in
     let same : s ≡ t = reads_once c.args.bytes.now s t c.requires.reads reads in
-    ap length c.deref-2.ensures.value ∙ ap length c.in_ok-expected.ensures ∙ accepted_len c.args.wanted c.args.layout.now.text heads s.blocks (outputs s) count (outputs_len s)
+    ap length c.in_ok-expected.ensures ∙ accepted_len c.args.wanted c.args.layout.now.text heads s.blocks (outputs s) count (outputs_len s)
     ∙ ap (λ (x : PlainScript). length x.blocks) same

@@ -1,13 +1,20 @@
-use Rattle.std.proofs.Common.{arith}
-use Rattle.rb_script.specs.Script.{all_expecting}
+use Rattle.std.proofs.Common.{◌++◌, ◌∷◌, [], List, ap, ◌∙◌, arith}
+use Rattle.rb_script.specs.Lines.{Line}
+use Rattle.rb_script.specs.Script.{all_expecting, expecting}
 use Rattle.rb_script.specs.Shared.{values}
-use Rattle.rb_script.proofs.SharedLaws.{expecting_more, expecting_all}
+use Rattle.rb_script.specs.Edits.{is_expectation}
+use Rattle.rb_script.proofs.SharedLaws.{test_there, expecting_more, expecting_all}
 use Rattle.rb_script.proofs.edits.all_expecting.Goals as goal
 
 pub loop-i-preserved : goal.loop-i-preserved
 loop-i-preserved c =
-    expecting_more c.args.blocks.now c.args.outputs.now c.loop-i.i c.at.result.now.value c.index-outputs-i.result c.at.ensures (omega arith) c.index-outputs-i.is
-    _ (values c.loop-i.made.items) (values c.push_expecting.new.made.items) c.in_ok-push_expecting.ensures c.loop-i.invariant
+    let block = c.at.result.now.value in
+    let next = c.in_ok-push_expecting.ensures ∙ ap (λ (o : List Line). values c.loop-i.made.items ++ expecting block o ∷ []) c.deref.ensures in
+    expecting_more c.args.blocks.now c.args.outputs.now c.loop-i.i block c.at-output.result.now.value c.at.ensures c.at-output.ensures
+    _ (values c.loop-i.made.items) (values c.push_expecting.new.made.items) next c.loop-i.invariant
+
+pub push_expecting-requires : goal.push_expecting-requires
+push_expecting-requires c = ap is_expectation c.deref.ensures ∙ test_there is_expectation c.args.outputs.now c.loop-i.i c.at-output.result.now.value c.at-output.ensures c.requires.readable
 
 pub returns : goal.returns
 returns c =

@@ -1,4 +1,5 @@
-use Rattle.std.proofs.Common.{◌+◌, length, min, drop, ap, ◌∙◌, arith}
+use Rattle.std.proofs.Common.{◌+◌, List, length, min, drop, ap, ◌∙◌, arith}
+use Rattle.rb_script.specs.Lines.{Line}
 use Rattle.rb_script.specs.Script.{PlainBlock, block_text, all_expecting, expecting}
 use Rattle.rb_script.specs.Reading.{capped}
 use Rattle.rb_script.proofs.SharedLaws.{expecting_split, expecting_none}
@@ -9,11 +10,12 @@ pub loop-i-preserved : goal.loop-i-preserved
 loop-i-preserved c =
     let i = c.loop-i.i in
     let block = c.at-block.result.now.value in
-    let output = c.index-outputs-i.result in
-    let split = expecting_split c.args.blocks.now c.args.outputs.now i block output c.at-block.ensures (omega arith) c.index-outputs-i.is in
+    let output = c.at-output.result.now.value in
+    let split = expecting_split c.args.blocks.now c.args.outputs.now i block output c.at-block.ensures c.at-output.ensures in
+    let shown = ap (λ (b : PlainBlock). capped (length (block_text (expecting b c.deref-in-loop-i.result.now)))) c.deref.ensures ∙ ap (λ (o : List Line). capped (length (block_text (expecting block o)))) c.deref-in-loop-i.ensures in
     record {
       same = sum_more (expecting block output) _ _ c.loop-i.total c.saturating_add-total.result _ split
-          (c.saturating_add-total.ensures ∙ ap (λ n. min (c.loop-i.total + n) 18446744073709551615) (c.text_len_with.ensures ∙ ap (λ (b : PlainBlock). capped (length (block_text (expecting b output)))) c.deref.ensures))
+          (c.saturating_add-total.ensures ∙ ap (λ n. min (c.loop-i.total + n) 18446744073709551615) (c.text_len_with.ensures ∙ shown))
           c.loop-i.invariant.same;
       fits = omega arith;
     }

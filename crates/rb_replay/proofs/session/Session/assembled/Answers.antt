@@ -1,12 +1,12 @@
-use Rattle.std.proofs.Common.{◌≡◌, ◌++◌, ap, sym, ◌∙◌, ℕ, List, take, drop, map, subst, refl}
+use Rattle.std.proofs.Common.{◌≡◌, ◌++◌, ap, sym, ◌∙◌, ℕ, List, take, drop, map, subst}
 use Rattle.std.proofs.lemmas.List.{take_rest}
 use Rattle.rb_script.specs.declared.limits.TheConstants.{MAX_DIRECTIVES}
-use Rattle.rb_replay.specs.Run.{state, outputs}
+use Rattle.rb_replay.specs.Run.{state}
 use Rattle.rb_replay.specs.Holding.{Holding, IsFresh}
-use Rattle.rb_replay.specs.Reuse.{change_by, start, stop, new_point}
+use Rattle.rb_replay.specs.Reuse.{change_by, new_point}
 use Rattle.rb_replay.proofs.RunLaws.{both}
 use Rattle.rb_replay.proofs.DifferingLaws.{at_most-rest, at_most-more}
-use Rattle.rb_replay.proofs.ReadyLaws.{kept-all, outputs-ready, states-ready, joined_points, joined-before, old_stop-within, start-old}
+use Rattle.rb_replay.proofs.ReadyLaws.{kept-all, states-ready, joined_points, joined-before}
 use Rattle.rb_replay.proofs.session.Session.assembled.Goals as goal
 
 pub joined-requires-clause-small : goal.joined-requires-clause-small
@@ -19,8 +19,6 @@ returns-clause-ready g c =
     let run = c.requires.run in
     let fresh : IsFresh c.args.self.now = subst IsFresh c.self.view_is c.self.invariant in
     let placed : c.self.inside.points.items ≡ c.args.self.now.points = ap (λ (h : Holding). h.points) c.self.view_is in
-    let on : take (start (change_by c.args.self.now c.args.new.now c.args.splice)) (outputs c.args.new.now) ++ c.args.run.running.outputs.items ≡ take (stop (change_by c.args.self.now c.args.new.now c.args.splice) c.args.run.met) (outputs c.args.new.now) =
-    ap (λ (n : ℕ). take n (outputs c.args.new.now) ++ c.args.run.running.outputs.items) (sym run.from_is) ∙ run.has_run.outputs_on ∙ ap (λ (n : ℕ). take n (outputs c.args.new.now)) run.at_is in
     let joined : c.in_ok-points.points.items ≡ joined_points (change_by c.args.self.now c.args.new.now c.args.splice) c.args.run.met =
     c.in_ok-points.ensures
     ∙ both (λ (a b : List ℕ). a ++ b) (ap (take c.args.rejoin.front) (c.deref.ensures.value ∙ placed) ∙ c.requires.rejoin.fronts)
@@ -33,13 +31,11 @@ returns-clause-ready g c =
       spacing_is = run.spacing_is;
       points_are = joined ∙ joined-before (change_by c.args.self.now c.args.new.now c.args.splice) c.args.run.met c.requires.change run.is_first;
       mismatches_are = c.in_ok-mismatches.ensures;
-      outputs_are = rw (run.from_is, c.requires.rejoin.old_stop_is) (outputs-ready (change_by c.args.self.now c.args.new.now c.args.splice) c.args.run.met c.args.run.running.outputs.items c.requires.change run.is_first on);
+      outputs_are = c.in_ok-outputs.ensures;
       states_are =
           states-ready (change_by c.args.self.now c.args.new.now c.args.splice) c.args.run.met c.args.rejoin c.args.self.now.kept (map g.M.Machine.meaning c.args.run.running.kept.items) c.requires.change run.is_first c.requires.rejoin fresh.states
           (run.has_run.states_are ∙ ap (map (state c.args.new.now)) run.points_are)
           ∙ ap (map (state c.args.new.now)) (sym joined);
-      order = rw (run.from_is, c.requires.rejoin.old_stop_is) (start-old (change_by c.args.self.now c.args.new.now c.args.splice) c.args.run.met c.requires.change run.is_first);
-      old_within = rw c.requires.rejoin.old_stop_is (old_stop-within (change_by c.args.self.now c.args.new.now c.args.splice) c.args.run.met c.requires.change run.is_first);
       front_first = c.requires.rejoin.order;
       rest_within = c.requires.rejoin.within;
     }

@@ -1,37 +1,29 @@
-use Rattle.std.proofs.Common.{◌≡◌, ◌+◌, ◌≤◌, ◌++◌, ap, sym, ◌∙◌, ℕ, length, take, refl, arith}
+use Rattle.std.proofs.Common.{◌-◌, ap, ◌∙◌, length, take, drop, refl, arith}
 use Rattle.rb_replay.specs.Run.{outputs}
-use Rattle.rb_replay.specs.Holding.{Holding}
 use Rattle.rb_replay.specs.Reuse.{change_by, start, stop}
-use Rattle.rb_replay.proofs.ReadyLaws.{mended-ready, outputs-ready, run-length, old_stop-within}
-use Rattle.rb_replay.proofs.ReuseLaws.{start-le}
+use Rattle.rb_replay.proofs.RunLaws.{length-outputs, take-between}
+use Rattle.rb_replay.proofs.DifferingLaws.{differing-all}
+use Rattle.rb_replay.proofs.ReadyLaws.{mended-ready, start-first, ok-along}
 use Rattle.rb_replay.proofs.session.Session.mismatches_after.Goals as goal
+
+pub mended-requires-clause-order : goal.mended-requires-clause-order
+mended-requires-clause-order g c = c.requires.run.has_run.from_first
+
+pub mended-requires-clause-there : goal.mended-requires-clause-there
+mended-requires-clause-there g c = omega (arith, c.requires.run.has_run.within, ap length c.requires.answers, length-outputs c.args.new.now)
 
 pub mended-requires-clause-mended : goal.mended-requires-clause-mended
 mended-requires-clause-mended g c =
     let run = c.requires.run in
-    let on : take (start (change_by c.args.self.now c.args.new.now c.args.splice)) (outputs c.args.new.now) ++ c.args.run.now.running.outputs.items ≡ take (stop (change_by c.args.self.now c.args.new.now c.args.splice) c.args.run.now.met) (outputs c.args.new.now) =
-    ap (λ (n : ℕ). take n (outputs c.args.new.now) ++ c.args.run.now.running.outputs.items) (sym run.from_is) ∙ run.has_run.outputs_on ∙ ap (λ (n : ℕ). take n (outputs c.args.new.now)) run.at_is in
-    rw (run.from_is, c.deref.ensures.value, c.requires.old_stop)
-    (mended-ready (change_by c.args.self.now c.args.new.now c.args.splice) c.args.splice c.args.run.now.met c.args.run.now.running.outputs.items refl refl c.requires.change (c.requires.whole c.in-Blocks.is) run.is_first on)
+    let ch = change_by c.args.self.now c.args.new.now c.args.splice in
+    let met = c.args.run.now.met in
+    let all = outputs c.args.new.now in
+    let on = take-between (start ch) (stop ch met) all (start-first ch met c.requires.change run.is_first) in
+    rw (c.requires.answers, run.from_is, run.at_is, c.requires.old_stop)
+    (mended-ready ch c.args.splice met (take (stop ch met - start ch) (drop (start ch) all)) refl refl c.requires.change (c.requires.whole c.in-Blocks.is) run.is_first on)
 
-pub compared-requires-clause-from : goal.compared-requires-clause-from
-compared-requires-clause-from g c =
-    let le : start (change_by c.args.self.now c.args.new.now c.args.splice) ≤ c.args.splice.front = start-le (change_by c.args.self.now c.args.new.now c.args.splice) in
-    omega (arith, le, c.requires.run.from_is, c.requires.change.old_from, c.requires.change.old_within)
+pub list_differing-requires-clause-there : goal.list_differing-requires-clause-there
+list_differing-requires-clause-there g c = omega (arith, c.len.ensures, ap length c.requires.answers, length-outputs c.args.new.now)
 
-pub compared-requires-clause-at : goal.compared-requires-clause-at
-compared-requires-clause-at g c =
-    let run = c.requires.run in
-    let on : take (start (change_by c.args.self.now c.args.new.now c.args.splice)) (outputs c.args.new.now) ++ c.args.run.now.running.outputs.items ≡ take (stop (change_by c.args.self.now c.args.new.now c.args.splice) c.args.run.now.met) (outputs c.args.new.now) =
-    ap (λ (n : ℕ). take n (outputs c.args.new.now) ++ c.args.run.now.running.outputs.items) (sym run.from_is) ∙ run.has_run.outputs_on ∙ ap (λ (n : ℕ). take n (outputs c.args.new.now)) run.at_is in
-    rw (run.from_is, run.at_is) (run-length (change_by c.args.self.now c.args.new.now c.args.splice) c.args.run.now.met c.args.run.now.running.outputs.items c.requires.change run.is_first on)
-
-pub compared-requires-clause-outputs : goal.compared-requires-clause-outputs
-compared-requires-clause-outputs g c =
-    let run = c.requires.run in
-    let on : take (start (change_by c.args.self.now c.args.new.now c.args.splice)) (outputs c.args.new.now) ++ c.args.run.now.running.outputs.items ≡ take (stop (change_by c.args.self.now c.args.new.now c.args.splice) c.args.run.now.met) (outputs c.args.new.now) =
-    ap (λ (n : ℕ). take n (outputs c.args.new.now) ++ c.args.run.now.running.outputs.items) (sym run.from_is) ∙ run.has_run.outputs_on ∙ ap (λ (n : ℕ). take n (outputs c.args.new.now)) run.at_is in
-    rw (run.from_is, c.requires.old_stop) (outputs-ready (change_by c.args.self.now c.args.new.now c.args.splice) c.args.run.now.met c.args.run.now.running.outputs.items c.requires.change run.is_first on)
-
-pub compared-requires-clause-old_stop : goal.compared-requires-clause-old_stop
-compared-requires-clause-old_stop g c = rw c.requires.old_stop (old_stop-within (change_by c.args.self.now c.args.new.now c.args.splice) c.args.run.now.met c.requires.change c.requires.run.is_first)
+pub returns-in-Directives : goal.returns-in-Directives
+returns-in-Directives g c = ok-along c.list_differing.result _ _ (λ v e. e ∙ differing-all c.args.new.now c.args.answers.now c.len.result c.requires.answers c.len.ensures) c.list_differing.ensures

@@ -1,11 +1,9 @@
-use Rattle.std.proofs.Common.{◌≡◌, length, arith, ap, sym, ◌∙◌, take, drop, ◌++◌, List, map, subst, refl}
-use Rattle.rb_script.specs.Lines.{Line}
+use Rattle.std.proofs.Common.{◌≡◌, ap, sym, ◌∙◌, take, drop, ◌++◌, List, map, refl}
 use Rattle.rb_machine.specs.Cluster.{Cluster}
-use Rattle.rb_replay.specs.Run.{state, outputs}
+use Rattle.rb_replay.specs.Run.{state}
 use Rattle.rb_replay.specs.Holding.{Holding, IsFresh}
 use Rattle.rb_replay.specs.Reuse.{change_by}
 use Rattle.rb_replay.specs.Splices.{IsReady}
-use Rattle.rb_replay.proofs.RunLaws.{length-outputs}
 use Rattle.rb_replay.proofs.ReadyLaws.{start-first}
 use Rattle.rb_replay.proofs.NearLaws.{points-kept}
 use Rattle.rb_replay.proofs.RunningLaws.{same-length}
@@ -17,14 +15,6 @@ pub overflow_sub-executed : goal.overflow_sub-executed
 overflow_sub-executed g c =
     let ready : IsReady g.M.Machine.meaning (change_by c.args.self.now c.args.new c.args.splice) c.args.self.now.kept c.in_ok-ready.ready = c.in_ok-ready.ensures.ready in
     rw (ready.from_is, ready.at_is) (start-first (change_by c.args.self.now c.args.new c.args.splice) ready.meeting c.requires.change ready.is_first)
-
-pub take_over-requires-clause-outputs_within : goal.take_over-requires-clause-outputs_within
-take_over-requires-clause-outputs_within g c =
-    let ready : IsReady g.M.Machine.meaning (change_by c.args.self.now c.args.new c.args.splice) c.args.self.now.kept c.in_ok-ready.ready = c.in_ok-ready.ensures.ready in
-    let fresh : IsFresh c.args.self.now = subst IsFresh c.self.view_is c.self.invariant in
-    let held : c.self.inside.outputs.items ≡ outputs c.args.self.now.script = ap (λ (h : Holding). h.outputs) c.self.view_is ∙ fresh.answered in
-    let long : length c.make_room.new.outputs.items ≡ length c.args.self.now.script.blocks = ap length (c.in_ok-make_room.ensures.outputs ∙ held) ∙ length-outputs c.args.self.now.script in
-    omega (arith, ready.old_within, c.make_room.new.outputs.ok.0)
 
 -- what is kept, put together
 joined : {M : Type 0} (meaning : M → Cluster) (f r : _) (inside : List M) (room : List M) (fresh : List M) (held : List Cluster) (states : List Cluster) → room ≡ inside → map meaning inside ≡ held → take f held ++ (map meaning fresh ++ drop r held) ≡ states → map meaning (take f room ++ (fresh ++ drop r room)) ≡ states
@@ -38,14 +28,12 @@ take_over-requires-clause-paired g c =
     (joined g.M.Machine.meaning c.in_ok-ready.ready.rejoin.front c.in_ok-ready.ready.rejoin.rest c.self.inside.kept.items c.make_room.new.kept.items c.in_ok-ready.ready.running.kept.items c.args.self.now.kept (map (state c.args.new) c.in_ok-ready.ready.points.items)
     c.in_ok-make_room.ensures.kept (ap (λ (h : Holding). h.kept) c.self.view_is) ready.states_are)
 
-fresh-now : (g : Over) (c : goal.After-take_over g) → IsFresh (record { script = c.args.new; spacing = c.self.inside.spacing; outputs = c.take_over.new.outputs.items; mismatches = c.in_ok-ready.ready.mismatches.items; points = c.take_over.new.points.items; kept = map g.M.Machine.meaning c.take_over.new.kept.items })
+fresh-now : (g : Over) (c : goal.After-take_over g) → IsFresh (record { script = c.args.new; spacing = c.self.inside.spacing; outputs = c.in_ok-ready.ready.outputs; mismatches = c.in_ok-ready.ready.mismatches.items; points = c.take_over.new.points.items; kept = map g.M.Machine.meaning c.take_over.new.kept.items })
 fresh-now g c =
     let ready : IsReady g.M.Machine.meaning (change_by c.args.self.now c.args.new c.args.splice) c.args.self.now.kept c.in_ok-ready.ready = c.in_ok-ready.ensures.ready in
-    let fresh : IsFresh c.args.self.now = subst IsFresh c.self.view_is c.self.invariant in
-    let held : c.self.inside.outputs.items ≡ outputs c.args.self.now.script = ap (λ (h : Holding). h.outputs) c.self.view_is ∙ fresh.answered in
     let spacing : c.in_ok-ready.ready.running.spacing ≡ c.self.inside.spacing = ready.spacing_is ∙ sym (ap (λ (h : Holding). h.spacing) c.self.view_is) in
     record {
-      answered = c.take_over.ensures.outputs ∙ ap (λ (os : List (List Line)). take c.in_ok-ready.ready.running.from os ++ (c.in_ok-ready.ready.running.outputs.items ++ drop c.in_ok-ready.ready.rejoin.old_stop os)) (c.in_ok-make_room.ensures.outputs ∙ held) ∙ ready.outputs_are;
+      answered = ready.outputs_are;
       compared = ready.mismatches_are;
       states = c.take_over.ensures.kept (state c.args.new)
           (joined g.M.Machine.meaning c.in_ok-ready.ready.rejoin.front c.in_ok-ready.ready.rejoin.rest c.self.inside.kept.items c.make_room.new.kept.items c.in_ok-ready.ready.running.kept.items c.args.self.now.kept (map (state c.args.new) c.in_ok-ready.ready.points.items)

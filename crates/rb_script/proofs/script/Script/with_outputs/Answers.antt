@@ -1,5 +1,4 @@
-use Rattle.std.proofs.Common.{◌≡◌, List, sym, ap, subst, ◌∙◌, length, ◌≤◌}
-use Rattle.rb_script.specs.declared.limits.TheConstants.{MAX_DIRECTIVES}
+use Rattle.std.proofs.Common.{◌≡◌, List, sym, ap, subst, ◌∙◌}
 use Rattle.rb_script.specs.Script.{PlainBlock, PlainScript, all_expecting, with_outputs}
 use Rattle.rb_script.specs.Valid.{IsScript}
 use Rattle.rb_script.specs.Edits.{with_blocks}
@@ -14,9 +13,6 @@ made c = c.in_ok-made.ensures ∙ ap (λ (x : PlainScript). all_expecting x.bloc
 
 held : (c : In_ok-made) → IsKeptScript (with_outputs c.args.self.now c.args.outputs.now) c.args.text_len
 held c = accept_valid c.args.self.now c.args.outputs.now c.args.text_len (subst IsScript c.self.view_is c.self.invariant.script) c.requires.count c.requires.readable c.requires.len c.requires.short
-
-pub of-requires : goal.of-requires
-of-requires c = let at = (goal.at.of-requires c).In_ok-made in subst (λ (bs : List PlainBlock). length bs ≤ MAX_DIRECTIVES) (sym (made at)) (held at).script.few
 
 pub with_blocks-requires : goal.with_blocks-requires
 with_blocks-requires c =

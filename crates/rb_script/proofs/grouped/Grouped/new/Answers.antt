@@ -1,16 +1,16 @@
 use Rattle.std.proofs.Common.{◌≡◌, ℕ, ◌+◌, ◌∙◌, ap, subst, length, get_or, arith}
 use Rattle.rb_script.specs.Groups.{AreStarts}
 use Rattle.rb_script.proofs.GroupLaws.{before_more, before_within, before_all, starts_more}
-use Rattle.rb_script.proofs.blocks.Blocks.new.Goals as goal
+use Rattle.rb_script.proofs.grouped.Grouped.new.Goals as goal
 
 pub overflow_add-len : goal.overflow_add-len
-overflow_add-len c =
+overflow_add-len g c =
     let gs = c.args.groups.items in
     let i = c.loop-group.group-index in
     omega (arith, before_more gs i c.group-item.result (omega arith) (c.group-item.is ∙ ap (λ gs. get_or gs c.loop-group.group-index c.group-item.result) c.deref-group-items.ensures.value), before_within gs (i + 1), c.requires)
 
 pub loop-group-preserved : goal.loop-group-preserved
-loop-group-preserved c =
+loop-group-preserved g c =
     let gs = c.args.groups.items in
     let i = c.loop-group.group-index in
     record {
@@ -20,7 +20,7 @@ loop-group-preserved c =
     }
 
 pub invariant_of-result : goal.invariant_of-result
-invariant_of-result c =
+invariant_of-result g c =
     let gs = c.args.groups.items in
     let i = c.loop-group.group-index in
     let end : i ≡ length gs = omega arith in
