@@ -1,19 +1,19 @@
 -- Who campaigns, what a leader takes, and what the options ask of a node
-use Rattle.std.proofs.Common.{◌≡◌, ℕ, ◌+◌, ◌≤◌, ◌<◌, ◌⊎◌, Bool, true, false, not, ◌&&◌, ◌||◌, List, [], length, Option, Some, None, Result, Ok, refl, sym, ap, subst, ◌∙◌, arith, inl, inr, eqb-true, nat_le, nat_lt, ◌==◌, if◌then◌else◌}
-use Rattle.std.proofs.lemmas.Bool.{ltb-false, ltb-true, le-leb, lt-ltb, false≢true, eqb-false}
+use Rattle.std.proofs.Common.{[], Bool, not, ◌≡◌, false, true, refl, sym, None, Option, ◌∙◌, ap, ◌⊎◌, Some, inl, inr, ℕ, ◌≤◌, nat_lt, ◌+◌, List, length, ◌||◌, ◌==◌, ◌<◌, arith, subst, ◌&&◌, nat_le, if◌then◌else◌, eqb-true, Result, Ok}
+use Rattle.std.proofs.lemmas.Bool.{false≢true, ltb-false, eqb-false, le-leb, lt-ltb, ltb-true}
+use Rattle.std.proofs.lemmas.Bool.Decides.{nat_tests}
+use Rattle.rb_raftlog.specs.Log.{has_change, own, last}
 use Rattle.rb_raftlog.specs.declared.entry.Body.{Body}
 use Rattle.rb_raftlog.specs.declared.entry.Body.TheVariants.{Payload, Change}
 use Rattle.rb_change.specs.declared.change.Transition.{Transition}
 use Rattle.rb_change.specs.declared.change.Word.{Word}
-use Rattle.rb_raftlog.specs.Log.{last, own, has_change}
-use Rattle.std.proofs.lemmas.Bool.Decides.{nat_tests}
 use Rattle.rb_tracker.proofs.SetLaws.{if_both}
 use Rattle.rb_tracker.specs.Active.{quorum_active}
 use Rattle.rb_tracker.specs.Changes.{changed}
 use Rattle.rb_tracker.specs.Configs.{is_voter}
 use Rattle.rb_tracker.specs.Trackers.{has_view, configured}
-use Rattle.rb_tracker.specs.declared.config.Config.{Config}
 use Rattle.rb_tracker.specs.declared.changes.ChangeFault.{ChangeFault}
+use Rattle.rb_tracker.specs.declared.config.Config.{Config}
 use Rattle.rb_message.specs.Messages.{has_term}
 use Rattle.rb_message.specs.declared.event.Event.TheVariants.{ReplacedChange, Switched}
 use Rattle.rb_message.specs.declared.event.WhyNoCampaign.{WhyNoCampaign}
@@ -23,19 +23,19 @@ use Rattle.rb_message.specs.declared.kind.MessageKind.TheVariants as kind
 use Rattle.rb_message.specs.declared.message.Message.{Message}
 use Rattle.rb_message.specs.declared.role.Role.{Role}
 use Rattle.rb_message.specs.declared.role.Role.TheVariants as role
-use Rattle.rb_node.specs.declared.limits.TheConstants.{ELECTION_TICKS}
-use Rattle.rb_node.specs.Node.{PlainNode, Turn, told, with_node, ignored, message, is_leader, with_elapsed}
-use Rattle.rb_node.specs.Terms.{raised, lowered, hears_leader, is_disturbed_by}
 use Rattle.rb_node.specs.Campaigns.{why_no_campaign, campaigned_unless, campaigned, stood_unless, campaigned_after_pre_vote}
-use Rattle.rb_node.specs.Changing.{steps_down, led_on, switched, change_applied}
-use Rattle.rb_node.specs.Leading.{is_log_full, appended, all_told}
-use Rattle.rb_node.specs.Proposing.{why_replaced, change_put, put_in, takes_none, proposed}
-use Rattle.rb_node.specs.Step.{as_leader, at_term, by_role_of, stepped}
-use Rattle.rb_node.specs.Ticking.{counted, has_lost_quorum, quorum_looked_at, leader_counted, counted_up, leader_ticked, ticked_by, ticked}
-use Rattle.rb_node.specs.Transferring.{cannot_take_lead, transferred}
-use Rattle.rb_node_laws.specs.Choices.{MayCampaign, MayTakeLead, PutsChange, StepsDown}
-use Rattle.rb_node_laws.proofs.Goes.{Core}
-use Rattle.rb_node_laws.proofs.LeaderLaws.{all_told_same}
+use Rattle.rb_node.specs.Changing.{led_on, steps_down, switched, change_applied}
+use Rattle.rb_node.specs.Leading.{appended, is_log_full, all_told}
+use Rattle.rb_node.specs.Node.{PlainNode, is_leader, Turn, told, message, with_node, with_elapsed, ignored}
+use Rattle.rb_node.specs.Proposing.{why_replaced, change_put, put_in, proposed, takes_none}
+use Rattle.rb_node.specs.Step.{by_role_of, as_leader, stepped, at_term}
+use Rattle.rb_node.specs.Terms.{hears_leader, is_disturbed_by, lowered, raised}
+use Rattle.rb_node.specs.Ticking.{quorum_looked_at, has_lost_quorum, counted, leader_ticked, leader_counted, counted_up, ticked_by, ticked}
+use Rattle.rb_node.specs.Transferring.{transferred, cannot_take_lead}
+use Rattle.rb_node.specs.declared.limits.TheConstants.{ELECTION_TICKS}
+use Rattle.rb_node_laws.specs.Choices.{MayCampaign, PutsChange, MayTakeLead, StepsDown}
+use Rattle.rb_node_laws.proofs.Moves.{over_way}
+use Rattle.rb_node_laws.proofs.TellWays.{Rest, keeps_rest, told_all_way}
 
 -- ---- who campaigns
 
@@ -43,8 +43,8 @@ not_not : (b : Bool) → not b ≡ false → b ≡ true
 not_not true e = refl
 not_not false e = absurd (false≢true (sym e))
 
-no_change_campaigns : (n : PlainNode) → why_no_campaign n ≡ None → MayCampaign n
-no_change_campaigns n =
+pub may_campaign : (n : PlainNode) → why_no_campaign n ≡ None → MayCampaign n
+may_campaign n =
     let P : Option WhyNoCampaign → Type 0 = λ o. o ≡ None → MayCampaign n in
     if_both P (is_leader n.role) _ _ (λ _ e. cc)
     (λ follower. if_both P (not (is_voter n.tracker.config n.id)) _ _ (λ _ e. cc)
@@ -59,7 +59,7 @@ no_change_campaigns n =
 
 campaigns_unless_may : (o : Option WhyNoCampaign) (t : Turn) (transfer : Bool) → why_no_campaign t.node ≡ o → ((campaigned_unless o t transfer).node ≡ t.node) ⊎ MayCampaign t.node
 campaigns_unless_may (Some reason) t transfer is = inl refl
-campaigns_unless_may None t transfer is = inr (no_change_campaigns t.node is)
+campaigns_unless_may None t transfer is = inr (may_campaign t.node is)
 
 pub campaigns_may : (t : Turn) (transfer : Bool) → ((campaigned t transfer).node ≡ t.node) ⊎ MayCampaign t.node
 unfolding campaigned
@@ -67,7 +67,7 @@ campaigns_may t transfer = campaigns_unless_may (why_no_campaign t.node) t trans
 
 stands_unless_may : (o : Option WhyNoCampaign) (t : Turn) → why_no_campaign t.node ≡ o → ((stood_unless o t).node ≡ t.node) ⊎ MayCampaign t.node
 stands_unless_may (Some reason) t is = inl refl
-stands_unless_may None t is = inr (no_change_campaigns t.node is)
+stands_unless_may None t is = inr (may_campaign t.node is)
 
 pub stands_may : (t : Turn) → ((campaigned_after_pre_vote t).node ≡ t.node) ⊎ MayCampaign t.node
 unfolding campaigned_after_pre_vote
@@ -120,7 +120,7 @@ proposed_puts t transition words =
     if_both (λ (u : Turn). PutsChange t.node u.node body) (takes_none t.node) _ _
     (λ _. inl refl)
     (λ _. (let u = put_in body t in
-    puts_by_log t.node u.node (all_told u).node body (ap (λ (c : Core). c.log) (all_told_same u)) (put_in_puts t transition words)))
+    puts_by_log t.node u.node (all_told u).node body (ap (λ (r : Rest). r.log) (over_way keeps_rest (told_all_way u.node))) (put_in_puts t transition words)))
 
 -- ---- to whom the lead goes
 

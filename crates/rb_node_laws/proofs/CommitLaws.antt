@@ -1,211 +1,216 @@
 -- A leader's commit: where it moves, a quorum holds what it moves to
-use Rattle.std.proofs.Common.{◌≡◌, ℕ, ◌+◌, ◌<◌, ◌≤◌, ◌⊎◌, Bool, true, false, not, ◌&&◌, ◌||◌, List, [], length, min, Option, Some, None, Result, Ok, Err, refl, sym, ap, subst, ◌∙◌, arith, inl, inr, nat_lt, ◌==◌, if◌then◌else◌}
-use Rattle.std.proofs.lemmas.Bool.{ltb-false, eqb-false, or_parts}
-use Rattle.rb_raftlog.specs.declared.entry.Body.{Body}
-use Rattle.rb_raftlog.specs.declared.entry.Body.TheVariants.{Payload, Change}
+use Rattle.std.proofs.Common.{ℕ, ◌≡◌, ◌⊎◌, true, inl, inr, ◌∙◌, subst, sym, ◌≤◌, nat_le, arith, Some, refl, ap, List}
+use Rattle.std.proofs.lemmas.Bool.{leb-true, le-leb}
+use Rattle.indexmap.specs.Layout.{set_value_at}
 use Rattle.rb_change.specs.declared.change.Transition.{Transition}
 use Rattle.rb_change.specs.declared.change.Word.{Word}
-use Rattle.rb_raftlog.specs.Log.{last}
-use Rattle.rb_tracker.proofs.SetLaws.{if_both}
 use Rattle.rb_tracker.proofs.CommitLaws.{commit_is_held}
-use Rattle.rb_tracker.specs.Changes.{changed}
-use Rattle.rb_tracker.specs.Commits.{commit_of, is_held}
-use Rattle.rb_tracker.specs.Configs.{members}
-use Rattle.rb_tracker.specs.Progresses.{PlainProgress, acked, paused, is_news}
-use Rattle.rb_tracker.specs.Trackers.{place, view_at, ids_of, configured}
-use Rattle.rb_tracker.specs.declared.config.Config.{Config}
-use Rattle.rb_tracker.specs.declared.changes.ChangeFault.{ChangeFault}
-use Rattle.rb_message.specs.Messages.{has_term}
-use Rattle.rb_message.specs.declared.event.Event.TheVariants.{ReplacedChange, Switched}
-use Rattle.rb_message.specs.declared.event.WhyReplaced.{WhyReplaced}
-use Rattle.rb_message.specs.declared.kind.MessageKind.{MessageKind}
-use Rattle.rb_message.specs.declared.kind.MessageKind.TheVariants as kind
+use Rattle.rb_tracker.proofs.VoteLaws.{both_more}
+use Rattle.rb_tracker.specs.Commits.{is_held, match_of, holds}
+use Rattle.rb_tracker.specs.Progresses.{PlainProgress, acked}
+use Rattle.rb_tracker.specs.Trackers.{PlainTracker, with_view, place, view_at}
 use Rattle.rb_message.specs.declared.message.Message.{Message}
 use Rattle.rb_message.specs.declared.role.Role.{Role}
 use Rattle.rb_message.specs.declared.role.Role.TheVariants as role
-use Rattle.rb_node.specs.declared.sends.Mode.{Mode}
-use Rattle.rb_node.specs.Node.{PlainNode, Turn, told, with_node, ignored, is_leader}
-use Rattle.rb_node.specs.Sends.{viewed, told_all}
-use Rattle.rb_node.specs.Terms.{raised, raised_by, lowered, is_disturbed_by}
-use Rattle.rb_node.specs.Votes.{grants}
-use Rattle.rb_node.specs.Leading.{is_log_full, appended, with_views, can_commit, checked_commit}
-use Rattle.rb_node.specs.Acknowledging.{heard_of, handed_to, commit_or_sent, mode_after, accepted_news, accepted_old, accepted_by, accepted_with, accepted_at, accepted}
-use Rattle.rb_node.specs.Proposing.{why_replaced, change_put, put_in, takes_none, proposed}
-use Rattle.rb_node.specs.Changing.{without_strangers, missing, stranger_given_up, joined_by, revised, steps_down, led_on, switched, change_applied}
-use Rattle.rb_node.specs.Step.{as_leader, by_role_of, at_term_by, at_term, stepped}
+use Rattle.rb_node.specs.Changing.{change_applied}
+use Rattle.rb_node.specs.Node.{PlainNode, Turn}
+use Rattle.rb_node.specs.Sends.{viewed}
+use Rattle.rb_node.specs.Step.{stepped}
+use Rattle.rb_node_laws.specs.Calling.{Call, run}
+use Rattle.rb_node_laws.specs.Matches.{IsHeldBetween}
 use Rattle.rb_node_laws.specs.Sound.{IsSound}
-use Rattle.rb_node_laws.proofs.Goes.{Core, core, Keeps, anyone}
-use Rattle.rb_node_laws.proofs.SendLaws.{sends_same, tells_same, told_all_same}
-use Rattle.rb_node_laws.proofs.QuorumLaws.{told_all_holds}
-use Rattle.rb_node_laws.proofs.TermLaws.{raises, lowered_same}
-use Rattle.rb_node_laws.proofs.VoteLaws.{pre_vote_same}
-use Rattle.rb_node_laws.proofs.LeaderLaws.{refused_same, beat_answered_same, transferred_same, all_told_same, with_views_same}
-use Rattle.rb_node_laws.proofs.ChangeLaws.{strangers_same, given_up_same}
-use Rattle.rb_node_laws.proofs.StepLaws.{term_steps}
+use Rattle.rb_node_laws.specs.Words.{IsLater}
+use Rattle.rb_node_laws.proofs.CallLaws.{Carried, over_calls}
+use Rattle.rb_node_laws.proofs.CallWays.{with_members_same, change_way}
+use Rattle.rb_node_laws.proofs.ChoiceLaws.{may_campaign}
+use Rattle.rb_node_laws.proofs.Goes.{Keeps, anyone, core, self, and_then, middle_term, Core, Ways, Goes, middle_leads, goes_then, anyhow}
+use Rattle.rb_node_laws.proofs.MatchViewLaws.{of, place_set, place_here}
+use Rattle.rb_node_laws.proofs.MoveLaws.{no_leader, step_keeps, call_keeps}
+use Rattle.rb_node_laws.proofs.Moves.{TellMove, Idle, Whole, Viewed, Commits, Sent, Allows, StepMove, StepTells, Follows, Asks, Stands, Leads, Takes, Learns, Restores, Acks, over, ChangeMove, Revises, in_config, CallMove, CallChanges, CallSteps}
+use Rattle.rb_node_laws.proofs.ProgressLaws.{acked_matched, same_match}
+use Rattle.rb_node_laws.proofs.Saying.{with_sent}
+use Rattle.rb_node_laws.proofs.StepWays.{stepped_way}
+use Rattle.rb_node_laws.proofs.TellWays.{Rest, tells_rest}
 
 -- the commit stays, or a quorum holds it by the views after
-abbrev pub Commits : ℕ → PlainNode → Type 0
-Commits old x = (x.commit ≡ old) ⊎ (is_held x.tracker x.commit ≡ true)
+abbrev pub CommitHolds : ℕ → PlainNode → Type 0
+CommitHolds old x = (x.commit ≡ old) ⊎ (is_held x.tracker x.commit ≡ true)
 
-stays : (n x : PlainNode) → core x ≡ core n → x.commit ≡ n.commit
-stays n x e = ap (λ (c : Core). c.commit) e
+-- and what a quorum holds it goes on to hold
+record Lasts (a b : PlainNode) : Type 0 where
+  moves : CommitHolds a.commit b
+  holds_on : (i : ℕ) → is_held a.tracker i ≡ true → is_held b.tracker i ≡ true
 
--- commit moves to what the quorum holds, and then all are told
-moved : (n : PlainNode) → Commits n.commit (told_all (record n { commit = commit_of n.tracker }))
-moved n =
-    let m : PlainNode = record n { commit = commit_of n.tracker } in
-    let at : (told_all m).commit ≡ commit_of n.tracker = stays m (told_all m) (told_all_same m) in
-    let held : is_held (told_all m).tracker (commit_of n.tracker) ≡ true = told_all_holds m (commit_of n.tracker) (commit_is_held n.tracker) in
-    inr (subst (λ (i : ℕ). is_held (told_all m).tracker i ≡ true) (sym at) held)
+lasts_still : (a b : PlainNode) → b.commit ≡ a.commit → ((i : ℕ) → is_held a.tracker i ≡ true → is_held b.tracker i ≡ true) → Lasts a b
+lasts_still a b e on = record { moves = inl e; holds_on = on }
 
-sent_commits : (n : PlainNode) (to : ℕ) (how : Mode) → Commits n.commit (commit_or_sent n to how)
-unfolding commit_or_sent
-sent_commits n to how =
-    if_both (λ (x : PlainNode). Commits n.commit x) (can_commit n (commit_of n.tracker)) _ _
-    (λ _. moved n) (λ _. inl (ap (λ (c : Core). c.commit) (sends_same n to how)))
+lasts_then : (a b c : PlainNode) → Lasts a b → Lasts b c → Lasts a c
+lasts_then a b c p q = record {
+  moves = elim q.moves as (λ _. CommitHolds a.commit c) [
+    | inr held ↦ inr held
+    | inl stays ↦ elim p.moves as (λ _. CommitHolds a.commit c) [
+      | inl before ↦ inl (stays ∙ before)
+      | inr held ↦ inr (subst (λ (i : ℕ). is_held c.tracker i ≡ true) (sym stays) (q.holds_on b.commit held))
+    ]
+  ];
+  holds_on = λ i held. q.holds_on i (p.holds_on i held);
+}
 
-pub checked_commits : (n : PlainNode) (ids : List ℕ) → Commits n.commit (checked_commit n ids)
-unfolding checked_commit
-checked_commits n ids =
-    if_both (λ (x : PlainNode). Commits n.commit x) (can_commit n (commit_of n.tracker)) _ _
-    (λ _. moved n) (λ _. inl (ap (λ (c : Core). c.commit) (tells_same n ids)))
+-- ---- a view that is written with no lesser match
 
--- ---- an answer
+holds_still : (n a b : ℕ) → a ≤ b → nat_le n a ≡ true → nat_le n b ≡ true
+holds_still n a b up h = (let low = leb-true n a h in le-leb n b (omega (arith, low, up)))
 
-handed_commits : (old : ℕ) (n : PlainNode) (to i : ℕ) → Commits old n → Commits old (handed_to n to i)
-handed_commits old n to i is = if_both (λ (x : PlainNode). Commits old x) (to == n.transferee && i == last n.log) _ _ (λ _. is) (λ _. is)
+view_holds : (t : PlainTracker) (at : ℕ) (new : PlainProgress) → ((id : ℕ) → match_of t.views id ≤ match_of (set_value_at t.views at new) id) → (i : ℕ) → is_held t i ≡ true → is_held (with_view t at new) i ≡ true
+view_holds t at new up i held =
+    both_more t.config (λ id. holds t.views i id) (λ id. holds (set_value_at t.views at new) i id)
+    (λ id has. holds_still i (match_of t.views id) (match_of (set_value_at t.views at new) id) (up id) has) held
 
-news_commits : (o : Option PlainProgress) (n : PlainNode) (at from i : ℕ) → Commits n.commit (accepted_news o n at from i)
-news_commits None n at from i = inl refl
-news_commits (Some view) n at from i =
-    let x = commit_or_sent (viewed n at (acked view i)) from (mode_after (paused view)) in
-    handed_commits n.commit x from i (sent_commits (viewed n at (acked view i)) from (mode_after (paused view)))
-
-old_commits : (o : Option PlainProgress) (n : PlainNode) (at i : ℕ) → Commits n.commit (accepted_old o n at i)
-old_commits None n at i = inl refl
-old_commits (Some view) n at i = inl refl
-
-by_commits : (b : Bool) (n : PlainNode) (at from i : ℕ) → Commits n.commit (accepted_by b n at from i)
-by_commits true n at from i = news_commits (view_at n.tracker.views at) n at from i
-by_commits false n at from i = old_commits (view_at n.tracker.views at) n at i
-
-with_commits : (o : Option PlainProgress) (n : PlainNode) (at from i : ℕ) → Commits n.commit (accepted_with o n at from i)
-with_commits None n at from i = inl refl
-with_commits (Some view) n at from i = by_commits (is_news view i) n at from i
-
-at_commits : (o : Option ℕ) (t : Turn) (m : Message) (i : ℕ) → Commits t.node.commit (accepted_at o t m i).node
-at_commits None t m i = inl refl
-at_commits (Some at) t m i = let n = heard_of t.node at in with_commits (view_at n.tracker.views at) n at m.from (min i (last t.node.log))
-
-accepted_commits : (t : Turn) (m : Message) (i : ℕ) → Commits t.node.commit (accepted t m i).node
-unfolding accepted
-accepted_commits t m i = at_commits (place t.node.tracker.views m.from) t m i
-
--- ---- a proposal moves no commit
-
-appended_commit : (t : Turn) (body : Body) → (appended t body).node.commit ≡ t.node.commit
-appended_commit t body = if_both (λ (u : Turn). u.node.commit ≡ t.node.commit) (is_log_full t.node) _ _ (λ _. refl) (λ _. refl)
-
-change_commit : (o : Option WhyReplaced) (t : Turn) (body : Body) → (change_put o t body).node.commit ≡ t.node.commit
-change_commit None t body = if_both (λ (u : Turn). u.node.commit ≡ t.node.commit) (is_log_full t.node) _ _ (λ _. refl) (λ _. refl)
-change_commit (Some reason) t body = appended_commit (told t (ReplacedChange t.node.id (last t.node.log + 1) reason)) (Payload [])
-
-put_commit : (body : Body) (t : Turn) → (put_in body t).node.commit ≡ t.node.commit
-put_commit (Payload bytes) t = appended_commit t (Payload bytes)
-put_commit (Change transition words) t =
-    if_both (λ (u : Turn). u.node.commit ≡ t.node.commit) (is_log_full t.node) _ _
-    (λ _. refl) (λ _. change_commit (why_replaced t.node (length words)) t (Change transition words))
-
-proposed_commit : (t : Turn) (body : Body) → (proposed t body).node.commit ≡ t.node.commit
-unfolding proposed
-proposed_commit t body =
-    if_both (λ (u : Turn). u.node.commit ≡ t.node.commit) (takes_none t.node) _ _
-    (λ _. refl) (λ _. ap (λ (c : Core). c.commit) (all_told_same (put_in body t)) ∙ put_commit body t)
-
--- ---- a message
-
-leader_commits : (k : MessageKind) (t : Turn) (m : Message) → Commits t.node.commit (as_leader k t m).node
-leader_commits (kind.Proposal body) t m = inl (proposed_commit t body)
-leader_commits (kind.AppendResponse matched) t m = accepted_commits t m matched
-leader_commits (kind.AppendRefusal refused hint) t m = inl (ap (λ (c : Core). c.commit) (refused_same t m refused hint))
-leader_commits kind.HeartbeatResponse t m = inl (ap (λ (c : Core). c.commit) (beat_answered_same t m))
-leader_commits (kind.TransferLeader target) t m = inl (ap (λ (c : Core). c.commit) (transferred_same t m target))
-leader_commits _ t m = inl refl
-
-role_commits : (t : Turn) (m : Message) → t.node.role ≡ role.Leader → Commits t.node.commit (by_role_of t.node.role t m).node
-role_commits t m leads = subst (λ (r : Role). Commits t.node.commit (by_role_of r t m).node) (sym leads) (leader_commits m.kind t m)
-
-term_commits : (k : MessageKind) (t : Turn) (m : Message) → t.node.role ≡ role.Leader → Commits t.node.commit (at_term_by k t m).node
-term_commits (kind.Vote last_term last_index transfer) t m leads =
-    if_both (λ (x : PlainNode). Commits t.node.commit x) (grants t.node m last_term last_index false) _ _ (λ _. inl refl) (λ _. inl refl)
-term_commits (kind.PreVote last_term last_index) t m leads = inl (ap (λ (c : Core). c.commit) (pre_vote_same t.node m last_term last_index))
-term_commits _ t m leads = role_commits t m leads
-
--- a later term is taken up, or nothing changes
-raised_or : (k : MessageKind) (t : Turn) (m : Message) → (raised_by k t m ≡ t) ⊎ ((raised_by k t m).node.term ≡ m.term)
-raised_or (kind.PreVote last_term last_index) t m = inl refl
-raised_or (kind.PreVoteResponse granted) t m = if_both (λ (u : Turn). (u ≡ t) ⊎ (u.node.term ≡ m.term)) granted _ _ (λ _. inl refl) (λ _. inr refl)
-raised_or _ t m = inr refl
-
-later_commits : (t : Turn) (m : Message) → IsSound t.node → t.node.role ≡ role.Leader → t.node.term < m.term → (at_term (raised t m) m).node.term ≡ t.node.term → Commits t.node.commit (at_term (raised t m) m).node
-later_commits t m sound leads later same =
-    let u = raised t m in
-    elim (raised_or m.kind t m) as (λ _. Commits t.node.commit (at_term u m).node) [
-      | inl e ↦ subst (λ (v : Turn). Commits t.node.commit (at_term v m).node) (sym e) (term_commits m.kind t m leads)
-      | inr e ↦
-          let first : Keeps anyone (core t.node) (core u.node) = raises m.kind t m (omega (arith, later)) in
-          let second : Keeps anyone (core u.node) (core (at_term u m).node) = term_steps m.kind u m (λ _ _ _ _ _. tt) (λ _ _ _ _. tt) in
-          let up : u.node.term ≤ (at_term u m).node.term = (second.goes (first.goes sound).ordered).term in
-          absurd (omega (arith, e, up, later, same))
+acked_more : (n : PlainNode) (at from i : ℕ) (view : PlainProgress) → place n.tracker.views from ≡ Some at → view_at n.tracker.views at ≡ Some view → view.matched ≤ i → (id : ℕ) → of n id ≤ match_of (set_value_at n.tracker.views at (acked view i)) id
+acked_more n at from i view here is up id =
+    elim (place_set n.tracker.views at from id (acked view i) here) as (λ _. of n id ≤ match_of (set_value_at n.tracker.views at (acked view i)) id) [
+      | inl same ↦ omega (arith, same)
+      | inr new ↦
+          let now = new.1 ∙ acked_matched view.state view i in
+          let was : of n from ≡ view.matched = sym (same_match n.tracker.views at view view from is refl) ∙ place_here n.tracker.views at from view here in
+          let it : of n id ≡ view.matched = ap (of n) new.0 ∙ was in
+          omega (arith, now, it, up)
     ]
 
-above : (a b : ℕ) → nat_lt b a ≡ false → (b == a) ≡ false → a < b
-above a b low apart = let le = ltb-false b a low in let ne = eqb-false b a apart in let lt : (a ≡ b → ⊥) → a < b = λ no. omega (arith, le, no) in lt (λ e. ne (sym e))
+-- ---- what a leader tells
 
-other_term : (a b : Bool) → (a || b) ≡ false → b ≡ false
-other_term a b h = (or_parts a b h).1
+telling_lasts : {a b : PlainNode} → TellMove a b → Lasts a b
+telling_lasts (Idle a b e) = lasts_still a b (ap (λ (x : Whole). x.core.commit) e) (λ i held. subst (λ (x : Whole). is_held x.tracker i ≡ true) (sym e) held)
+telling_lasts (Viewed n at view new is same sound) =
+    lasts_still n (viewed n at new) refl
+    (view_holds n.tracker at new (λ id. (let e = same_match n.tracker.views at view new id is same in omega (arith, e))))
+telling_lasts (Commits n can) = record { moves = inr (commit_is_held n.tracker); holds_on = λ i held. held }
+telling_lasts (Sent n m says) = lasts_still n (with_sent n m) refl (λ i held. held)
 
-pub stepped_commits : (t : Turn) (m : Message) → IsSound t.node → t.node.role ≡ role.Leader → (stepped t m).node.term ≡ t.node.term → Commits t.node.commit (stepped t m).node
-unfolding stepped
-stepped_commits t m sound leads =
-    let P : Turn → Type 0 = λ u. u.node.term ≡ t.node.term → Commits t.node.commit u.node in
-    if_both P (not (has_term m.kind) || m.term == t.node.term) (at_term t m)
-    (if nat_lt m.term t.node.term then lowered t m else (if is_disturbed_by m.kind t.node then ignored t m else at_term (raised t m) m))
-    (λ _ _. term_commits m.kind t m leads)
-    (λ apart. if_both P (nat_lt m.term t.node.term) (lowered t m) (if is_disturbed_by m.kind t.node then ignored t m else at_term (raised t m) m)
-    (λ _ _. inl (ap (λ (c : Core). c.commit) (lowered_same m.kind t m)))
-    (λ later. if_both P (is_disturbed_by m.kind t.node) (ignored t m) (at_term (raised t m) m)
-    (λ _ _. inl refl)
-    (λ _. later_commits t m sound leads (above t.node.term m.term later (other_term (not (has_term m.kind)) (m.term == t.node.term) apart)))))
+lasting : Allows TellMove Lasts
+lasting = record { nothing = λ n. lasts_still n n refl (λ i held. held); chain = lasts_then; each = λ a b m. telling_lasts m }
+
+-- ---- a message to a leader, in its term
+
+record Leading (a b : PlainNode) : Type 0 where
+  keeps : Keeps anyone (core a) (core b)
+  holds : IsSound a → a.role ≡ role.Leader → b.term ≡ a.term → (b.role ≡ role.Leader) × Lasts a b
+
+no_leader_stands : (r : Role) → r ≡ role.Candidate → r ≡ role.Leader → ⊥
+no_leader_stands r e f = let no : role.Candidate ≡ role.Leader = sym e ∙ f in cc
+
+step_leads : {a b : PlainNode} → StepMove anyone a b → a.role ≡ role.Leader → b.term ≡ a.term → (b.role ≡ role.Leader) × Lasts a b
+step_leads (StepTells m) leads same = (ap (λ (r : Rest). r.role) (tells_rest m) ∙ leads, telling_lasts m)
+step_leads (Follows n term lead up past) leads same = (let later = past leads in absurd (omega (arith, later, same)))
+step_leads (Asks n may) leads same = absurd ((may_campaign n may).follows leads)
+step_leads (Stands n may) leads same = absurd ((may_campaign n may).follows leads)
+step_leads (Leads n stands won) leads same = absurd (no_leader_stands n.role stands leads)
+step_leads (Takes n from append is) leads same = absurd (no_leader n.role is leads)
+step_leads (Learns n i is up held) leads same = absurd (no_leader n.role is leads)
+step_leads (Restores n s is past) leads same = absurd (no_leader n.role is leads)
+step_leads (Acks n at from i view role_is here is up said) leads same =
+    (leads, lasts_still n (viewed n at (acked view i)) refl (view_holds n.tracker at (acked view i) (acked_more n at from i view here is up)))
+step_leads _ leads same = (leads, record { moves = inl refl; holds_on = λ i held. held })
+
+leading_on : Allows (StepMove anyone) Leading
+leading_on = record {
+  nothing = λ n. record { keeps = self (core n); holds = λ s leads same. (leads, lasts_still n n refl (λ i held. held)) };
+  chain = λ a b c p q. record {
+    keeps = and_then p.keeps q.keeps;
+    holds = λ s leads same. (let g = p.keeps.goes s in
+        let at : b.term ≡ a.term = middle_term (core a) (core b) (core c) g (q.keeps.goes g.ordered) same in
+        let first = p.holds s leads at in
+        let second = q.holds g.ordered first.0 (same ∙ sym at) in
+        (second.0, lasts_then a b c first.1 second.1));
+  };
+  each = λ a b m. record { keeps = step_keeps m; holds = λ s leads same. step_leads m leads same };
+}
+
+pub stepped_commits : (t : Turn) (m : Message) → IsSound t.node → t.node.role ≡ role.Leader → (stepped t m).node.term ≡ t.node.term → CommitHolds t.node.commit (stepped t m).node
+stepped_commits t m sound leads same = ((over leading_on (stepped_way t m (λ _. tt) (λ _. tt) (λ _ _. tt))).holds sound leads same).1.moves
 
 -- ---- a change that takes effect
 
-joined_commits : (t : Turn) (added : List ℕ) → Commits t.node.commit (joined_by t added).node
-joined_commits t added =
-    let u : Turn = with_node t (with_views t.node added true) in
-    let v = stranger_given_up u in
-    let e : v.node.commit ≡ t.node.commit = ap (λ (c : Core). c.commit) (given_up_same u ∙ with_views_same t.node added true) in
-    subst (λ (i : ℕ). Commits i (joined_by t added).node) e (checked_commits v.node added)
+change_commit : {a b : PlainNode} → ChangeMove a b → b.commit ≡ a.commit
+change_commit (Revises n c leads) = ap (λ (x : Core). x.commit) (with_members_same (in_config n c))
+change_commit _ = refl
 
-revised_commits : (t : Turn) → Commits t.node.commit (revised t).node
-unfolding revised
-revised_commits t =
-    let n = without_strangers t.node (ids_of t.node.tracker.views) in
-    let added = missing n.tracker.views (members n.tracker.config) in
-    let e : n.commit ≡ t.node.commit = ap (λ (c : Core). c.commit) (strangers_same t.node (ids_of t.node.tracker.views)) in
-    subst (λ (i : ℕ). Commits i (joined_by (with_node t n) added).node) e (joined_commits (with_node t n) added)
+pub change_commits : (t : Turn) (transition : Transition) (words : List Word) → CommitHolds t.node.commit (change_applied t transition words).node
+change_commits t transition words =
+    let c = change_way t transition words in
+    subst (λ (i : ℕ). CommitHolds i (change_applied t transition words).node) (change_commit c.first) (over lasting c.next).moves
 
-led_commits : (t : Turn) → Commits t.node.commit (led_on t).node
-led_commits t =
-    let P : Turn → Type 0 = λ u. Commits t.node.commit u.node in
-    if_both P (is_leader t.node.role) _ _
-    (λ _. if_both P (steps_down t.node) _ _ (λ _. inl refl) (λ _. revised_commits t))
-    (λ _. inl refl)
+-- ---- every call, at some moment
 
-switched_commits : (r : Result Config ChangeFault) (t : Turn) → Commits t.node.commit (switched r t).node
-switched_commits (Ok c) t = led_commits (told (with_node t (record t.node { tracker = configured t.node.tracker c })) (Switched t.node.id c))
-switched_commits (Err fault) t = inl refl
+step_commit : {w : Ways} {a b : PlainNode} → StepMove w a b → a.role ≡ role.Leader → CommitHolds a.commit b
+step_commit (StepTells m) leads = (telling_lasts m).moves
+step_commit (Leads n stands won) leads = absurd (no_leader_stands n.role stands leads)
+step_commit (Learns n i is up held) leads = absurd (no_leader n.role is leads)
+step_commit (Restores n s is past) leads = absurd (no_leader n.role is leads)
+step_commit _ leads = inl refl
 
-pub change_commits : (t : Turn) (transition : Transition) (words : List Word) → Commits t.node.commit (change_applied t transition words).node
-unfolding change_applied
-change_commits t transition words = switched_commits (changed t.node.tracker.config transition words) t
+call_commit : {sound : Type 0} {w : Ways} {a b : PlainNode} → CallMove sound w a b → a.role ≡ role.Leader → CommitHolds a.commit b
+call_commit (CallChanges m) leads = inl (change_commit m)
+call_commit (CallSteps m) leads = step_commit m leads
+call_commit _ leads = inl refl
+
+record Between (a b : PlainNode) : Type 0 where
+  moment : PlainNode
+  since : Goes anyone (core a) (core moment)
+  until : Goes anyone (core moment) (core b)
+  reached : moment.commit ≡ b.commit
+  held : is_held moment.tracker moment.commit ≡ true
+
+-- a node that goes on; and where it leads on, its commit is held where it moves
+record Moved (a b : PlainNode) : Type 0 where
+  keeps : Keeps anyone (core a) (core b)
+  held : IsSound a → a.role ≡ role.Leader → b.role ≡ role.Leader → b.term ≡ a.term → (b.commit ≡ a.commit) ⊎ Between a b
+
+moved_then : (a b c : PlainNode) → Moved a b → Moved b c → Moved a c
+moved_then a b c p q = record {
+  keeps = and_then p.keeps q.keeps;
+  held = λ s first end e. (let g = p.keeps.goes s in
+      let h = q.keeps.goes g.ordered in
+      let leads = middle_leads (core a) (core b) (core c) g h first end e in
+      let at : b.term ≡ a.term = middle_term (core a) (core b) (core c) g h e in
+      elim (q.held g.ordered leads end (e ∙ sym at)) as (λ _. (c.commit ≡ a.commit) ⊎ Between a c) [
+        | inr later ↦ inr (record { moment = later.moment; since = goes_then (core a) (core b) (core later.moment) g later.since; until = later.until; reached = later.reached; held = later.held })
+        | inl stays ↦ elim (p.held s first leads at) as (λ _. (c.commit ≡ a.commit) ⊎ Between a c) [
+          | inl before ↦ inl (stays ∙ before)
+          | inr earlier ↦ inr (record { moment = earlier.moment; since = earlier.since; until = goes_then (core earlier.moment) (core b) (core c) earlier.until h; reached = earlier.reached ∙ sym stays; held = earlier.held })
+        ]
+      ]);
+}
+
+moves_on : {sound : Type 0} {w : Ways} → sound → {a b : PlainNode} → CallMove sound w a b → Moved a b
+moves_on s {a} {b} m = record {
+  keeps = anyhow (call_keeps s m);
+  held = λ o first end e. elim (call_commit m first) as (λ _. (b.commit ≡ a.commit) ⊎ Between a b) [
+    | inl stays ↦ inl stays
+    | inr held ↦ (let g = (anyhow (call_keeps s m)).goes o in inr (record { moment = b; since = g; until = (self (core b)).goes g.ordered; reached = refl; held = held }))
+  ];
+}
+
+moving : Carried Moved
+moving = record {
+  under = λ a b f. record { keeps = record { goes = λ s. (f s).keeps.goes s }; held = λ s. (f s).held s };
+  moves = λ s. record { nothing = λ n. record { keeps = self (core n); held = λ _ _ _ _. inl refl }; chain = moved_then; each = λ a b m. moves_on s m };
+}
+
+later : (a b : PlainNode) → Goes anyone (core a) (core b) → IsLater a b
+later a b g = record { id = g.id; term = g.term; commit = g.commit; leads_on = g.own }
+
+pub run_commits : (cs : List Call) (t : Turn) → IsSound t.node → t.node.role ≡ role.Leader → (run cs t).node.role ≡ role.Leader → (run cs t).node.term ≡ t.node.term → ((run cs t).node.commit ≡ t.node.commit) ⊎ IsHeldBetween t.node (run cs t).node
+run_commits cs t s first end e =
+    let b = (run cs t).node in
+    elim ((over_calls moving cs t).held s first end e) as (λ _. (b.commit ≡ t.node.commit) ⊎ IsHeldBetween t.node b) [
+      | inl stays ↦ inl stays
+      | inr is ↦ inr (record {
+        moment = is.moment;
+        since = later t.node is.moment is.since;
+        until = later is.moment b is.until;
+        leads = middle_leads (core t.node) (core is.moment) (core b) is.since is.until first end e;
+        reached = is.reached;
+        held = is.held;
+      })
+    ]

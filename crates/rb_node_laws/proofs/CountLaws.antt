@@ -1,8 +1,8 @@
 -- What a leader counts: of its own log what is durable, and of another member's what that member's answers say
-use Rattle.std.proofs.Common.{◌≡◌, ℕ, ◌≤◌, ◌⊎◌, inl, inr, false, min, List, [], ◌∷◌, refl, sym, ap, subst, ◌∙◌, arith}
+use Rattle.std.proofs.Common.{[], ℕ, ◌≤◌, ◌≡◌, arith, ◌∙◌, sym, inl, inr, subst, ap, refl, List, ◌⊎◌, ◌∷◌, if◌then◌else◌, ◌==◌}
+use Rattle.std.proofs.lemmas.List.Elements.{All-weaker, All-push, All-nil, All-head, All-tail}
 use Rattle.std.specs.Prelude.{All}
-use Rattle.std.proofs.lemmas.List.Elements.{All-nil, All-push, All-weaker, All-head, All-tail}
-use Rattle.rb_raftlog.specs.Log.{LogValue, last, compact_fault}
+use Rattle.rb_raftlog.specs.Log.{last}
 use Rattle.rb_tracker.specs.Commits.{match_of}
 use Rattle.rb_tracker.specs.Progresses.{PlainProgress}
 use Rattle.rb_message.specs.declared.kind.MessageKind.{MessageKind}
@@ -10,29 +10,26 @@ use Rattle.rb_message.specs.declared.kind.MessageKind.TheVariants as kind
 use Rattle.rb_message.specs.declared.message.Message.{Message}
 use Rattle.rb_message.specs.declared.role.Role.{Role}
 use Rattle.rb_message.specs.declared.role.Role.TheVariants as role
-use Rattle.rb_node.specs.Node.{PlainNode, Turn, message}
-use Rattle.rb_node.specs.Changing.{applied_one, joint_left}
+use Rattle.rb_node.specs.Node.{PlainNode, Turn}
+use Rattle.rb_node.specs.Readying.{saved, own_stepped, advanced}
 use Rattle.rb_node.specs.Step.{stepped}
-use Rattle.rb_node.specs.Readying.{saved, advanced}
-use Rattle.rb_node_laws.specs.Calling.{Call, Step, Campaign, Propose, Transfer, Tick, Advance, ForgetLeader, ReportUnreachable, SetTimeout, Compact, after, run}
-use Rattle.rb_node_laws.specs.Elections.{Elected}
-use Rattle.rb_node_laws.specs.Matches.{IsAccepted, Tells, Told, IsOfOthers, IsOwnAnswer, HasOwnAnswers, CountsDurable}
-use Rattle.rb_node_laws.specs.Sound.{IsSound, IsGrown, HasSoundViews, HasViewsOfMembers}
-use Rattle.rb_node_laws.specs.Words.{AnswersBy, Sends, Answers}
-use Rattle.rb_node_laws.proofs.Goes.{core, Goes, Ways, anyone, same}
-use Rattle.rb_node_laws.proofs.AdvanceSteps.{AtEntry, AtLeaving, AtAnswer, Remains, step_goes, advance_keeps}
-use Rattle.rb_node_laws.proofs.ChangeLaws.{one_leaves}
-use Rattle.rb_node_laws.proofs.AdvanceLaws.{saves}
-use Rattle.rb_node_laws.proofs.CallLaws.{ways, calls}
-use Rattle.rb_node_laws.proofs.ViewLaws.{Views, views_then, kept_views, unchanged}
-use Rattle.rb_node_laws.proofs.ViewStepLaws.{one_views, left_views, stepped_views, called_views}
-use Rattle.rb_node_laws.proofs.MemberLeadLaws.{Stays, stays}
-use Rattle.rb_node_laws.proofs.MemberStepLaws.{stepped_stays, one_stays, left_same, called_stays}
-use Rattle.rb_node_laws.proofs.Saying.{Words, words, with_sent, with_waiting, Allows, under_views}
-use Rattle.rb_node_laws.proofs.SayingSteps.{called_says, run_says}
-use Rattle.rb_node_laws.proofs.MatchSendLaws.{of}
-use Rattle.rb_node_laws.proofs.MatchLaws.{stepped_rests, campaigned_less}
-use Rattle.rb_node_laws.proofs.MatchCallLaws.{ticked_less, forgotten_match, reported_match, compacted_match, one_at_most, Leaves, left_leaves}
+use Rattle.rb_node_laws.specs.Calling.{Call, run, after, Step, Advance}
+use Rattle.rb_node_laws.specs.Elections.{own_turn}
+use Rattle.rb_node_laws.specs.Matches.{IsOwnAnswer, HasOwnAnswers, IsOfOthers, CountsDurable, Tells, Told}
+use Rattle.rb_node_laws.specs.Sound.{IsGrown, IsSound, HasSoundViews, HasViewsOfMembers}
+use Rattle.rb_node_laws.specs.Words.{Sends, Answers, AnswersBy}
+use Rattle.rb_node_laws.proofs.CallLaws.{calls}
+use Rattle.rb_node_laws.proofs.CallWays.{own_way, OwnTells, ready_way, Accepted, ways}
+use Rattle.rb_node_laws.proofs.Goes.{Goes, anyone, core, Keeps, same, and_then}
+use Rattle.rb_node_laws.proofs.MatchLaws.{IsBounded, called_bounded, accepted_less}
+use Rattle.rb_node_laws.proofs.MatchViewLaws.{of}
+use Rattle.rb_node_laws.proofs.MemberMoveLaws.{called_members}
+use Rattle.rb_node_laws.proofs.MoveLaws.{steps_keep, calls_keep}
+use Rattle.rb_node_laws.proofs.Moves.{over}
+use Rattle.rb_node_laws.proofs.SaidLaws.{Says, run_says, called_says}
+use Rattle.rb_node_laws.proofs.Saying.{words, Words, with_sent, with_waiting}
+use Rattle.rb_node_laws.proofs.Turns.{all_durable}
+use Rattle.rb_node_laws.proofs.ViewLaws.{called_views}
 
 -- ---- answers that wait
 
@@ -53,14 +50,14 @@ kept_answer a b x y m g more is =
     }
 
 pub record Owns (a b : PlainNode) : Type 0 where
-  pub views : Views a b
+  pub goes_on : Keeps anyone (core a) (core b)
   pub keeps : IsSound a → HasOwnAnswers a → HasOwnAnswers b
 
-silent_owns : (a b : PlainNode) → Views a b → words b ≡ words a → Owns a b
+silent_owns : (a b : PlainNode) → Keeps anyone (core a) (core b) → words b ≡ words a → Owns a b
 silent_owns a b v e = record {
-  views = v;
+  goes_on = v;
   keeps = λ s h. subst (All (IsOwnAnswer b (last b.log))) (sym (ap (λ (x : Words). x.waiting) e))
-      (All-weaker (IsOwnAnswer a (last a.log)) (IsOwnAnswer b (last b.log)) (λ m is. kept_answer a b (last a.log) (last b.log) m (v.keeps.goes s) (λ grown. grown.longer) is) a.waiting h);
+      (All-weaker (IsOwnAnswer a (last a.log)) (IsOwnAnswer b (last b.log)) (λ m is. kept_answer a b (last a.log) (last b.log) m (v.goes s) (λ grown. grown.longer) is) a.waiting h);
 }
 
 same_answers : (a b : PlainNode) → IsSound a → core b ≡ core a → All (IsOwnAnswer a (last a.log)) a.waiting → All (IsOwnAnswer b (last b.log)) a.waiting
@@ -69,7 +66,7 @@ same_answers a b s e h =
     All-weaker (IsOwnAnswer a (last a.log)) (IsOwnAnswer b (last b.log)) (λ m is. kept_answer a b (last a.log) (last b.log) m g (λ grown. grown.longer) is) a.waiting h
 
 send_owns : (n : PlainNode) (m : Message) → (IsSound n → Sends n m) → Owns n (with_sent n m)
-send_owns n m says = record { views = unchanged refl refl; keeps = λ s h. same_answers n (with_sent n m) s refl h }
+send_owns n m says = record { goes_on = same refl; keeps = λ s h. same_answers n (with_sent n m) s refl h }
 
 answers_append : (n : PlainNode) (m : Message) (index : ℕ) → m.kind ≡ kind.AppendResponse index → Answers n m → (m.term ≡ n.term) × (index ≤ last n.log) × (n.role ≡ role.Candidate → index ≡ 0)
 answers_append n m index is says = subst (λ (k : MessageKind). AnswersBy k n m) is says.1
@@ -84,20 +81,20 @@ own_answer n m says = record {
 
 wait_owns : (n : PlainNode) (m : Message) → (IsSound n → Answers n m) → Owns n (with_waiting n m)
 wait_owns n m says = record {
-  views = unchanged refl refl;
+  goes_on = same refl;
   keeps = λ s h. All-push (IsOwnAnswer (with_waiting n m) (last n.log)) n.waiting m (same_answers n (with_waiting n m) s refl h) (own_answer n m (says s));
 }
 
 save_owns : (n : PlainNode) → Owns n (saved n)
-save_owns n = record { views = kept_views (saves n) refl refl; keeps = λ s h. All-nil (IsOwnAnswer (saved n) (last n.log)) }
+save_owns n = record { goes_on = all_durable (core n); keeps = λ s h. All-nil (IsOwnAnswer (saved n) (last n.log)) }
 
 chain_owns : (a b c : PlainNode) → Owns a b → Owns b c → Owns a c
-chain_owns a b c p q = record { views = views_then p.views q.views; keeps = λ s h. q.keeps (p.views.keeps.goes s).ordered (p.keeps s h) }
+chain_owns a b c p q = record { goes_on = and_then p.goes_on q.goes_on; keeps = λ s h. q.keeps (p.goes_on.goes s).ordered (p.keeps s h) }
 
 under_owns : (a b : PlainNode) → (IsSound a → Owns a b) → Owns a b
-under_owns a b f = record { views = under_views a b (λ s. (f s).views); keeps = λ s. (f s).keeps s }
+under_owns a b f = record { goes_on = record { goes = λ s. (f s).goes_on.goes s }; keeps = λ s. (f s).keeps s }
 
-pub owns : Allows Owns
+pub owns : Says Owns
 owns = record { chain = chain_owns; under = under_owns; silent = silent_owns; send = send_owns; wait = wait_owns; save = save_owns }
 
 pub run_owns : (cs : List Call) (t : Turn) → IsSound t.node → HasOwnAnswers t.node → HasOwnAnswers (run cs t).node
@@ -115,7 +112,7 @@ counts_after : (c : Call) (t : Turn) → Counts t.node → Counts (after c t).no
 counts_after c t is = record {
   sound = ((calls c t).goes is.sound).ordered;
   views = (called_views c t).views is.sound is.views;
-  members = (called_stays c t).keeps is.members;
+  members = called_members c t is.members;
   answers = (called_says owns c t).keeps is.sound is.answers;
 }
 
@@ -130,126 +127,77 @@ by_leader role.Leader = inl refl
 none_of : (n : PlainNode) (id : ℕ) → HasSoundViews n → (n.role ≡ role.Leader → ⊥) → of n id ≡ 0
 none_of n id v follows = ap (λ (views : List (ℕ × PlainProgress)). match_of views id) (v.only_leading follows)
 
-stands_not : (r : Role) → r ≡ role.Candidate → r ≡ role.Leader → ⊥
-stands_not r e f = let no : role.Candidate ≡ role.Leader = sym e ∙ f in cc
-
-under_id : (n : PlainNode) (id : ℕ) → n.id ≡ id → of n id ≤ n.log.durable → CountsDurable n
-under_id n id e low = subst (λ (x : ℕ). of n x ≤ n.log.durable) (sym e) low
-
--- what was durable before is so after, unless the node is newly elected
-counts_if : {w : Ways} (a b : PlainNode) → Goes w (core a) (core b) → HasSoundViews b → of b a.id ≤ a.log.durable → (w.elected b.term → of b a.id ≡ 0) → CountsDurable b
-counts_if {w} a b g v low new =
-    elim (by_leader b.role) as (λ _. CountsDurable b) [
-      | inr follows ↦ (let none = none_of b a.id v follows in under_id b a.id g.id (omega (arith, none)))
-      | inl leads ↦ elim (g.led leads) as (λ _. CountsDurable b) [
-        | inl led ↦ (let more = (g.own led.0 leads led.1).written in under_id b a.id g.id (omega (arith, low, more)))
-        | inr elected ↦ (let none = new elected in under_id b a.id g.id (omega (arith, none)))
-      ]
-    ]
-
-less_counts : {w : Ways} (a b : PlainNode) → Goes w (core a) (core b) → HasSoundViews a → HasSoundViews b → CountsDurable a → (w.elected b.term → a.role ≡ role.Candidate) → of b a.id ≤ of a a.id → CountsDurable b
-less_counts a b g v u counts stood less =
-    counts_if a b g u (omega (arith, counts, less))
-    (λ elected. (let none = none_of a a.id v (stands_not a.role (stood elected)) in omega (arith, none, less)))
-
--- an answer of the node itself that comes in says no more than is durable
-abbrev SaysDurable : PlainNode → Message → Type 0
-SaysDurable n m = (index : ℕ) → m.kind ≡ kind.AppendResponse index → m.from ≡ n.id → m.term ≡ n.term → n.role ≡ role.Leader → index ≤ n.log.durable
-
-stepped_counts : (t : Turn) (m : Message) → IsSound t.node → HasSoundViews t.node → CountsDurable t.node → SaysDurable t.node m → CountsDurable (stepped t m).node
-stepped_counts t m s v counts says =
-    let n = t.node in
-    let x = (stepped t m).node in
-    let g : Goes (ways (Step m) t) (core n) (core x) = (calls (Step m) t).goes s in
-    let u : HasSoundViews x = (stepped_views t m).views s v in
-    elim (stepped_rests t m n.id) as (λ _. CountsDurable x) [
-      | inl less ↦ less_counts n x g v u counts (λ elected. elected.1.stands) less
-      | inr more ↦ elim more as (λ _. CountsDurable x) [
-        | inl own ↦ under_id x n.id (sym own.0) own.1
-        | inr said ↦
-            let is = said.1 in
-            let at_most = is.at_most in
-            let low = says is.index is.says (sym said.0) is.of_term is.leads in
-            counts_if n x g u (omega (arith, at_most, low)) (λ elected. absurd (stands_not n.role elected.1.stands is.leads))
-      ]
-    ]
-
-record Holding (n : PlainNode) : Type 0 where
-  members : HasViewsOfMembers n
-  views : HasSoundViews n
-  counts : CountsDurable n
-
-entry_holds : AtEntry Holding
-entry_holds t i e up known durable s h =
-    let n = t.node in
-    let x = (applied_one t i e).node in
-    let leaves = one_leaves t i e in
-    let same_durable : x.log.durable ≡ n.log.durable = ap (λ (v : LogValue). v.durable) leaves.1 in
-    let counts = h.counts in
-    record {
-      members = (one_stays t i e).keeps h.members;
-      views = (one_views t i e up known durable).views s h.views;
-      counts = elim (one_at_most t i e n.id h.members.in_order) as (λ _. CountsDurable x) [
-        | inl less ↦ under_id x n.id leaves.0 (omega (arith, less, counts, same_durable))
-        | inr own ↦ (let low = own.1 in under_id x n.id leaves.0 (omega (arith, low, same_durable)))
-      ];
-    }
-
-leaving_holds : AtLeaving Holding
-leaving_holds t s h =
-    let n = t.node in
-    let l : Leaves n (joint_left t).node = left_leaves t in
-    let counts = h.counts in
-    let e = l.matches n.id in
-    let same_durable = l.durable in
-    let of_members : Stays n (joint_left t).node = stays (left_same t) in
-    record {
-      members = of_members.keeps h.members;
-      views = (left_views t).views s h.views;
-      counts = under_id (joint_left t).node n.id l.id (omega (arith, counts, e, same_durable));
-    }
+-- ---- a node's own answers, which say what is durable
 
 abbrev IsDurableAnswer : PlainNode → Message → Type 0
 IsDurableAnswer n m = IsOwnAnswer n n.log.durable m
 
-answer_holds : AtAnswer Holding IsDurableAnswer
-answer_holds t m s is h = record {
-  members = (stepped_stays t m).keeps h.members;
-  views = (stepped_views t m).views s h.views;
-  counts = stepped_counts t m s h.views h.counts (λ index says _ of_term leads. is.leads index says of_term leads);
-}
+durable_after : (a b : PlainNode) (ms : List Message) → Goes anyone (core a) (core b) → All (IsDurableAnswer a) ms → All (IsDurableAnswer b) ms
+durable_after a b ms g are = All-weaker (IsDurableAnswer a) (IsDurableAnswer b) (λ m is. kept_answer a b a.log.durable b.log.durable m g (λ grown. grown.written) is) ms are
 
-remains_durable : Remains IsDurableAnswer
-remains_durable a b m g is = kept_answer a b a.log.durable b.log.durable m g (λ grown. grown.written) is
+own_goes : (id : ℕ) (t : Turn) (ms : List Message) → IsSound t.node → Goes anyone (core t.node) (core (own_stepped id t ms).node)
+own_goes id t ms s = (over (steps_keep {w = anyone}) (own_way id t ms (λ _ _ _. tt) (λ _ _. tt) (λ _ _ _ _. tt))).goes s
 
--- what is held is durable once it is saved
-saved_answer : (n : PlainNode) (m : Message) → IsSound n → IsOwnAnswer n (last n.log) m → IsDurableAnswer (saved n) m
-saved_answer n m s is = kept_answer n (saved n) (last n.log) (last n.log) m ((saves {w = anyone} n).goes s) (λ _. omega arith) is
+-- what one of them says is durable as long as the node leads on
+own_durable : (id : ℕ) (t : Turn) (ms : List Message) (term from i : ℕ) → IsSound t.node → All (IsDurableAnswer t.node) ms → OwnTells id t ms term from i
+    → (own_stepped id t ms).node.role ≡ role.Leader → (own_stepped id t ms).node.term ≡ term → i ≤ (own_stepped id t ms).node.log.durable
+own_durable id t [] term from i s are told leads at = absurd told
+own_durable id t (m ∷ ms) term from i s are told leads at =
+    let end = (own_stepped id t (m ∷ ms)).node in
+    elim told as (λ _. i ≤ end.log.durable) [
+      | inl here ↦
+          let a = here.3 in
+          let low = (All-head (IsDurableAnswer t.node) m ms are).leads a.index a.says a.of_term a.leads in
+          let grown = (own_goes id t (m ∷ ms) s).own a.leads leads (at ∙ here.1) in
+          let at_most = a.at_most in
+          let more = grown.written in
+          omega (arith, low, at_most, more)
+      | inr later ↦
+          let next : Turn = if m.to == id then stepped t m else t in
+          let g : Goes anyone (core t.node) (core next.node) = own_goes id t (m ∷ []) s in
+          own_durable id next ms term from i g.ordered (durable_after t.node next.node ms g (All-tail (IsDurableAnswer t.node) m ms are)) later leads at
+    ]
 
-advanced_counts : (t : Turn) → Counts t.node → CountsDurable t.node → CountsDurable (advanced t).node
-advanced_counts t is counts =
+advanced_durable : (t : Turn) (term from i : ℕ) → Counts t.node → OwnTells t.node.id (own_turn t) t.node.waiting term from i
+    → (advanced t).node.role ≡ role.Leader → (advanced t).node.term ≡ term → i ≤ (advanced t).node.log.durable
+unfolding advanced
+advanced_durable t term from i is told leads at =
     let n = t.node in
-    let within = is.sound.within in
-    let first : Holding (saved n) = record { members = is.members; views = is.views; counts = omega (arith, counts, within) } in
-    (advance_keeps Holding IsDurableAnswer entry_holds leaving_holds answer_holds remains_durable t is.sound first
-    (All-weaker (IsOwnAnswer n (last n.log)) (IsDurableAnswer (saved n)) (λ m a. saved_answer n m is.sound a) n.waiting is.answers)).counts
+    let first : Goes anyone (core n) (core (saved n)) = (all_durable {w = anyone} (core n)).goes is.sound in
+    let then_ : Goes anyone (core (saved n)) (core (own_turn t).node) = (over (calls_keep {w = anyone} is.sound) (ready_way t (λ s. s))).goes first.ordered in
+    let are : All (IsDurableAnswer (saved n)) n.waiting =
+    All-weaker (IsOwnAnswer n (last n.log)) (IsDurableAnswer (saved n)) (λ m a. kept_answer n (saved n) (last n.log) (last n.log) m first (λ _. omega arith) a) n.waiting is.answers in
+    own_durable n.id (own_turn t) n.waiting term from i then_.ordered (durable_after (saved n) (own_turn t).node n.waiting then_ are) told leads at
 
--- a call that raises no match and elects nobody
-quiet_counts : (c : Call) (t : Turn) → Counts t.node → CountsDurable t.node → (Elected c t (after c t).node.term → ⊥) → of (after c t).node t.node.id ≤ of t.node t.node.id → CountsDurable (after c t).node
-quiet_counts c t is counts never less =
-    less_counts t.node (after c t).node ((calls c t).goes is.sound) is.views ((called_views c t).views is.sound is.views) counts (λ elected. absurd (never elected)) less
+-- what is told by anybody under its name, where nobody does so from without
+told_durable : (c : Call) (t : Turn) (term i : ℕ) → Counts t.node → IsOfOthers t.node.id c → Accepted c t term t.node.id i → (after c t).node.role ≡ role.Leader → (after c t).node.term ≡ term → i ≤ (after c t).node.log.durable
+told_durable (Step m) t term i is others told leads at = absurd (others told.2.index told.2.says (sym told.1))
+told_durable Advance t term i is others told leads at = advanced_durable t term t.node.id i is told leads at
+told_durable _ t term i is others told leads at = absurd told
 
 call_counts : (c : Call) (t : Turn) → Counts t.node → IsOfOthers t.node.id c → CountsDurable t.node → CountsDurable (after c t).node
-call_counts (Step m) t is others counts = stepped_counts t m is.sound is.views counts (λ index says from _ _. absurd (others index says from))
-call_counts (Propose body) t is others counts = stepped_counts t (message t.node.id t.node.id 0 (kind.Proposal body)) is.sound is.views counts (λ index says _ _ _. cc)
-call_counts (Transfer to) t is others counts = stepped_counts t (message t.node.id t.node.id 0 (kind.TransferLeader to)) is.sound is.views counts (λ index says _ _ _. cc)
-call_counts Advance t is others counts = advanced_counts t is counts
-call_counts Campaign t is others counts = quiet_counts Campaign t is counts (λ no. no) (campaigned_less t false t.node.id)
-call_counts Tick t is others counts = quiet_counts Tick t is counts (λ no. no) (ticked_less t.node.role t t.node.id)
-call_counts ForgetLeader t is others counts = (let e = forgotten_match t.node.role t.node t.node.id in quiet_counts ForgetLeader t is counts (λ no. no) (omega (arith, e)))
-call_counts (ReportUnreachable to) t is others counts = (let e = reported_match t.node to t.node.id in quiet_counts (ReportUnreachable to) t is counts (λ no. no) (omega (arith, e)))
-call_counts (SetTimeout ticks) t is others counts = counts
-call_counts (Compact index) t is others counts = (let e = compacted_match (compact_fault t.node.log index (min t.node.applied t.node.log.durable)) t.node index t.node.id in quiet_counts (Compact index) t is counts (λ no. no) (omega (arith, e)))
+call_counts c t is others counts =
+    let n = t.node in
+    let x = (after c t).node in
+    let g = (calls c t).goes is.sound in
+    let start : IsBounded (ways c t) n.id 0 n.term (of n n.id) n = elim (by_leader n.role) as (λ _. IsBounded (ways c t) n.id 0 n.term (of n n.id) n) [
+      | inl leads ↦ inr (leads, inl (refl, omega arith))
+      | inr follows ↦ (let none = none_of n n.id is.views follows in inl (omega (arith, none)))
+    ] in
+    subst (λ (id : ℕ). of x id ≤ x.log.durable) (sym g.id)
+    (elim (called_bounded c t n.id 0 n.term (of n n.id) is.sound is.members start) as (λ _. of x n.id ≤ x.log.durable) [
+      | inl none ↦ omega (arith, none)
+      | inr leads ↦ elim leads.1 as (λ _. of x n.id ≤ x.log.durable) [
+        | inl first ↦ (let far = first.1 in elim (g.leader leads.0 first.0) as (λ _. of x n.id ≤ x.log.durable) [
+          | inl led ↦ (let more = (g.own led leads.0 first.0).written in omega (arith, far, counts, more))
+          | inr stood ↦ (let none = none_of n n.id is.views (λ led. (let no : role.Candidate ≡ role.Leader = sym stood ∙ led in cc)) in omega (arith, far, none))
+        ])
+        | inr more ↦ elim more as (λ _. of x n.id ≤ x.log.durable) [
+          | inl own ↦ own.1
+          | inr said ↦ (let far = said.1 in let low = told_durable c t x.term said.0 is others said.2 leads.0 refl in omega (arith, far, low))
+        ]
+      ]
+    ])
 
 pub run_counts : (cs : List Call) (t : Turn) → Counts t.node → All (IsOfOthers t.node.id) cs → CountsDurable t.node → CountsDurable (run cs t).node
 run_counts [] t is others counts = counts
@@ -261,97 +209,40 @@ run_counts (c ∷ cs) t is others counts =
 
 -- ---- what it counts of another
 
-abbrev IsFrom : ℕ → PlainNode → Message → Type 0
-IsFrom own n m = m.from ≡ own
+own_from : (id own : ℕ) (t : Turn) (ms : List Message) (term from i : ℕ) → All (λ (m : Message). m.from ≡ own) ms → OwnTells id t ms term from i → from ≡ own
+own_from id own t [] term from i are told = absurd told
+own_from id own t (m ∷ ms) term from i are told =
+    elim told as (λ _. from ≡ own) [
+      | inl here ↦ here.2 ∙ All-head (λ (x : Message). x.from ≡ own) m ms are
+      | inr later ↦ own_from id own (if m.to == id then stepped t m else t) ms term from i (All-tail (λ (x : Message). x.from ≡ own) m ms are) later
+    ]
 
--- a match of another is at most so much
-record Below (own id bound : ℕ) (n : PlainNode) : Type 0 where
-  node : n.id ≡ own
-  members : HasViewsOfMembers n
-  less : of n id ≤ bound
+-- what is told of another is told by its answer
+told_tells : (c : Call) (t : Turn) (id term i j : ℕ) → Counts t.node → (id ≡ t.node.id → ⊥) → i ≤ j → Accepted c t term id j → Tells c t id i
+told_tells (Step m) t id term i j is other less told = (told.1, accepted_less t.node m j i less told.2)
+told_tells Advance t id term i j is other less told =
+    absurd (other (own_from t.node.id t.node.id (own_turn t) t.node.waiting term id j
+    (All-weaker (IsOwnAnswer t.node (last t.node.log)) (λ (m : Message). m.from ≡ t.node.id) (λ m a. a.own) t.node.waiting is.answers) told))
+told_tells _ t id term i j is other less told = absurd told
 
-entry_below : (own id bound : ℕ) → (id ≡ own → ⊥) → AtEntry (Below own id bound)
-entry_below own id bound other t i e up known durable s h =
-    let x = (applied_one t i e).node in
-    let less = h.less in
-    record {
-      node = (one_leaves t i e).0 ∙ h.node;
-      members = (one_stays t i e).keeps h.members;
-      less = elim (one_at_most t i e id h.members.in_order) as (λ _. of x id ≤ bound) [
-        | inl low ↦ omega (arith, low, less)
-        | inr itself ↦ absurd (other (itself.0 ∙ h.node))
-      ];
-    }
-
-leaving_below : (own id bound : ℕ) → AtLeaving (Below own id bound)
-leaving_below own id bound t s h =
-    let l : Leaves t.node (joint_left t).node = left_leaves t in
-    let e = l.matches id in
-    let less = h.less in
-    let of_members : Stays t.node (joint_left t).node = stays (left_same t) in
-    record { node = l.id ∙ h.node; members = of_members.keeps h.members; less = omega (arith, e, less) }
-
-answer_below : (own id bound : ℕ) → (id ≡ own → ⊥) → AtAnswer (Below own id bound) (IsFrom own)
-answer_below own id bound other t m s from h =
-    let x = (stepped t m).node in
-    let same_id : x.id ≡ t.node.id = (step_goes t m s).id in
-    let less = h.less in
-    record {
-      node = same_id ∙ h.node;
-      members = (stepped_stays t m).keeps h.members;
-      less = elim (stepped_rests t m id) as (λ _. of x id ≤ bound) [
-        | inl low ↦ omega (arith, low, less)
-        | inr more ↦ elim more as (λ _. of x id ≤ bound) [
-          | inl itself ↦ absurd (other (itself.0 ∙ same_id ∙ h.node))
-          | inr said ↦ absurd (other (said.0 ∙ from))
-        ]
-      ];
-    }
-
-advanced_less : (t : Turn) (id : ℕ) → Counts t.node → (id ≡ t.node.id → ⊥) → of (advanced t).node id ≤ of t.node id
-advanced_less t id is other =
-    let n = t.node in
-    let first : Below n.id id (of n id) (saved n) = record { node = refl; members = is.members; less = omega arith } in
-    (advance_keeps (Below n.id id (of n id)) (IsFrom n.id) (entry_below n.id id (of n id) other) (leaving_below n.id id (of n id)) (answer_below n.id id (of n id) other) (λ a b m g from. from) t is.sound first
-    (All-weaker (IsOwnAnswer n (last n.log)) (IsFrom n.id (saved n)) (λ m a. a.own) n.waiting is.answers)).less
-
-stepped_rises : (t : Turn) (m : Message) (id : ℕ) → IsSound t.node → (id ≡ t.node.id → ⊥) → (of (stepped t m).node id ≤ of t.node id) ⊎ ((id ≡ m.from) × IsAccepted t.node m (of (stepped t m).node id))
-stepped_rises t m id s other =
-    elim (stepped_rests t m id) as (λ _. (of (stepped t m).node id ≤ of t.node id) ⊎ ((id ≡ m.from) × IsAccepted t.node m (of (stepped t m).node id))) [
+call_rises : (c : Call) (t : Turn) (id : ℕ) → Counts t.node → (id ≡ t.node.id → ⊥) → (of (after c t).node id ≤ of t.node id) ⊎ Tells c t id (of (after c t).node id)
+call_rises c t id is other =
+    let x = (after c t).node in
+    let R : Type 0 = (of x id ≤ of t.node id) ⊎ Tells c t id (of x id) in
+    elim (called_bounded c t id (of t.node id) 0 0 is.sound is.members (inl (omega arith))) as (λ _. R) [
       | inl less ↦ inl less
-      | inr more ↦ elim more as (λ _. (of (stepped t m).node id ≤ of t.node id) ⊎ ((id ≡ m.from) × IsAccepted t.node m (of (stepped t m).node id))) [
-        | inl itself ↦ absurd (other (itself.0 ∙ (step_goes t m s).id))
-        | inr said ↦ inr said
+      | inr leads ↦ elim leads.1 as (λ _. R) [
+        | inl first ↦ (let none = first.1 in inl (omega (arith, none)))
+        | inr more ↦ elim more as (λ _. R) [
+          | inl own ↦ absurd (other (own.0 ∙ ((calls c t).goes is.sound).id))
+          | inr said ↦ inr (told_tells c t id x.term (of x id) said.0 is other said.1 said.2)
+        ]
       ]
     ]
 
--- a message of the node itself that is no answer raises nothing
-called_less : (t : Turn) (m : Message) (id : ℕ) → IsSound t.node → (id ≡ t.node.id → ⊥) → ((index : ℕ) → m.kind ≡ kind.AppendResponse index → ⊥) → of (stepped t m).node id ≤ of t.node id
-called_less t m id s other never =
-    elim (stepped_rises t m id s other) as (λ _. of (stepped t m).node id ≤ of t.node id) [
-      | inl less ↦ less
-      | inr said ↦ absurd (never said.1.index said.1.says)
-    ]
-
-call_rises : (c : Call) (t : Turn) (id : ℕ) → Counts t.node → (id ≡ t.node.id → ⊥) → (of (after c t).node id ≤ of t.node id) ⊎ Tells c t id (of (after c t).node id)
-call_rises (Step m) t id is other = stepped_rises t m id is.sound other
-call_rises (Propose body) t id is other = inl (called_less t (message t.node.id t.node.id 0 (kind.Proposal body)) id is.sound other (λ index says. cc))
-call_rises (Transfer to) t id is other = inl (called_less t (message t.node.id t.node.id 0 (kind.TransferLeader to)) id is.sound other (λ index says. cc))
-call_rises Advance t id is other = inl (advanced_less t id is other)
-call_rises Campaign t id is other = inl (campaigned_less t false id)
-call_rises Tick t id is other = inl (ticked_less t.node.role t id)
-call_rises ForgetLeader t id is other = (let e = forgotten_match t.node.role t.node id in inl (omega (arith, e)))
-call_rises (ReportUnreachable to) t id is other = (let e = reported_match t.node to id in inl (omega (arith, e)))
-call_rises (SetTimeout ticks) t id is other = inl (omega arith)
-call_rises (Compact index) t id is other = (let e = compacted_match (compact_fault t.node.log index (min t.node.applied t.node.log.durable)) t.node index id in inl (omega (arith, e)))
-
 -- what is said of an index is said of one below
 tells_less : (c : Call) (t : Turn) (id low high : ℕ) → low ≤ high → Tells c t id high → Tells c t id low
-tells_less (Step m) t id low high less tells =
-    let is = tells.1 in
-    let at_most = is.at_most in
-    let held = is.held in
-    (tells.0, record { leads = is.leads; of_term = is.of_term; index = is.index; says = is.says; at_most = omega (arith, less, at_most); held = omega (arith, less, held) })
+tells_less (Step m) t id low high less tells = (tells.0, accepted_less t.node m high low less tells.1)
 tells_less _ t id low high less tells = absurd tells
 
 pub run_rises : (cs : List Call) (t : Turn) (id : ℕ) → Counts t.node → (id ≡ t.node.id → ⊥) → (of (run cs t).node id ≤ of t.node id) ⊎ Told cs t id (of (run cs t).node id)

@@ -21,10 +21,11 @@ pub record Core : Type 0 where
 abbrev pub core : PlainNode → Core
 core n = record { id = n.id; term = n.term; vote = n.vote; role = n.role; log = n.log; commit = n.commit; applied = n.applied; content = n.content }
 
--- to whom a vote may be given in which term, and in which term an election may be won
+-- to whom a vote may be given in which term, in which term an election may be won, and in which term who may say that it holds what
 pub record Ways : Type 1 where
   pub given : ℕ → ℕ → Type 0
   pub elected : ℕ → Type 0
+  pub matched : ℕ → ℕ → ℕ → Type 0
 
 abbrev pub Voted : Ways → Core → Core → Type 0
 Voted w old new =
@@ -176,7 +177,7 @@ and_then {w} {a} {b} {c} p q = record { goes = λ o. (let first = p.goes o in go
 
 -- whoever may be given a vote or win
 abbrev pub anyone : Ways
-anyone = record { given = λ _ _. Unit {0}; elected = λ _. Unit {0} }
+anyone = record { given = λ _ _. Unit {0}; elected = λ _. Unit {0}; matched = λ _ _ _. Unit {0} }
 
 pub anyhow : {w : Ways} {a b : Core} → Keeps w a b → Keeps anyone a b
 anyhow {w} {a} {b} p = record {

@@ -1,19 +1,49 @@
 -- The question before the vote
-use Rattle.std.proofs.Common.{◌≡◌, ℕ, Bool, true, false, not, ◌&&◌, ◌||◌, Option, Some, None, refl, ap, ◌∙◌, nat_lt, ◌==◌, if◌then◌else◌}
+use Rattle.std.proofs.Common.{[], ◌≡◌, refl, List, ℕ, ◌∷◌, ◌∙◌, true, ◌+◌, ap, Bool, ◌&&◌, not, false, Option, Some, None, ◌||◌, ◌==◌, if◌then◌else◌, nat_lt}
+use Rattle.rb_raftlog.specs.Log.{last_term, last}
 use Rattle.rb_tracker.proofs.SetLaws.{if_both}
+use Rattle.rb_tracker.specs.Configs.{voters}
 use Rattle.rb_message.specs.Messages.{has_term}
 use Rattle.rb_message.specs.declared.event.WhyNoCampaign.{WhyNoCampaign}
 use Rattle.rb_message.specs.declared.kind.MessageKind.{MessageKind}
 use Rattle.rb_message.specs.declared.kind.MessageKind.TheVariants as kind
 use Rattle.rb_message.specs.declared.message.Message.{Message}
-use Rattle.rb_node.specs.Node.{PlainNode, Turn, ignored}
-use Rattle.rb_node.specs.Terms.{raised, raised_by, lowered, is_disturbed_by}
-use Rattle.rb_node.specs.Campaigns.{why_no_campaign, campaigned_unless, campaigned, stood, pre_vote_started}
-use Rattle.rb_node.specs.Step.{at_term_by, at_term, stepped}
+use Rattle.rb_message.specs.declared.role.Role.TheVariants as role
+use Rattle.rb_node.specs.Campaigns.{asked, asked_one, pre_vote_started, precandidate, campaigned_unless, stood, campaigned, why_no_campaign}
+use Rattle.rb_node.specs.Node.{Turn, PlainNode, ignored}
+use Rattle.rb_node.specs.Step.{at_term_by, stepped, at_term}
+use Rattle.rb_node.specs.Terms.{shown_term, answers_earlier, lowered_by, raised_by, lowered, is_disturbed_by, raised}
+use Rattle.rb_node.specs.Votes.{pre_vote_answered, grants}
 use Rattle.rb_node_laws.specs.Sound.{HasSameVote}
-use Rattle.rb_node_laws.proofs.Goes.{Core, core}
-use Rattle.rb_node_laws.proofs.TermLaws.{pre_vote_started_core, lowered_same}
-use Rattle.rb_node_laws.proofs.VoteLaws.{pre_vote_same}
+use Rattle.rb_node_laws.proofs.Goes.{core, Core}
+use Rattle.rb_node_laws.proofs.StepWays.{asked_one_same}
+
+-- ---- what leaves a node but its messages as it is
+
+shown_same : (t : Turn) (m : Message) → core (shown_term t m).node ≡ core t.node
+shown_same t m = if_both (λ (u : Turn). core u.node ≡ core t.node) (answers_earlier t.node) _ _ (λ _. refl) (λ _. refl)
+
+lowered_same : (k : MessageKind) (t : Turn) (m : Message) → core (lowered_by k t m).node ≡ core t.node
+lowered_same (kind.PreVote last_term last_index) t m = refl
+lowered_same (kind.Append append) t m = shown_same t m
+lowered_same (kind.Heartbeat commit) t m = shown_same t m
+lowered_same _ t m = refl
+
+asked_same : (n : PlainNode) (ids : List ℕ) (term : ℕ) (question answer : MessageKind) → core (asked n ids term question answer) ≡ core n
+asked_same n [] term question answer = refl
+asked_same n (id ∷ ids) term question answer = asked_same (asked_one n id term question answer) ids term question answer ∙ asked_one_same n id term question answer
+
+pre_vote_same : (n : PlainNode) (m : Message) (last_term last_index : ℕ) → core (pre_vote_answered n m last_term last_index) ≡ core n
+pre_vote_same n m last_term last_index =
+    if_both (λ (x : PlainNode). core x ≡ core n) (grants n m last_term last_index true) _ _ (λ _. refl) (λ _. refl)
+
+-- a question before the vote changes no term, no vote and no log
+pre_vote_started_core : (t : Turn) → core (pre_vote_started t).node ≡ record (core t.node) { role = role.Precandidate }
+pre_vote_started_core t =
+    let n = precandidate t.node in
+    asked_same n (voters n.tracker.config) (n.term + 1) (kind.PreVote (last_term n.log) (last n.log)) (kind.PreVoteResponse true)
+
+-- ---- the question, and its answer
 
 same_vote_of : (a b : PlainNode) → core b ≡ core a → HasSameVote a b
 same_vote_of a b e = record { term = ap (λ (c : Core). c.term) e; vote = ap (λ (c : Core). c.vote) e; log = ap (λ (c : Core). c.log) e }

@@ -1,16 +1,19 @@
--- What each change of a leader's view leaves of it
-use Rattle.std.proofs.Common.{◌≡◌, ℕ, zero, suc, ◌+◌, ◌<◌, ◌≤◌, Bool, true, false, not, ◌&&◌, List, [], ◌∷◌, ◌++◌, length, take, drop, map, filter, Some, subst, arith, nat_eq, nat_le, nat_lt, ◌==◌, length-append}
-use Rattle.std.specs.List.{insert}
-use Rattle.std.specs.Map.{remove_entry}
+-- What each change of a leader's view leaves of it: that it is sound, and what it matches
+use Rattle.std.proofs.Common.{[], ℕ, Bool, ◌<◌, arith, ◌≤◌, nat_le, ◌&&◌, not, ◌≡◌, true, length, ◌++◌, ◌∷◌, ◌+◌, length-append, List, filter, nat_lt, refl, Some, zero, subst, suc, take, drop, nat_eq, ◌==◌, false, map, Option, cond, ◌∙◌, ap, sym}
 use Rattle.std.proofs.lemmas.Bool.{and_parts, leb-true, eqb-false, not-true}
+use Rattle.std.specs.List.{insert}
+use Rattle.std.specs.Map.{remove_entry, lookup}
 use Rattle.indexmap.specs.Layout.{set_value_at}
 use Rattle.rb_tracker.proofs.SetLaws.{if_both}
 use Rattle.rb_tracker.specs.Active.{unmarked_but}
-use Rattle.rb_tracker.specs.Progresses.{PlainProgress, probing, own_view, marked, resumed, probed, snapshotting, replicating, sent_up_to, sent_in, sent, matching, acked_in, acked, freed_in, freed_through, refused_in, refused}
+use Rattle.rb_tracker.specs.Commits.{match_in, match_of}
+use Rattle.rb_tracker.specs.Progresses.{probing, own_view, PlainProgress, marked, resumed, probed, snapshotting, replicating, sent_up_to, sent_in, sent, matching, acked_in, acked, freed_in, freed_through, refused_in, refused}
 use Rattle.rb_tracker.specs.Trackers.{view_at}
-use Rattle.rb_tracker.specs.Windows.{PlainWindow, is_full, freed}
+use Rattle.rb_tracker.specs.Windows.{is_full, PlainWindow, freed}
 use Rattle.rb_tracker.specs.declared.progress.ProgressState.{ProgressState}
 use Rattle.rb_tracker.specs.declared.progress.ProgressState.TheVariants as state
+use Rattle.rb_node.specs.Calls.{unreachable}
+use Rattle.rb_node.specs.Sends.{is_replicating}
 use Rattle.rb_node_laws.specs.Sound.{IsSoundView, AreSoundViews}
 
 -- ---- one view
@@ -93,6 +96,34 @@ sound_refused_in state.Snapshot p index hint is = is
 pub sound_refused : (p : PlainProgress) (index hint : ℕ) → IsSoundView p → IsSoundView (refused p index hint)
 sound_refused p index hint is = sound_refused_in p.state p index hint is
 
+pub sound_unreachable : (view : PlainProgress) → IsSoundView view → IsSoundView (unreachable view)
+sound_unreachable view is = if_both IsSoundView (is_replicating view.state) (probed view) view (λ _. sound_probed view) (λ _. is)
+
+-- ---- what it matches
+
+pub sent_match : (s : ProgressState) (view : PlainProgress) (last : ℕ) → (sent_in s view last).matched ≡ view.matched
+sent_match state.Probe view last = refl
+sent_match state.Replicate view last = if_both (λ (v : PlainProgress). v.matched ≡ view.matched) (nat_le view.next last && not (is_full view.window)) _ _ (λ _. refl) (λ _. refl)
+sent_match state.Snapshot view last = refl
+
+pub acked_matched : (s : ProgressState) (view : PlainProgress) (i : ℕ) → (acked_in s view i).matched ≡ i
+acked_matched state.Probe view i = refl
+acked_matched state.Replicate view i = refl
+acked_matched state.Snapshot view i = if_both (λ (v : PlainProgress). v.matched ≡ i) (nat_le view.pending i) _ _ (λ _. refl) (λ _. refl)
+
+pub freed_matched : (s : ProgressState) (view : PlainProgress) (i : ℕ) → (freed_in s view i).matched ≡ view.matched
+freed_matched state.Probe view i = refl
+freed_matched state.Replicate view i = refl
+freed_matched state.Snapshot view i = refl
+
+pub refused_matched : (s : ProgressState) (view : PlainProgress) (i hint : ℕ) → (refused_in s view i hint).matched ≡ view.matched
+refused_matched state.Probe view i hint = refl
+refused_matched state.Replicate view i hint = refl
+refused_matched state.Snapshot view i hint = refl
+
+pub unreachable_matched : (view : PlainProgress) → (unreachable view).matched ≡ view.matched
+unreachable_matched view = if_both (λ (v : PlainProgress). v.matched ≡ view.matched) (is_replicating view.state) (probed view) view (λ _. refl) (λ _. refl)
+
 -- ---- all views
 
 pub sound_at : (es : List (ℕ × PlainProgress)) (at : ℕ) (view : PlainProgress) → AreSoundViews es → view_at es at ≡ Some view → IsSoundView view
@@ -133,3 +164,20 @@ sound_unmarked_one own e is = if_both (λ (f : ℕ × PlainProgress). IsSoundVie
 pub sound_unmarked : (own : ℕ) (es : List (ℕ × PlainProgress)) → AreSoundViews es → AreSoundViews (map (unmarked_but own) es)
 sound_unmarked own [] are = tt
 sound_unmarked own (e ∷ es) are = (sound_unmarked_one own e are.0, sound_unmarked own es are.1)
+
+-- a view that is written with the same match
+here : (b : Bool) (x y : PlainProgress) (rest : Option PlainProgress) → y.matched ≡ x.matched → match_in (cond b (Some y) rest) ≡ match_in (cond b (Some x) rest)
+here true x y rest e = e
+here false x y rest e = refl
+
+there : (b : Bool) (x : PlainProgress) (r s : Option PlainProgress) → match_in r ≡ match_in s → match_in (cond b (Some x) r) ≡ match_in (cond b (Some x) s)
+there true x r s e = refl
+there false x r s e = e
+
+pub same_match : (views : List (ℕ × PlainProgress)) (at : ℕ) (view new : PlainProgress) (id : ℕ) → view_at views at ≡ Some view → new.matched ≡ view.matched → match_of (set_value_at views at new) id ≡ match_of views id
+same_match [] at view new id is e = refl
+same_match (x ∷ xs) zero view new id is e =
+    let first : x.1 ≡ view = cc in
+    here (nat_eq id x.0) x.1 new (lookup (nat_eq id) xs) (e ∙ ap (λ (v : PlainProgress). v.matched) (sym first))
+same_match (x ∷ xs) (suc at) view new id is e =
+    there (nat_eq id x.0) x.1 (lookup (nat_eq id) (set_value_at xs at new)) (lookup (nat_eq id) xs) (same_match xs at view new id is e)

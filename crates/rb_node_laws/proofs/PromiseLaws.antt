@@ -1,19 +1,18 @@
 -- A vote that is promised stays promised
-use Rattle.std.proofs.Common.{◌≡◌, ℕ, ◌<◌, ◌≤◌, true, not, List, refl, sym, ap, subst, ◌∙◌, arith, ◌==◌}
+use Rattle.std.proofs.Common.{ℕ, ◌≡◌, ◌<◌, ◌≤◌, arith, ◌∙◌, sym, subst, ap, refl, true, List, not, ◌==◌}
+use Rattle.std.proofs.lemmas.List.Elements.{All-weaker, All-push, All-nil, All-append, All-filter, All-contains}
 use Rattle.std.specs.Prelude.{All, Contains}
-use Rattle.std.proofs.lemmas.List.Elements.{All-nil, All-push, All-weaker, All-append, All-filter, All-contains}
 use Rattle.rb_message.specs.declared.kind.MessageKind.{MessageKind}
 use Rattle.rb_message.specs.declared.message.Message.{Message}
 use Rattle.rb_node.specs.Node.{PlainNode, Turn}
 use Rattle.rb_node.specs.Readying.{saved, handed, others}
 use Rattle.rb_node_laws.specs.Calling.{Call, run}
 use Rattle.rb_node_laws.specs.Sound.{IsSound}
-use Rattle.rb_node_laws.specs.Words.{IsYes, IsPromised, HasPromises, SendsBy, AnswersBy, Sends, Answers}
-use Rattle.rb_node_laws.proofs.Goes.{core, Goes, anyone}
-use Rattle.rb_node_laws.proofs.AdvanceLaws.{saves}
-use Rattle.rb_node_laws.proofs.ViewLaws.{Views, views_then, kept_views, unchanged}
-use Rattle.rb_node_laws.proofs.Saying.{Words, words, with_sent, with_waiting, Allows, under_views}
-use Rattle.rb_node_laws.proofs.SayingSteps.{run_says}
+use Rattle.rb_node_laws.specs.Words.{IsYes, IsPromised, HasPromises, Sends, SendsBy, Answers, AnswersBy}
+use Rattle.rb_node_laws.proofs.Goes.{Keeps, anyone, core, Goes, same, and_then}
+use Rattle.rb_node_laws.proofs.SaidLaws.{Says, run_says}
+use Rattle.rb_node_laws.proofs.Saying.{words, Words, with_sent, with_waiting}
+use Rattle.rb_node_laws.proofs.Turns.{all_durable}
 
 -- to whom a vote of a term goes
 abbrev Only : ℕ → ℕ → Message → Type 0
@@ -26,7 +25,7 @@ abbrev pub NoYes : Message → Type 0
 NoYes m = IsYes m → ⊥
 
 pub record Promises (a b : PlainNode) : Type 0 where
-  pub views : Views a b
+  pub goes_on : Keeps anyone (core a) (core b)
   pub stays : (term to : ℕ) → IsSound a → 0 < to → IsPromised a term to → IsPromised b term to
   pub keeps : IsSound a → HasPromises a → HasPromises b
 
@@ -45,15 +44,15 @@ stays_by a b term to g e some p =
       alone = subst (All (Only term to)) (sym e) p.alone;
     }
 
-silent_promises : (a b : PlainNode) → Views a b → words b ≡ words a → Promises a b
+silent_promises : (a b : PlainNode) → Keeps anyone (core a) (core b) → words b ≡ words a → Promises a b
 silent_promises a b v e =
     let sent : b.sent ≡ a.sent = ap (λ (x : Words). x.sent) e in
     let waiting : b.waiting ≡ a.waiting = ap (λ (x : Words). x.waiting) e in
     record {
-      views = v;
-      stays = λ term to s some p. stays_by a b term to (v.keeps.goes s) waiting some p;
+      goes_on = v;
+      stays = λ term to s some p. stays_by a b term to (v.goes s) waiting some p;
       keeps = λ s h. record {
-        kept = subst (All (Kept b)) (sym waiting) (All-weaker (Kept a) (Kept b) (λ m k gives. stays_by a b m.term m.to (v.keeps.goes s) waiting gives.1 (k gives)) a.waiting h.kept);
+        kept = subst (All (Kept b)) (sym waiting) (All-weaker (Kept a) (Kept b) (λ m k gives. stays_by a b m.term m.to (v.goes s) waiting gives.1 (k gives)) a.waiting h.kept);
         none_sent = subst (All NoYes) (sym sent) h.none_sent;
       };
     }
@@ -68,7 +67,7 @@ no_yes n m says gives = subst (λ (k : MessageKind). SendsBy k n m) gives.0 says
 
 send_promises : (n : PlainNode) (m : Message) → (IsSound n → Sends n m) → Promises n (with_sent n m)
 send_promises n m says = record {
-  views = unchanged refl refl;
+  goes_on = same refl;
   stays = λ term to s some p. sent_stays n m term to p;
   keeps = λ s h. record {
     kept = All-weaker (Kept n) (Kept (with_sent n m)) (λ x k gives. sent_stays n m x.term x.to (k gives)) n.waiting h.kept;
@@ -108,7 +107,7 @@ new_promise n m says h gives =
 
 wait_promises : (n : PlainNode) (m : Message) → (IsSound n → Answers n m) → Promises n (with_waiting n m)
 wait_promises n m says = record {
-  views = unchanged refl refl;
+  goes_on = same refl;
   stays = λ term to s some p. waiting_stays n m term to (says s) p;
   keeps = λ s h. record {
     kept = All-push (Kept (with_waiting n m)) n.waiting m (All-weaker (Kept n) (Kept (with_waiting n m)) (λ x k gives. waiting_stays n m x.term x.to (says s) (k gives)) n.waiting h.kept) (new_promise n m (says s) h);
@@ -120,7 +119,7 @@ wait_promises n m says = record {
 
 save_promises : (n : PlainNode) → Promises n (saved n)
 save_promises n = record {
-  views = kept_views (saves n) refl refl;
+  goes_on = all_durable (core n);
   stays = λ term to s some p. record { reached = p.reached; given = p.given; alone = All-nil (Only term to) };
   keeps = λ s h. record { kept = All-nil (Kept (saved n)); none_sent = All-nil NoYes };
 }
@@ -129,19 +128,19 @@ save_promises n = record {
 
 chain_promises : (a b c : PlainNode) → Promises a b → Promises b c → Promises a c
 chain_promises a b c p q = record {
-  views = views_then p.views q.views;
-  stays = λ term to s some i. q.stays term to (p.views.keeps.goes s).ordered some (p.stays term to s some i);
-  keeps = λ s h. q.keeps (p.views.keeps.goes s).ordered (p.keeps s h);
+  goes_on = and_then p.goes_on q.goes_on;
+  stays = λ term to s some i. q.stays term to (p.goes_on.goes s).ordered some (p.stays term to s some i);
+  keeps = λ s h. q.keeps (p.goes_on.goes s).ordered (p.keeps s h);
 }
 
 under_promises : (a b : PlainNode) → (IsSound a → Promises a b) → Promises a b
 under_promises a b f = record {
-  views = under_views a b (λ s. (f s).views);
+  goes_on = record { goes = λ s. (f s).goes_on.goes s };
   stays = λ term to s. (f s).stays term to s;
   keeps = λ s. (f s).keeps s;
 }
 
-promises : Allows Promises
+promises : Says Promises
 promises = record { chain = chain_promises; under = under_promises; silent = silent_promises; send = send_promises; wait = wait_promises; save = save_promises }
 
 pub run_promises : (cs : List Call) (t : Turn) → Promises t.node (run cs t).node

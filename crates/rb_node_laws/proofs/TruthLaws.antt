@@ -1,18 +1,17 @@
 -- What a call says is true at a moment of it
-use Rattle.std.proofs.Common.{◌≡◌, ◌⊎◌, inl, inr, List, refl, sym, ap, subst}
-use Rattle.std.specs.Prelude.{All, Contains}
-use Rattle.std.proofs.lemmas.List.Elements.{All-nil, All-push, All-weaker, All-contains, All-contains_itself}
+use Rattle.std.proofs.Common.{◌⊎◌, List, inr, inl, ◌≡◌, subst, sym, ap, refl}
+use Rattle.std.proofs.lemmas.List.Elements.{All-contains, All-weaker, All-contains_itself, All-push, All-nil}
+use Rattle.std.specs.Prelude.{Contains, All}
 use Rattle.rb_message.specs.declared.message.Message.{Message}
 use Rattle.rb_node.specs.Node.{PlainNode, Turn}
 use Rattle.rb_node.specs.Readying.{saved}
 use Rattle.rb_node_laws.specs.Calling.{Call, run}
 use Rattle.rb_node_laws.specs.Sound.{IsSound}
 use Rattle.rb_node_laws.specs.Words.{Sends, Answers, IsLater, IsTrueBetween, AreTrueBetween}
-use Rattle.rb_node_laws.proofs.Goes.{core, Goes, anyone, self, goes_then}
-use Rattle.rb_node_laws.proofs.AdvanceLaws.{saves}
-use Rattle.rb_node_laws.proofs.ViewLaws.{Views, views_then, kept_views, unchanged}
-use Rattle.rb_node_laws.proofs.Saying.{Words, words, with_sent, with_waiting, Allows, under_views}
-use Rattle.rb_node_laws.proofs.SayingSteps.{run_says}
+use Rattle.rb_node_laws.proofs.Goes.{Goes, anyone, core, Keeps, goes_then, and_then, same, self}
+use Rattle.rb_node_laws.proofs.SaidLaws.{Says, run_says}
+use Rattle.rb_node_laws.proofs.Saying.{words, Words, with_sent, with_waiting}
+use Rattle.rb_node_laws.proofs.Turns.{all_durable}
 
 record Between (a b : PlainNode) (m : Message) : Type 0 where
   moment : PlainNode
@@ -25,7 +24,7 @@ abbrev Old : PlainNode → PlainNode → List Message → Message → Type 0
 Old a b before m = Contains before m ⊎ Between a b m
 
 record Truths (a b : PlainNode) : Type 0 where
-  views : Views a b
+  goes_on : Keeps anyone (core a) (core b)
   sent : IsSound a → All (Old a b a.sent) b.sent
   waiting : IsSound a → All (Old a b a.waiting) b.waiting
 
@@ -49,16 +48,16 @@ old_then a b c first second m g h before is =
 
 chain_truths : (a b c : PlainNode) → Truths a b → Truths b c → Truths a c
 chain_truths a b c p q = record {
-  views = views_then p.views q.views;
-  sent = λ s. (let g = p.views.keeps.goes s in let h = q.views.keeps.goes g.ordered in
+  goes_on = and_then p.goes_on q.goes_on;
+  sent = λ s. (let g = p.goes_on.goes s in let h = q.goes_on.goes g.ordered in
       All-weaker (Old b c b.sent) (Old a c a.sent) (λ m is. old_then a b c a.sent b.sent m g h (p.sent s) is) c.sent (q.sent g.ordered));
-  waiting = λ s. (let g = p.views.keeps.goes s in let h = q.views.keeps.goes g.ordered in
+  waiting = λ s. (let g = p.goes_on.goes s in let h = q.goes_on.goes g.ordered in
       All-weaker (Old b c b.waiting) (Old a c a.waiting) (λ m is. old_then a b c a.waiting b.waiting m g h (p.waiting s) is) c.waiting (q.waiting g.ordered));
 }
 
 under_truths : (a b : PlainNode) → (IsSound a → Truths a b) → Truths a b
 under_truths a b f = record {
-  views = under_views a b (λ s. (f s).views);
+  goes_on = record { goes = λ s. (f s).goes_on.goes s };
   sent = λ s. (f s).sent s;
   waiting = λ s. (f s).waiting s;
 }
@@ -68,16 +67,16 @@ under_truths a b f = record {
 all_old : (a b : PlainNode) (ms : List Message) → All (Old a b ms) ms
 all_old a b ms = All-weaker (Contains ms) (Old a b ms) (λ m is. inl is) ms (All-contains_itself ms)
 
-silent_truths : (a b : PlainNode) → Views a b → words b ≡ words a → Truths a b
+silent_truths : (a b : PlainNode) → Keeps anyone (core a) (core b) → words b ≡ words a → Truths a b
 silent_truths a b v e = record {
-  views = v;
+  goes_on = v;
   sent = λ s. subst (All (Old a b a.sent)) (sym (ap (λ (x : Words). x.sent) e)) (all_old a b a.sent);
   waiting = λ s. subst (All (Old a b a.waiting)) (sym (ap (λ (x : Words). x.waiting) e)) (all_old a b a.waiting);
 }
 
 send_truths : (n : PlainNode) (m : Message) → (IsSound n → Sends n m) → Truths n (with_sent n m)
 send_truths n m says = record {
-  views = unchanged refl refl;
+  goes_on = same refl;
   sent = λ s. (let g : Goes anyone (core n) (core n) = (self (core n)).goes s in
       All-push (Old n (with_sent n m) n.sent) n.sent m (all_old n (with_sent n m) n.sent) (inr (record { moment = n; since = g; until = g; true_then = inl (says s) })));
   waiting = λ s. all_old n (with_sent n m) n.waiting;
@@ -85,7 +84,7 @@ send_truths n m says = record {
 
 wait_truths : (n : PlainNode) (m : Message) → (IsSound n → Answers n m) → Truths n (with_waiting n m)
 wait_truths n m says = record {
-  views = unchanged refl refl;
+  goes_on = same refl;
   sent = λ s. all_old n (with_waiting n m) n.sent;
   waiting = λ s. (let g : Goes anyone (core n) (core n) = (self (core n)).goes s in
       All-push (Old n (with_waiting n m) n.waiting) n.waiting m (all_old n (with_waiting n m) n.waiting) (inr (record { moment = n; since = g; until = g; true_then = inr (says s) })));
@@ -93,12 +92,12 @@ wait_truths n m says = record {
 
 save_truths : (n : PlainNode) → Truths n (saved n)
 save_truths n = record {
-  views = kept_views (saves n) refl refl;
+  goes_on = all_durable (core n);
   sent = λ s. All-nil (Old n (saved n) n.sent);
   waiting = λ s. All-nil (Old n (saved n) n.waiting);
 }
 
-truths : Allows Truths
+truths : Says Truths
 truths = record { chain = chain_truths; under = under_truths; silent = silent_truths; send = send_truths; wait = wait_truths; save = save_truths }
 
 -- ---- every call

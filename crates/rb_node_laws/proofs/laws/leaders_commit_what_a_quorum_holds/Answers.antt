@@ -1,5 +1,4 @@
-use Rattle.rb_node_laws.proofs.CommitLaws.{stepped_commits, change_commits}
-use Rattle.rb_node_laws.proofs.CommitCallLaws.{run_commits}
+use Rattle.rb_node_laws.proofs.CommitLaws.{stepped_commits, change_commits, run_commits}
 use Rattle.rb_node_laws.proofs.laws.leaders_commit_what_a_quorum_holds.Goals as goal
 
 pub returns-clause-step : goal.returns-clause-step

@@ -1,13 +1,13 @@
-use Rattle.std.proofs.Common.{refl}
-use Rattle.rb_node_laws.proofs.MemberLeadLaws.{no_follower}
-use Rattle.rb_node_laws.proofs.MemberStepLaws.{called_stays, run_stays}
+use Rattle.rb_message.specs.declared.role.Role.TheVariants as role
+use Rattle.rb_tracker.specs.Configs.{config_of}
+use Rattle.rb_node_laws.proofs.MemberMoveLaws.{no_follower, nobody, called_members, run_members}
 use Rattle.rb_node_laws.proofs.laws.leaders_view_the_members.Goals as goal
 
 pub returns-clause-started : goal.returns-clause-started
-returns-clause-started c = λ id start options. record { only_leading = λ _. refl; in_order = tt; of_members = λ leads. absurd (no_follower leads) }
+returns-clause-started c = λ id start options. nobody role.Follower (config_of start.config) no_follower
 
 pub returns-clause-called : goal.returns-clause-called
-returns-clause-called c = λ call t. (called_stays call t).keeps
+returns-clause-called c = λ call t. called_members call t
 
 pub returns-clause-run : goal.returns-clause-run
-returns-clause-run c = λ cs t. (run_stays cs t).keeps
+returns-clause-run c = λ cs t. run_members cs t

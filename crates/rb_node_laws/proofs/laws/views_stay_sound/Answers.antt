@@ -1,5 +1,5 @@
 use Rattle.std.proofs.Common.{refl}
-use Rattle.rb_node_laws.proofs.ViewStepLaws.{called_views, run_views}
+use Rattle.rb_node_laws.proofs.ViewLaws.{called_views, run_views}
 use Rattle.rb_node_laws.proofs.laws.views_stay_sound.Goals as goal
 
 pub returns-clause-started : goal.returns-clause-started

@@ -1,87 +1,35 @@
--- What a leader knows a member to hold: what is sent leaves it, and a view that is written changes its member's alone
-use Rattle.std.proofs.Common.{◌≡◌, ℕ, zero, suc, ◌<◌, ◌≤◌, ◌⊎◌, inl, inr, Bool, true, false, cond, ◌&&◌, List, [], ◌∷◌, ◌++◌, length, take, drop, get_or, Option, Some, None, refl, sym, ap, ◌∙◌, arith, eqb-true, nat_eq, nat_le, ◌==◌}
-use Rattle.std.specs.Map.{keys_of, lookup}
-use Rattle.std.specs.Prelude.{position}
-use Rattle.std.proofs.lemmas.Bool.{cases_Bool, cond-true, cond-false, eqb-false}
+-- What a leader knows a member to hold, by its views: each view that is written, put in or taken out
+use Rattle.std.proofs.Common.{[], ℕ, nat_eq, ◌≡◌, true, arith, ◌⊎◌, Bool, Option, cond, Some, inr, refl, false, inl, List, ◌<◌, length, get_or, ◌∷◌, zero, ◌∙◌, sym, suc, take, ◌++◌, drop, None, ◌==◌, eqb-true, ap, ◌≤◌, subst, map}
+use Rattle.std.proofs.lemmas.Bool.{cases_Bool, cond-true, eqb-false, cond-false}
 use Rattle.std.proofs.lemmas.Bool.Decides.{nat_tests}
 use Rattle.std.proofs.lemmas.List.Quantifiers.{position-Some}
+use Rattle.std.specs.Map.{keys_of, lookup, remove_entry}
+use Rattle.std.specs.Prelude.{position}
 use Rattle.indexmap.specs.Layout.{set_value_at}
-use Rattle.rb_raftlog.specs.Log.{last}
-use Rattle.rb_tracker.proofs.SetLaws.{if_both, self_id}
-use Rattle.rb_tracker.specs.Active.{with_mark, marked_at}
-use Rattle.rb_tracker.specs.Commits.{match_in, match_of, commit_of}
-use Rattle.rb_tracker.specs.Progresses.{PlainProgress, snapshotting, sent, marked, acked_in, freed_in, refused_in}
-use Rattle.rb_tracker.specs.Sets.{rank}
-use Rattle.rb_tracker.specs.Trackers.{place, view_at, has_view, with_new, ids_of}
-use Rattle.rb_tracker.specs.declared.progress.ProgressState.{ProgressState}
-use Rattle.rb_tracker.specs.declared.progress.ProgressState.TheVariants as state
-use Rattle.rb_node.specs.declared.sends.Mode.{Mode}
-use Rattle.rb_node.specs.declared.sends.Mode.TheVariants as mode
-use Rattle.rb_node.specs.declared.sends.Sending.{Sending}
-use Rattle.rb_node.specs.declared.sends.Sending.TheVariants as sending
+use Rattle.rb_tracker.proofs.SetLaws.{self_id, if_both}
+use Rattle.rb_tracker.specs.Active.{with_mark, marked_at, unmarked_but}
+use Rattle.rb_tracker.specs.Commits.{match_of, match_in}
+use Rattle.rb_tracker.specs.Configs.{is_member}
+use Rattle.rb_tracker.specs.Progresses.{PlainProgress, marked}
+use Rattle.rb_tracker.specs.Sets.{rank, AreAbove}
+use Rattle.rb_tracker.specs.Trackers.{place, has_view, with_new, view_at, AreInOrder}
+use Rattle.rb_node.specs.Acknowledging.{heard_of}
+use Rattle.rb_node.specs.Changing.{without_stranger, without_strangers}
+use Rattle.rb_node.specs.Leading.{new_view, with_view_of, with_views}
 use Rattle.rb_node.specs.Node.{PlainNode}
-use Rattle.rb_node.specs.Sends.{snapshot_to, empty_to, entries_to, sends_by, sending_of, sends_with, sends_at, sends, tells, told_all}
-use Rattle.rb_node.specs.Leading.{new_view, with_view_of, with_views, can_commit}
-use Rattle.rb_node.specs.Acknowledging.{heard_of, handed_to, commit_or_sent}
-use Rattle.rb_node_laws.proofs.Goes.{Core, core}
+use Rattle.rb_node_laws.proofs.Goes.{core, Core}
 use Rattle.rb_node_laws.proofs.LeaderLaws.{with_view_same}
-use Rattle.rb_node_laws.proofs.QuorumLaws.{same_match, sent_match}
-use Rattle.rb_node_laws.proofs.MemberLaws.{ids_set}
+use Rattle.rb_node_laws.proofs.MemberLaws.{ids_set, strangers_in_order}
 
 abbrev pub of : PlainNode → ℕ → ℕ
 of n id = match_of n.tracker.views id
 
-pub same_views : (a b : PlainNode) (id : ℕ) → b.tracker.views ≡ a.tracker.views → of b id ≡ of a id
-same_views a b id e = ap (λ (v : List (ℕ × PlainProgress)). match_of v id) e
-
--- ---- sending leaves each match
-
-snapshot_match : (o : Option PlainProgress) (n : PlainNode) (at to id : ℕ) → view_at n.tracker.views at ≡ o → of (snapshot_to o n at to) id ≡ of n id
-snapshot_match None n at to id is = refl
-snapshot_match (Some view) n at to id is = same_match n.tracker.views at view (snapshotting view n.applied) id is refl
-
-empty_match : (o : Option PlainProgress) (n : PlainNode) (to id : ℕ) → of (empty_to o n to) id ≡ of n id
-empty_match None n to id = refl
-empty_match (Some view) n to id = refl
-
-entries_match : (o : Option PlainProgress) (n : PlainNode) (at to id : ℕ) → view_at n.tracker.views at ≡ o → of (entries_to o n at to) id ≡ of n id
-entries_match None n at to id is = refl
-entries_match (Some view) n at to id is = same_match n.tracker.views at view (sent view (last n.log)) id is (sent_match view.state view (last n.log))
-
-sends_by_match : (s : Sending) (n : PlainNode) (at to id : ℕ) → of (sends_by s n at to) id ≡ of n id
-sends_by_match sending.Nothing n at to id = refl
-sends_by_match sending.Snapshot n at to id = snapshot_match (view_at n.tracker.views at) n at to id refl
-sends_by_match sending.Empty n at to id = empty_match (view_at n.tracker.views at) n to id
-sends_by_match sending.Entries n at to id = entries_match (view_at n.tracker.views at) n at to id refl
-
-sends_with_match : (o : Option PlainProgress) (n : PlainNode) (at to : ℕ) (how : Mode) (id : ℕ) → of (sends_with o n at to how) id ≡ of n id
-sends_with_match None n at to how id = refl
-sends_with_match (Some view) n at to how id = sends_by_match (sending_of n.log view how) n at to id
-
-sends_at_match : (o : Option ℕ) (n : PlainNode) (to : ℕ) (how : Mode) (id : ℕ) → of (sends_at o n to how) id ≡ of n id
-sends_at_match None n to how id = refl
-sends_at_match (Some at) n to how id = sends_with_match (view_at n.tracker.views at) n at to how id
-
-pub sends_match : (n : PlainNode) (to : ℕ) (how : Mode) (id : ℕ) → of (sends n to how) id ≡ of n id
-unfolding sends
-sends_match n to how id =
-    if_both (λ (x : PlainNode). of x id ≡ of n id) (to == n.id) n (sends_at (place n.tracker.views to) n to how)
-    (λ _. refl) (λ _. sends_at_match (place n.tracker.views to) n to how id)
-
-pub tells_match : (n : PlainNode) (ids : List ℕ) (id : ℕ) → of (tells n ids) id ≡ of n id
-tells_match n [] id = refl
-tells_match n (x ∷ xs) id = tells_match (sends n x mode.Tell) xs id ∙ sends_match n x mode.Tell id
-
-pub told_all_match : (n : PlainNode) (id : ℕ) → of (told_all n) id ≡ of n id
-unfolding told_all
-told_all_match n id = tells_match n (ids_of n.tracker.views) id
-
 -- ---- a view that is written, or a new one, changes the match of its member alone
 
-pub nat_eq_is : (x y : ℕ) → nat_eq x y ≡ true → x ≡ y
+nat_eq_is : (x y : ℕ) → nat_eq x y ≡ true → x ≡ y
 nat_eq_is x y h = grind (arith, nat_tests)
 
-abbrev pub Alone : ℕ → ℕ → ℕ → ℕ → ℕ → Type 0
+abbrev Alone : ℕ → ℕ → ℕ → ℕ → ℕ → Type 0
 Alone new old id changed matched = (new ≡ old) ⊎ ((id ≡ changed) × (new ≡ matched))
 
 here_alone : (b : Bool) (id changed : ℕ) (x new : PlainProgress) (rest : Option PlainProgress) → (b ≡ true → id ≡ changed) → Alone (match_in (cond b (Some new) rest)) (match_in (cond b (Some x) rest)) id changed new.matched
@@ -114,7 +62,7 @@ place_set views at from id new is =
     let found = position-Some (λ (k : ℕ). from == k) (keys_of views) at 0 is in
     set_alone views at from id new found.0 (eqb-true from (get_or (keys_of views) at 0) found.1)
 
-pub nat_eq_not : (x y : ℕ) → (x ≡ y → ⊥) → nat_eq x y ≡ false
+nat_eq_not : (x y : ℕ) → (x ≡ y → ⊥) → nat_eq x y ≡ false
 nat_eq_not x y h =
     elim (cases_Bool (nat_eq x y)) as (λ _. nat_eq x y ≡ false) [
       | inl same ↦ absurd (h (nat_eq_is x y same))
@@ -157,7 +105,7 @@ with_view_at_most n changed active id =
       | inr here ↦ new_at_most n changed id active (of n id) (match_of (with_new n.tracker changed (new_view n changed active)).views id) here.0 here.1
     ])
 
-pub at_most_then : (a b c : PlainNode) (id : ℕ) → core b ≡ core a → OwnAtMost a b id → OwnAtMost b c id → OwnAtMost a c id
+at_most_then : (a b c : PlainNode) (id : ℕ) → core b ≡ core a → OwnAtMost a b id → OwnAtMost b c id → OwnAtMost a c id
 at_most_then a b c id e p q =
     let same_id : b.id ≡ a.id = ap (λ (x : Core). x.id) e in
     let same_durable : b.log.durable ≡ a.log.durable = ap (λ (x : Core). x.log.durable) e in
@@ -175,24 +123,7 @@ with_views_at_most n (x ∷ xs) active id =
     at_most_then n (with_view_of n x active) (with_views (with_view_of n x active) xs active) id (with_view_same n x active)
     (with_view_at_most n x active id) (with_views_at_most (with_view_of n x active) xs active id)
 
--- ---- what a leader does with an answer
-
-pub handed_match : (n : PlainNode) (to i id : ℕ) → of (handed_to n to i) id ≡ of n id
-handed_match n to i id = if_both (λ (x : PlainNode). of x id ≡ of n id) (to == n.transferee && i == last n.log) _ _ (λ _. refl) (λ _. refl)
-
-pub commit_match : (n : PlainNode) (to : ℕ) (how : Mode) (id : ℕ) → of (commit_or_sent n to how) id ≡ of n id
-unfolding commit_or_sent
-commit_match n to how id =
-    if_both (λ (x : PlainNode). of x id ≡ of n id) (can_commit n (commit_of n.tracker)) _ _
-    (λ _. told_all_match (record n { commit = commit_of n.tracker }) id) (λ _. sends_match n to how id)
-
-heard_match_with : (o : Option PlainProgress) (n : PlainNode) (at id : ℕ) → view_at n.tracker.views at ≡ o → match_of (with_mark o n.tracker at true).views id ≡ of n id
-heard_match_with None n at id is = refl
-heard_match_with (Some view) n at id is = same_match n.tracker.views at view (marked view true) id is refl
-
-pub heard_match : (n : PlainNode) (at id : ℕ) → of (heard_of n at) id ≡ of n id
-unfolding marked_at
-heard_match n at id = heard_match_with (view_at n.tracker.views at) n at id refl
+-- ---- who was heard of has its view where it had it
 
 heard_keys_with : (o : Option PlainProgress) (n : PlainNode) (at : ℕ) → keys_of (with_mark o n.tracker at true).views ≡ keys_of n.tracker.views
 heard_keys_with None n at = refl
@@ -202,21 +133,55 @@ heard_keys : (n : PlainNode) (at : ℕ) → keys_of (heard_of n at).tracker.view
 unfolding marked_at
 heard_keys n at = heard_keys_with (view_at n.tracker.views at) n at
 
--- who was heard of has its view where it had it
 pub heard_place : (n : PlainNode) (at from : ℕ) → place n.tracker.views from ≡ Some at → place (heard_of n at).tracker.views from ≡ Some at
 heard_place n at from is = ap (λ (ks : List ℕ). position (λ (k : ℕ). from == k) ks) (heard_keys n at) ∙ is
 
-pub acked_matched : (s : ProgressState) (view : PlainProgress) (i : ℕ) → (acked_in s view i).matched ≡ i
-acked_matched state.Probe view i = refl
-acked_matched state.Replicate view i = refl
-acked_matched state.Snapshot view i = if_both (λ (v : PlainProgress). v.matched ≡ i) (nat_le view.pending i) _ _ (λ _. refl) (λ _. refl)
+-- ---- views that are taken out
 
-pub freed_matched : (s : ProgressState) (view : PlainProgress) (i : ℕ) → (freed_in s view i).matched ≡ view.matched
-freed_matched state.Probe view i = refl
-freed_matched state.Replicate view i = refl
-freed_matched state.Snapshot view i = refl
+none_above : (views : List (ℕ × PlainProgress)) (id : ℕ) → AreAbove id (keys_of views) → match_of views id ≡ 0
+none_above [] id above = refl
+none_above (x ∷ xs) id above =
+    let low : id < x.0 = above.0 in
+    ap match_in (cond-false (nat_eq id x.0) (Some x.1) (lookup (nat_eq id) xs) (nat_eq_not id x.0 (λ e. omega (arith, e, low)))) ∙ none_above xs id above.1
 
-pub refused_matched : (s : ProgressState) (view : PlainProgress) (i hint : ℕ) → (refused_in s view i hint).matched ≡ view.matched
-refused_matched state.Probe view i hint = refl
-refused_matched state.Replicate view i hint = refl
-refused_matched state.Snapshot view i hint = refl
+first_less : (b : Bool) (x : ℕ × PlainProgress) (xs : List (ℕ × PlainProgress)) (id : ℕ) → nat_eq id x.0 ≡ b → AreAbove x.0 (keys_of xs) → match_of xs id ≤ match_in (cond b (Some x.1) (lookup (nat_eq id) xs))
+first_less true x xs id is above =
+    let none : match_of xs id ≡ 0 = none_above xs id (subst (λ (y : ℕ). AreAbove y (keys_of xs)) (sym (nat_eq_is id x.0 is)) above) in
+    omega (arith, none)
+first_less false x xs id is above = omega arith
+
+later_less : (b : Bool) (x : PlainProgress) (r s : Option PlainProgress) → match_in r ≤ match_in s → match_in (cond b (Some x) r) ≤ match_in (cond b (Some x) s)
+later_less true x r s less = omega arith
+later_less false x r s less = less
+
+removed_less : (gone : ℕ) (views : List (ℕ × PlainProgress)) (id : ℕ) → AreInOrder views → match_of (remove_entry (nat_eq gone) views) id ≤ match_of views id
+removed_less gone [] id up = omega arith
+removed_less gone (x ∷ xs) id up =
+    if_both (λ (l : List (ℕ × PlainProgress)). match_of l id ≤ match_of (x ∷ xs) id) (nat_eq gone x.0) xs (x ∷ remove_entry (nat_eq gone) xs)
+    (λ _. first_less (nat_eq id x.0) x xs id refl up.0)
+    (λ _. later_less (nat_eq id x.0) x.1 (lookup (nat_eq id) (remove_entry (nat_eq gone) xs)) (lookup (nat_eq id) xs) (removed_less gone xs id up.1))
+
+without_less : (n : PlainNode) (gone id : ℕ) → AreInOrder n.tracker.views → of (without_stranger n gone) id ≤ of n id
+without_less n gone id up =
+    if_both (λ (x : PlainNode). of x id ≤ of n id) (is_member n.tracker.config gone) _ _ (λ _. omega arith) (λ _. removed_less gone n.tracker.views id up)
+
+pub strangers_less : (n : PlainNode) (ids : List ℕ) (id : ℕ) → AreInOrder n.tracker.views → of (without_strangers n ids) id ≤ of n id
+strangers_less n [] id up = omega arith
+strangers_less n (x ∷ xs) id up =
+    let first = without_less n x id up in
+    let rest = strangers_less (without_stranger n x) xs id (strangers_in_order n (x ∷ []) up) in
+    omega (arith, first, rest)
+
+-- ---- marks that are taken off
+
+both_in : (b : Bool) (x y : PlainProgress) (r s : Option PlainProgress) → y.matched ≡ x.matched → match_in r ≡ match_in s → match_in (cond b (Some y) r) ≡ match_in (cond b (Some x) s)
+both_in true x y r s e f = e
+both_in false x y r s e f = f
+
+pub unmarked_match : (own : ℕ) (views : List (ℕ × PlainProgress)) (id : ℕ) → match_of (map (unmarked_but own) views) id ≡ match_of views id
+unmarked_match own [] id = refl
+unmarked_match own (x ∷ xs) id =
+    let rest : match_of (map (unmarked_but own) xs) id ≡ match_of xs id = unmarked_match own xs id in
+    if_both (λ (f : ℕ × PlainProgress). match_of (f ∷ map (unmarked_but own) xs) id ≡ match_of (x ∷ xs) id) (x.0 == own) x (x.0, marked x.1 false)
+    (λ _. both_in (nat_eq id x.0) x.1 x.1 (lookup (nat_eq id) (map (unmarked_but own) xs)) (lookup (nat_eq id) xs) refl rest)
+    (λ _. both_in (nat_eq id x.0) x.1 (marked x.1 false) (lookup (nat_eq id) (map (unmarked_but own) xs)) (lookup (nat_eq id) xs) refl rest)

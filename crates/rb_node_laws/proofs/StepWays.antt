@@ -1,0 +1,343 @@
+-- A message, as a way of moves: terms, campaigns, votes, what a follower does, and the table of roles
+use Rattle.std.proofs.Common.{[], ℕ, ◌≤◌, ◌≡◌, ◌<◌, arith, refl, false, ◌==◌, eqb-true, List, ◌∷◌, subst, sym, Bool, true, ap, ◌∙◌, ◌+◌, None, Option, Some, ◌&&◌, not, min, max, nat_le, ◌||◌, nat_lt, if◌then◌else◌}
+use Rattle.std.proofs.lemmas.Bool.{and_parts, false≢true, leb-false, ltb-false, eqb-false, or_parts}
+use Rattle.rb_raftlog.proofs.TermLaws.{held_in, is_term_is}
+use Rattle.rb_raftlog.specs.Log.{last_term, last, is_up_to_date, answer, is_term, term_at, LogValue}
+use Rattle.rb_raftlog.specs.declared.raft_log.Appended.{Appended}
+use Rattle.rb_raftlog.specs.declared.raft_log.Appended.TheVariants.{Matched, Refused, BelowCommit}
+use Rattle.rb_raftlog.specs.declared.snapshot.Snapshot.{Snapshot}
+use Rattle.rb_tracker.proofs.SetLaws.{if_both}
+use Rattle.rb_tracker.specs.Ballots.{answered}
+use Rattle.rb_tracker.specs.Configs.{voters}
+use Rattle.rb_tracker.specs.declared.votes.VoteResult.{VoteResult}
+use Rattle.rb_tracker.specs.declared.votes.VoteResult.TheVariants as vote
+use Rattle.rb_message.specs.Appends.{PlainAppend}
+use Rattle.rb_message.specs.Messages.{has_term}
+use Rattle.rb_message.specs.declared.event.Event.TheVariants.{Became}
+use Rattle.rb_message.specs.declared.event.WhyNoCampaign.{WhyNoCampaign}
+use Rattle.rb_message.specs.declared.kind.MessageKind.{MessageKind}
+use Rattle.rb_message.specs.declared.kind.MessageKind.TheVariants as kind
+use Rattle.rb_message.specs.declared.message.Message.{Message}
+use Rattle.rb_message.specs.declared.role.Role.{Role}
+use Rattle.rb_message.specs.declared.role.Role.TheVariants as role
+use Rattle.rb_node.specs.Campaigns.{asked_one, asked, why_no_campaign, stood, candidate, asked_for_votes, pre_vote_started, precandidate, asked_for_pre_votes, campaigned_unless, campaigned, stood_unless, campaigned_after_pre_vote}
+use Rattle.rb_node.specs.Following.{after_log, commits_to, append_taken, with_appended, snapshot_taken, restored_to, with_match, beaten, heard, passed_on}
+use Rattle.rb_node.specs.Node.{Turn, with_node, message, answered_with, PlainNode, ignored}
+use Rattle.rb_node.specs.Step.{as_follower, leader_followed, as_precandidate, as_candidate, as_leader, by_role_of, at_term_by, stepped, at_term}
+use Rattle.rb_node.specs.Terms.{followed, raised_by, shown_term, answers_earlier, lowered_by, raised, lowered, is_disturbed_by}
+use Rattle.rb_node.specs.Votes.{vote_answered, voted_for, grants, can_vote_for, pre_vote_answered, decided, pre_decided, counted, count_of}
+use Rattle.rb_node_laws.specs.Elections.{IsGranted, IsElected}
+use Rattle.rb_node_laws.specs.Matches.{IsAccepted}
+use Rattle.rb_node_laws.specs.Sound.{IsSound}
+use Rattle.rb_node_laws.specs.Words.{Answers, Sends}
+use Rattle.rb_node_laws.proofs.FollowerLaws.{Reaches, answer_reaches}
+use Rattle.rb_node_laws.proofs.Goes.{Ways, Core, core}
+use Rattle.rb_node_laws.proofs.LeaderWays.{telling_path, nothing_done, telling, led_way, proposed_way, accepted_way, refused_way, beat_answered_way, transferred_way}
+use Rattle.rb_node_laws.proofs.Moves.{Path, StepMove, Onward, Goes_on, One, Follows, Shows, following, Waits, Way, StepTells, Sent, Idle, Then, Stands, Asks, Votes_for, Counts, Learns, Takes, Restores}
+use Rattle.rb_node_laws.proofs.Saying.{different}
+
+-- ---- terms
+
+followed_way : {w : Ways} (t : Turn) (term lead : ℕ) → t.node.term ≤ term → (t.node.role ≡ role.Leader → t.node.term < term) → Path (StepMove w) t (followed t term lead)
+followed_way t term lead up past = Onward (Goes_on t (One (Follows t.node term lead up past))) (Shows (with_node t (following t.node term lead)) (Became t.node.id role.Follower term))
+
+-- who doesn't lead may follow in its term
+joins : {w : Ways} (t : Turn) (lead : ℕ) → (t.node.role ≡ role.Leader → ⊥) → Path (StepMove w) t (followed t t.node.term lead)
+joins t lead never = followed_way t t.node.term lead (omega arith) (λ leads. absurd (never leads))
+
+takes_up : {w : Ways} (t : Turn) (term lead : ℕ) → t.node.term < term → Path (StepMove w) t (followed t term lead)
+takes_up t term lead later = followed_way t term lead (omega (arith, later)) (λ _. later)
+
+stays : {w : Ways} (t : Turn) → Path (StepMove w) t t
+stays t = telling_path (nothing_done t)
+
+raised_way : {w : Ways} (k : MessageKind) (t : Turn) (m : Message) → t.node.term < m.term → Path (StepMove w) t (raised_by k t m)
+raised_way (kind.PreVote last_term last_index) t m up = stays t
+raised_way {w} (kind.PreVoteResponse granted) t m up = if_both (Path (StepMove w) t) granted _ _ (λ _. stays t) (λ _. takes_up t m.term 0 up)
+raised_way (kind.Append append) t m up = takes_up t m.term m.from up
+raised_way (kind.Heartbeat commit) t m up = takes_up t m.term m.from up
+raised_way (kind.Snapshot snapshot) t m up = takes_up t m.term m.from up
+raised_way _ t m up = takes_up t m.term 0 up
+
+waits : {w : Ways} (t : Turn) (to term : ℕ) (answer : MessageKind) → (IsSound t.node → Answers t.node (message t.node.id to term answer)) → Path (StepMove w) t (with_node t (answered_with t.node to term answer))
+waits t to term answer says = Goes_on t (One (Waits t.node (message t.node.id to term answer) says))
+
+shown_way : {w : Ways} (t : Turn) (m : Message) → Path (StepMove w) t (shown_term t m)
+shown_way {w} t m =
+    if_both (Path (StepMove w) t) (answers_earlier t.node) _ _
+    (λ _. waits t m.from t.node.term (kind.AppendResponse 0) (λ _. (refl, (refl, omega arith, λ _. refl)))) (λ _. Shows t _)
+
+lowered_way : {w : Ways} (k : MessageKind) (t : Turn) (m : Message) → Path (StepMove w) t (lowered_by k t m)
+lowered_way (kind.PreVote last_term last_index) t m = waits t m.from t.node.term (kind.PreVoteResponse false) (λ _. (refl, tt))
+lowered_way (kind.Append append) t m = shown_way t m
+lowered_way (kind.Heartbeat commit) t m = shown_way t m
+lowered_way _ t m = Shows t _
+
+-- ---- campaigns
+
+-- what may be asked of others, and answered to itself, by all that a question leaves as it is
+record May (c : Core) (term : ℕ) (question answer : MessageKind) : Type 0 where
+  others : (x : PlainNode) (to : ℕ) → core x ≡ c → (to ≡ x.id → ⊥) → Sends x (message x.id to term question)
+  itself : (x : PlainNode) (to : ℕ) → core x ≡ c → to ≡ x.id → Answers x (message x.id to term answer)
+
+asked_one_way : {w : Ways} (n : PlainNode) (to term : ℕ) (question answer : MessageKind) → May (core n) term question answer → Way (StepMove w) n (asked_one n to term question answer)
+asked_one_way {w} n to term question answer may =
+    if_both (Way (StepMove w) n) (to == n.id) _ _
+    (λ is. One (Waits n (message n.id to term answer) (λ _. may.itself n to refl (eqb-true to n.id is))))
+    (λ no. One (StepTells (Sent n (message n.id to term question) (λ _. may.others n to refl (different to n.id no)))))
+
+pub asked_one_same : (n : PlainNode) (to term : ℕ) (question answer : MessageKind) → core (asked_one n to term question answer) ≡ core n
+asked_one_same n to term question answer = if_both (λ (x : PlainNode). core x ≡ core n) (to == n.id) _ _ (λ _. refl) (λ _. refl)
+
+asked_way : {w : Ways} (n : PlainNode) (ids : List ℕ) (term : ℕ) (question answer : MessageKind) → May (core n) term question answer → Way (StepMove w) n (asked n ids term question answer)
+asked_way n [] term question answer may = telling (One (Idle n n refl))
+asked_way n (id ∷ ids) term question answer may =
+    Then (asked_one_way n id term question answer may)
+    (asked_way (asked_one n id term question answer) ids term question answer
+    (subst (λ (c : Core). May c term question answer) (sym (asked_one_same n id term question answer)) may))
+
+may_ask : (n : PlainNode) (transfer : Bool) → n.vote ≡ n.id → May (core n) n.term (kind.Vote (last_term n.log) (last n.log) transfer) (kind.VoteResponse true)
+may_ask n transfer itself = record {
+  others = λ x to e other. (refl, (sym (ap (λ (c : Core). c.term) e), other, sym (ap (λ (c : Core). last_term c.log) e), sym (ap (λ (c : Core). last c.log) e)));
+  itself = λ x to e own. (refl, (sym (ap (λ (c : Core). c.term) e), λ _. ap (λ (c : Core). c.vote) e ∙ itself ∙ sym (ap (λ (c : Core). c.id) e) ∙ sym own));
+}
+
+may_ask_first : (n : PlainNode) → May (core n) (n.term + 1) (kind.PreVote (last_term n.log) (last n.log)) (kind.PreVoteResponse true)
+may_ask_first n = record {
+  others = λ x to e other. (refl, (sym (ap (λ (c : Core). c.term + 1) e), other, sym (ap (λ (c : Core). last_term c.log) e), sym (ap (λ (c : Core). last c.log) e)));
+  itself = λ x to e own. (refl, tt);
+}
+
+stood_way : {w : Ways} (t : Turn) (transfer : Bool) → why_no_campaign t.node ≡ None → Path (StepMove w) t (stood t transfer)
+stood_way t transfer may =
+    let n = candidate t.node in
+    let asks = asked_way n (voters n.tracker.config) n.term (kind.Vote (last_term n.log) (last n.log) transfer) (kind.VoteResponse true) (may_ask n transfer refl) in
+    Onward (Goes_on t (Then (One (Stands t.node may)) asks)) (Shows (with_node t (asked_for_votes n transfer)) (Became t.node.id role.Candidate (t.node.term + 1)))
+
+pre_vote_way : {w : Ways} (t : Turn) → why_no_campaign t.node ≡ None → Path (StepMove w) t (pre_vote_started t)
+pre_vote_way t may =
+    let n = precandidate t.node in
+    let asks = asked_way n (voters n.tracker.config) (n.term + 1) (kind.PreVote (last_term n.log) (last n.log)) (kind.PreVoteResponse true) (may_ask_first n) in
+    Onward (Goes_on t (Then (One (Asks t.node may)) asks)) (Shows (with_node t (asked_for_pre_votes n)) (Became t.node.id role.Precandidate t.node.term))
+
+campaigned_way_unless : {w : Ways} (o : Option WhyNoCampaign) (t : Turn) (transfer : Bool) → why_no_campaign t.node ≡ o → Path (StepMove w) t (campaigned_unless o t transfer)
+campaigned_way_unless (Some reason) t transfer is = Shows t _
+campaigned_way_unless {w} None t transfer is =
+    if_both (Path (StepMove w) t) (t.node.options.pre_vote && not transfer) _ _ (λ _. pre_vote_way t is) (λ _. stood_way t transfer is)
+
+pub campaigned_way : {w : Ways} (t : Turn) (transfer : Bool) → Path (StepMove w) t (campaigned t transfer)
+unfolding campaigned
+campaigned_way t transfer = campaigned_way_unless (why_no_campaign t.node) t transfer refl
+
+stood_way_unless : {w : Ways} (o : Option WhyNoCampaign) (t : Turn) → why_no_campaign t.node ≡ o → Path (StepMove w) t (stood_unless o t)
+stood_way_unless (Some reason) t is = Shows t _
+stood_way_unless None t is = stood_way t false is
+
+after_pre_vote_way : {w : Ways} (t : Turn) → Path (StepMove w) t (campaigned_after_pre_vote t)
+unfolding campaigned_after_pre_vote
+after_pre_vote_way t = stood_way_unless (why_no_campaign t.node) t refl
+
+-- ---- votes
+
+vote_way : {w : Ways} (t : Turn) (m : Message) (last_term last_index : ℕ) → m.term ≡ t.node.term → (is_up_to_date t.node.log last_index last_term ≡ true → w.given m.from t.node.term)
+    → Path (StepMove w) t (with_node t (vote_answered t.node m last_term last_index))
+vote_way {w} t m last_term last_index of_term grant =
+    let n = t.node in
+    let x : PlainNode = voted_for n m.from in
+    if_both (λ (y : PlainNode). Path (StepMove w) t (with_node t y)) (grants n m last_term last_index false) _ _
+    (λ gives. (let new = (and_parts (can_vote_for n m false) (is_up_to_date n.log last_index last_term) gives).1 in
+    Onward (Goes_on t (One (Votes_for n m last_term last_index gives (grant new)))) (waits (with_node t x) m.from m.term (kind.VoteResponse true) (λ _. (refl, (of_term, λ _. refl))))))
+    (λ _. waits t m.from n.term (kind.VoteResponse false) (λ _. (refl, (refl, λ no. absurd (false≢true no)))))
+
+pre_vote_answered_way : {w : Ways} (t : Turn) (m : Message) (last_term last_index : ℕ) → Path (StepMove w) t (with_node t (pre_vote_answered t.node m last_term last_index))
+pre_vote_answered_way {w} t m last_term last_index =
+    if_both (λ (y : PlainNode). Path (StepMove w) t (with_node t y)) (grants t.node m last_term last_index true) _ _
+    (λ _. waits t m.from m.term (kind.PreVoteResponse true) (λ _. (refl, tt))) (λ _. waits t m.from t.node.term (kind.PreVoteResponse false) (λ _. (refl, tt)))
+
+decided_way : {w : Ways} (v : VoteResult) (t : Turn) → t.node.role ≡ role.Candidate → (v ≡ vote.Won → w.elected t.node.term) → Path (StepMove w) t (decided v t)
+decided_way vote.Won t stands elect = led_way t stands (elect refl)
+decided_way vote.Pending t stands elect = stays t
+decided_way vote.Lost t stands elect = joins t 0 (λ leads. (let no : role.Candidate ≡ role.Leader = sym stands ∙ leads in cc))
+
+pre_decided_way : {w : Ways} (v : VoteResult) (t : Turn) → (t.node.role ≡ role.Leader → ⊥) → Path (StepMove w) t (pre_decided v t)
+pre_decided_way vote.Won t never = after_pre_vote_way t
+pre_decided_way vote.Pending t never = stays t
+pre_decided_way vote.Lost t never = joins t 0 never
+
+counted_way : {w : Ways} (t : Turn) (m : Message) (granted : Bool) → Path (StepMove w) t (counted t m granted)
+counted_way t m granted = Onward (Goes_on t (One (Counts t.node m.from granted))) (Shows (with_node t (record t.node { votes = answered t.node.votes m.from granted })) _)
+
+-- ---- a follower
+
+stands_not : (r : Role) → r ≡ role.Follower → r ≡ role.Candidate → ⊥
+stands_not r e f = let no : role.Follower ≡ role.Candidate = sym e ∙ f in cc
+
+holds_up_to : {w : Ways} (t : Turn) (from i : ℕ) → t.node.role ≡ role.Follower → (IsSound t.node → i ≤ last t.node.log) → Path (StepMove w) t (with_node t (answered_with t.node from t.node.term (kind.AppendResponse i)))
+holds_up_to t from i follows held = waits t from t.node.term (kind.AppendResponse i) (λ s. (refl, (refl, held s, λ stands. absurd (stands_not t.node.role follows stands))))
+
+after_log_way : {w : Ways} (a : Appended) (t : Turn) (from : ℕ) (append : PlainAppend) → t.node.role ≡ role.Follower → Reaches a t.node.log t.node.commit → Path (StepMove w) t (after_log a t from append)
+unfolding Reaches
+after_log_way (Matched i) t from append follows reach =
+    let x : PlainNode = commits_to t.node (min append.commit i) in
+    Onward (Goes_on t (One (Learns t.node (max t.node.commit (min append.commit i)) follows (omega arith) (λ s. (let held = s.is_held in omega (arith, held, reach))))))
+    (holds_up_to (with_node t x) from i follows (λ s. (let held = s.is_held in omega (arith, held, reach))))
+after_log_way (Refused hint) t from append follows reach = waits t from t.node.term (kind.AppendRefusal append.prev hint) (λ _. (refl, refl))
+after_log_way (BelowCommit i) t from append follows reach = Shows t _
+
+append_way : {w : Ways} (t : Turn) (from : ℕ) (append : PlainAppend) → t.node.role ≡ role.Follower → Path (StepMove w) t (append_taken t from append)
+unfolding append_taken
+append_way t from append follows =
+    let n = t.node in
+    let u : Turn = with_node t (with_appended n from append) in
+    Onward (Goes_on t (One (Takes n from append follows)))
+    (after_log_way (answer n.log append.prev append.prev_term append.entries n.commit) u from append follows (answer_reaches n.log append.prev append.prev_term append.entries n.commit))
+
+snapshot_way : {w : Ways} (t : Turn) (from : ℕ) (s : Snapshot) → t.node.role ≡ role.Follower → Path (StepMove w) t (snapshot_taken t from s)
+unfolding snapshot_taken
+snapshot_way {w} t from s follows =
+    let n = t.node in
+    let P : Turn → Type 0 = Path (StepMove w) t in
+    let x : PlainNode = record n { commit = s.index } in
+    let y : Turn = with_node t (restored_to n s) in
+    if_both P (nat_le s.index n.commit) _ _ (λ _. holds_up_to t from n.commit follows (λ o. o.is_held))
+    (λ past. (let above = leb-false s.index n.commit past in
+    if_both P (is_term (term_at n.log s.index) s.term) _ _
+    (λ holds. (let held = held_in n.log s.index s.term (is_term_is (term_at n.log s.index) s.term holds) in
+    Onward (Goes_on t (One (Learns n s.index follows (omega (arith, above)) (λ _. held.1)))) (holds_up_to (with_node t x) from s.index follows (λ o. o.is_held))))
+    (λ _. Onward (Goes_on t (One (Restores n s follows above))) (Onward (holds_up_to y from s.index follows (λ o. o.is_held)) (Shows (with_node t (with_match (restored_to n s) from)) _)))))
+
+-- what is for its leader
+passed_way : {w : Ways} (t : Turn) (what : MessageKind) → (Sends t.node (message t.node.id t.node.lead 0 what)) → Path (StepMove w) t (with_node t (passed_on t.node what))
+passed_way t what says = Goes_on t (One (StepTells (Sent t.node (message t.node.id t.node.lead 0 what) (λ _. says))))
+
+beaten_way : {w : Ways} (n : PlainNode) (from commit : ℕ) → n.role ≡ role.Follower → Way (StepMove w) n (beaten n from commit)
+beaten_way n from commit follows =
+    let h : PlainNode = heard n from in
+    let x : PlainNode = commits_to h (min commit (last n.log)) in
+    Then {b = h} (One (StepTells (Idle n h refl)))
+    (Then {b = x} (One (Learns h (max n.commit (min commit (last n.log))) follows (omega arith) (λ s. (let held = s.is_held in omega (arith, held)))))
+    (One (StepTells (Sent x (message x.id from x.term kind.HeartbeatResponse) (λ _. (refl, refl))))))
+
+-- ---- a message
+
+-- what is known of a message where it is stepped: votes, elections and answers that it may bring
+pub record Brings (w : Ways) (t : Turn) (m : Message) : Type 0 where
+  pub votes : (last_term last_index : ℕ) (transfer : Bool) → m.kind ≡ kind.Vote last_term last_index transfer → (m.term ≡ t.node.term) × (is_up_to_date t.node.log last_index last_term ≡ true → w.given m.from t.node.term)
+  pub elects : t.node.role ≡ role.Candidate → (granted : Bool) → m.kind ≡ kind.VoteResponse granted → count_of t.node m.from granted ≡ vote.Won → w.elected t.node.term
+  pub tells : t.node.role ≡ role.Leader → (i : ℕ) → m.kind ≡ kind.AppendResponse i → w.matched t.node.term m.from (min i (last t.node.log))
+
+follower_way : {w : Ways} (k : MessageKind) (t : Turn) (m : Message) → t.node.role ≡ role.Follower → Path (StepMove w) t (as_follower k t m)
+follower_way (kind.Append append) t m is = append_way t m.from append is
+follower_way (kind.Heartbeat commit) t m is = Goes_on t (beaten_way t.node m.from commit is)
+follower_way (kind.Snapshot snapshot) t m is =
+    let n : PlainNode = heard t.node m.from in
+    Onward (Goes_on t (One (StepTells (Idle t.node n refl)))) (snapshot_way (with_node t n) m.from snapshot is)
+follower_way {w} (kind.Proposal body) t m is = if_both (Path (StepMove w) t) (t.node.lead == 0) _ _ (λ _. Shows t _) (λ _. passed_way t (kind.Proposal body) (refl, (refl, refl)))
+follower_way {w} (kind.TransferLeader target) t m is = if_both (Path (StepMove w) t) (t.node.lead == 0) _ _ (λ _. Shows t _) (λ _. passed_way t (kind.TransferLeader target) (refl, (refl, refl)))
+follower_way kind.TimeoutNow t m is = campaigned_way t true
+follower_way _ t m is = Shows t _
+
+leader_followed_way : {w : Ways} (t : Turn) (m : Message) → (t.node.role ≡ role.Leader → ⊥) → Path (StepMove w) t (leader_followed t m)
+leader_followed_way t m never = let u = followed t t.node.term m.from in Onward (joins t m.from never) (follower_way m.kind u m refl)
+
+precandidate_way : {w : Ways} (k : MessageKind) (t : Turn) (m : Message) → (t.node.role ≡ role.Leader → ⊥) → Path (StepMove w) t (as_precandidate k t m)
+precandidate_way (kind.PreVoteResponse granted) t m never = Onward (counted_way t m granted) (pre_decided_way (count_of t.node m.from granted) (counted t m granted) never)
+precandidate_way (kind.Append append) t m never = leader_followed_way t m never
+precandidate_way (kind.Heartbeat commit) t m never = leader_followed_way t m never
+precandidate_way (kind.Snapshot snapshot) t m never = leader_followed_way t m never
+precandidate_way _ t m never = Shows t _
+
+candidate_way : {w : Ways} (k : MessageKind) (t : Turn) (m : Message) → t.node.role ≡ role.Candidate → (t.node.role ≡ role.Leader → ⊥)
+    → ((granted : Bool) → k ≡ kind.VoteResponse granted → count_of t.node m.from granted ≡ vote.Won → w.elected t.node.term) → Path (StepMove w) t (as_candidate k t m)
+candidate_way (kind.VoteResponse granted) t m stands never elect = Onward (counted_way t m granted) (decided_way (count_of t.node m.from granted) (counted t m granted) stands (elect granted refl))
+candidate_way (kind.Append append) t m stands never elect = leader_followed_way t m never
+candidate_way (kind.Heartbeat commit) t m stands never elect = leader_followed_way t m never
+candidate_way (kind.Snapshot snapshot) t m stands never elect = leader_followed_way t m never
+candidate_way _ t m stands never elect = Shows t _
+
+leader_way : {w : Ways} (k : MessageKind) (t : Turn) (m : Message) → t.node.role ≡ role.Leader → ((i : ℕ) → k ≡ kind.AppendResponse i → w.matched t.node.term m.from (min i (last t.node.log))) → Path (StepMove w) t (as_leader k t m)
+leader_way (kind.Proposal body) t m is tells = proposed_way t body is
+leader_way (kind.AppendResponse i) t m is tells = accepted_way t m i is (tells i refl)
+leader_way (kind.AppendRefusal refused hint) t m is tells = telling_path (refused_way t m refused hint)
+leader_way kind.HeartbeatResponse t m is tells = telling_path (beat_answered_way t m)
+leader_way (kind.TransferLeader target) t m is tells = telling_path (transferred_way t m target is)
+leader_way _ t m is tells = Shows t _
+
+role_way : {w : Ways} (r : Role) (t : Turn) (m : Message) → t.node.role ≡ r → Brings w t m → Path (StepMove w) t (by_role_of r t m)
+role_way role.Follower t m is b = follower_way m.kind t m is
+role_way role.Precandidate t m is b = precandidate_way m.kind t m (λ leads. (let no : role.Precandidate ≡ role.Leader = sym is ∙ leads in cc))
+role_way role.Candidate t m is b = candidate_way m.kind t m is (λ leads. (let no : role.Candidate ≡ role.Leader = sym is ∙ leads in cc)) (b.elects is)
+role_way role.Leader t m is b = leader_way m.kind t m is (b.tells is)
+
+term_way : {w : Ways} (k : MessageKind) (t : Turn) (m : Message) → m.kind ≡ k → Brings w t m → Path (StepMove w) t (at_term_by k t m)
+term_way (kind.Vote last_term last_index transfer) t m is b = (let v = b.votes last_term last_index transfer is in vote_way t m last_term last_index v.0 v.1)
+term_way (kind.PreVote last_term last_index) t m is b = pre_vote_answered_way t m last_term last_index
+term_way _ t m is b = role_way t.node.role t m refl b
+
+-- ---- the term
+
+of_term_if : (has same : Bool) → has ≡ true → (not has || same) ≡ true → same ≡ true
+of_term_if true same e now = now
+of_term_if false same e now = cc
+
+-- what has a term is of the node's where it is taken at once
+of_term : (t : Turn) (m : Message) → has_term m.kind ≡ true → (not (has_term m.kind) || m.term == t.node.term) ≡ true → m.term ≡ t.node.term
+of_term t m has now = eqb-true m.term t.node.term (of_term_if (has_term m.kind) (m.term == t.node.term) has now)
+
+raised_log : (k : MessageKind) (t : Turn) (m : Message) → (raised_by k t m).node.log ≡ t.node.log
+raised_log (kind.PreVoteResponse granted) t m = if_both (λ (u : Turn). u.node.log ≡ t.node.log) granted _ _ (λ _. refl) (λ _. refl)
+raised_log _ t m = refl
+
+-- an answer of a later term, to a candidate or a leader, makes a follower
+no_answer_later : (t : Turn) (m : Message) (k : MessageKind) (r : Role) → m.kind ≡ k → (raised_by k t m).node.role ≡ role.Follower → r ≡ (raised t m).node.role → (r ≡ role.Follower → ⊥) → ⊥
+no_answer_later t m k r is follows e other = other (e ∙ ap (λ (x : MessageKind). (raised_by x t m).node.role) is ∙ follows)
+
+leads_no_follower : (r : Role) → r ≡ role.Leader → r ≡ role.Follower → ⊥
+leads_no_follower r e f = let no : role.Leader ≡ role.Follower = sym e ∙ f in cc
+
+stands_no_follower : (r : Role) → r ≡ role.Candidate → r ≡ role.Follower → ⊥
+stands_no_follower r e f = let no : role.Candidate ≡ role.Follower = sym e ∙ f in cc
+
+above : (a b : ℕ) → nat_lt b a ≡ false → (b == a) ≡ false → a < b
+above a b low apart = let le = ltb-false b a low in let ne = eqb-false b a apart in let lt : (a ≡ b → ⊥) → a < b = λ no. omega (arith, le, no) in lt (λ e. ne (sym e))
+
+brings_now : {w : Ways} (t : Turn) (m : Message) → (not (has_term m.kind) || m.term == t.node.term) ≡ true
+    → (IsGranted t.node m → w.given m.from m.term) → (IsElected t.node m → w.elected t.node.term) → ((i : ℕ) → IsAccepted t.node m i → w.matched t.node.term m.from i) → Brings w t m
+brings_now {w} t m now grant elect accept = record {
+  votes = λ last_term last_index transfer asks. (let same = of_term t m (ap has_term asks) now in
+      (same, λ new. subst (w.given m.from) same (grant (record { last_term = last_term; last_index = last_index; transfer = transfer; asks = asks; is_new = new }))));
+  elects = λ stands granted answers won. elect (record { stands = stands; of_term = of_term t m (ap has_term answers) now; granted = granted; answers = answers; won = won });
+  tells = λ leads i says. accept (min i (last t.node.log))
+      (record { leads = leads; of_term = of_term t m (ap has_term says) now; index = i; says = says; at_most = omega arith; held = omega arith });
+}
+
+brings_later : {w : Ways} (t : Turn) (m : Message) → (IsGranted t.node m → w.given m.from m.term) → Brings w (raised t m) m
+brings_later {w} t m grant = record {
+  votes = λ last_term last_index transfer asks.
+      (let same : m.term ≡ (raised t m).node.term = sym (ap (λ (x : MessageKind). (raised_by x t m).node.term) asks) in (
+        same,
+        λ new. subst (w.given m.from) same (grant (record {
+          last_term = last_term;
+          last_index = last_index;
+          transfer = transfer;
+          asks = asks;
+          is_new = subst (λ (v : LogValue). is_up_to_date v last_index last_term ≡ true) (raised_log m.kind t m) new;
+        })),
+      ));
+  elects = λ stands granted answers won. absurd (no_answer_later t m (kind.VoteResponse granted) (raised t m).node.role answers refl refl (stands_no_follower (raised t m).node.role stands));
+  tells = λ leads i says. absurd (no_answer_later t m (kind.AppendResponse i) (raised t m).node.role says refl refl (leads_no_follower (raised t m).node.role leads));
+}
+
+pub stepped_way : {w : Ways} (t : Turn) (m : Message)
+    → (IsGranted t.node m → w.given m.from m.term) → (IsElected t.node m → w.elected t.node.term) → ((i : ℕ) → IsAccepted t.node m i → w.matched t.node.term m.from i) → Path (StepMove w) t (stepped t m)
+unfolding stepped
+stepped_way {w} t m grant elect accept =
+    let P : Turn → Type 0 = Path (StepMove w) t in
+    if_both P (not (has_term m.kind) || m.term == t.node.term) (at_term t m)
+    (if nat_lt m.term t.node.term then lowered t m else (if is_disturbed_by m.kind t.node then ignored t m else at_term (raised t m) m))
+    (λ now. term_way m.kind t m refl (brings_now t m now grant elect accept))
+    (λ apart. if_both P (nat_lt m.term t.node.term) (lowered t m) (if is_disturbed_by m.kind t.node then ignored t m else at_term (raised t m) m)
+    (λ _. lowered_way m.kind t m)
+    (λ later. if_both P (is_disturbed_by m.kind t.node) (ignored t m) (at_term (raised t m) m)
+    (λ _. Shows t _)
+    (λ _. Onward (raised_way m.kind t m (above t.node.term m.term later (or_parts (not (has_term m.kind)) (m.term == t.node.term) apart).1)) (term_way m.kind (raised t m) m refl (brings_later t m grant)))))
