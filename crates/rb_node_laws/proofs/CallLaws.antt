@@ -31,7 +31,8 @@ over_call p c t = p.under t.node (after c t).node (λ s. over (p.moves s) (calle
 pub over_calls : {R : PlainNode → PlainNode → Type 0} → Carried R → (cs : List Call) (t : Turn) → R t.node (run cs t).node
 over_calls p [] t = p.under t.node t.node (λ s. (p.moves {w = anyone} s).nothing t.node)
 over_calls p (c ∷ cs) t =
-    p.under t.node (run (c ∷ cs) t).node (λ s. (p.moves {w = anyone} s).chain t.node (after c t).node (run (c ∷ cs) t).node (over_call p c t) (over_calls p cs (after c t)))
+    p.under t.node (run (c ∷ cs) t).node (λ s.
+    (p.moves {w = anyone} s).chain t.node (after c t).node (run (c ∷ cs) t).node (over_call p c t) (over_calls p cs (after c t)))
 
 -- ---- compacting is what its contract says
 

@@ -119,7 +119,10 @@ leaves_same {a} {b} e = let commit : b.commit ≡ a.commit = ap (λ (c : Core). 
 
 telling_leaves : {a b : PlainNode} → TellMove a b → Leaves a b
 telling_leaves (Idle a b e) = leaves_same (ap (λ (w : Whole). w.core) e)
-telling_leaves (Commits n can) = (let up = ltb-true n.commit (commit_of n.tracker) (and_parts (nat_lt n.commit (commit_of n.tracker)) (is_term (term_at n.log (commit_of n.tracker)) n.term) can).0 in record { same = refl; commit = omega (arith, up) })
+telling_leaves (Commits n can) =
+    (let i = commit_of n.tracker in
+    let up = ltb-true n.commit i (and_parts (nat_lt n.commit i) (is_term (term_at n.log i) n.term) can).0 in
+    record { same = refl; commit = omega (arith, up) })
 telling_leaves _ = leaves_same refl
 
 change_leaves : {a b : PlainNode} → ChangeMove a b → Leaves a b
@@ -155,10 +158,16 @@ body_brought : (body : Body) (t : Turn) → Brought t (body_applied body t) t.no
 body_brought (Payload bytes) t = record { id = refl; log = refl; applied = refl; commit = omega arith }
 body_brought (Change transition words) t =
     (let l = changed_leaves (change_way t transition words) in
-    record { id = ap (λ (u : Untouched). u.id) l.same; log = ap (λ (u : Untouched). u.log) l.same; applied = ap (λ (u : Untouched). u.applied) l.same; commit = l.commit })
+    record {
+      id = ap (λ (u : Untouched). u.id) l.same;
+      log = ap (λ (u : Untouched). u.log) l.same;
+      applied = ap (λ (u : Untouched). u.applied) l.same;
+      commit = l.commit;
+    })
 
 pub one_brought : (t : Turn) (i : ℕ) (e : Entry) → Brought t (applied_one t i e) i
-one_brought t i e = (let b = body_brought e.body (with_node t (record t.node { applied = i })) in record { id = b.id; log = b.log; applied = b.applied; commit = b.commit })
+one_brought t i e =
+    (let b = body_brought e.body (with_node t (record t.node { applied = i })) in record { id = b.id; log = b.log; applied = b.applied; commit = b.commit })
 
 -- the entries that were committed and durable take effect
 all_way : {sound : Type 0} {w : Ways} (t : Turn) (i : ℕ) (es : List Entry)
@@ -172,7 +181,8 @@ all_way {sound} {w} t i (e ∷ es) known =
     let durable : u.node.log.durable ≡ t.node.log.durable = ap (λ (v : LogValue). v.durable) b.log in
     let x : PlainNode = record t.node { applied = i + 1 } in
     let rises : Path (CallMove sound w) t (with_node t x) =
-    Goes_on t (One (Applies t.node (i + 1) (λ s. (let k = known s in let low = k.0 in let far = k.1 in let safe = k.2 in (omega (arith, low), omega (arith, far), omega (arith, safe)))))) in
+    Goes_on t (One (Applies t.node (i + 1) (λ s.
+    (let k = known s in let low = k.0 in let far = k.1 in let safe = k.2 in (omega (arith, low), omega (arith, far), omega (arith, safe)))))) in
     Onward rises (Onward (body_way e.body (with_node t x))
     (all_way u (i + 1) es (λ s. (let k = known s in let far = k.1 in let safe = k.2 in (omega (arith, at), omega (arith, far, up), omega (arith, safe, durable))))))
 
@@ -185,7 +195,8 @@ unfolding joint_left
 left_way {w} t =
     let n = t.node in
     if_both (Path (StepMove w) t) (leaves_joint n) _ _
-    (λ can. (let leads = leader_of n.role (leads_first (is_leader n.role) (is_joint n.tracker.config) n.tracker.config.auto (n.transferee == 0) (nat_le n.pending_change n.applied) can) in
+    (λ can. (let c = n.tracker.config in
+    let leads = leader_of n.role (leads_first (is_leader n.role) (is_joint c) c.auto (n.transferee == 0) (nat_le n.pending_change n.applied) can) in
     Onward (appended_change_way t (Change Auto []) leads) (all_told_way (appended_change t (Change Auto [])))))
     (λ _. telling_path (nothing_done t))
 
@@ -194,7 +205,8 @@ left_way {w} t =
 beat_way : (n : PlainNode) (id : ℕ) → Way TellMove n (beat_to n id)
 beat_way n id =
     if_both (Way TellMove n) (id == n.id) _ _ (λ _. One (Idle n n refl))
-    (λ no. One (Sent n (message n.id id n.term (kind.Heartbeat (min (match_of n.tracker.views id) n.commit))) (λ _. (refl, (refl, different id n.id no, omega arith, omega arith)))))
+    (λ no. One (Sent n (message n.id id n.term (kind.Heartbeat (min (match_of n.tracker.views id) n.commit)))
+    (λ _. (refl, (refl, different id n.id no, omega arith, omega arith)))))
 
 beat_each_way : (n : PlainNode) (ids : List ℕ) → Way TellMove n (beat_each n ids)
 beat_each_way n [] = One (Idle n n refl)
@@ -268,7 +280,8 @@ own_way {w} id t (m ∷ ms) grant elect accept =
     Onward
     (if_both (Path (StepMove w) t) (m.to == id) (stepped t m) t
     (λ own. (let to = eqb-true m.to id own in
-    stepped_way t m (λ g. grant m.from m.term (inl (to, refl, refl, g))) (λ e. elect t.node.term (inl (to, refl, e))) (λ i a. accept t.node.term m.from i (inl (to, refl, refl, a)))))
+    stepped_way t m (λ g. grant m.from m.term (inl (to, refl, refl, g))) (λ e. elect t.node.term (inl (to, refl, e)))
+    (λ i a. accept t.node.term m.from i (inl (to, refl, refl, a)))))
     (λ _. telling_path (nothing_done t)))
     (own_way id next ms (λ v n g. grant v n (inr g)) (λ n e. elect n (inr e)) (λ term from i a. accept term from i (inr a)))
 
@@ -295,7 +308,8 @@ pub ready_way : {sound : Type 0} {w : Ways} (t : Turn) → (sound → IsSound t.
 ready_way t known =
     let n = t.node in
     let u : Turn = with_node t (saved n) in
-    Onward (all_way u n.applied (applying n) (λ s. (let within = ready_within n (known s) in (omega arith, within.0, within.1)))) (stepping (left_way (applied_all u n.applied (applying n))))
+    Onward (all_way u n.applied (applying n) (λ s. (let within = ready_within n (known s) in (omega arith, within.0, within.1))))
+    (stepping (left_way (applied_all u n.applied (applying n))))
 
 advanced_way : {sound : Type 0} (t : Turn) → (sound → IsSound t.node) → Path (CallMove sound (ways Advance t)) t (advanced t)
 unfolding advanced
@@ -322,15 +336,20 @@ reported_at_way (Some at) n = reported_with_way (view_at n.tracker.views at) n a
 reported_way : (n : PlainNode) (id : ℕ) → Way TellMove n (reported n id)
 reported_way n id = if_both (Way TellMove n) (is_leader n.role) _ _ (λ _. reported_at_way (place n.tracker.views id) n) (λ _. One (Idle n n refl))
 
-compacted_way : {sound : Type 0} {w : Ways} (o : Option CompactFault) (n : PlainNode) (i : ℕ) → compact_fault n.log i (min n.applied n.log.durable) ≡ o → Way (CallMove sound w) n (compacted_unless o n i)
+compacted_way : {sound : Type 0} {w : Ways} (o : Option CompactFault) (n : PlainNode) (i : ℕ) → compact_fault n.log i (min n.applied n.log.durable) ≡ o
+    → Way (CallMove sound w) n (compacted_unless o n i)
 compacted_way (Some fault) n i is = One (CallSteps (StepTells (Idle n n refl)))
 compacted_way None n i is = One (Compacts n i is)
 
 pub called_way : {sound : Type 0} (c : Call) (t : Turn) → (sound → IsSound t.node) → Path (CallMove sound (ways c t)) t (after c t)
 called_way (Step m) t known = stepping (stepped_way t m (λ g. (refl, refl, g)) (λ e. (refl, e)) (λ i a. (refl, refl, a)))
 called_way Campaign t known = stepping (campaigned_way t false)
-called_way (Propose body) t known = stepping (stepped_way t (message t.node.id t.node.id 0 (kind.Proposal body)) (λ g. (let no = g.asks in cc)) (λ e. (let no = e.answers in cc)) (λ i a. (let no = a.says in cc)))
-called_way (Transfer to) t known = stepping (stepped_way t (message t.node.id t.node.id 0 (kind.TransferLeader to)) (λ g. (let no = g.asks in cc)) (λ e. (let no = e.answers in cc)) (λ i a. (let no = a.says in cc)))
+called_way (Propose body) t known =
+    stepping (stepped_way t (message t.node.id t.node.id 0 (kind.Proposal body))
+    (λ g. (let no = g.asks in cc)) (λ e. (let no = e.answers in cc)) (λ i a. (let no = a.says in cc)))
+called_way (Transfer to) t known =
+    stepping (stepped_way t (message t.node.id t.node.id 0 (kind.TransferLeader to))
+    (λ g. (let no = g.asks in cc)) (λ e. (let no = e.answers in cc)) (λ i a. (let no = a.says in cc)))
 called_way Tick t known = ticked_way t.node.role t
 called_way Advance t known = advanced_way t known
 called_way ForgetLeader t known = stepping (telling_path (Goes_on t (forgotten_way t.node.role t.node)))

@@ -61,12 +61,14 @@ lasts_then a b c p q = record {
 holds_still : (n a b : ℕ) → a ≤ b → nat_le n a ≡ true → nat_le n b ≡ true
 holds_still n a b up h = (let low = leb-true n a h in le-leb n b (omega (arith, low, up)))
 
-view_holds : (t : PlainTracker) (at : ℕ) (new : PlainProgress) → ((id : ℕ) → match_of t.views id ≤ match_of (set_value_at t.views at new) id) → (i : ℕ) → is_held t i ≡ true → is_held (with_view t at new) i ≡ true
+view_holds : (t : PlainTracker) (at : ℕ) (new : PlainProgress) → ((id : ℕ) → match_of t.views id ≤ match_of (set_value_at t.views at new) id) → (i : ℕ)
+    → is_held t i ≡ true → is_held (with_view t at new) i ≡ true
 view_holds t at new up i held =
     both_more t.config (λ id. holds t.views i id) (λ id. holds (set_value_at t.views at new) i id)
     (λ id has. holds_still i (match_of t.views id) (match_of (set_value_at t.views at new) id) (up id) has) held
 
-acked_more : (n : PlainNode) (at from i : ℕ) (view : PlainProgress) → place n.tracker.views from ≡ Some at → view_at n.tracker.views at ≡ Some view → view.matched ≤ i → (id : ℕ) → of n id ≤ match_of (set_value_at n.tracker.views at (acked view i)) id
+acked_more : (n : PlainNode) (at from i : ℕ) (view : PlainProgress) → place n.tracker.views from ≡ Some at → view_at n.tracker.views at ≡ Some view → view.matched ≤ i
+    → (id : ℕ) → of n id ≤ match_of (set_value_at n.tracker.views at (acked view i)) id
 acked_more n at from i view here is up id =
     elim (place_set n.tracker.views at from id (acked view i) here) as (λ _. of n id ≤ match_of (set_value_at n.tracker.views at (acked view i)) id) [
       | inl same ↦ omega (arith, same)
@@ -126,7 +128,8 @@ leading_on = record {
   each = λ a b m. record { keeps = step_keeps m; holds = λ s leads same. step_leads m leads same };
 }
 
-pub stepped_commits : (t : Turn) (m : Message) → IsSound t.node → t.node.role ≡ role.Leader → (stepped t m).node.term ≡ t.node.term → CommitHolds t.node.commit (stepped t m).node
+pub stepped_commits : (t : Turn) (m : Message) → IsSound t.node → t.node.role ≡ role.Leader → (stepped t m).node.term ≡ t.node.term
+    → CommitHolds t.node.commit (stepped t m).node
 stepped_commits t m sound leads same = ((over leading_on (stepped_way t m (λ _. tt) (λ _. tt) (λ _ _. tt))).holds sound leads same).1.moves
 
 -- ---- a change that takes effect
@@ -174,10 +177,22 @@ moved_then a b c p q = record {
       let leads = middle_leads (core a) (core b) (core c) g h first end e in
       let at : b.term ≡ a.term = middle_term (core a) (core b) (core c) g h e in
       elim (q.held g.ordered leads end (e ∙ sym at)) as (λ _. (c.commit ≡ a.commit) ⊎ Between a c) [
-        | inr later ↦ inr (record { moment = later.moment; since = goes_then (core a) (core b) (core later.moment) g later.since; until = later.until; reached = later.reached; held = later.held })
+        | inr later ↦ inr (record {
+          moment = later.moment;
+          since = goes_then (core a) (core b) (core later.moment) g later.since;
+          until = later.until;
+          reached = later.reached;
+          held = later.held;
+        })
         | inl stays ↦ elim (p.held s first leads at) as (λ _. (c.commit ≡ a.commit) ⊎ Between a c) [
           | inl before ↦ inl (stays ∙ before)
-          | inr earlier ↦ inr (record { moment = earlier.moment; since = earlier.since; until = goes_then (core earlier.moment) (core b) (core c) earlier.until h; reached = earlier.reached ∙ sym stays; held = earlier.held })
+          | inr earlier ↦ inr (record {
+            moment = earlier.moment;
+            since = earlier.since;
+            until = goes_then (core earlier.moment) (core b) (core c) earlier.until h;
+            reached = earlier.reached ∙ sym stays;
+            held = earlier.held;
+          })
         ]
       ]);
 }

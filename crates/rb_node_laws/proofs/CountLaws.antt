@@ -133,7 +133,8 @@ abbrev IsDurableAnswer : PlainNode → Message → Type 0
 IsDurableAnswer n m = IsOwnAnswer n n.log.durable m
 
 durable_after : (a b : PlainNode) (ms : List Message) → Goes anyone (core a) (core b) → All (IsDurableAnswer a) ms → All (IsDurableAnswer b) ms
-durable_after a b ms g are = All-weaker (IsDurableAnswer a) (IsDurableAnswer b) (λ m is. kept_answer a b a.log.durable b.log.durable m g (λ grown. grown.written) is) ms are
+durable_after a b ms g are =
+    All-weaker (IsDurableAnswer a) (IsDurableAnswer b) (λ m is. kept_answer a b a.log.durable b.log.durable m g (λ grown. grown.written) is) ms are
 
 own_goes : (id : ℕ) (t : Turn) (ms : List Message) → IsSound t.node → Goes anyone (core t.node) (core (own_stepped id t ms).node)
 own_goes id t ms s = (over (steps_keep {w = anyone}) (own_way id t ms (λ _ _ _. tt) (λ _ _. tt) (λ _ _ _ _. tt))).goes s
@@ -166,11 +167,13 @@ advanced_durable t term from i is told leads at =
     let first : Goes anyone (core n) (core (saved n)) = (all_durable {w = anyone} (core n)).goes is.sound in
     let then_ : Goes anyone (core (saved n)) (core (own_turn t).node) = (over (calls_keep {w = anyone} is.sound) (ready_way t (λ s. s))).goes first.ordered in
     let are : All (IsDurableAnswer (saved n)) n.waiting =
-    All-weaker (IsOwnAnswer n (last n.log)) (IsDurableAnswer (saved n)) (λ m a. kept_answer n (saved n) (last n.log) (last n.log) m first (λ _. omega arith) a) n.waiting is.answers in
+    All-weaker (IsOwnAnswer n (last n.log)) (IsDurableAnswer (saved n))
+    (λ m a. kept_answer n (saved n) (last n.log) (last n.log) m first (λ _. omega arith) a) n.waiting is.answers in
     own_durable n.id (own_turn t) n.waiting term from i then_.ordered (durable_after (saved n) (own_turn t).node n.waiting then_ are) told leads at
 
 -- what is told by anybody under its name, where nobody does so from without
-told_durable : (c : Call) (t : Turn) (term i : ℕ) → Counts t.node → IsOfOthers t.node.id c → Accepted c t term t.node.id i → (after c t).node.role ≡ role.Leader → (after c t).node.term ≡ term → i ≤ (after c t).node.log.durable
+told_durable : (c : Call) (t : Turn) (term i : ℕ) → Counts t.node → IsOfOthers t.node.id c → Accepted c t term t.node.id i → (after c t).node.role ≡ role.Leader
+    → (after c t).node.term ≡ term → i ≤ (after c t).node.log.durable
 told_durable (Step m) t term i is others told leads at = absurd (others told.2.index told.2.says (sym told.1))
 told_durable Advance t term i is others told leads at = advanced_durable t term t.node.id i is told leads at
 told_durable _ t term i is others told leads at = absurd told

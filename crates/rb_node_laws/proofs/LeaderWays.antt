@@ -99,7 +99,8 @@ news_up view i is_so =
       | inr found_it ↦ (let same = eqb-true view.matched i (and_parts (view.matched == i) (is_probing view.state) found_it).0 in omega (arith, same))
     ]
 
-news_way : {w : Ways} (o : Option PlainProgress) (n : PlainNode) (at from i : ℕ) → view_at n.tracker.views at ≡ o → place n.tracker.views from ≡ Some at → n.role ≡ role.Leader
+news_way : {w : Ways} (o : Option PlainProgress) (n : PlainNode) (at from i : ℕ) → view_at n.tracker.views at ≡ o → place n.tracker.views from ≡ Some at
+    → n.role ≡ role.Leader
     → ((view : PlainProgress) → view_at n.tracker.views at ≡ Some view → view.matched ≤ i) → w.matched n.term from i → Way (StepMove w) n (accepted_news o n at from i)
 news_way None n at from i is here leads up said = telling (One (Idle n n refl))
 news_way (Some view) n at from i is here leads up said =
@@ -116,11 +117,13 @@ old_way None n at i is = One (Idle n n refl)
 old_way (Some view) n at i is = One (Viewed n at view (freed_through view i) is (freed_matched view.state view i) (λ _ g. sound_freed view i g))
 
 accepted_by_way : {w : Ways} (b : Bool) (n : PlainNode) (at from i : ℕ) → place n.tracker.views from ≡ Some at → n.role ≡ role.Leader
-    → (b ≡ true → (view : PlainProgress) → view_at n.tracker.views at ≡ Some view → view.matched ≤ i) → w.matched n.term from i → Way (StepMove w) n (accepted_by b n at from i)
+    → (b ≡ true → (view : PlainProgress) → view_at n.tracker.views at ≡ Some view → view.matched ≤ i) → w.matched n.term from i
+    → Way (StepMove w) n (accepted_by b n at from i)
 accepted_by_way true n at from i here leads up said = news_way (view_at n.tracker.views at) n at from i refl here leads (up refl) said
 accepted_by_way false n at from i here leads up said = telling (old_way (view_at n.tracker.views at) n at i refl)
 
-accepted_with_way : {w : Ways} (o : Option PlainProgress) (n : PlainNode) (at from i : ℕ) → view_at n.tracker.views at ≡ o → place n.tracker.views from ≡ Some at → n.role ≡ role.Leader
+accepted_with_way : {w : Ways} (o : Option PlainProgress) (n : PlainNode) (at from i : ℕ) → view_at n.tracker.views at ≡ o → place n.tracker.views from ≡ Some at
+    → n.role ≡ role.Leader
     → w.matched n.term from i → Way (StepMove w) n (accepted_with o n at from i)
 accepted_with_way None n at from i is here leads said = telling (One (Idle n n refl))
 accepted_with_way (Some view) n at from i is here leads said =
@@ -132,20 +135,25 @@ accepted_at_way : {w : Ways} (o : Option ℕ) (t : Turn) (m : Message) (i : ℕ)
 accepted_at_way None t m i is leads said = Shows t _
 accepted_at_way (Some at) t m i is leads said =
     let n : PlainNode = heard_of t.node at in
-    Goes_on t (Then (telling (heard_way t.node at)) (accepted_with_way (view_at n.tracker.views at) n at m.from (min i (last t.node.log)) refl (heard_place t.node at m.from is) leads said))
+    Goes_on t (Then (telling (heard_way t.node at))
+    (accepted_with_way (view_at n.tracker.views at) n at m.from (min i (last t.node.log)) refl (heard_place t.node at m.from is) leads said))
 
-pub accepted_way : {w : Ways} (t : Turn) (m : Message) (i : ℕ) → t.node.role ≡ role.Leader → w.matched t.node.term m.from (min i (last t.node.log)) → Path (StepMove w) t (accepted t m i)
+pub accepted_way : {w : Ways} (t : Turn) (m : Message) (i : ℕ) → t.node.role ≡ role.Leader → w.matched t.node.term m.from (min i (last t.node.log))
+    → Path (StepMove w) t (accepted t m i)
 unfolding accepted
 accepted_way t m i leads said = accepted_at_way (place t.node.tracker.views m.from) t m i refl leads said
 
 -- ---- an append that was refused, and a heartbeat that was answered
 
-refused_with_way : (o : Option PlainProgress) (t : Turn) (at : ℕ) (m : Message) (i hint : ℕ) → view_at t.node.tracker.views at ≡ o → Path TellMove t (refused_with o t at m i hint)
+refused_with_way : (o : Option PlainProgress) (t : Turn) (at : ℕ) (m : Message) (i hint : ℕ) → view_at t.node.tracker.views at ≡ o
+    → Path TellMove t (refused_with o t at m i hint)
 refused_with_way None t at m i hint is = nothing_done t
 refused_with_way (Some view) t at m i hint is =
     let x : PlainNode = viewed t.node at (refused view i hint) in
     if_both (Path TellMove t) (believes view i) _ _
-    (λ _. Goes_on t (Then {b = x} (One (Viewed t.node at view (refused view i hint) is (refused_matched view.state view i hint) (λ _ g. sound_refused view i hint g))) (sends_way x m.from mode.Tell)))
+    (λ _. Goes_on t
+    (Then {b = x} (One (Viewed t.node at view (refused view i hint) is (refused_matched view.state view i hint) (λ _ g. sound_refused view i hint g)))
+    (sends_way x m.from mode.Tell)))
     (λ _. Shows t _)
 
 refused_at_way : (o : Option ℕ) (t : Turn) (m : Message) (i hint : ℕ) → Path TellMove t (refused_at o t m i hint)

@@ -42,7 +42,8 @@ abbrev pub IsBounded : Ways → ℕ → ℕ → ℕ → ℕ → PlainNode → Ty
 IsBounded w id low term bound n = Bounded w id low term bound (rest (core n)) (of n id)
 
 -- who doesn't lead knows no more by new views of the same
-not_leading : (w : Ways) (id low term bound : ℕ) (r s : Rest) (held : ℕ) → (r.role ≡ role.Leader → ⊥) → Bounded w id low term bound r held → Bounded w id low term bound s held
+not_leading : (w : Ways) (id low term bound : ℕ) (r s : Rest) (held : ℕ) → (r.role ≡ role.Leader → ⊥) → Bounded w id low term bound r held
+    → Bounded w id low term bound s held
 not_leading w id low term bound r s held never p =
     elim p as (λ _. Bounded w id low term bound s held) [
       | inl less ↦ inl less
@@ -53,7 +54,8 @@ step_bounded : {w : Ways} (id low term bound : ℕ) {a b : PlainNode} → StepMo
 step_bounded {w} id low term bound {a} {b} (StepTells m) p =
     subst (λ (r : Rest). Bounded w id low term bound r (of b id)) (sym (tells_rest m)) (subst (Bounded w id low term bound (rest (core a))) (sym (tells_match id m)) p)
 step_bounded id low term bound (Follows n later lead up past) p = inl (omega arith)
-step_bounded {w} id low term bound (Asks n may) p = not_leading w id low term bound (rest (core n)) (rest (core (precandidate n))) (of n id) (may_campaign n may).follows p
+step_bounded {w} id low term bound (Asks n may) p =
+    not_leading w id low term bound (rest (core n)) (rest (core (precandidate n))) (of n id) (may_campaign n may).follows p
 step_bounded id low term bound (Stands n may) p = inl (omega arith)
 step_bounded {w} id low term bound (Leads n stands won) p =
     (let e = leading_same n in
@@ -62,8 +64,10 @@ step_bounded {w} id low term bound (Leads n stands won) p =
       | inr own ↦ (let durable : (leading n).log.durable ≡ n.log.durable = ap (λ (c : Core). c.log.durable) e in let far = own.1 in
           inr (leading_leads n, inr (inl (own.0 ∙ sym (ap (λ (c : Core). c.id) e), omega (arith, far, durable)))))
     ])
-step_bounded {w} id low term bound (Takes n from append is) p = not_leading w id low term bound (rest (core n)) (rest (core (with_appended n from append))) (of n id) (no_leader n.role is) p
-step_bounded {w} id low term bound (Restores n s is past) p = not_leading w id low term bound (rest (core n)) (rest (core (restored_to n s))) (of n id) (no_leader n.role is) p
+step_bounded {w} id low term bound (Takes n from append is) p =
+    not_leading w id low term bound (rest (core n)) (rest (core (with_appended n from append))) (of n id) (no_leader n.role is) p
+step_bounded {w} id low term bound (Restores n s is past) p =
+    not_leading w id low term bound (rest (core n)) (rest (core (restored_to n s))) (of n id) (no_leader n.role is) p
 step_bounded {w} id low term bound (Acks n at from i view leads here is up said) p =
     elim (place_set n.tracker.views at from id (acked view i) here) as (λ _. IsBounded w id low term bound (viewed n at (acked view i))) [
       | inl same ↦ subst (Bounded w id low term bound (rest (core n))) (sym same) p
@@ -115,7 +119,8 @@ less_bounded w id low term bound r old new less p =
       ]
     ]
 
-durable_bounded : (w : Ways) (id low term bound : ℕ) (r : Rest) (v : LogValue) (held : ℕ) → r.log.durable ≤ v.durable → Bounded w id low term bound r held → Bounded w id low term bound (record r { log = v }) held
+durable_bounded : (w : Ways) (id low term bound : ℕ) (r : Rest) (v : LogValue) (held : ℕ) → r.log.durable ≤ v.durable → Bounded w id low term bound r held
+    → Bounded w id low term bound (record r { log = v }) held
 durable_bounded w id low term bound r v held more p =
     elim p as (λ _. Bounded w id low term bound (record r { log = v }) held) [
       | inl below ↦ inl below
@@ -128,7 +133,8 @@ durable_bounded w id low term bound r v held more p =
       ]
     ]
 
-change_bounded : (w : Ways) (id low term bound : ℕ) {a b : PlainNode} → ChangeMove a b → HasViewsOfMembers a → IsBounded w id low term bound a → IsBounded w id low term bound b
+change_bounded : (w : Ways) (id low term bound : ℕ) {a b : PlainNode} → ChangeMove a b → HasViewsOfMembers a → IsBounded w id low term bound a
+    → IsBounded w id low term bound b
 change_bounded w id low term bound (Unchanged n) h p = p
 change_bounded w id low term bound (Configures n c never) h p = p
 change_bounded w id low term bound (Resigns n c) h p = inl (omega arith)
@@ -141,7 +147,8 @@ change_bounded w id low term bound (Revises n c leads) h p =
     let e : core left ≡ core n = strangers_same x ids in
     let m : rest (core y) ≡ rest (core n) = ap rest (with_members_same x) in
     elim (with_views_at_most left (missing left.tracker.views (members left.tracker.config)) true id) as (λ _. IsBounded w id low term bound y) [
-      | inl less ↦ subst (λ (r : Rest). Bounded w id low term bound r (of y id)) (sym m) (less_bounded w id low term bound (rest (core n)) (of n id) (of y id) (omega (arith, less, fewer)) p)
+      | inl less ↦ subst (λ (r : Rest). Bounded w id low term bound r (of y id)) (sym m)
+          (less_bounded w id low term bound (rest (core n)) (of n id) (of y id) (omega (arith, less, fewer)) p)
       | inr own ↦ (let far = own.1 in let durable : left.log.durable ≡ n.log.durable = ap (λ (k : Core). k.log.durable) e in
           subst (λ (r : Rest). Bounded w id low term bound r (of y id)) (sym m) (inr (leads, inr (inl (own.0 ∙ ap (λ (k : Core). k.id) e, omega (arith, far, durable))))))
     ])
@@ -154,17 +161,21 @@ looked_match : (n : PlainNode) (id : ℕ) → of (record n { tracker = unmarked 
 unfolding unmarked
 looked_match n id = unmarked_match n.id n.tracker.views id
 
-call_bounded : {sound : Type 0} {w : Ways} (id low term bound : ℕ) → sound → {a b : PlainNode} → CallMove sound w a b → HasViewsOfMembers a → IsBounded w id low term bound a → IsBounded w id low term bound b
+call_bounded : {sound : Type 0} {w : Ways} (id low term bound : ℕ) → sound → {a b : PlainNode} → CallMove sound w a b → HasViewsOfMembers a
+    → IsBounded w id low term bound a → IsBounded w id low term bound b
 call_bounded {w = w} id low term bound s (CallChanges m) h p = change_bounded w id low term bound m h p
 call_bounded id low term bound s (CallSteps m) h p = step_bounded id low term bound m p
 call_bounded {w = w} id low term bound s (Unmarks n) h p = subst (Bounded w id low term bound (rest (core n))) (sym (looked_match n id)) p
 call_bounded id low term bound s (Gives_up n) h p = inl (omega arith)
-call_bounded {w = w} id low term bound s (Saves n known) h p = (let within = (known s).within in durable_bounded w id low term bound (rest (core n)) (made_durable n.log) (of n id) within p)
+call_bounded {w = w} id low term bound s (Saves n known) h p =
+    (let within = (known s).within in durable_bounded w id low term bound (rest (core n)) (made_durable n.log) (of n id) within p)
 call_bounded {w = w} id low term bound s (Compacts n i is) h p =
-    (let same = compacted_durable n.log i (term_at n.log i) in durable_bounded w id low term bound (rest (core n)) (compacted n.log i (term_at n.log i)) (of n id) (omega (arith, same)) p)
+    (let same = compacted_durable n.log i (term_at n.log i) in
+    durable_bounded w id low term bound (rest (core n)) (compacted n.log i (term_at n.log i)) (of n id) (omega (arith, same)) p)
 call_bounded id low term bound s _ h p = p
 
-pub called_bounded : (c : Call) (t : Turn) (id low term bound : ℕ) → IsSound t.node → HasViewsOfMembers t.node → IsBounded (ways c t) id low term bound t.node → IsBounded (ways c t) id low term bound (after c t).node
+pub called_bounded : (c : Call) (t : Turn) (id low term bound : ℕ) → IsSound t.node → HasViewsOfMembers t.node → IsBounded (ways c t) id low term bound t.node
+    → IsBounded (ways c t) id low term bound (after c t).node
 called_bounded c t id low term bound s h p =
     let P : PlainNode → Type 0 = IsBounded (ways c t) id low term bound in
     let bounds : Allows (CallMove (IsSound t.node) (ways c t)) (λ a b. HasViewsOfMembers a → P a → HasViewsOfMembers b × P b) = record {

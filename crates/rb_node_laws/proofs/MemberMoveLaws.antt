@@ -65,7 +65,8 @@ leading_members n =
 step_members : {w : Ways} {a b : PlainNode} → StepMove w a b → HasViewsOfMembers a → HasViewsOfMembers b
 step_members (StepTells m) is = telling_members m is
 step_members (Follows n term lead up past) is = nobody role.Follower n.tracker.config no_follower
-step_members (Asks n may) is = in_any_config n.role role.Precandidate n.tracker.config n.tracker.config (keys_of n.tracker.views) (may_campaign n may).follows no_precandidate is
+step_members (Asks n may) is =
+    in_any_config n.role role.Precandidate n.tracker.config n.tracker.config (keys_of n.tracker.views) (may_campaign n may).follows no_precandidate is
 step_members (Stands n may) is = nobody role.Candidate n.tracker.config no_candidate
 step_members (Leads n stands won) is = leading_members n
 step_members (Restores n s follows past) is =

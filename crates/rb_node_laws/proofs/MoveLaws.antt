@@ -53,7 +53,8 @@ same_vote v w free x can some =
       | inr never ↦ absurd (false≢true never)
     ]
 
-gives_vote : {w : Ways} (n : PlainNode) (m : Message) (last_term last_index : ℕ) → (is_up_to_date n.log last_index last_term ≡ true → w.given m.from n.term) → grants n m last_term last_index false ≡ true → Keeps w (core n) (core (voted_for n m.from))
+gives_vote : {w : Ways} (n : PlainNode) (m : Message) (last_term last_index : ℕ) → (is_up_to_date n.log last_index last_term ≡ true → w.given m.from n.term)
+    → grants n m last_term last_index false ≡ true → Keeps w (core n) (core (voted_for n m.from))
 gives_vote {w} n m last_term last_index grant gives =
     let parts = and_parts (can_vote_for n m false) (is_up_to_date n.log last_index last_term) gives in
     turned (core n) n.term m.from n.role (omega arith)
@@ -88,7 +89,8 @@ compacts_by : {w : Ways} (r : Result ℕ LogFault) (c : Core) (i : ℕ) → term
 compacts_by (Ok term) c i at low known durable = without_front c i term low known durable at
 compacts_by (Err fault) c i at low known durable = self c
 
-compacts : {w : Ways} (n : PlainNode) (i : ℕ) → compact_fault n.log i (min n.applied n.log.durable) ≡ None → Keeps w (core n) (core (record n { log = compacted n.log i (term_at n.log i) }))
+compacts : {w : Ways} (n : PlainNode) (i : ℕ) → compact_fault n.log i (min n.applied n.log.durable) ≡ None
+    → Keeps w (core n) (core (record n { log = compacted n.log i (term_at n.log i) }))
 compacts n i is =
     let within = compact_within n.log i (min n.applied n.log.durable) is in
     let far = within.1 in

@@ -84,7 +84,8 @@ pub data StepMove (w : Ways) : PlainNode → PlainNode → Type 0 where
   Asks : (n : PlainNode) → why_no_campaign n ≡ None → StepMove w n (precandidate n)
   Stands : (n : PlainNode) → why_no_campaign n ≡ None → StepMove w n (candidate n)
   Leads : (n : PlainNode) → n.role ≡ role.Candidate → w.elected n.term → StepMove w n (leading n)
-  Votes_for : (n : PlainNode) (m : Message) (last_term last_index : ℕ) → grants n m last_term last_index false ≡ true → w.given m.from n.term → StepMove w n (voted_for n m.from)
+  Votes_for : (n : PlainNode) (m : Message) (last_term last_index : ℕ) → grants n m last_term last_index false ≡ true → w.given m.from n.term
+      → StepMove w n (voted_for n m.from)
   Counts : (n : PlainNode) (from : ℕ) (granted : Bool) → StepMove w n (record n { votes = answered n.votes from granted })
   -- an entry of its own
   Appends : (n : PlainNode) (body : Body) → n.role ≡ role.Leader → StepMove w n (record n { log = own n.log (record { term = n.term; body = body }) })
@@ -107,7 +108,8 @@ pub data CallMove (sound : Type 0) (w : Ways) : PlainNode → PlainNode → Type
   Unmarks : (n : PlainNode) → CallMove sound w n (record n { tracker = unmarked n.tracker n.id })
   Gives_up : (n : PlainNode) → CallMove sound w n (following n n.term 0)
   Saves : (n : PlainNode) → (sound → IsSound n) → CallMove sound w n (saved n)
-  Compacts : (n : PlainNode) (i : ℕ) → compact_fault n.log i (min n.applied n.log.durable) ≡ None → CallMove sound w n (record n { log = compacted n.log i (term_at n.log i) })
+  Compacts : (n : PlainNode) (i : ℕ) → compact_fault n.log i (min n.applied n.log.durable) ≡ None
+      → CallMove sound w n (record n { log = compacted n.log i (term_at n.log i) })
 
 -- ---- ways of moves, of a node and of a turn
 

@@ -39,7 +39,8 @@ use Rattle.rb_node_laws.proofs.Saying.{different}
 -- ---- terms
 
 followed_way : {w : Ways} (t : Turn) (term lead : ℕ) → t.node.term ≤ term → (t.node.role ≡ role.Leader → t.node.term < term) → Path (StepMove w) t (followed t term lead)
-followed_way t term lead up past = Onward (Goes_on t (One (Follows t.node term lead up past))) (Shows (with_node t (following t.node term lead)) (Became t.node.id role.Follower term))
+followed_way t term lead up past =
+    Onward (Goes_on t (One (Follows t.node term lead up past))) (Shows (with_node t (following t.node term lead)) (Became t.node.id role.Follower term))
 
 -- who doesn't lead may follow in its term
 joins : {w : Ways} (t : Turn) (lead : ℕ) → (t.node.role ≡ role.Leader → ⊥) → Path (StepMove w) t (followed t t.node.term lead)
@@ -59,7 +60,8 @@ raised_way (kind.Heartbeat commit) t m up = takes_up t m.term m.from up
 raised_way (kind.Snapshot snapshot) t m up = takes_up t m.term m.from up
 raised_way _ t m up = takes_up t m.term 0 up
 
-waits : {w : Ways} (t : Turn) (to term : ℕ) (answer : MessageKind) → (IsSound t.node → Answers t.node (message t.node.id to term answer)) → Path (StepMove w) t (with_node t (answered_with t.node to term answer))
+waits : {w : Ways} (t : Turn) (to term : ℕ) (answer : MessageKind) → (IsSound t.node → Answers t.node (message t.node.id to term answer))
+    → Path (StepMove w) t (with_node t (answered_with t.node to term answer))
 waits t to term answer says = Goes_on t (One (Waits t.node (message t.node.id to term answer) says))
 
 shown_way : {w : Ways} (t : Turn) (m : Message) → Path (StepMove w) t (shown_term t m)
@@ -80,7 +82,8 @@ record May (c : Core) (term : ℕ) (question answer : MessageKind) : Type 0 wher
   others : (x : PlainNode) (to : ℕ) → core x ≡ c → (to ≡ x.id → ⊥) → Sends x (message x.id to term question)
   itself : (x : PlainNode) (to : ℕ) → core x ≡ c → to ≡ x.id → Answers x (message x.id to term answer)
 
-asked_one_way : {w : Ways} (n : PlainNode) (to term : ℕ) (question answer : MessageKind) → May (core n) term question answer → Way (StepMove w) n (asked_one n to term question answer)
+asked_one_way : {w : Ways} (n : PlainNode) (to term : ℕ) (question answer : MessageKind) → May (core n) term question answer
+    → Way (StepMove w) n (asked_one n to term question answer)
 asked_one_way {w} n to term question answer may =
     if_both (Way (StepMove w) n) (to == n.id) _ _
     (λ is. One (Waits n (message n.id to term answer) (λ _. may.itself n to refl (eqb-true to n.id is))))
@@ -89,7 +92,8 @@ asked_one_way {w} n to term question answer may =
 pub asked_one_same : (n : PlainNode) (to term : ℕ) (question answer : MessageKind) → core (asked_one n to term question answer) ≡ core n
 asked_one_same n to term question answer = if_both (λ (x : PlainNode). core x ≡ core n) (to == n.id) _ _ (λ _. refl) (λ _. refl)
 
-asked_way : {w : Ways} (n : PlainNode) (ids : List ℕ) (term : ℕ) (question answer : MessageKind) → May (core n) term question answer → Way (StepMove w) n (asked n ids term question answer)
+asked_way : {w : Ways} (n : PlainNode) (ids : List ℕ) (term : ℕ) (question answer : MessageKind) → May (core n) term question answer
+    → Way (StepMove w) n (asked n ids term question answer)
 asked_way n [] term question answer may = telling (One (Idle n n refl))
 asked_way n (id ∷ ids) term question answer may =
     Then (asked_one_way n id term question answer may)
@@ -120,7 +124,8 @@ pre_vote_way t may =
     let asks = asked_way n (voters n.tracker.config) (n.term + 1) (kind.PreVote (last_term n.log) (last n.log)) (kind.PreVoteResponse true) (may_ask_first n) in
     Onward (Goes_on t (Then (One (Asks t.node may)) asks)) (Shows (with_node t (asked_for_pre_votes n)) (Became t.node.id role.Precandidate t.node.term))
 
-campaigned_way_unless : {w : Ways} (o : Option WhyNoCampaign) (t : Turn) (transfer : Bool) → why_no_campaign t.node ≡ o → Path (StepMove w) t (campaigned_unless o t transfer)
+campaigned_way_unless : {w : Ways} (o : Option WhyNoCampaign) (t : Turn) (transfer : Bool) → why_no_campaign t.node ≡ o
+    → Path (StepMove w) t (campaigned_unless o t transfer)
 campaigned_way_unless (Some reason) t transfer is = Shows t _
 campaigned_way_unless {w} None t transfer is =
     if_both (Path (StepMove w) t) (t.node.options.pre_vote && not transfer) _ _ (λ _. pre_vote_way t is) (λ _. stood_way t transfer is)
@@ -139,17 +144,20 @@ after_pre_vote_way t = stood_way_unless (why_no_campaign t.node) t refl
 
 -- ---- votes
 
-vote_way : {w : Ways} (t : Turn) (m : Message) (last_term last_index : ℕ) → m.term ≡ t.node.term → (is_up_to_date t.node.log last_index last_term ≡ true → w.given m.from t.node.term)
+vote_way : {w : Ways} (t : Turn) (m : Message) (last_term last_index : ℕ) → m.term ≡ t.node.term
+    → (is_up_to_date t.node.log last_index last_term ≡ true → w.given m.from t.node.term)
     → Path (StepMove w) t (with_node t (vote_answered t.node m last_term last_index))
 vote_way {w} t m last_term last_index of_term grant =
     let n = t.node in
     let x : PlainNode = voted_for n m.from in
     if_both (λ (y : PlainNode). Path (StepMove w) t (with_node t y)) (grants n m last_term last_index false) _ _
     (λ gives. (let new = (and_parts (can_vote_for n m false) (is_up_to_date n.log last_index last_term) gives).1 in
-    Onward (Goes_on t (One (Votes_for n m last_term last_index gives (grant new)))) (waits (with_node t x) m.from m.term (kind.VoteResponse true) (λ _. (refl, (of_term, λ _. refl))))))
+    Onward (Goes_on t (One (Votes_for n m last_term last_index gives (grant new))))
+    (waits (with_node t x) m.from m.term (kind.VoteResponse true) (λ _. (refl, (of_term, λ _. refl))))))
     (λ _. waits t m.from n.term (kind.VoteResponse false) (λ _. (refl, (refl, λ no. absurd (false≢true no)))))
 
-pre_vote_answered_way : {w : Ways} (t : Turn) (m : Message) (last_term last_index : ℕ) → Path (StepMove w) t (with_node t (pre_vote_answered t.node m last_term last_index))
+pre_vote_answered_way : {w : Ways} (t : Turn) (m : Message) (last_term last_index : ℕ)
+    → Path (StepMove w) t (with_node t (pre_vote_answered t.node m last_term last_index))
 pre_vote_answered_way {w} t m last_term last_index =
     if_both (λ (y : PlainNode). Path (StepMove w) t (with_node t y)) (grants t.node m last_term last_index true) _ _
     (λ _. waits t m.from m.term (kind.PreVoteResponse true) (λ _. (refl, tt))) (λ _. waits t m.from t.node.term (kind.PreVoteResponse false) (λ _. (refl, tt)))
@@ -172,10 +180,13 @@ counted_way t m granted = Onward (Goes_on t (One (Counts t.node m.from granted))
 stands_not : (r : Role) → r ≡ role.Follower → r ≡ role.Candidate → ⊥
 stands_not r e f = let no : role.Follower ≡ role.Candidate = sym e ∙ f in cc
 
-holds_up_to : {w : Ways} (t : Turn) (from i : ℕ) → t.node.role ≡ role.Follower → (IsSound t.node → i ≤ last t.node.log) → Path (StepMove w) t (with_node t (answered_with t.node from t.node.term (kind.AppendResponse i)))
-holds_up_to t from i follows held = waits t from t.node.term (kind.AppendResponse i) (λ s. (refl, (refl, held s, λ stands. absurd (stands_not t.node.role follows stands))))
+holds_up_to : {w : Ways} (t : Turn) (from i : ℕ) → t.node.role ≡ role.Follower → (IsSound t.node → i ≤ last t.node.log)
+    → Path (StepMove w) t (with_node t (answered_with t.node from t.node.term (kind.AppendResponse i)))
+holds_up_to t from i follows held =
+    waits t from t.node.term (kind.AppendResponse i) (λ s. (refl, (refl, held s, λ stands. absurd (stands_not t.node.role follows stands))))
 
-after_log_way : {w : Ways} (a : Appended) (t : Turn) (from : ℕ) (append : PlainAppend) → t.node.role ≡ role.Follower → Reaches a t.node.log t.node.commit → Path (StepMove w) t (after_log a t from append)
+after_log_way : {w : Ways} (a : Appended) (t : Turn) (from : ℕ) (append : PlainAppend) → t.node.role ≡ role.Follower → Reaches a t.node.log t.node.commit
+    → Path (StepMove w) t (after_log a t from append)
 unfolding Reaches
 after_log_way (Matched i) t from append follows reach =
     let x : PlainNode = commits_to t.node (min append.commit i) in
@@ -190,7 +201,8 @@ append_way t from append follows =
     let n = t.node in
     let u : Turn = with_node t (with_appended n from append) in
     Onward (Goes_on t (One (Takes n from append follows)))
-    (after_log_way (answer n.log append.prev append.prev_term append.entries n.commit) u from append follows (answer_reaches n.log append.prev append.prev_term append.entries n.commit))
+    (after_log_way (answer n.log append.prev append.prev_term append.entries n.commit) u from append follows
+    (answer_reaches n.log append.prev append.prev_term append.entries n.commit))
 
 snapshot_way : {w : Ways} (t : Turn) (from : ℕ) (s : Snapshot) → t.node.role ≡ role.Follower → Path (StepMove w) t (snapshot_taken t from s)
 unfolding snapshot_taken
@@ -204,10 +216,12 @@ snapshot_way {w} t from s follows =
     if_both P (is_term (term_at n.log s.index) s.term) _ _
     (λ holds. (let held = held_in n.log s.index s.term (is_term_is (term_at n.log s.index) s.term holds) in
     Onward (Goes_on t (One (Learns n s.index follows (omega (arith, above)) (λ _. held.1)))) (holds_up_to (with_node t x) from s.index follows (λ o. o.is_held))))
-    (λ _. Onward (Goes_on t (One (Restores n s follows above))) (Onward (holds_up_to y from s.index follows (λ o. o.is_held)) (Shows (with_node t (with_match (restored_to n s) from)) _)))))
+    (λ _. Onward (Goes_on t (One (Restores n s follows above)))
+    (Onward (holds_up_to y from s.index follows (λ o. o.is_held)) (Shows (with_node t (with_match (restored_to n s) from)) _)))))
 
 -- what is for its leader
-passed_way : {w : Ways} (t : Turn) (what : MessageKind) → (Sends t.node (message t.node.id t.node.lead 0 what)) → Path (StepMove w) t (with_node t (passed_on t.node what))
+passed_way : {w : Ways} (t : Turn) (what : MessageKind) → (Sends t.node (message t.node.id t.node.lead 0 what))
+    → Path (StepMove w) t (with_node t (passed_on t.node what))
 passed_way t what says = Goes_on t (One (StepTells (Sent t.node (message t.node.id t.node.lead 0 what) (λ _. says))))
 
 beaten_way : {w : Ways} (n : PlainNode) (from commit : ℕ) → n.role ≡ role.Follower → Way (StepMove w) n (beaten n from commit)
@@ -222,7 +236,8 @@ beaten_way n from commit follows =
 
 -- what is known of a message where it is stepped: votes, elections and answers that it may bring
 pub record Brings (w : Ways) (t : Turn) (m : Message) : Type 0 where
-  pub votes : (last_term last_index : ℕ) (transfer : Bool) → m.kind ≡ kind.Vote last_term last_index transfer → (m.term ≡ t.node.term) × (is_up_to_date t.node.log last_index last_term ≡ true → w.given m.from t.node.term)
+  pub votes : (last_term last_index : ℕ) (transfer : Bool) → m.kind ≡ kind.Vote last_term last_index transfer
+      → (m.term ≡ t.node.term) × (is_up_to_date t.node.log last_index last_term ≡ true → w.given m.from t.node.term)
   pub elects : t.node.role ≡ role.Candidate → (granted : Bool) → m.kind ≡ kind.VoteResponse granted → count_of t.node m.from granted ≡ vote.Won → w.elected t.node.term
   pub tells : t.node.role ≡ role.Leader → (i : ℕ) → m.kind ≡ kind.AppendResponse i → w.matched t.node.term m.from (min i (last t.node.log))
 
@@ -232,8 +247,10 @@ follower_way (kind.Heartbeat commit) t m is = Goes_on t (beaten_way t.node m.fro
 follower_way (kind.Snapshot snapshot) t m is =
     let n : PlainNode = heard t.node m.from in
     Onward (Goes_on t (One (StepTells (Idle t.node n refl)))) (snapshot_way (with_node t n) m.from snapshot is)
-follower_way {w} (kind.Proposal body) t m is = if_both (Path (StepMove w) t) (t.node.lead == 0) _ _ (λ _. Shows t _) (λ _. passed_way t (kind.Proposal body) (refl, (refl, refl)))
-follower_way {w} (kind.TransferLeader target) t m is = if_both (Path (StepMove w) t) (t.node.lead == 0) _ _ (λ _. Shows t _) (λ _. passed_way t (kind.TransferLeader target) (refl, (refl, refl)))
+follower_way {w} (kind.Proposal body) t m is =
+    if_both (Path (StepMove w) t) (t.node.lead == 0) _ _ (λ _. Shows t _) (λ _. passed_way t (kind.Proposal body) (refl, (refl, refl)))
+follower_way {w} (kind.TransferLeader target) t m is =
+    if_both (Path (StepMove w) t) (t.node.lead == 0) _ _ (λ _. Shows t _) (λ _. passed_way t (kind.TransferLeader target) (refl, (refl, refl)))
 follower_way kind.TimeoutNow t m is = campaigned_way t true
 follower_way _ t m is = Shows t _
 
@@ -241,7 +258,8 @@ leader_followed_way : {w : Ways} (t : Turn) (m : Message) → (t.node.role ≡ r
 leader_followed_way t m never = let u = followed t t.node.term m.from in Onward (joins t m.from never) (follower_way m.kind u m refl)
 
 precandidate_way : {w : Ways} (k : MessageKind) (t : Turn) (m : Message) → (t.node.role ≡ role.Leader → ⊥) → Path (StepMove w) t (as_precandidate k t m)
-precandidate_way (kind.PreVoteResponse granted) t m never = Onward (counted_way t m granted) (pre_decided_way (count_of t.node m.from granted) (counted t m granted) never)
+precandidate_way (kind.PreVoteResponse granted) t m never =
+    Onward (counted_way t m granted) (pre_decided_way (count_of t.node m.from granted) (counted t m granted) never)
 precandidate_way (kind.Append append) t m never = leader_followed_way t m never
 precandidate_way (kind.Heartbeat commit) t m never = leader_followed_way t m never
 precandidate_way (kind.Snapshot snapshot) t m never = leader_followed_way t m never
@@ -249,13 +267,15 @@ precandidate_way _ t m never = Shows t _
 
 candidate_way : {w : Ways} (k : MessageKind) (t : Turn) (m : Message) → t.node.role ≡ role.Candidate → (t.node.role ≡ role.Leader → ⊥)
     → ((granted : Bool) → k ≡ kind.VoteResponse granted → count_of t.node m.from granted ≡ vote.Won → w.elected t.node.term) → Path (StepMove w) t (as_candidate k t m)
-candidate_way (kind.VoteResponse granted) t m stands never elect = Onward (counted_way t m granted) (decided_way (count_of t.node m.from granted) (counted t m granted) stands (elect granted refl))
+candidate_way (kind.VoteResponse granted) t m stands never elect =
+    Onward (counted_way t m granted) (decided_way (count_of t.node m.from granted) (counted t m granted) stands (elect granted refl))
 candidate_way (kind.Append append) t m stands never elect = leader_followed_way t m never
 candidate_way (kind.Heartbeat commit) t m stands never elect = leader_followed_way t m never
 candidate_way (kind.Snapshot snapshot) t m stands never elect = leader_followed_way t m never
 candidate_way _ t m stands never elect = Shows t _
 
-leader_way : {w : Ways} (k : MessageKind) (t : Turn) (m : Message) → t.node.role ≡ role.Leader → ((i : ℕ) → k ≡ kind.AppendResponse i → w.matched t.node.term m.from (min i (last t.node.log))) → Path (StepMove w) t (as_leader k t m)
+leader_way : {w : Ways} (k : MessageKind) (t : Turn) (m : Message) → t.node.role ≡ role.Leader
+    → ((i : ℕ) → k ≡ kind.AppendResponse i → w.matched t.node.term m.from (min i (last t.node.log))) → Path (StepMove w) t (as_leader k t m)
 leader_way (kind.Proposal body) t m is tells = proposed_way t body is
 leader_way (kind.AppendResponse i) t m is tells = accepted_way t m i is (tells i refl)
 leader_way (kind.AppendRefusal refused hint) t m is tells = telling_path (refused_way t m refused hint)
@@ -289,7 +309,8 @@ raised_log (kind.PreVoteResponse granted) t m = if_both (λ (u : Turn). u.node.l
 raised_log _ t m = refl
 
 -- an answer of a later term, to a candidate or a leader, makes a follower
-no_answer_later : (t : Turn) (m : Message) (k : MessageKind) (r : Role) → m.kind ≡ k → (raised_by k t m).node.role ≡ role.Follower → r ≡ (raised t m).node.role → (r ≡ role.Follower → ⊥) → ⊥
+no_answer_later : (t : Turn) (m : Message) (k : MessageKind) (r : Role) → m.kind ≡ k → (raised_by k t m).node.role ≡ role.Follower → r ≡ (raised t m).node.role
+    → (r ≡ role.Follower → ⊥) → ⊥
 no_answer_later t m k r is follows e other = other (e ∙ ap (λ (x : MessageKind). (raised_by x t m).node.role) is ∙ follows)
 
 leads_no_follower : (r : Role) → r ≡ role.Leader → r ≡ role.Follower → ⊥
@@ -302,11 +323,13 @@ above : (a b : ℕ) → nat_lt b a ≡ false → (b == a) ≡ false → a < b
 above a b low apart = let le = ltb-false b a low in let ne = eqb-false b a apart in let lt : (a ≡ b → ⊥) → a < b = λ no. omega (arith, le, no) in lt (λ e. ne (sym e))
 
 brings_now : {w : Ways} (t : Turn) (m : Message) → (not (has_term m.kind) || m.term == t.node.term) ≡ true
-    → (IsGranted t.node m → w.given m.from m.term) → (IsElected t.node m → w.elected t.node.term) → ((i : ℕ) → IsAccepted t.node m i → w.matched t.node.term m.from i) → Brings w t m
+    → (IsGranted t.node m → w.given m.from m.term) → (IsElected t.node m → w.elected t.node.term) → ((i : ℕ) → IsAccepted t.node m i → w.matched t.node.term m.from i)
+    → Brings w t m
 brings_now {w} t m now grant elect accept = record {
   votes = λ last_term last_index transfer asks. (let same = of_term t m (ap has_term asks) now in
       (same, λ new. subst (w.given m.from) same (grant (record { last_term = last_term; last_index = last_index; transfer = transfer; asks = asks; is_new = new }))));
-  elects = λ stands granted answers won. elect (record { stands = stands; of_term = of_term t m (ap has_term answers) now; granted = granted; answers = answers; won = won });
+  elects = λ stands granted answers won. elect
+      (record { stands = stands; of_term = of_term t m (ap has_term answers) now; granted = granted; answers = answers; won = won });
   tells = λ leads i says. accept (min i (last t.node.log))
       (record { leads = leads; of_term = of_term t m (ap has_term says) now; index = i; says = says; at_most = omega arith; held = omega arith });
 }
@@ -324,12 +347,14 @@ brings_later {w} t m grant = record {
           is_new = subst (λ (v : LogValue). is_up_to_date v last_index last_term ≡ true) (raised_log m.kind t m) new;
         })),
       ));
-  elects = λ stands granted answers won. absurd (no_answer_later t m (kind.VoteResponse granted) (raised t m).node.role answers refl refl (stands_no_follower (raised t m).node.role stands));
+  elects = λ stands granted answers won. absurd
+      (no_answer_later t m (kind.VoteResponse granted) (raised t m).node.role answers refl refl (stands_no_follower (raised t m).node.role stands));
   tells = λ leads i says. absurd (no_answer_later t m (kind.AppendResponse i) (raised t m).node.role says refl refl (leads_no_follower (raised t m).node.role leads));
 }
 
 pub stepped_way : {w : Ways} (t : Turn) (m : Message)
-    → (IsGranted t.node m → w.given m.from m.term) → (IsElected t.node m → w.elected t.node.term) → ((i : ℕ) → IsAccepted t.node m i → w.matched t.node.term m.from i) → Path (StepMove w) t (stepped t m)
+    → (IsGranted t.node m → w.given m.from m.term) → (IsElected t.node m → w.elected t.node.term) → ((i : ℕ) → IsAccepted t.node m i → w.matched t.node.term m.from i)
+    → Path (StepMove w) t (stepped t m)
 unfolding stepped
 stepped_way {w} t m grant elect accept =
     let P : Turn → Type 0 = Path (StepMove w) t in
@@ -340,4 +365,5 @@ stepped_way {w} t m grant elect accept =
     (λ _. lowered_way m.kind t m)
     (λ later. if_both P (is_disturbed_by m.kind t.node) (ignored t m) (at_term (raised t m) m)
     (λ _. Shows t _)
-    (λ _. Onward (raised_way m.kind t m (above t.node.term m.term later (or_parts (not (has_term m.kind)) (m.term == t.node.term) apart).1)) (term_way m.kind (raised t m) m refl (brings_later t m grant)))))
+    (λ _. Onward (raised_way m.kind t m (above t.node.term m.term later (or_parts (not (has_term m.kind)) (m.term == t.node.term) apart).1))
+    (term_way m.kind (raised t m) m refl (brings_later t m grant)))))

@@ -87,7 +87,8 @@ leads_by role.Follower views at view is of_role = no_view views at view is (of_r
 leads_by role.Precandidate views at view is of_role = no_view views at view is (of_role.only_leading (λ e. cc))
 leads_by role.Candidate views at view is of_role = no_view views at view is (of_role.only_leading (λ e. cc))
 
-append_sent : (n : PlainNode) (at to : ℕ) (view : PlainProgress) (es : List Entry) → view_at n.tracker.views at ≡ Some view → n.log.base ≤ view.next - 1 → AreOfLog n.log (view.next - 1) es
+append_sent : (n : PlainNode) (at to : ℕ) (view : PlainProgress) (es : List Entry) → view_at n.tracker.views at ≡ Some view → n.log.base ≤ view.next - 1
+    → AreOfLog n.log (view.next - 1) es
     → (to ≡ n.id → ⊥) → Way TellMove n (posted n to (append_of n view.next es))
 append_sent n at to view es is past among other =
     One (Sent n (message n.id to n.term (append_of n view.next es)) (λ _. (
@@ -105,7 +106,8 @@ append_sent n at to view es is past among other =
       ),
     )))
 
-snapshot_sent : (n : PlainNode) (at to : ℕ) (view : PlainProgress) → view_at n.tracker.views at ≡ Some view → (to ≡ n.id → ⊥) → Way TellMove n (posted n to (kind.Snapshot (snapshot_of n)))
+snapshot_sent : (n : PlainNode) (at to : ℕ) (view : PlainProgress) → view_at n.tracker.views at ≡ Some view → (to ≡ n.id → ⊥)
+    → Way TellMove n (posted n to (kind.Snapshot (snapshot_of n)))
 snapshot_sent n at to view is other =
     One (Sent n (message n.id to n.term (kind.Snapshot (snapshot_of n))) (λ _. (
       refl,
@@ -140,7 +142,8 @@ sending_fits log view how =
     (λ _. if_both P (is_ping how) _ _ (λ _. high) (λ _. tt))
     (λ _. if_both P (nat_lt (last log) view.next && tells_news how) _ _ (λ _. tt) (λ _. high))))
 
-by_sending : (s : Sending) (n : PlainNode) (at to : ℕ) (view : PlainProgress) → view_at n.tracker.views at ≡ Some view → Fits s (nat_lt (view.next - 1) n.log.base) → (to ≡ n.id → ⊥) → Way TellMove n (sends_by s n at to)
+by_sending : (s : Sending) (n : PlainNode) (at to : ℕ) (view : PlainProgress) → view_at n.tracker.views at ≡ Some view → Fits s (nat_lt (view.next - 1) n.log.base)
+    → (to ≡ n.id → ⊥) → Way TellMove n (sends_by s n at to)
 by_sending sending.Nothing n at to view is fits other = One (Idle n n refl)
 by_sending sending.Snapshot n at to view is fits other =
     let under = ltb-true (view.next - 1) n.log.base fits in
@@ -159,7 +162,8 @@ by_sending sending.Entries n at to view is fits other =
     (Then (append_sent n at to view es is past (rest_of_log n.log (view.next - 1) past) other)
     (One (Viewed x at view (sent view (last n.log)) is (sent_match view.state view (last n.log)) (λ _ g. sound_sent view (last n.log) g))))
 
-by_view : (o : Option PlainProgress) (n : PlainNode) (at to : ℕ) (how : Mode) → view_at n.tracker.views at ≡ o → (to ≡ n.id → ⊥) → Way TellMove n (sends_with o n at to how)
+by_view : (o : Option PlainProgress) (n : PlainNode) (at to : ℕ) (how : Mode) → view_at n.tracker.views at ≡ o → (to ≡ n.id → ⊥)
+    → Way TellMove n (sends_with o n at to how)
 by_view None n at to how is other = One (Idle n n refl)
 by_view (Some view) n at to how is other = by_sending (sending_of n.log view how) n at to view is (sending_fits n.log view how) other
 

@@ -60,7 +60,8 @@ strangers_sound n (id ∷ ids) are =
 no_views : (r : Role) → AreViewsOf r []
 no_views r = record { only_leading = λ _. refl; each = tt }
 
-written : (n : PlainNode) (at : ℕ) (view new : PlainProgress) → view_at n.tracker.views at ≡ Some view → (IsSoundView view → IsSoundView new) → HasSoundViews n → HasSoundViews (viewed n at new)
+written : (n : PlainNode) (at : ℕ) (view new : PlainProgress) → view_at n.tracker.views at ≡ Some view → (IsSoundView view → IsSoundView new) → HasSoundViews n
+    → HasSoundViews (viewed n at new)
 written n at view new is sound v = record {
   only_leading = λ no. ap (λ (l : List (ℕ × PlainProgress)). set_value_at l at new) (v.only_leading no);
   each = sound_set n.tracker.views at new v.each (sound (sound_at n.tracker.views at view v.each is));
@@ -89,7 +90,8 @@ revised_views n leads s v =
     let left = without_strangers n ids in
     record {
       only_leading = λ no. absurd (no (ap (λ (c : Core). c.role) (with_members_same n) ∙ leads));
-      each = with_views_sound left (missing left.tracker.views (members left.tracker.config)) true (sound_as n left (strangers_same n ids) s) (strangers_sound n ids v.each);
+      each = with_views_sound left (missing left.tracker.views (members left.tracker.config)) true
+          (sound_as n left (strangers_same n ids) s) (strangers_sound n ids v.each);
     }
 
 change_views : {a b : PlainNode} → ChangeMove a b → IsSound a → HasSoundViews a → HasSoundViews b
