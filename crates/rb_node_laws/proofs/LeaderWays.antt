@@ -91,7 +91,7 @@ handed_way n to i leads holds =
     One (Sent n (message n.id to n.term kind.TimeoutNow) (λ _. (refl, (refl, leads, eqb-true to n.transferee parts.0, holds ∙ eqb-true i (last n.log) parts.1))))))
     (λ _. One (Idle n n refl))
 
--- what each is known to hold stays where the commit is checked or more is sent
+-- news is no less than what is known
 news_up : (view : PlainProgress) (i : ℕ) → is_news view i ≡ true → view.matched ≤ i
 news_up view i is_so =
     elim (or_cases (nat_lt view.matched i) (view.matched == i && is_probing view.state) is_so) as (λ _. view.matched ≤ i) [
