@@ -1,5 +1,5 @@
 -- Who campaigns, what a leader takes, and what the options ask of a node
-use Rattle.std.proofs.Common.{[], Bool, not, ◌≡◌, false, true, refl, sym, None, Option, ◌∙◌, ap, ◌⊎◌, Some, inl, inr, ℕ, ◌≤◌, nat_lt, ◌+◌, List, length, ◌||◌, ◌==◌, ◌<◌, arith, subst, ◌&&◌, nat_le, if◌then◌else◌, eqb-true, Result, Ok}
+use Rattle.std.proofs.Common.{[], Bool, not, ◌≡◌, false, true, refl, sym, None, Option, ◌∙◌, ap, ◌⊎◌, Some, inl, inr, ℕ, ◌≤◌, nat_lt, ◌+◌, List, length, ◌||◌, ◌==◌, ◌<◌, arith, subst, ◌&&◌, nat_le, if◌then◌else◌, Result, Ok}
 use Rattle.std.proofs.lemmas.Bool.{false≢true, ltb-false, eqb-false, le-leb, lt-ltb, ltb-true}
 use Rattle.std.proofs.lemmas.Bool.Decides.{nat_tests}
 use Rattle.rb_raftlog.specs.Log.{has_change, own, last}
@@ -35,6 +35,7 @@ use Rattle.rb_node.specs.Transferring.{transferred, cannot_take_lead}
 use Rattle.rb_node.specs.declared.limits.TheConstants.{ELECTION_TICKS}
 use Rattle.rb_node_laws.specs.Choices.{MayCampaign, PutsChange, MayTakeLead, StepsDown}
 use Rattle.rb_node_laws.proofs.Moves.{over_way}
+use Rattle.rb_node_laws.proofs.StepWays.{of_term}
 use Rattle.rb_node_laws.proofs.TellWays.{Rest, keeps_rest, told_all_way}
 
 -- ---- who campaigns
@@ -203,18 +204,14 @@ all_three false b c e f g = absurd (false≢true e)
 hears : (n : PlainNode) → n.options.check_quorum ≡ true → 0 < n.lead → n.clock.elapsed < ELECTION_TICKS → hears_leader n ≡ true
 hears n checks knows lately = all_three n.options.check_quorum (n.lead == 0) (nat_lt n.clock.elapsed ELECTION_TICKS) checks (some_is n.lead knows) (lt-ltb n.clock.elapsed ELECTION_TICKS lately)
 
-of_this_term : (of same : Bool) → of ≡ true → (not of || same) ≡ true → same ≡ true
-of_this_term true same e h = h
-of_this_term false same e h = absurd (false≢true e)
-
 -- a disturbing message of a later term is passed over
 disturbed_stays : (t : Turn) (m : Message) → has_term m.kind ≡ true → t.node.term < m.term → is_disturbed_by m.kind t.node ≡ true → (stepped t m).node ≡ t.node
 unfolding stepped
-disturbed_stays t m of_term above disturbs =
+disturbed_stays t m has above disturbs =
     let P : Turn → Type 0 = λ u. u.node ≡ t.node in
     if_both P (not (has_term m.kind) || m.term == t.node.term) (at_term t m)
     (if nat_lt m.term t.node.term then lowered t m else (if is_disturbed_by m.kind t.node then ignored t m else at_term (raised t m) m))
-    (λ now. (let same : m.term ≡ t.node.term = eqb-true m.term t.node.term (of_this_term (has_term m.kind) (m.term == t.node.term) of_term now) in absurd (omega (arith, same, above))))
+    (λ now. (let same : m.term ≡ t.node.term = of_term t m has now in absurd (omega (arith, same, above))))
     (λ _. if_both P (nat_lt m.term t.node.term) (lowered t m) (if is_disturbed_by m.kind t.node then ignored t m else at_term (raised t m) m)
     (λ low. (let under : m.term < t.node.term = ltb-true m.term t.node.term low in absurd (omega (arith, under, above))))
     (λ _. if_both P (is_disturbed_by m.kind t.node) (ignored t m) (at_term (raised t m) m) (λ _. refl) (λ no. absurd (false≢true (sym no ∙ disturbs)))))

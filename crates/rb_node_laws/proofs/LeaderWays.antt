@@ -1,5 +1,5 @@
 -- What a leader does, as ways of moves: its own entries, its members' answers, proposals, and handing the lead over
-use Rattle.std.proofs.Common.{[], refl, ◌≡◌, sym, ◌∙◌, ◌+◌, arith, Option, ℕ, true, None, Some, ◌==◌, ◌&&◌, eqb-true, ◌≤◌, nat_lt, inl, inr, ap, Bool, false, subst, min, length}
+use Rattle.std.proofs.Common.{[], refl, ◌≡◌, ◌+◌, arith, sym, ◌∙◌, Option, ℕ, true, None, Some, ◌==◌, ◌&&◌, eqb-true, ◌≤◌, nat_lt, inl, inr, ap, Bool, false, subst, min, length}
 use Rattle.std.proofs.lemmas.Bool.{and_parts, or_cases, ltb-true}
 use Rattle.rb_raftlog.specs.Log.{own, last}
 use Rattle.rb_raftlog.specs.declared.entry.Body.{Body}
@@ -14,7 +14,6 @@ use Rattle.rb_message.specs.declared.event.Event.TheVariants.{Became, ReplacedCh
 use Rattle.rb_message.specs.declared.event.WhyReplaced.{WhyReplaced}
 use Rattle.rb_message.specs.declared.kind.MessageKind.TheVariants as kind
 use Rattle.rb_message.specs.declared.message.Message.{Message}
-use Rattle.rb_message.specs.declared.role.Role.{Role}
 use Rattle.rb_message.specs.declared.role.Role.TheVariants as role
 use Rattle.rb_node.specs.Acknowledging.{heard_of, handed_to, accepted_news, mode_after, commit_or_sent, accepted_old, accepted_by, accepted_with, accepted_at, accepted, refused_with, refused_at, append_refused, beat_answered_with, lags, beat_answered_at, beat_answered}
 use Rattle.rb_node.specs.Leading.{with_own, appended, is_log_full, appended_change, all_told, led, leading}
@@ -44,15 +43,12 @@ nothing_done t = Goes_on t (One (Idle t.node t.node refl))
 
 -- ---- entries of its own, and the lead
 
-leads_not : (r : Role) → r ≡ role.Leader → r ≡ role.Candidate → ⊥
-leads_not r e f = let no : role.Leader ≡ role.Candidate = sym e ∙ f in cc
-
 own_way : {w : Ways} (n : PlainNode) (body : Body) → n.role ≡ role.Leader → Way (StepMove w) n (with_own n body)
 own_way n body leads =
     let e : Entry = record { term = n.term; body = body } in
     let x : PlainNode = record n { log = own n.log e } in
     Then {b = x} (One (Appends n body leads)) (One (Waits x (message n.id n.id n.term (kind.AppendResponse (last n.log + 1)))
-    (λ _. (refl, (refl, omega (arith, own_size n.log e), λ stands. absurd (leads_not n.role leads stands))))))
+    (λ _. (refl, (refl, omega (arith, own_size n.log e), λ stands. (let never : role.Leader ≡ role.Candidate = sym leads ∙ stands in cc))))))
 
 pub appended_way : {w : Ways} (t : Turn) (body : Body) → t.node.role ≡ role.Leader → Path (StepMove w) t (appended t body)
 appended_way {w} t body leads = if_both (Path (StepMove w) t) (is_log_full t.node) _ _ (λ _. Shows t _) (λ _. Goes_on t (own_way t.node body leads))

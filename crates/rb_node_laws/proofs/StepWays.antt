@@ -21,7 +21,7 @@ use Rattle.rb_message.specs.declared.message.Message.{Message}
 use Rattle.rb_message.specs.declared.role.Role.{Role}
 use Rattle.rb_message.specs.declared.role.Role.TheVariants as role
 use Rattle.rb_node.specs.Campaigns.{asked_one, asked, why_no_campaign, stood, candidate, asked_for_votes, pre_vote_started, precandidate, asked_for_pre_votes, campaigned_unless, campaigned, stood_unless, campaigned_after_pre_vote}
-use Rattle.rb_node.specs.Following.{after_log, commits_to, append_taken, with_appended, snapshot_taken, restored_to, with_match, beaten, heard, passed_on}
+use Rattle.rb_node.specs.Following.{after_log, commits_to, append_taken, with_appended, snapshot_taken, restored_to, with_match, passed_on, beaten, heard}
 use Rattle.rb_node.specs.Node.{Turn, with_node, message, answered_with, PlainNode, ignored}
 use Rattle.rb_node.specs.Step.{as_follower, leader_followed, as_precandidate, as_candidate, as_leader, by_role_of, at_term_by, stepped, at_term}
 use Rattle.rb_node.specs.Terms.{followed, raised_by, shown_term, answers_earlier, lowered_by, raised, lowered, is_disturbed_by}
@@ -177,13 +177,10 @@ counted_way t m granted = Onward (Goes_on t (One (Counts t.node m.from granted))
 
 -- ---- a follower
 
-stands_not : (r : Role) → r ≡ role.Follower → r ≡ role.Candidate → ⊥
-stands_not r e f = let no : role.Follower ≡ role.Candidate = sym e ∙ f in cc
-
 holds_up_to : {w : Ways} (t : Turn) (from i : ℕ) → t.node.role ≡ role.Follower → (IsSound t.node → i ≤ last t.node.log)
     → Path (StepMove w) t (with_node t (answered_with t.node from t.node.term (kind.AppendResponse i)))
 holds_up_to t from i follows held =
-    waits t from t.node.term (kind.AppendResponse i) (λ s. (refl, (refl, held s, λ stands. absurd (stands_not t.node.role follows stands))))
+    waits t from t.node.term (kind.AppendResponse i) (λ s. (refl, (refl, held s, λ stands. (let never : role.Follower ≡ role.Candidate = sym follows ∙ stands in cc))))
 
 after_log_way : {w : Ways} (a : Appended) (t : Turn) (from : ℕ) (append : PlainAppend) → t.node.role ≡ role.Follower → Reaches a t.node.log t.node.commit
     → Path (StepMove w) t (after_log a t from append)
@@ -301,7 +298,7 @@ of_term_if true same e now = now
 of_term_if false same e now = cc
 
 -- what has a term is of the node's where it is taken at once
-of_term : (t : Turn) (m : Message) → has_term m.kind ≡ true → (not (has_term m.kind) || m.term == t.node.term) ≡ true → m.term ≡ t.node.term
+pub of_term : (t : Turn) (m : Message) → has_term m.kind ≡ true → (not (has_term m.kind) || m.term == t.node.term) ≡ true → m.term ≡ t.node.term
 of_term t m has now = eqb-true m.term t.node.term (of_term_if (has_term m.kind) (m.term == t.node.term) has now)
 
 raised_log : (k : MessageKind) (t : Turn) (m : Message) → (raised_by k t m).node.log ≡ t.node.log
@@ -312,12 +309,6 @@ raised_log _ t m = refl
 no_answer_later : (t : Turn) (m : Message) (k : MessageKind) (r : Role) → m.kind ≡ k → (raised_by k t m).node.role ≡ role.Follower → r ≡ (raised t m).node.role
     → (r ≡ role.Follower → ⊥) → ⊥
 no_answer_later t m k r is follows e other = other (e ∙ ap (λ (x : MessageKind). (raised_by x t m).node.role) is ∙ follows)
-
-leads_no_follower : (r : Role) → r ≡ role.Leader → r ≡ role.Follower → ⊥
-leads_no_follower r e f = let no : role.Leader ≡ role.Follower = sym e ∙ f in cc
-
-stands_no_follower : (r : Role) → r ≡ role.Candidate → r ≡ role.Follower → ⊥
-stands_no_follower r e f = let no : role.Candidate ≡ role.Follower = sym e ∙ f in cc
 
 above : (a b : ℕ) → nat_lt b a ≡ false → (b == a) ≡ false → a < b
 above a b low apart = let le = ltb-false b a low in let ne = eqb-false b a apart in let lt : (a ≡ b → ⊥) → a < b = λ no. omega (arith, le, no) in lt (λ e. ne (sym e))
@@ -348,8 +339,8 @@ brings_later {w} t m grant = record {
         })),
       ));
   elects = λ stands granted answers won. absurd
-      (no_answer_later t m (kind.VoteResponse granted) (raised t m).node.role answers refl refl (stands_no_follower (raised t m).node.role stands));
-  tells = λ leads i says. absurd (no_answer_later t m (kind.AppendResponse i) (raised t m).node.role says refl refl (leads_no_follower (raised t m).node.role leads));
+      (no_answer_later t m (kind.VoteResponse granted) (raised t m).node.role answers refl refl (λ f. (let never : role.Candidate ≡ role.Follower = sym stands ∙ f in cc)));
+  tells = λ leads i says. absurd (no_answer_later t m (kind.AppendResponse i) (raised t m).node.role says refl refl (λ f. (let never : role.Leader ≡ role.Follower = sym leads ∙ f in cc)));
 }
 
 pub stepped_way : {w : Ways} (t : Turn) (m : Message)
