@@ -1,148 +1,146 @@
--- Each directive of a cluster is a run of the network
-use Rattle.std.proofs.Common.{◌≡◌, ℕ, zero, suc, ◌+◌, ◌-◌, ◌<◌, true, not, List, [], ◌∷◌, ◌++◌, length, Option, Some, None, refl, sym, ap, subst, ◌∙◌, arith, inl, inr, if◌then◌else◌, ◌==◌, eqb-true}
+-- What the directives of a cluster do: nodes are called, one after another, and put out what they have. A fact of nodes, and of messages that
+-- may come to them, which lasts through that lasts through each directive.
+use Rattle.std.proofs.Common.{◌≡◌, ℕ, zero, suc, ◌+◌, ◌-◌, ◌<◌, ◌≤◌, Bool, true, false, not, List, [], ◌∷◌, ◌++◌, length, min, Option, Some, None, Result, Ok, Err, refl, sym, ap, subst, ◌∙◌, arith, if◌then◌else◌, nat_le, ◌==◌, eqb-true}
 use Rattle.std.specs.Prelude.{All, Contains, slice_get, slice_set, slice_index_or}
 use Rattle.std.specs.List.{range_with_len}
-use Rattle.std.proofs.lemmas.Bool.{and_parts}
-use Rattle.std.proofs.lemmas.List.Elements.{All-nil, All-head, All-tail, All-cons, All-push, All-weaker, All-append, All-filter, All-contains_itself, Contains-append_left, Contains-append_right, filter_passes}
+use Rattle.std.specs.Option.{option_or}
+use Rattle.std.proofs.lemmas.Bool.{and_parts, leb-true}
+use Rattle.std.proofs.lemmas.List.{set-set, set-get_or}
+use Rattle.std.proofs.lemmas.List.Elements.{All-nil, All-head, All-tail, All-cons, All-push, All-weaker, All-append, All-filter, All-contains_itself, Contains-append_left, Contains-append_right, Contains-push, filter_passes}
+use Rattle.std.proofs.lemmas.Option.{get_or_from_slice_get}
+use Rattle.rb_script.specs.Directive.{PlainDirective}
+use Rattle.rb_level.specs.declared.directive_error.DirectiveError.{DirectiveError}
+use Rattle.rb_level.specs.declared.directive_error.DirectiveError.TheVariants as errors
+use Rattle.rb_directive.specs.declared.act.Act.{Act}
+use Rattle.rb_directive.specs.declared.act.Act.TheVariants as does
+use Rattle.rb_directive.specs.declared.act_with.ActWith.TheVariants as withs
 use Rattle.rb_directive.specs.declared.asking.DeliverMsgs.{DeliverMsgs}
+use Rattle.rb_directive.specs.declared.asking.Request.{Request}
+use Rattle.rb_directive.specs.declared.asking.Request.TheVariants as requests
+use Rattle.rb_directive.specs.declared.build.Asked.{Asked}
 use Rattle.rb_directive.specs.declared.type_set.TypeSet.{TypeSet}
+use Rattle.rb_directive.specs.Changes.{input_words}
+use Rattle.rb_directive.specs.Requests.{request, nodes_of}
+use Rattle.rb_raftlog.specs.Bodies.{is_change}
+use Rattle.rb_raftlog.specs.declared.entry.Body.TheVariants.{Payload, Change}
+use Rattle.rb_raftlog.specs.declared.raft_log.CompactFault.{CompactFault}
+use Rattle.rb_raftlog.specs.declared.snapshot.Snapshot.{Snapshot}
+use Rattle.rb_raftlog.specs.Log.{compact_fault}
 use Rattle.rb_tracker.proofs.SetLaws.{if_both}
 use Rattle.rb_message.specs.Messages.{type_of}
+use Rattle.rb_message.specs.declared.kind.MessageKind.TheVariants as kind
 use Rattle.rb_message.specs.declared.message.Message.{Message}
-use Rattle.rb_node.specs.Node.{PlainNode, Turn, turn}
+use Rattle.rb_node.specs.declared.limits.TheConstants.{ELECTION_TICKS}
+use Rattle.rb_node.specs.declared.options.Options.{Options}
+use Rattle.rb_node.specs.Node.{PlainNode, Turn, turn, started, message}
+use Rattle.rb_node.specs.Calls.{node_started}
 use Rattle.rb_node.specs.Readying.{has_ready, handed, others}
+use Rattle.rb_node.specs.Sends.{snapshot_of}
 use Rattle.rb_node.specs.Ticking.{ticked}
-use Rattle.rb_node_laws.specs.Calling.{Call, Step, Tick, Advance, after}
-use Rattle.rb_machine.specs.Acts.{ticked_times}
-use Rattle.rb_machine.specs.Cluster.{Cluster, node_at, with_node}
+use Rattle.rb_node_laws.specs.Calling.{Call, Step, Campaign, Propose, Transfer, Tick, Advance, ForgetLeader, ReportUnreachable, SetTimeout, Compact, compacted_unless, after}
+use Rattle.rb_machine.specs.declared.screen.Form.TheVariants as forms
+use Rattle.rb_machine.specs.Acts.{act, ticked_times}
+use Rattle.rb_machine.specs.AddNodes.{added_each, began, nodes_added, options, start}
+use Rattle.rb_machine.specs.Changes.{words_of}
+use Rattle.rb_machine.specs.Cluster.{Cluster, is_node, node_at, with_node, changed_by}
 use Rattle.rb_machine.specs.Deliveries.{left_by, received, all_received, delivered, delivered_each, dropped, dropped_each, meets_any, msgs_delivered}
-use Rattle.rb_machine.specs.Pending.{is_meant, is_for, mail, other_mail, with_pending, has_room, sent, all_sent}
+use Rattle.rb_machine.specs.Outcome.{absent, first_absent, missing_node, own_fault, fault, effect, unless_refused, screen_of, outcome_of, outcome}
+use Rattle.rb_machine.specs.Pending.{is_meant, is_for, mail, has_room, sent, all_sent}
 use Rattle.rb_machine.specs.Readies.{ready_items, advanced_by, all_done, ready_done_by, ready_done, ready_done_each}
 use Rattle.rb_machine.specs.Rounds.{is_chosen, chosen, is_ready, has_work, readied_each, round, settled}
-use Rattle.rb_machine.specs.Scenes.{Scene, shown, all_shown, with_cluster, acted_by, acted}
+use Rattle.rb_machine.specs.Scenes.{Scene, scene, shown, all_shown, with_cluster, acted_by, acted}
+use Rattle.rb_machine.specs.Snapshots.{queued, snapshot_sent_by, compact_error_by, compact_error, compact_by}
+use Rattle.rb_machine.specs.Views.{log_shown_by, status_shown_by}
+use Rattle.rb_machine.proofs.CompactLaws.{may_compact}
 use Rattle.rb_texts.specs.Items.{moved}
 use Rattle.rb_texts.specs.declared.item.Verb.TheVariants as verbs
-use Rattle.rb_cluster_laws.specs.Network.{Network, run}
-use Rattle.rb_cluster_laws.proofs.Holding.{Setting}
-use Rattle.rb_cluster_laws.proofs.NetworkLaws.{set_here}
-use Rattle.rb_cluster_laws.proofs.TieLaws.{IsComing, IsFair, IsTied, IsReached, stays, next, still_coming, call_of, call_tied, said_now, call_reached}
+use Rattle.rb_cluster_laws.specs.Clusters.{IsSteadyRequest, IsSteadyBy, AreSteady, led}
+use Rattle.rb_cluster_laws.proofs.ListLaws.{set_here}
 
--- ---- the node with an id acts
+-- ---- what holds after a directive: it is refused, and the cluster stays; or it has its effect
 
-acts_by : (g : Setting) (s : Network) (x : Scene) (id : ℕ) (call : Call) (o : Option PlainNode) → node_at x.cluster id ≡ o → IsTied g s x.cluster → IsFair g s (id - 1 + 1) call → IsReached g s (acted_by o x id (λ t. after call t)).cluster
-acts_by g s x id call None at tied fair = stays g s x.cluster tied
-acts_by g s x id call (Some n) at tied fair = call_reached g s x.cluster id call (turn n []) tied at fair
+abbrev pub effect_of : Asked → Cluster → Cluster
+effect_of a c = (effect a.request (scene c (screen_of forms.Lines a c))).cluster
 
-pub acts : (g : Setting) (s : Network) (x : Scene) (id : ℕ) (call : Call) → IsTied g s x.cluster → IsFair g s (id - 1 + 1) call → IsReached g s (acted x id (λ t. after call t)).cluster
-acts g s x id call tied fair = acts_by g s x id call (node_at x.cluster id) refl tied fair
+unless_has : (P : Cluster → Type 0) (o : Option DirectiveError) (a : Asked) (c : Cluster) → (o ≡ None → P (effect_of a c)) → P c → P (unless_refused forms.Lines o a c).cluster
+unless_has P (Some e) a c done h = h
+unless_has P None a c done h = done refl
 
--- ---- ticks, one upon another
+request_has : (P : Cluster → Type 0) (r : Result Asked DirectiveError) (c : Cluster) → ((a : Asked) → r ≡ Ok a → fault a.request c ≡ None → P (effect_of a c)) → P c → P (outcome_of forms.Lines r c).cluster
+request_has P (Err e) c done h = h
+request_has P (Ok a) c done h = unless_has P (fault a.request c) a c (done a refl) h
 
-set_again : {X : Type 0} → (xs : List X) (k : ℕ) (x y : X) → slice_set (slice_set xs k x) k y ≡ slice_set xs k y
-set_again [] k x y = refl
-set_again (a ∷ xs) zero x y = refl
-set_again (a ∷ xs) (suc k) x y = ap (λ l. a ∷ l) (set_again xs k x y)
+pub outcome_has : (P : Cluster → Type 0) (c : Cluster) (d : PlainDirective) → ((a : Asked) → request d ≡ Ok a → fault a.request c ≡ None → P (effect_of a c)) → P c → P (outcome c d).cluster
+unfolding outcome
+outcome_has P c d done h = request_has P (request d) c done h
 
-set_same : {X : Type 0} → (xs : List X) (k : ℕ) (x : X) → slice_get xs k ≡ Some x → slice_set xs k x ≡ xs
-set_same [] k x is = refl
-set_same (a ∷ xs) zero x is = ap (λ y. y ∷ xs) (let e : a ≡ x = cc in sym e)
-set_same (a ∷ xs) (suc k) x is = ap (λ l. a ∷ l) (set_same xs k x is)
+-- ---- facts that last
 
-abbrev with_nodes : Cluster → List PlainNode → Cluster
-with_nodes c nodes = record c { nodes = nodes }
+-- what a node at a place may be called with: a message to it that may come; and no change, where the directives are steady
+abbrev pub IsBrought : Bool → List Message → ℕ → Call → Type 0
+IsBrought steady ms k (Step m) = Contains ms m × (m.to ≡ k + 1)
+IsBrought steady ms k (Propose body) = steady ≡ true → is_change body ≡ false
+IsBrought steady ms k _ = Unit {0}
 
--- after a node has become one and then another, the other stands there
-then_ticks : (g : Setting) (s : Network) (c : Cluster) (id : ℕ) (times : ℕ) (t : Turn) → node_at c id ≡ Some t.node → IsTied g s c → IsReached g s (with_node c id (ticked_times times t).node)
-then_ticks g s c id zero t at tied = subst (λ (nodes : List PlainNode). IsReached g s (with_nodes c nodes)) (sym (set_same c.nodes (id - 1) t.node at)) (stays g s c tied)
-then_ticks g s c id (suc times) t at tied =
-    let u = ticked t in
-    let d = with_node c id u.node in
-    next g s d (with_node c id (ticked_times times u).node) (call_reached g s c id Tick t tied at (tt, tt))
-    (λ hs now. subst (λ (nodes : List PlainNode). IsReached g (run hs s) (with_nodes c nodes)) (set_again c.nodes (id - 1) u.node (ticked_times times u).node)
-    (then_ticks g (run hs s) d id times u (set_here c.nodes (id - 1) t.node u.node at) now))
+-- A fact of nodes, and of messages that may come to them. A node is called; it advances, and what it has to send and to answer comes out; a
+-- snapshot of it is sent by hand; and a node joins, unless the directives are steady.
+pub record Lasts (steady : Bool) (P : List PlainNode → List Message → Type 0) : Type 0 where
+  pub calls : (nodes : List PlainNode) (ms : List Message) (k : ℕ) (call : Call) (t : Turn) → slice_get nodes k ≡ Some t.node → IsBrought steady ms k call → P nodes ms → P (slice_set nodes k (after call t).node) ms
+  pub advances : (nodes : List PlainNode) (ms : List Message) (k : ℕ) (t : Turn) → slice_get nodes k ≡ Some t.node → P nodes ms → P (slice_set nodes k (after Advance t).node) (ms ++ (t.node.sent ++ t.node.waiting))
+  pub shows : (nodes : List PlainNode) (ms : List Message) (k from to : ℕ) (n : PlainNode) → slice_get nodes k ≡ Some n → P nodes ms → P nodes (ms ++ message from to n.term (kind.Snapshot (snapshot_of n)) ∷ [])
+  pub joins : (steady ≡ true → ⊥) → (nodes : List PlainNode) (ms : List Message) (id : ℕ) (from : Snapshot) (given : Options) → P nodes ms → P (nodes ++ started id from given ∷ []) ms
 
-ticks_by : (g : Setting) (s : Network) (x : Scene) (id times : ℕ) (o : Option PlainNode) → node_at x.cluster id ≡ o → IsTied g s x.cluster → IsReached g s (acted_by o x id (ticked_times times)).cluster
-ticks_by g s x id times None at tied = stays g s x.cluster tied
-ticks_by g s x id times (Some n) at tied = then_ticks g s x.cluster id times (turn n []) at tied
+-- it holds of a cluster's nodes and of messages among which are the pending ones
+abbrev pub Covers : (List PlainNode → List Message → Type 0) → List Message → Cluster → Type 0
+Covers P ms c = P c.nodes ms × All (Contains ms) c.pending
 
-pub ticks : (g : Setting) (s : Network) (x : Scene) (id times : ℕ) → IsTied g s x.cluster → IsReached g s (acted x id (ticked_times times)).cluster
-ticks g s x id times tied = ticks_by g s x id times (node_at x.cluster id) refl tied
+abbrev pub IsCovered : (List PlainNode → List Message → Type 0) → Cluster → Type 0
+IsCovered P c = (ms : List Message) × Covers P ms c
 
--- ---- deliveries
+-- ---- ids of nodes that exist
 
--- pending messages of one node
-abbrev IsMail : Setting → Network → ℕ → Message → Type 0
-IsMail g s id m = IsComing g s m × (m.to ≡ id)
+abbrev AreIds : List ℕ → Type 0
+AreIds ids = All (λ (id : ℕ). 0 < id) ids
 
-pub with_mail : (g : Setting) (s : Network) (c : Cluster) (pending : List Message) → All (IsComing g s) pending → IsTied g s c → IsTied g s (with_pending c pending)
-with_mail g s c pending coming tied = record { sane = tied.sane; nodes = tied.nodes; pending = coming }
+some_none : {X : Type 0} → (x : X) → Some x ≡ None → ⊥
+some_none x e = cc
 
-all_mail : (g : Setting) (s : Network) (id : ℕ) (types : Option TypeSet) (pending : List Message) → All (IsComing g s) pending → All (IsMail g s id) (mail pending id types)
-all_mail g s id types pending coming =
-    let came : All (IsComing g s) (mail pending id types) = All-filter (is_for id types) (IsComing g s) pending coming in
+neither : {X : Type 0} → (a b : Option X) → option_or a b ≡ None → (a ≡ None) × (b ≡ None)
+neither None b none = (refl, none)
+neither (Some x) b none = absurd (some_none x none)
+
+present : (nodes : List PlainNode) (id : ℕ) → absent nodes id ≡ None → 0 < id
+present nodes id =
+    let P : Option DirectiveError → Type 0 = λ o. o ≡ None → 0 < id in
+    if_both P (is_node nodes id) None (Some (errors.NoSuchNode id))
+    (λ is _. (let low : 1 ≤ id = leb-true 1 id (and_parts (nat_le 1 id) (nat_le id (length nodes)) is).0 in omega arith))
+    (λ _ e. absurd (some_none (errors.NoSuchNode id) e))
+
+all_present : (nodes : List PlainNode) (ids : List ℕ) → first_absent nodes ids ≡ None → AreIds ids
+all_present nodes [] none = All-nil (λ (id : ℕ). 0 < id)
+all_present nodes (id ∷ ids) none =
+    let both = neither (absent nodes id) (first_absent nodes ids) none in
+    All-cons (λ (i : ℕ). 0 < i) id ids (present nodes id both.0) (all_present nodes ids both.1)
+
+from_one : (low n : ℕ) → 0 < low → AreIds (range_with_len low n)
+from_one low zero some = All-nil (λ (id : ℕ). 0 < id)
+from_one low (suc n) some = All-cons (λ (id : ℕ). 0 < id) low (range_with_len (low + 1) n) some (from_one (low + 1) n (omega (arith, some)))
+
+chosen_some : (ids : List ℕ) (nodes : List PlainNode) → AreIds (chosen ids nodes)
+unfolding chosen
+chosen_some ids nodes = All-filter (is_chosen ids) (λ (id : ℕ). 0 < id) (range_with_len 1 (length nodes)) (from_one 1 (length nodes) (omega arith))
+
+-- ---- messages
+
+-- messages to one node that may come
+abbrev IsMail : List Message → ℕ → Message → Type 0
+IsMail ms id m = Contains ms m × (m.to ≡ id)
+
+all_mail : (ms : List Message) (id : ℕ) (types : Option TypeSet) (pending : List Message) → All (Contains ms) pending → All (IsMail ms id) (mail pending id types)
+all_mail ms id types pending coming =
+    let came : All (Contains ms) (mail pending id types) = All-filter (is_for id types) (Contains ms) pending coming in
     let theirs : All (λ (m : Message). is_for id types m ≡ true) (mail pending id types) = filter_passes (is_for id types) pending in
     λ k d low. (came k d low, (let m = slice_index_or (mail pending id types) k d in eqb-true m.to id (and_parts (m.to == id) (is_meant types (type_of m.kind)) (theirs k d low)).0))
-
-fair_step : (g : Setting) (s : Network) (id : ℕ) (m : Message) → 0 < id → IsMail g s id m → IsFair g s (id - 1 + 1) (Step m)
-fair_step g s id m some comes =
-    elim comes.0 as (λ _. IsFair g s (id - 1 + 1) (Step m)) [
-      | inl said ↦ (let same : id ≡ id - 1 + 1 = omega (arith, some) in (inl (said, comes.1 ∙ same), inl said))
-      | inr foreign ↦ (inr (foreign.0, foreign.1), inr foreign.2)
-    ]
-
-all_reach : (g : Setting) (s : Network) (x : Scene) (id : ℕ) (ms : List Message) → 0 < id → All (IsMail g s id) ms → IsTied g s x.cluster → IsReached g s (all_received x id ms).cluster
-all_reach g s x id [] some comes tied = stays g s x.cluster tied
-all_reach g s x id (m ∷ ms) some comes tied =
-    let y = received x id m in
-    let rest = All-tail (IsMail g s id) m ms comes in
-    next g s y.cluster (all_received y id ms).cluster
-    (acts g s (shown x (moved verbs.Deliver m)) id (Step m) tied (fair_step g s id m some (All-head (IsMail g s id) m ms comes)))
-    (λ hs now. all_reach g (run hs s) y id ms some (All-weaker (IsMail g s id) (IsMail g (run hs s) id) (λ o mail. (still_coming g hs s o mail.0, mail.1)) ms rest) now)
-
-pub delivers : (g : Setting) (s : Network) (x : Scene) (id : ℕ) (types : Option TypeSet) → 0 < id → IsTied g s x.cluster → IsReached g s (delivered x id types).cluster
-unfolding delivered
-delivers g s x id types some tied =
-    let pending = x.cluster.pending in
-    all_reach g s (left_by x id types) id (mail pending id types) some (all_mail g s id types pending tied.pending)
-    (with_mail g s x.cluster (other_mail pending id types) (All-filter (λ (m : Message). not (is_for id types m)) (IsComing g s) pending tied.pending) tied)
-
-pub delivers_each : (g : Setting) (s : Network) (x : Scene) (ids : List ℕ) (types : Option TypeSet) → All (λ (id : ℕ). 0 < id) ids → IsTied g s x.cluster → IsReached g s (delivered_each x ids types).cluster
-delivers_each g s x [] types some tied = stays g s x.cluster tied
-delivers_each g s x (id ∷ ids) types some tied =
-    let y = delivered x id types in
-    next g s y.cluster (delivered_each y ids types).cluster (delivers g s x id types (All-head (λ (id : ℕ). 0 < id) id ids some) tied)
-    (λ hs now. delivers_each g (run hs s) y ids types (All-tail (λ (id : ℕ). 0 < id) id ids some) now)
-
-drops : (g : Setting) (s : Network) (x : Scene) (id : ℕ) (types : Option TypeSet) → IsTied g s x.cluster → IsTied g s (dropped x id types).cluster
-unfolding dropped
-drops g s x id types tied =
-    let pending = x.cluster.pending in
-    with_mail g s x.cluster (other_mail pending id types) (All-filter (λ (m : Message). not (is_for id types m)) (IsComing g s) pending tied.pending) tied
-
-drops_each : (g : Setting) (s : Network) (x : Scene) (ids : List ℕ) (types : Option TypeSet) → IsTied g s x.cluster → IsTied g s (dropped_each x ids types).cluster
-drops_each g s x [] types tied = tied
-drops_each g s x (id ∷ ids) types tied = drops_each g s (dropped x id types) ids types (drops g s x id types tied)
-
-pub delivers_msgs : (g : Setting) (s : Network) (asked : DeliverMsgs) (x : Scene) → All (λ (id : ℕ). 0 < id) asked.nodes → IsTied g s x.cluster → IsReached g s (msgs_delivered asked x).cluster
-unfolding msgs_delivered
-delivers_msgs g s asked x some tied =
-    let y = delivered_each x asked.nodes asked.types in
-    let z = dropped_each y asked.drop asked.types in
-    if_both (λ (q : Scene). IsReached g s q.cluster) (meets_any asked x.cluster.pending) z _
-    (λ _. next g s y.cluster z.cluster (delivers_each g s x asked.nodes asked.types some tied) (λ hs now. stays g (run hs s) z.cluster (drops_each g (run hs s) y asked.drop asked.types now)))
-    (λ _. stays g s x.cluster tied)
-
--- ---- what is ready
-
-sends : (g : Setting) (s : Network) (x : Scene) (m : Message) → IsComing g s m → IsTied g s x.cluster → IsTied g s (sent x m).cluster
-sends g s x m coming tied =
-    if_both (λ (y : Scene). IsTied g s y.cluster) (has_room x.cluster.pending) _ _
-    (λ _. with_mail g s x.cluster (x.cluster.pending ++ m ∷ []) (All-push (IsComing g s) x.cluster.pending m tied.pending coming) tied) (λ _. tied)
-
-sends_all : (g : Setting) (s : Network) (x : Scene) (ms : List Message) → All (IsComing g s) ms → IsTied g s x.cluster → IsTied g s (all_sent x ms).cluster
-sends_all g s x [] coming tied = tied
-sends_all g s x (m ∷ ms) coming tied =
-    sends_all g s (sent x m) ms (All-tail (IsComing g s) m ms coming) (sends g s x m (All-head (IsComing g s) m ms coming) tied)
 
 -- what is handed over is put out
 handed_out : (n : PlainNode) → All (Contains (n.sent ++ n.waiting)) (handed n)
@@ -153,71 +151,186 @@ handed_out n =
     (All-filter (λ (m : Message). not (m.to == n.id)) P n.waiting
     (All-weaker (Contains n.waiting) P (λ m is. Contains-append_right n.sent n.waiting m is) n.waiting (All-contains_itself n.waiting)))
 
-advances_by : (g : Setting) (s : Network) (x : Scene) (id : ℕ) (o : Option PlainNode) → node_at x.cluster id ≡ o → IsTied g s x.cluster → IsReached g s (advanced_by o x id).cluster
-advances_by g s x id None at tied = stays g s x.cluster tied
-advances_by g s x id (Some n) at tied =
-    let t : Turn = turn n [] in
-    let hs = call_of id Advance t in
-    let after_it = with_cluster x (with_node x.cluster id (after Advance t).node) in
-    record {
-      happenings = hs;
-      honest = (tt, tt);
-      genuine = (tt, tt);
-      tied = sends_all g (run hs s) after_it (handed n)
-          (All-weaker (Contains (n.sent ++ n.waiting)) (IsComing g (run hs s)) (λ m out. inl (said_now g s x.cluster id Advance t tied at m out)) (handed n) (handed_out n))
-          (call_tied g s x.cluster id Advance t tied at (tt, tt));
-    }
+still_coming : (ms more pending : List Message) → All (Contains ms) pending → All (Contains (ms ++ more)) pending
+still_coming ms more pending coming = All-weaker (Contains ms) (Contains (ms ++ more)) (λ m there. Contains-append_left ms more m there) pending coming
 
-does_all : (g : Setting) (s : Network) (x : Scene) (id : ℕ) (n : PlainNode) → IsTied g s x.cluster → IsReached g s (all_done x id n).cluster
-unfolding all_done
-does_all g s x id n tied =
-    let y = all_shown x (ready_items id n) in
-    advances_by g s y id (node_at y.cluster id) refl tied
+set_same : (nodes : List PlainNode) (k : ℕ) (n : PlainNode) → slice_get nodes k ≡ Some n → slice_set nodes k n ≡ nodes
+set_same nodes k n is = ap (slice_set nodes k) (sym (get_or_from_slice_get nodes k n n is)) ∙ set-get_or nodes k n
 
-readies_by : (g : Setting) (s : Network) (x : Scene) (id : ℕ) (o : Option PlainNode) → IsTied g s x.cluster → IsReached g s (ready_done_by o x id).cluster
-readies_by g s x id None tied = stays g s x.cluster tied
-readies_by g s x id (Some n) tied =
-    if_both (λ (y : Scene). IsReached g s y.cluster) (has_ready n) (all_done x id n) _ (λ _. does_all g s x id n tied) (λ _. stays g s x.cluster tied)
+-- ---- what directives do
 
-pub readies : (g : Setting) (s : Network) (x : Scene) (id : ℕ) → IsTied g s x.cluster → IsReached g s (ready_done x id).cluster
-readies g s x id tied = readies_by g s x id (node_at x.cluster id) tied
+module _ {steady : Bool} {P : List PlainNode → List Message → Type 0} (w : Lasts steady P) where
+  -- the node with an id acts
+  acts_by : (ms : List Message) (x : Scene) (id : ℕ) (call : Call) (o : Option PlainNode) → node_at x.cluster id ≡ o → IsBrought steady ms (id - 1) call → Covers P ms x.cluster → Covers P ms (acted_by o x id (λ t. after call t)).cluster
+  acts_by ms x id call None at brought h = h
+  acts_by ms x id call (Some n) at brought h = (w.calls x.cluster.nodes ms (id - 1) call (turn n []) at brought h.0, h.1)
 
-pub readies_each : (g : Setting) (s : Network) (x : Scene) (ids : List ℕ) → IsTied g s x.cluster → IsReached g s (ready_done_each x ids).cluster
-readies_each g s x [] tied = stays g s x.cluster tied
-readies_each g s x (id ∷ ids) tied =
-    let y = ready_done x id in
-    next g s y.cluster (ready_done_each y ids).cluster (readies g s x id tied) (λ hs now. readies_each g (run hs s) y ids now)
+  acts : (ms : List Message) (x : Scene) (id : ℕ) (call : Call) → IsBrought steady ms (id - 1) call → Covers P ms x.cluster → Covers P ms (acted x id (λ t. after call t)).cluster
+  acts ms x id call brought h = acts_by ms x id call (node_at x.cluster id) refl brought h
 
--- ---- rounds
+  -- ticks, one upon another: after a node has become one and then another, the other stands there
+  then_ticks : (ms : List Message) (nodes : List PlainNode) (k times : ℕ) (t : Turn) → slice_get nodes k ≡ Some t.node → P nodes ms → P (slice_set nodes k (ticked_times times t).node) ms
+  then_ticks ms nodes k zero t at h = subst (λ (ns : List PlainNode). P ns ms) (sym (set_same nodes k t.node at)) h
+  then_ticks ms nodes k (suc times) t at h =
+      let u = ticked t in
+      subst (λ (ns : List PlainNode). P ns ms) (set-set nodes k u.node (ticked_times times u).node)
+      (then_ticks ms (slice_set nodes k u.node) k times u (set_here nodes k t.node u.node at) (w.calls nodes ms k Tick t at tt h))
 
-rounds_ready : (g : Setting) (s : Network) (x : Scene) (ids : List ℕ) → IsTied g s x.cluster → IsReached g s (readied_each x ids).cluster
-rounds_ready g s x [] tied = stays g s x.cluster tied
-rounds_ready g s x (id ∷ ids) tied =
-    let y : Scene = if is_ready x.cluster id then ready_done x id else x in
-    next g s y.cluster (readied_each y ids).cluster
-    (if_both (λ (q : Scene). IsReached g s q.cluster) (is_ready x.cluster id) (ready_done x id) x (λ _. readies g s x id tied) (λ _. stays g s x.cluster tied))
-    (λ hs now. rounds_ready g (run hs s) y ids now)
+  ticks : (ms : List Message) (x : Scene) (id times : ℕ) (o : Option PlainNode) → node_at x.cluster id ≡ o → Covers P ms x.cluster → Covers P ms (acted_by o x id (ticked_times times)).cluster
+  ticks ms x id times None at h = h
+  ticks ms x id times (Some n) at h = (then_ticks ms x.cluster.nodes (id - 1) times (turn n []) at h.0, h.1)
 
-goes_round : (g : Setting) (s : Network) (x : Scene) (ids : List ℕ) → All (λ (id : ℕ). 0 < id) ids → IsTied g s x.cluster → IsReached g s (round x ids).cluster
-unfolding round
-goes_round g s x ids some tied =
-    let y = readied_each x ids in
-    next g s y.cluster (delivered_each y ids None).cluster (rounds_ready g s x ids tied) (λ hs now. delivers_each g (run hs s) y ids None some now)
+  act_lasts : (ms : List Message) (what : Act) (x : Scene) (id : ℕ) → Covers P ms x.cluster → Covers P ms (act what id x).cluster
+  act_lasts ms does.Campaign x id h = acts ms x id Campaign tt h
+  act_lasts ms does.TickElection x id h = ticks ms x id ELECTION_TICKS (node_at x.cluster id) refl h
+  act_lasts ms does.TickHeartbeat x id h = acts ms x id Tick tt h
+  act_lasts ms does.ForgetLeader x id h = acts ms x id ForgetLeader tt h
 
-pub settles : (g : Setting) (s : Network) (allowed rounds : ℕ) (x : Scene) (ids : List ℕ) → All (λ (id : ℕ). 0 < id) ids → IsTied g s x.cluster → IsReached g s (settled allowed rounds x ids).cluster
-unfolding settled
-settles g s allowed zero x ids some tied =
-    if_both (λ (q : Scene). IsReached g s q.cluster) (has_work x.cluster ids) _ x (λ _. stays g s x.cluster tied) (λ _. stays g s x.cluster tied)
-settles g s allowed (suc rounds) x ids some tied =
-    let y = round x ids in
-    if_both (λ (q : Scene). IsReached g s q.cluster) (has_work x.cluster ids) (settled allowed rounds y ids) x
-    (λ _. next g s y.cluster (settled allowed rounds y ids).cluster (goes_round g s x ids some tied) (λ hs now. settles g (run hs s) allowed rounds y ids some now))
-    (λ _. stays g s x.cluster tied)
+  -- changes that tell nothing
+  changes : (ms : List Message) (c : Cluster) (id : ℕ) (call : Call) (o : Option PlainNode) → node_at c id ≡ o → IsBrought steady ms (id - 1) call → Covers P ms c → Covers P ms (changed_by o c id (λ n. (after call (turn n [])).node))
+  changes ms c id call None at brought h = h
+  changes ms c id call (Some n) at brought h = (w.calls c.nodes ms (id - 1) call (turn n []) at brought h.0, h.1)
 
-from_one : (low n : ℕ) → 0 < low → All (λ (id : ℕ). 0 < id) (range_with_len low n)
-from_one low zero some = All-nil (λ (id : ℕ). 0 < id)
-from_one low (suc n) some = All-cons (λ (id : ℕ). 0 < id) low (range_with_len (low + 1) n) some (from_one (low + 1) n (omega (arith, some)))
+  compacts : (ms : List Message) (x : Scene) (id index : ℕ) (o : Option PlainNode) → node_at x.cluster id ≡ o → compact_error_by o index ≡ None → Covers P ms x.cluster → Covers P ms (compact_by o id index x).cluster
+  compacts ms x id index None at none h = h
+  compacts ms x id index (Some n) at none h =
+      let upto = min n.applied n.log.durable in
+      let may : compact_fault n.log index upto ≡ None = may_compact n.log index upto none in
+      let now = w.calls x.cluster.nodes ms (id - 1) (Compact index) (turn n []) at tt h.0 in
+      (subst (λ (f : Option CompactFault). P (slice_set x.cluster.nodes (id - 1) (compacted_unless f n index)) ms) may now, h.1)
 
-pub chosen_some : (ids : List ℕ) (nodes : List PlainNode) → All (λ (id : ℕ). 0 < id) (chosen ids nodes)
-unfolding chosen
-chosen_some ids nodes = All-filter (is_chosen ids) (λ (id : ℕ). 0 < id) (range_with_len 1 (length nodes)) (from_one 1 (length nodes) (omega arith))
+  -- nodes join
+  adds : (ms : List Message) (from : Snapshot) (given : Options) (x : Scene) (ids : List ℕ) → (steady ≡ true → ⊥) → Covers P ms x.cluster → Covers P ms (added_each from given x ids).cluster
+  adds ms from given x [] free h = h
+  adds ms from given x (id ∷ ids) free h = adds ms from given (began x (node_started id from given [])) ids free (w.joins free x.cluster.nodes ms id from given h.0, h.1)
+
+  -- ---- deliveries
+
+  receives : (ms : List Message) (x : Scene) (id : ℕ) (list : List Message) → 0 < id → All (IsMail ms id) list → Covers P ms x.cluster → Covers P ms (all_received x id list).cluster
+  receives ms x id [] some comes h = h
+  receives ms x id (m ∷ list) some comes h =
+      let first : IsMail ms id m = All-head (IsMail ms id) m list comes in
+      let back : id ≡ id - 1 + 1 = omega (arith, some) in
+      receives ms (received x id m) id list some (All-tail (IsMail ms id) m list comes) (acts ms (shown x (moved verbs.Deliver m)) id (Step m) (first.0, first.1 ∙ back) h)
+
+  leaves : (ms : List Message) (x : Scene) (id : ℕ) (types : Option TypeSet) → Covers P ms x.cluster → Covers P ms (left_by x id types).cluster
+  leaves ms x id types h = (h.0, All-filter (λ (m : Message). not (is_for id types m)) (Contains ms) x.cluster.pending h.1)
+
+  delivers : (ms : List Message) (x : Scene) (id : ℕ) (types : Option TypeSet) → 0 < id → Covers P ms x.cluster → Covers P ms (delivered x id types).cluster
+  unfolding delivered
+  delivers ms x id types some h =
+      let pending = x.cluster.pending in
+      receives ms (left_by x id types) id (mail pending id types) some (all_mail ms id types pending h.1) (leaves ms x id types h)
+
+  delivers_each : (ms : List Message) (x : Scene) (ids : List ℕ) (types : Option TypeSet) → AreIds ids → Covers P ms x.cluster → Covers P ms (delivered_each x ids types).cluster
+  delivers_each ms x [] types some h = h
+  delivers_each ms x (id ∷ ids) types some h =
+      delivers_each ms (delivered x id types) ids types (All-tail (λ (id : ℕ). 0 < id) id ids some) (delivers ms x id types (All-head (λ (id : ℕ). 0 < id) id ids some) h)
+
+  drops_each : (ms : List Message) (x : Scene) (ids : List ℕ) (types : Option TypeSet) → Covers P ms x.cluster → Covers P ms (dropped_each x ids types).cluster
+  unfolding dropped
+  drops_each ms x [] types h = h
+  drops_each ms x (id ∷ ids) types h = drops_each ms (dropped x id types) ids types (leaves ms x id types h)
+
+  delivers_msgs : (ms : List Message) (asked : DeliverMsgs) (x : Scene) → AreIds asked.nodes → Covers P ms x.cluster → Covers P ms (msgs_delivered asked x).cluster
+  unfolding msgs_delivered
+  delivers_msgs ms asked x some h =
+      let y = delivered_each x asked.nodes asked.types in
+      if_both (λ (q : Scene). Covers P ms q.cluster) (meets_any asked x.cluster.pending) (dropped_each y asked.drop asked.types) _
+      (λ _. drops_each ms y asked.drop asked.types (delivers_each ms x asked.nodes asked.types some h)) (λ _. h)
+
+  -- ---- what is ready
+
+  pushes : (ms : List Message) (x : Scene) (m : Message) → Contains ms m → Covers P ms x.cluster → Covers P ms (record x.cluster { pending = x.cluster.pending ++ m ∷ [] })
+  pushes ms x m there h = (h.0, All-push (Contains ms) x.cluster.pending m h.1 there)
+
+  sends_all : (ms : List Message) (x : Scene) (list : List Message) → All (Contains ms) list → Covers P ms x.cluster → Covers P ms (all_sent x list).cluster
+  sends_all ms x [] out h = h
+  sends_all ms x (m ∷ list) out h =
+      sends_all ms (sent x m) list (All-tail (Contains ms) m list out)
+      (if_both (λ (y : Scene). Covers P ms y.cluster) (has_room x.cluster.pending) _ _ (λ _. pushes ms x m (All-head (Contains ms) m list out) h) (λ _. h))
+
+  advances_by : (x : Scene) (id : ℕ) (o : Option PlainNode) → node_at x.cluster id ≡ o → IsCovered P x.cluster → IsCovered P (advanced_by o x id).cluster
+  advances_by x id None at h = h
+  advances_by x id (Some n) at (ms, h) =
+      let out = n.sent ++ n.waiting in (
+        ms ++ out,
+        sends_all (ms ++ out) (with_cluster x (with_node x.cluster id (after Advance (turn n [])).node)) (handed n)
+            (All-weaker (Contains out) (Contains (ms ++ out)) (λ m there. Contains-append_right ms out m there) (handed n) (handed_out n))
+            (w.advances x.cluster.nodes ms (id - 1) (turn n []) at h.0, still_coming ms out x.cluster.pending h.1),
+      )
+
+  does_all : (x : Scene) (id : ℕ) (n : PlainNode) → IsCovered P x.cluster → IsCovered P (all_done x id n).cluster
+  unfolding all_done
+  does_all x id n h = advances_by (all_shown x (ready_items id n)) id (node_at x.cluster id) refl h
+
+  readies_by : (x : Scene) (id : ℕ) (o : Option PlainNode) → IsCovered P x.cluster → IsCovered P (ready_done_by o x id).cluster
+  readies_by x id None h = h
+  readies_by x id (Some n) h = if_both (λ (y : Scene). IsCovered P y.cluster) (has_ready n) (all_done x id n) _ (λ _. does_all x id n h) (λ _. h)
+
+  readies_each : (x : Scene) (ids : List ℕ) → IsCovered P x.cluster → IsCovered P (ready_done_each x ids).cluster
+  readies_each x [] h = h
+  readies_each x (id ∷ ids) h = readies_each (ready_done x id) ids (readies_by x id (node_at x.cluster id) h)
+
+  -- ---- rounds
+
+  rounds_ready : (x : Scene) (ids : List ℕ) → IsCovered P x.cluster → IsCovered P (readied_each x ids).cluster
+  rounds_ready x [] h = h
+  rounds_ready x (id ∷ ids) h =
+      rounds_ready (if is_ready x.cluster id then ready_done x id else x) ids
+      (if_both (λ (q : Scene). IsCovered P q.cluster) (is_ready x.cluster id) (ready_done x id) x (λ _. readies_by x id (node_at x.cluster id) h) (λ _. h))
+
+  goes_round : (x : Scene) (ids : List ℕ) → AreIds ids → IsCovered P x.cluster → IsCovered P (round x ids).cluster
+  unfolding round
+  goes_round x ids some h = let r = rounds_ready x ids h in (r.0, delivers_each r.0 (readied_each x ids) ids None some r.1)
+
+  settles : (allowed rounds : ℕ) (x : Scene) (ids : List ℕ) → AreIds ids → IsCovered P x.cluster → IsCovered P (settled allowed rounds x ids).cluster
+  unfolding settled
+  settles allowed zero x ids some h = if_both (λ (q : Scene). IsCovered P q.cluster) (has_work x.cluster ids) _ x (λ _. h) (λ _. h)
+  settles allowed (suc rounds) x ids some h =
+      if_both (λ (q : Scene). IsCovered P q.cluster) (has_work x.cluster ids) (settled allowed rounds (round x ids) ids) x
+      (λ _. settles allowed rounds (round x ids) ids some (goes_round x ids some h)) (λ _. h)
+
+  -- ---- a snapshot sent by hand
+
+  queues : (ms : List Message) (x : Scene) (m : Message) → Contains ms m → Covers P ms x.cluster → Covers P ms (queued x m).cluster
+  unfolding queued
+  queues ms x m there h = if_both (λ (y : Scene). Covers P ms y.cluster) (has_room x.cluster.pending) _ _ (λ _. pushes ms x m there h) (λ _. h)
+
+  sends_snapshot : (ms : List Message) (x : Scene) (from to : ℕ) (o : Option PlainNode) → node_at x.cluster from ≡ o → Covers P ms x.cluster → IsCovered P (snapshot_sent_by o from to x).cluster
+  sends_snapshot ms x from to None at h = (ms, h)
+  sends_snapshot ms x from to (Some n) at h =
+      let m = message from to n.term (kind.Snapshot (snapshot_of n)) in
+      (ms ++ m ∷ [], queues (ms ++ m ∷ []) x m (Contains-push ms m) (w.shows x.cluster.nodes ms (from - 1) from to n at h.0, still_coming ms (m ∷ []) x.cluster.pending h.1))
+
+  -- ---- each request, and each directive
+
+  has_effect : (r : Request) (x : Scene) (ms : List Message) → (steady ≡ true → IsSteadyRequest r) → (missing_node x.cluster.nodes (nodes_of r) ≡ None) × (own_fault r x.cluster ≡ None) → Covers P ms x.cluster → IsCovered P (effect r x).cluster
+  unfolding nodes_added compact_error
+  has_effect (requests.AddNodes asked) x ms asks may h = (ms, adds ms (start asked) (options asked) x (range_with_len (length x.cluster.nodes + 1) asked.count) asks h)
+  has_effect (requests.ProposeConfChange asked) x ms asks may h =
+      (ms, acts ms x asked.id (Propose (Change asked.transition (words_of (input_words asked.inputs)))) (λ is. absurd (asks is)) h)
+  has_effect (requests.Act what id) x ms asks may h = (ms, act_lasts ms what x id h)
+  has_effect (requests.Propose id payload) x ms asks may h = (ms, acts ms x id (Propose (Payload payload)) (λ _. refl) h)
+  has_effect (requests.ProcessReady ids) x ms asks may h = readies_each x ids (ms, h)
+  has_effect (requests.DeliverMsgs asked) x ms asks may h = (ms, delivers_msgs ms asked x (all_present x.cluster.nodes asked.nodes may.0) h)
+  has_effect (requests.Stabilize ids rounds) x ms asks may h = settles rounds rounds x (chosen ids x.cluster.nodes) (chosen_some ids x.cluster.nodes) (ms, h)
+  has_effect (requests.ActWith withs.SetRandomizedElectionTimeout id timeout) x ms asks may h = (ms, changes ms x.cluster id (SetTimeout timeout) (node_at x.cluster id) refl tt h)
+  has_effect (requests.ActWith withs.TransferLeadership from to) x ms asks may h = (ms, acts ms x from (Transfer to) tt h)
+  has_effect (requests.ActWith withs.ReportUnreachable id peer) x ms asks may h = (ms, changes ms x.cluster id (ReportUnreachable peer) (node_at x.cluster id) refl tt h)
+  has_effect (requests.ActWith withs.SendSnapshot from to) x ms asks may h = sends_snapshot ms x from to (node_at x.cluster from) refl h
+  has_effect (requests.ActWith withs.Compact id index) x ms asks may h = (ms, compacts ms x id index (node_at x.cluster id) refl may.1 h)
+  has_effect (requests.LogLevel level) x ms asks may h = (ms, h)
+  has_effect (requests.RaftLog id) x ms asks may h = (ms, elim (node_at x.cluster id) as (λ o. Covers P ms (log_shown_by o x).cluster) [ None ↦ h | Some n ↦ h ])
+  has_effect (requests.Status id) x ms asks may h = (ms, elim (node_at x.cluster id) as (λ o. Covers P ms (status_shown_by o x).cluster) [ None ↦ h | Some n ↦ h ])
+  has_effect requests.RaftState x ms asks may h = (ms, h)
+
+  pub by_directive : (c : Cluster) (d : PlainDirective) → (steady ≡ true → IsSteadyBy (request d)) → IsCovered P c → IsCovered P (outcome c d).cluster
+  unfolding fault
+  by_directive c d asks h =
+      outcome_has (IsCovered P) c d
+      (λ a is none. has_effect a.request (scene c (screen_of forms.Lines a c)) h.0 (λ so. subst IsSteadyBy is (asks so)) (neither (missing_node c.nodes (nodes_of a.request)) (own_fault a.request c) none) h.1) h
+
+  pub by_directives : (c : Cluster) (ds : List PlainDirective) → (steady ≡ true → AreSteady ds) → IsCovered P c → IsCovered P (led c ds)
+  by_directives c [] asks h = h
+  by_directives c (d ∷ ds) asks h = by_directives (outcome c d).cluster ds (λ is. (asks is).1) (by_directive c d (λ is. (asks is).0) h)

@@ -2,7 +2,7 @@
 -- leads has its votes from those who cast them
 use Rattle.std.proofs.Common.{◌≡◌, ◌⊎◌, ℕ, ◌+◌, ◌<◌, ◌≤◌, Bool, true, List, [], ◌∷◌, ◌++◌, sym, subst, ◌∙◌, arith, inl, inr}
 use Rattle.std.specs.Prelude.{All, Contains}
-use Rattle.std.proofs.lemmas.List.Elements.{All-push, Contains-append_left}
+use Rattle.std.proofs.lemmas.List.Elements.{All-push}
 use Rattle.rb_raftlog.specs.Log.{LogValue, last}
 use Rattle.rb_tracker.specs.Configs.{config_of, state_of, is_voter}
 use Rattle.rb_tracker.specs.Sets.{has}
@@ -242,20 +242,25 @@ becomes {w} a b log sent waiting later stands leads h = record {
 
 -- ---- more that was said
 
-pub still_cast : (said more : List Message) (voter term candidate : ℕ) → IsCast said voter term candidate → IsCast (said ++ more) voter term candidate
-still_cast said more voter term candidate c = record {
+-- all that was said before
+abbrev pub IsSaid : List Message → List Message → Type 0
+IsSaid said now = (m : Message) → Contains said m → Contains now m
+
+still_cast : (said now : List Message) (voter term candidate : ℕ) → IsSaid said now → IsCast said voter term candidate → IsCast now voter term candidate
+still_cast said now voter term candidate more c = record {
   answer = c.answer;
-  among = Contains-append_left said more c.answer c.among;
+  among = more c.answer c.among;
   gives = c.gives;
   by = c.by;
   of_term = c.of_term;
   for_it = c.for_it;
 }
 
-pub still_elected : (g : Setting) (said more : List Message) (id term : ℕ) → IsElected g said id term → IsElected g (said ++ more) id term
-still_elected g said more id term e = record {
+-- who was elected before is still so, by the same votes
+pub still_elected : (g : Setting) (said now : List Message) (id term : ℕ) → IsSaid said now → IsElected g said id term → IsElected g now id term
+still_elected g said now id term more e = record {
   may = e.may;
-  by = record { votes = e.by.votes; won = e.by.won; cast = λ v granted. still_cast said more v term id (e.by.cast v granted) };
+  by = record { votes = e.by.votes; won = e.by.won; cast = λ v granted. still_cast said now v term id more (e.by.cast v granted) };
 }
 
 -- the node at a place, before it is called
@@ -263,35 +268,23 @@ abbrev pub world_of : Setting → List Message → List Link → ℕ → World
 world_of g said links place = record { id = place + 1; some = omega arith; said = said; setting = g; links = links }
 
 -- where more was said and more links were made, of which the node's are in order
-pub still_holds : (g : Setting) (said more : List Message) (old new : List Link) (place : ℕ) (n : PlainNode) → (g.strict ≡ true → IsIn g (said ++ more) (place + 1) new (essence n)) → Holds (world_of g said old place) n → Holds (world_of g (said ++ more) new place) n
-still_holds g said more old new place n linking h = record {
+pub still_holds : (g : Setting) (said now : List Message) (old new : List Link) (place : ℕ) (n : PlainNode) → IsSaid said now → (g.strict ≡ true → IsIn g now (place + 1) new (essence n)) → Holds (world_of g said old place) n → Holds (world_of g now new place) n
+still_holds g said now old new place n more linking h = record {
   itself = h.itself;
   config = h.config;
   log = h.log;
   sent = h.sent;
   waiting = h.waiting;
-  stands = λ is. (let s = h.stands is in record { may = s.may; counted = λ v granted. still_cast said more v n.term (place + 1) (s.counted v granted) });
-  leads = λ is. still_elected g said more (place + 1) n.term (h.leads is);
+  stands = λ is. (let s = h.stands is in record { may = s.may; counted = λ v granted. still_cast said now v n.term (place + 1) more (s.counted v granted) });
+  leads = λ is. still_elected g said now (place + 1) n.term more (h.leads is);
   linking = record { links = new; since = λ l among. among; own = λ l among. inl among; holds = linking };
 }
 
-pub with_links : (g : Setting) (said : List Message) (old new : List Link) (place : ℕ) (n : PlainNode) → (g.strict ≡ true → IsIn g said (place + 1) new (essence n)) → Holds (world_of g said old place) n → Holds (world_of g said new place) n
-with_links g said old new place n linking h = record {
-  itself = h.itself;
-  config = h.config;
-  log = h.log;
-  sent = h.sent;
-  waiting = h.waiting;
-  stands = λ is. (let s = h.stands is in record { may = s.may; counted = s.counted });
-  leads = h.leads;
-  linking = record { links = new; since = λ l among. among; own = λ l among. inl among; holds = linking };
-}
-
-pub still_in : (g : Setting) (said more : List Message) (id : ℕ) (ls : List Link) (e : Essence) → AreOnce (said ++ more) → IsIn g said id ls e → IsIn g (said ++ more) id ls e
-still_in g said more id ls e once c = record {
+pub still_in : (g : Setting) (said now : List Message) (id : ℕ) (ls : List Link) (e : Essence) → IsSaid said now → AreOnce now → IsIn g said id ls e → IsIn g now id ls e
+still_in g said now id ls e more once c = record {
   once = once;
   single = c.single;
-  made = λ l among. still_elected g said more l.maker l.entry.term (c.made l among);
+  made = λ l among. still_elected g said now l.maker l.entry.term more (c.made l among);
   logged = c.logged;
   sent = c.sent;
   waiting = c.waiting;

@@ -1,3 +1,4 @@
+pub mod ListLaws
 pub mod Links
 pub mod LinkedLogs
 pub mod Holding
@@ -9,7 +10,6 @@ pub mod CallHolds
 pub mod NetworkLaws
 pub mod SafetyLaws
 pub mod MatchingLaws
-pub mod TieLaws
 pub mod DirectiveLaws
-pub mod EffectLaws
+pub mod TieLaws
 pub mod ClusterLaws

@@ -1,19 +1,19 @@
 -- A log that is linked stays so, whatever is done to it
-use Rattle.std.proofs.Common.{◌≡◌, ℕ, ◌+◌, ◌-◌, ◌<◌, ◌≤◌, List, [], ◌∷◌, length, length-append, Option, Some, None, Result, Ok, Err, sym, ap, subst, ◌∙◌, arith, inl, inr}
+use Rattle.std.proofs.Common.{◌≡◌, ℕ, ◌+◌, ◌-◌, ◌<◌, ◌≤◌, List, [], length, Option, Some, Result, Ok, Err, sym, ap, subst, ◌∙◌, arith, inl, inr}
 use Rattle.std.specs.List.{slice_get}
 use Rattle.std.specs.Result.{result_unwrap_or}
 use Rattle.std.proofs.lemmas.Bool.{cases_lt}
-use Rattle.std.proofs.lemmas.Option.{slice_get_cases}
 use Rattle.rb_raftlog.specs.declared.entry.Entry.{Entry}
 use Rattle.rb_raftlog.specs.declared.raft_log.LogFault.{LogFault}
-use Rattle.rb_raftlog.specs.declared.raft_log.LogFault.TheVariants.{Unavailable}
 use Rattle.rb_raftlog.specs.Log.{LogValue, last, term_at, term_of, entry_at, found, first_new, entries_after, appended, own, compacted}
-use Rattle.rb_raftlog.proofs.TermLaws.{term_base, term_past, entry_past, slice_get_drop, is_term_is, held_in}
+use Rattle.rb_raftlog.proofs.TermLaws.{term_base, term_past, entry_past, slice_get_drop, slice_get_in, is_term_is, held_in}
 use Rattle.rb_raftlog.proofs.AppendLaws.{put, put_size, put_term_below, put_entry_below, put_term, put_entry, held_before, in_place, by_append}
 use Rattle.rb_raftlog.proofs.PlaceLaws.{ok_is, own-last, own-held, own-term_held}
 use Rattle.rb_raftlog.proofs.VoteLaws.{compacted-term, compacted-entry}
 use Rattle.rb_node.specs.Sends.{term_or_0}
-use Rattle.rb_cluster_laws.proofs.Links.{Link, HasLink, IsLinked, err_ok, held_term, past_base}
+use Rattle.rb_node_laws.proofs.Turns.{own_size}
+use Rattle.rb_cluster_laws.proofs.Links.{Link, HasLink, IsLinked, entry_there, held_term, past_base}
+use Rattle.rb_cluster_laws.proofs.ListLaws.{some_at}
 
 -- the entries of an append, as a log that begins at the entry before them
 abbrev pub log_from : ℕ → ℕ → List Entry → LogValue
@@ -22,39 +22,23 @@ log_from prev term es = record { base = prev; base_term = term; entries = es; du
 -- ---- no entries
 
 pub none_linked : (ls : List Link) (v : LogValue) → v.entries ≡ [] → IsLinked ls v
-none_linked ls v none = λ i e t at is.
-    (let k : ℕ = i - v.base in
-    let past = past_base v (i + 1) e at in
-    let index : i + 1 ≡ v.base + 1 + k = omega (arith, past) in
-    absurd (err_ok Unavailable e (sym (ap (λ (es : List Entry). found (slice_get es k)) none) ∙ sym (entry_past v k) ∙ sym (ap (entry_at v) index) ∙ at)))
+none_linked ls v none = λ i e t at is. (let x = entry_there v (i + 1) e at in absurd (let low = slice_get_in v.entries x.0 e x.2 in omega (arith, low, ap length none)))
 
 -- ---- an entry has its term
 
-term_found : (o : Option Entry) (e : Entry) → found o ≡ Ok e → term_of o ≡ Ok e.term
-term_found None e h = absurd (err_ok Unavailable e h)
-term_found (Some x) e h = let same : x ≡ e = cc in ap (λ (y : Entry). Ok y.term) same
+pub entry_term : (v : LogValue) (i : ℕ) (e : Entry) → entry_at v i ≡ Ok e → term_at v i ≡ Ok e.term
+entry_term v i e at = let x = entry_there v i e at in ap (term_at v) x.1 ∙ term_past v x.0 ∙ ap (λ (o : Option Entry). term_of o) x.2
 
-pub entry_term : (v : LogValue) (i : ℕ) (e : Entry) → entry_at v (i + 1) ≡ Ok e → term_at v (i + 1) ≡ Ok e.term
-entry_term v i e at =
-    let k : ℕ = i - v.base in
-    let past = past_base v (i + 1) e at in
-    let index : i + 1 ≡ v.base + 1 + k = omega (arith, past) in
-    ap (term_at v) index ∙ term_past v k ∙ term_found (slice_get v.entries k) e (sym (entry_past v k) ∙ sym (ap (entry_at v) index) ∙ at)
-
-pub entry_within : (v : LogValue) (i : ℕ) (e : Entry) → entry_at v (i + 1) ≡ Ok e → i + 1 ≤ last v
-entry_within v i e at = (held_in v (i + 1) e.term (entry_term v i e at)).1
+pub entry_within : (v : LogValue) (i : ℕ) (e : Entry) → entry_at v i ≡ Ok e → i ≤ last v
+entry_within v i e at = (held_in v i e.term (entry_term v i e at)).1
 
 -- ---- the rest of a log, as an append has it
 
-rest_entry : (v : LogValue) (p i : ℕ) (e : Entry) → v.base ≤ p → entry_at (log_from p (term_or_0 v p) (entries_after v p)) (i + 1) ≡ Ok e → entry_at v (i + 1) ≡ Ok e
+rest_entry : (v : LogValue) (p i : ℕ) (e : Entry) → v.base ≤ p → entry_at (log_from p (term_or_0 v p) (entries_after v p)) i ≡ Ok e → entry_at v i ≡ Ok e
 rest_entry v p i e above at =
-    let w = log_from p (term_or_0 v p) (entries_after v p) in
-    let k : ℕ = i - p in
-    let past = past_base w (i + 1) e at in
-    let index : i + 1 ≡ p + 1 + k = omega (arith, past) in
-    let there : i + 1 ≡ v.base + 1 + (p - v.base + k) = omega (arith, past, above) in
-    ap (entry_at v) there ∙ entry_past v (p - v.base + k) ∙ ap (λ (o : Option Entry). found o) (sym (slice_get_drop v.entries (p - v.base) k))
-    ∙ sym (entry_past w k) ∙ sym (ap (entry_at w) index) ∙ at
+    let x = entry_there (log_from p (term_or_0 v p) (entries_after v p)) i e at in
+    let there : i ≡ v.base + 1 + (p - v.base + x.0) = omega (arith, x.1, above) in
+    ap (entry_at v) there ∙ entry_past v (p - v.base + x.0) ∙ ap (λ (o : Option Entry). found o) (sym (slice_get_drop v.entries (p - v.base) x.0) ∙ x.2)
 
 named_term : (v : LogValue) (p term : ℕ) → term_at v p ≡ Ok term → term_or_0 v p ≡ term
 named_term v p term e = ap (λ (r : Result ℕ LogFault). result_unwrap_or r 0) e
@@ -79,8 +63,8 @@ rest_term v p i t above over within is =
 pub rest_linked : (ls : List Link) (v : LogValue) (p : ℕ) → v.base ≤ p → IsLinked ls v → IsLinked ls (log_from p (term_or_0 v p) (entries_after v p))
 rest_linked ls v p above linked = λ i e t at is.
     (let past = past_base (log_from p (term_or_0 v p) (entries_after v p)) (i + 1) e at in
-    let there = rest_entry v p i e above at in
-    let within = entry_within v i e there in
+    let there = rest_entry v p (i + 1) e above at in
+    let within = entry_within v (i + 1) e there in
     linked i e t there (rest_term v p i t above (omega (arith, past)) (omega (arith, past, within)) is))
 
 -- ---- an append
@@ -93,13 +77,6 @@ record Puts (v : LogValue) (prev term : ℕ) (es : List Entry) (c : ℕ) : Type 
   from : prev + 1 ≤ c
   high : c ≤ last v + 1
   within : c < prev + 1 + length es
-
-sent_at : (es : List Entry) (k : ℕ) → k < length es → (x : Entry) × (slice_get es k ≡ Some x)
-sent_at es k low =
-    elim (slice_get_cases es k).1 as (λ _. (x : Entry) × (slice_get es k ≡ Some x)) [
-      | inl there ↦ (there.0, there.2)
-      | inr none ↦ absurd (let long = none.0 in omega (arith, long, low))
-    ]
 
 put_last : (v : LogValue) (prev term c : ℕ) (es : List Entry) → Puts v prev term es c → last (put v prev es c) ≡ prev + length es
 put_last v prev term c es p =
@@ -126,7 +103,7 @@ put_before v prev term c i t es p over within is =
       | inl past ↦
           let m : ℕ = i - prev - 1 in
           let index : i ≡ prev + 1 + m = omega (arith, past) in
-          let y = sent_at es m (omega (arith, past, within)) in
+          let y = some_at es m (omega (arith, past, within)) in
           ap (term_at w) index ∙ term_past w m ∙ ap (λ (o : Option Entry). term_of o) y.1
           ∙ sym (put_sent_term v prev term c m es y.0 p y.1) ∙ sym (ap (term_at (put v prev es c)) index) ∙ is
     ]
@@ -142,8 +119,8 @@ put_linked ls v prev term c es p linked sent = λ i e t at is.
           let k : ℕ = i - prev in
           let index : i + 1 ≡ prev + 1 + k = omega (arith, over, from) in
           let size = put_last v prev term c es p in
-          let within = entry_within (put v prev es c) i e at in
-          let x = sent_at es k (omega (arith, size, within, over, from)) in
+          let within = entry_within (put v prev es c) (i + 1) e at in
+          let x = some_at es k (omega (arith, size, within, over, from)) in
           let same : x.0 ≡ e =
           ok_is (entry_at (put v prev es c) (prev + 1 + k)) x.0 e (put_entry v prev c k es x.0 p.above p.from p.high (omega (arith, over, index)) x.1) (sym (ap (entry_at (put v prev es c)) index) ∙ at) in
           let there : entry_at w (i + 1) ≡ Ok e = ap (entry_at w) index ∙ entry_past w k ∙ ap (λ (o : Option Entry). found o) x.1 ∙ ap (λ (y : Entry). Ok y) same in
@@ -165,16 +142,13 @@ appended_linked ls v prev term commit es linked sent =
 
 -- ---- an entry of one's own
 
-own_size : (v : LogValue) (e : Entry) → last (own v e) ≡ last v + 1
-own_size v e = omega (arith, length-append v.entries (e ∷ []))
-
 pub own_linked : (ls : List Link) (v : LogValue) (e : Entry) (before : ℕ) → IsLinked ls v → term_at v (last v) ≡ Ok before → HasLink ls (last v + 1) e before → IsLinked ls (own v e)
 own_linked ls v e before linked held there = λ i x t at is.
     (elim (cases_lt i (last v)) as (λ _. HasLink ls (i + 1) x t) [
       | inl low ↦ linked i x t (sym (own-held v e (i + 1) (omega (arith, low))) ∙ at) (sym (own-term_held v e i (omega (arith, low))) ∙ is)
       | inr over ↦
           let size = own_size v e in
-          let within = entry_within (own v e) i x at in
+          let within = entry_within (own v e) (i + 1) x at in
           let here : i ≡ last v = omega (arith, over, size, within) in
           let same : e ≡ x = ok_is (entry_at (own v e) (last v + 1)) e x (own-last v e) (sym (ap (λ (j : ℕ). entry_at (own v e) (j + 1)) here) ∙ at) in
           let term : before ≡ t = ok_is (term_at v (last v)) before t held (sym (own-term_held v e (last v) (omega arith)) ∙ sym (ap (term_at (own v e)) here) ∙ is) in

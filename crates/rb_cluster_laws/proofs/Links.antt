@@ -5,13 +5,13 @@ use Rattle.std.specs.Prelude.{Contains}
 use Rattle.std.specs.List.{slice_get}
 use Rattle.std.proofs.lemmas.Bool.{cases_lt}
 use Rattle.std.proofs.lemmas.List.Elements.{Contains-append_left, Contains-push_cases}
-use Rattle.std.proofs.lemmas.Option.{slice_get_cases}
 use Rattle.rb_raftlog.specs.declared.entry.Entry.{Entry}
 use Rattle.rb_raftlog.specs.declared.raft_log.LogFault.{LogFault}
 use Rattle.rb_raftlog.specs.declared.raft_log.LogFault.TheVariants.{Compacted, Unavailable}
 use Rattle.rb_raftlog.specs.Laws.{AreMatching}
 use Rattle.rb_raftlog.specs.Log.{LogValue, last, term_at, term_of, entry_at, found}
-use Rattle.rb_raftlog.proofs.TermLaws.{term_base, term_past, entry_below, entry_past, held_in}
+use Rattle.rb_raftlog.proofs.TermLaws.{by_index, term_base, term_past, entry_below, entry_past, held_in}
+use Rattle.rb_cluster_laws.proofs.ListLaws.{some_at}
 
 -- an entry at an index, the term of the one before it, and the node that appended it as leader
 pub record Link : Type 0 where
@@ -42,12 +42,28 @@ still_linked old new v more linked = λ i e t at is. (let l = linked i e t at is
 
 -- ---- what is held
 
-pub err_ok : {X : Type 0} (fault : LogFault) (x : X) → Err fault ≡ Ok x → ⊥
+err_ok : {X : Type 0} (fault : LogFault) (x : X) → Err fault ≡ Ok x → ⊥
 err_ok fault x e = cc
+
+is_found : (o : Option Entry) (e : Entry) → found o ≡ Ok e → o ≡ Some e
+is_found None e is = absurd (err_ok Unavailable e is)
+is_found (Some x) e is = ap (λ (y : Entry). Some y) (let same : x ≡ e = cc in same)
 
 of_term : (o : Option Entry) (t : ℕ) → term_of o ≡ Ok t → (e : Entry) × (found o ≡ Ok e) × (e.term ≡ t)
 of_term None t is = absurd (err_ok Unavailable t is)
 of_term (Some x) t is = (x, refl, let same : x.term ≡ t = cc in same)
+
+-- an entry stands past the base
+pub entry_there : (v : LogValue) (i : ℕ) (e : Entry) → entry_at v i ≡ Ok e → (k : ℕ) × (i ≡ v.base + 1 + k) × (slice_get v.entries k ≡ Some e)
+entry_there v i e at =
+    by_index v.base (λ (j : ℕ). entry_at v j ≡ Ok e → (k : ℕ) × (j ≡ v.base + 1 + k) × (slice_get v.entries k ≡ Some e))
+    (λ j low is. absurd (err_ok Compacted e (sym (entry_below v j (omega (arith, low))) ∙ is)))
+    (λ is. absurd (err_ok Compacted e (sym (entry_below v v.base (omega arith)) ∙ is)))
+    (λ k is. (k, refl, is_found (slice_get v.entries k) e (sym (entry_past v k) ∙ is)))
+    i at
+
+pub past_base : (v : LogValue) (i : ℕ) (e : Entry) → entry_at v i ≡ Ok e → v.base < i
+past_base v i e at = let x = entry_there v i e at in omega (arith, x.1)
 
 -- the entry at an index past the base that has a term
 pub held_entry : (v : LogValue) (i t : ℕ) → v.base ≤ i → term_at v (i + 1) ≡ Ok t → (e : Entry) × (entry_at v (i + 1) ≡ Ok e) × (e.term ≡ t)
@@ -65,18 +81,8 @@ held_term v i above within =
       | inl past ↦
           let k : ℕ = i - v.base - 1 in
           let index : i ≡ v.base + 1 + k = omega (arith, past) in
-          elim (slice_get_cases v.entries k).1 as (λ _. (t : ℕ) × (term_at v i ≡ Ok t)) [
-            | inl there ↦ (there.0.term, ap (term_at v) index ∙ term_past v k ∙ ap (λ (o : Option Entry). term_of o) there.2)
-            | inr none ↦ absurd (let long = none.0 in omega (arith, long, past, within))
-          ]
-    ]
-
--- an entry stands past the base, and has the term there
-pub past_base : (v : LogValue) (i : ℕ) (e : Entry) → entry_at v i ≡ Ok e → v.base < i
-past_base v i e at =
-    elim (cases_lt v.base i) as (λ _. v.base < i) [
-      | inl past ↦ past
-      | inr low ↦ absurd (err_ok Compacted e (sym (entry_below v i low) ∙ at))
+          let x = some_at v.entries k (omega (arith, past, within)) in
+          (x.0.term, ap (term_at v) index ∙ term_past v k ∙ ap (λ (o : Option Entry). term_of o) x.1)
     ]
 
 -- ---- logs of the same links match

@@ -1,16 +1,17 @@
 -- A leader makes a link: an entry of its term at the end of its log. A new leader finds none of its term
-use Rattle.std.proofs.Common.{◌≡◌, ◌⊎◌, ℕ, ◌+◌, ◌≤◌, false, List, [], ◌∷◌, ◌++◌, length-append, refl, sym, ap, subst, ◌∙◌, arith, inl, inr}
+use Rattle.std.proofs.Common.{◌≡◌, ◌⊎◌, ℕ, ◌+◌, ◌≤◌, false, List, [], ◌∷◌, ◌++◌, refl, sym, ap, subst, ◌∙◌, arith, inl, inr}
 use Rattle.std.specs.Prelude.{All, Contains}
 use Rattle.std.proofs.lemmas.List.Elements.{All-push, All-weaker, Contains-push, Contains-push_cases}
 use Rattle.rb_raftlog.specs.Bodies.{is_change}
 use Rattle.rb_raftlog.specs.declared.entry.Entry.{Entry}
-use Rattle.rb_raftlog.specs.Log.{LogValue, last, own}
+use Rattle.rb_raftlog.specs.Log.{last, own}
 use Rattle.rb_message.specs.declared.kind.MessageKind.{MessageKind}
 use Rattle.rb_message.specs.declared.kind.MessageKind.TheVariants as kind
 use Rattle.rb_message.specs.declared.message.Message.{Message}
 use Rattle.rb_message.specs.declared.role.Role.TheVariants as role
 use Rattle.rb_node.specs.Leading.{in_lead}
 use Rattle.rb_node.specs.Node.{PlainNode}
+use Rattle.rb_node_laws.proofs.Turns.{own_size}
 use Rattle.rb_cluster_laws.specs.Honesty.{IsPlain}
 use Rattle.rb_cluster_laws.proofs.Links.{Link, link, Extends, still_linked, held_term, push_extends, push_single}
 use Rattle.rb_cluster_laws.proofs.LinkedLogs.{log_from, own_linked}
@@ -27,9 +28,6 @@ pub still_chains : (old new : List Link) (ms : List Message) → Extends old new
 still_chains old new ms more chains = All-weaker (IsChain old) (IsChain new) (λ m chain. still_chain_by old new m.kind more chain) ms chains
 
 -- ---- an entry of one's own
-
-own_size : (v : LogValue) (e : Entry) → last (own v e) ≡ last v + 1
-own_size v e = omega (arith, length-append v.entries (e ∷ []))
 
 abbrev owned : PlainNode → Entry → PlainNode
 owned n e = record n { log = own n.log e }

@@ -1,8 +1,9 @@
 -- What holds of a network through all that happens in it, and that two leaders of one term are one node
-use Rattle.std.proofs.Common.{◌≡◌, ◌⊎◌, ℕ, zero, suc, ◌+◌, ◌<◌, ◌≤◌, true, List, [], ◌∷◌, ◌++◌, Option, Some, None, refl, sym, ap, subst, ◌∙◌, arith, inl, inr, ◌==◌, eqb-true}
+use Rattle.std.proofs.Common.{◌≡◌, ◌⊎◌, ℕ, ◌+◌, ◌<◌, ◌≤◌, true, List, [], ◌∷◌, ◌++◌, Option, Some, None, refl, sym, ap, subst, ◌∙◌, arith, inl, inr}
 use Rattle.std.specs.Prelude.{All, Contains, slice_get, slice_set}
-use Rattle.std.proofs.lemmas.Bool.{cases_Bool}
+use Rattle.std.proofs.lemmas.Bool.{cases_eq}
 use Rattle.std.proofs.lemmas.List.Elements.{All-nil, All-weaker, All-append, All-contains, Contains-append_left, Contains-append_right, Contains-append_cases}
+use Rattle.std.proofs.lemmas.Option.{same_Some}
 use Rattle.rb_message.specs.declared.event.Event.{Event}
 use Rattle.rb_message.specs.declared.kind.MessageKind.{MessageKind}
 use Rattle.rb_message.specs.declared.kind.MessageKind.TheVariants as kind
@@ -14,42 +15,15 @@ use Rattle.rb_node_laws.specs.Calling.{Call, Step, Propose, Advance, after}
 use Rattle.rb_node_laws.specs.Sound.{IsSound}
 use Rattle.rb_node_laws.specs.Words.{IsYes, IsPromised, HasPromises}
 use Rattle.rb_node_laws.proofs.CallLaws.{calls}
-use Rattle.rb_node_laws.proofs.Saying.{different}
 use Rattle.rb_node_laws.proofs.PromiseLaws.{Kept, NoYes, run_promises}
 use Rattle.rb_cluster_laws.specs.Honesty.{Keeps, IsHonestCall, AreHonest, IsNoAppend, IsGenuineCall, AreGenuine}
 use Rattle.rb_cluster_laws.specs.Network.{Network, Happening, put_out, happened_to, happened, run}
 use Rattle.rb_cluster_laws.proofs.Links.{Link, Extends, still_linked}
-use Rattle.rb_cluster_laws.proofs.Holding.{Setting, World, IsElected, AreOnce, IsOwn, IsChainBy, IsChain, IsIn, Holds, essence, world_of, still_elected, still_holds, with_links, still_in}
+use Rattle.rb_cluster_laws.proofs.ListLaws.{set_here, set_elsewhere, each_set}
+use Rattle.rb_cluster_laws.proofs.Holding.{Setting, World, IsElected, AreOnce, IsOwn, IsChainBy, IsChain, IsIn, Holds, essence, world_of, IsSaid, still_elected, still_holds, still_in}
 use Rattle.rb_cluster_laws.proofs.Electing.{one_elected}
 use Rattle.rb_cluster_laws.proofs.Making.{still_chains}
 use Rattle.rb_cluster_laws.proofs.CallHolds.{IsSafe, called_holds}
-
--- ---- one node of the list changes
-
-none_some : {X : Type 0} → (x : X) → None ≡ Some x → ⊥
-none_some x e = cc
-
-pub set_here : {X : Type 0} → (xs : List X) (k : ℕ) (x y : X) → slice_get xs k ≡ Some x → slice_get (slice_set xs k y) k ≡ Some y
-set_here [] k x y is = absurd (none_some x is)
-set_here (a ∷ xs) zero x y is = refl
-set_here (a ∷ xs) (suc k) x y is = set_here xs k x y is
-
-pub set_elsewhere : {X : Type 0} → (xs : List X) (k j : ℕ) (y : X) → (j ≡ k → ⊥) → slice_get (slice_set xs k y) j ≡ slice_get xs j
-set_elsewhere [] k j y other = refl
-set_elsewhere (a ∷ xs) zero zero y other = absurd (other refl)
-set_elsewhere (a ∷ xs) zero (suc j) y other = refl
-set_elsewhere (a ∷ xs) (suc k) zero y other = refl
-set_elsewhere (a ∷ xs) (suc k) (suc j) y other = set_elsewhere xs k j y (λ same. other (ap suc same))
-
-same_or_not : (j k : ℕ) → (j ≡ k) ⊎ (j ≡ k → ⊥)
-same_or_not j k =
-    elim (cases_Bool (j == k)) as (λ _. (j ≡ k) ⊎ (j ≡ k → ⊥)) [
-      | inl same ↦ inl (eqb-true j k same)
-      | inr other ↦ inr (different j k other)
-    ]
-
-one_some : {X : Type 0} → (x y : X) → Some x ≡ Some y → x ≡ y
-one_some x y e = cc
 
 -- ---- what holds
 
@@ -143,7 +117,8 @@ call_ends g said links place c told n once good safe =
     let t : Turn = turn n told in
     let out = put_out c n in
     let w : World = world_of g (said ++ out) links place in
-    let start : Holds w n = still_holds g said out links links place n (λ strict. still_in g said out (place + 1) links (essence n) once (good.linked strict)) good.holds in
+    let more : IsSaid said (said ++ out) = λ m among. Contains-append_left said out m among in
+    let start : Holds w n = still_holds g said (said ++ out) links links place n more (λ strict. still_in g said (said ++ out) (place + 1) links (essence n) more once (good.linked strict)) good.holds in
     let h : Holds w (after c t).node = called_holds {w = w} c t safe start in
     record {
       now = h.linking.links;
@@ -152,7 +127,7 @@ call_ends g said links place c told n once good safe =
       good = record {
         sound = ((calls c t).goes good.sound).ordered;
         promises = (run_promises (c ∷ []) t).keeps good.sound good.promises;
-        holds = with_links g (said ++ out) links h.linking.links place (after c t).node h.linking.holds h;
+        holds = still_holds g (said ++ out) (said ++ out) links h.linking.links place (after c t).node (λ m among. among) h.linking.holds h;
         linked = h.linking.holds;
       };
     }
@@ -181,7 +156,7 @@ others_in g said more old new place k x n other since own its leads c = record {
         | inl before ↦ c.leads is l before term
         | inr theirs ↦
             let made : IsElected g (said ++ more) l.maker n.term = subst (λ (t : ℕ). IsElected g (said ++ more) l.maker t) term (its.made l among) in
-            let one : k + 1 ≡ l.maker = one_elected g (said ++ more) (k + 1) l.maker n.term its.once (still_elected g said more (k + 1) n.term (leads is)) made in
+            let one : k + 1 ≡ l.maker = one_elected g (said ++ more) (k + 1) l.maker n.term its.once (still_elected g said (said ++ more) (k + 1) n.term (λ m among. Contains-append_left said more m among) (leads is)) made in
             absurd (other (omega (arith, one, theirs)))
       ];
 }
@@ -190,7 +165,7 @@ still_good : (g : Setting) (said more : List Message) (links : List Link) (place
 still_good g said more links place k x n other e good =
     let linked : g.strict ≡ true → IsIn g (said ++ more) (k + 1) e.now (essence n) = λ strict.
     others_in g said more links e.now place k x n other e.since e.own (e.good.linked strict) good.holds.leads (good.linked strict) in
-    record { sound = good.sound; promises = good.promises; holds = still_holds g said more links e.now k n linked good.holds; linked = linked }
+    record { sound = good.sound; promises = good.promises; holds = still_holds g said (said ++ more) links e.now k n (λ m among. Contains-append_left said more m among) linked good.holds; linked = linked }
 
 -- the votes that the called node gave, those that it puts out now among them, it had promised
 pledged : (g : Setting) (s : Network) (place : ℕ) (c : Call) (n : PlainNode) (m : Message) (sane : IsSane g s) → slice_get s.nodes place ≡ Some n → IsGood g s.said sane.links place n → Contains (s.said ++ put_out c n) m → IsYes m → m.from ≡ place + 1 → IsPromised n m.term m.to
@@ -199,7 +174,7 @@ pledged g s place c n m sane at good among gives own =
       | inl before ↦
           let was = sane.given m before gives in
           let same : was.place ≡ place = omega (arith, was.by, own) in
-          let it : was.node ≡ n = one_some was.node n (sym was.stands ∙ ap (slice_get s.nodes) same ∙ at) in
+          let it : was.node ≡ n = same_Some was.node n (sym was.stands ∙ ap (slice_get s.nodes) same ∙ at) in
           subst (λ (x : PlainNode). IsPromised x m.term m.to) it was.promised
       | inr now ↦ All-contains (Kept n) n.waiting m good.promises.kept (out_waits c n m good.promises now gives) gives
     ]
@@ -216,53 +191,25 @@ once_more g s place c n a b sane at good old now first second from term =
     let p : IsPromised n a.term a.to = pledged g s place c n a sane at good old first own in
     All-contains (λ (m : Message). IsYes m → m.term ≡ a.term → m.to ≡ a.to) n.waiting b p.alone (out_waits c n b good.promises now second) second (sym term)
 
-still_given : (s : Network) (place : ℕ) (c : Call) (told : List Event) (n : PlainNode) (m : Message) → slice_get s.nodes place ≡ Some n → IsSound n → IsYes m → IsGiven s.nodes m → IsGiven (slice_set s.nodes place (after c (turn n told)).node) m
-still_given s place c told n m at sound gives was =
-    let x = (after c (turn n told)).node in
-    elim (same_or_not was.place place) as (λ _. IsGiven (slice_set s.nodes place x) m) [
-      | inl same ↦
-          let it : was.node ≡ n = one_some was.node n (sym was.stands ∙ ap (slice_get s.nodes) same ∙ at) in
-          record {
-            place = place;
-            node = x;
-            stands = set_here s.nodes place n x at;
-            by = was.by ∙ ap (λ (k : ℕ). k + 1) same;
-            promised = (run_promises (c ∷ []) (turn n told)).stays m.term m.to sound gives.1 (subst (λ (y : PlainNode). IsPromised y m.term m.to) it was.promised);
-          }
-      | inr other ↦ record {
-        place = was.place;
-        node = was.node;
-        stands = set_elsewhere s.nodes place was.place x other ∙ was.stands;
-        by = was.by;
-        promised = was.promised;
-      }
-    ]
+abbrev pub called_network : Network → ℕ → Call → List Event → PlainNode → Network
+called_network s place c told n = record { nodes = slice_set s.nodes place (after c (turn n told)).node; said = s.said ++ put_out c n }
 
-newly_given : (g : Setting) (s : Network) (place : ℕ) (c : Call) (told : List Event) (n : PlainNode) (m : Message) (sane : IsSane g s) → slice_get s.nodes place ≡ Some n → IsGood g s.said sane.links place n → Contains (s.said ++ put_out c n) m → IsYes m → m.from ≡ place + 1 → IsGiven (slice_set s.nodes place (after c (turn n told)).node) m
-newly_given g s place c told n m sane at good among gives own =
+given_here : (s : Network) (place : ℕ) (c : Call) (told : List Event) (n : PlainNode) (m : Message) → slice_get s.nodes place ≡ Some n → IsSound n → IsYes m → m.from ≡ place + 1 → IsPromised n m.term m.to → IsGiven (called_network s place c told n).nodes m
+given_here s place c told n m at sound gives own promised =
     let x = (after c (turn n told)).node in
     record {
       place = place;
       node = x;
       stands = set_here s.nodes place n x at;
       by = own;
-      promised = (run_promises (c ∷ []) (turn n told)).stays m.term m.to good.sound gives.1 (pledged g s place c n m sane at good among gives own);
+      promised = (run_promises (c ∷ []) (turn n told)).stays m.term m.to sound gives.1 promised;
     }
-
-abbrev called_network : Network → ℕ → Call → List Event → PlainNode → Network
-called_network s place c told n = record { nodes = slice_set s.nodes place (after c (turn n told)).node; said = s.said ++ put_out c n }
 
 nodes_after : (g : Setting) (s : Network) (place : ℕ) (c : Call) (told : List Event) (n : PlainNode) (k : ℕ) (x : PlainNode) (sane : IsSane g s) → slice_get s.nodes place ≡ Some n → (e : CallEnds g (s.said ++ put_out c n) sane.links place (after c (turn n told)).node) → slice_get (called_network s place c told n).nodes k ≡ Some x → IsGood g (s.said ++ put_out c n) e.now k x
 nodes_after g s place c told n k x sane at e is =
     let new = (after c (turn n told)).node in
-    let said = s.said ++ put_out c n in
-    elim (same_or_not k place) as (λ _. IsGood g said e.now k x) [
-      | inl same ↦
-          let here : slice_get (slice_set s.nodes place new) place ≡ Some x = subst (λ (j : ℕ). slice_get (slice_set s.nodes place new) j ≡ Some x) same is in
-          let it : new ≡ x = one_some new x (sym (set_here s.nodes place n new at) ∙ here) in
-          subst (λ (j : ℕ). IsGood g said e.now j x) (sym same) (subst (λ (y : PlainNode). IsGood g said e.now place y) it e.good)
-      | inr other ↦ still_good g s.said (put_out c n) sane.links place k new x other e (sane.good k x (sym (set_elsewhere s.nodes place k new other) ∙ is))
-    ]
+    each_set (λ (j : ℕ) (y : PlainNode). IsGood g (s.said ++ put_out c n) e.now j y) s.nodes place n new at e.good
+    (λ j y other there. still_good g s.said (put_out c n) sane.links place j new y other e (sane.good j y there)) k x is
 
 once_after : (g : Setting) (s : Network) (place : ℕ) (c : Call) (n : PlainNode) (a b : Message) → IsSane g s → slice_get s.nodes place ≡ Some n → Contains (s.said ++ put_out c n) a → Contains (s.said ++ put_out c n) b → IsYes a → IsYes b → a.from ≡ b.from → a.term ≡ b.term → a.to ≡ b.to
 once_after g s place c n a b sane at one two first second from term =
@@ -278,9 +225,22 @@ once_after g s place c n a b sane at one two first second from term =
 given_after : (g : Setting) (s : Network) (place : ℕ) (c : Call) (told : List Event) (n : PlainNode) (m : Message) → IsSane g s → slice_get s.nodes place ≡ Some n → Contains (s.said ++ put_out c n) m → IsYes m → IsGiven (called_network s place c told n).nodes m
 given_after g s place c told n m sane at among gives =
     let good = sane.good place n at in
+    let here : m.from ≡ place + 1 → IsGiven (called_network s place c told n).nodes m = λ own.
+    given_here s place c told n m at good.sound gives own (pledged g s place c n m sane at good among gives own) in
     elim (Contains-append_cases s.said (put_out c n) m among) as (λ _. IsGiven (called_network s place c told n).nodes m) [
-      | inl before ↦ still_given s place c told n m at good.sound gives (sane.given m before gives)
-      | inr now ↦ newly_given g s place c told n m sane at good among gives (out_own g s.said sane.links place c n m good now gives)
+      | inl before ↦
+          let was = sane.given m before gives in
+          elim (cases_eq was.place place) as (λ _. IsGiven (called_network s place c told n).nodes m) [
+            | inl same ↦ here (was.by ∙ ap (λ (k : ℕ). k + 1) same)
+            | inr other ↦ record {
+              place = was.place;
+              node = was.node;
+              stands = set_elsewhere s.nodes place was.place (after c (turn n told)).node other ∙ was.stands;
+              by = was.by;
+              promised = was.promised;
+            }
+          ]
+      | inr now ↦ here (out_own g s.said sane.links place c n m good now gives)
     ]
 
 -- all is well, and no link was lost
@@ -288,7 +248,7 @@ pub record Since (g : Setting) (before : List Link) (s : Network) : Type 0 where
   pub sane : IsSane g s
   pub since : Extends before sane.links
 
-called_sane : (g : Setting) (s : Network) (place : ℕ) (c : Call) (told : List Event) (n : PlainNode) (sane : IsSane g s) → slice_get s.nodes place ≡ Some n → IsHonestCall g.config s (place + 1) c → (g.strict ≡ true → IsGenuineCall s c) → Since g sane.links (called_network s place c told n)
+pub called_sane : (g : Setting) (s : Network) (place : ℕ) (c : Call) (told : List Event) (n : PlainNode) (sane : IsSane g s) → slice_get s.nodes place ≡ Some n → IsHonestCall g.config s (place + 1) c → (g.strict ≡ true → IsGenuineCall s c) → Since g sane.links (called_network s place c told n)
 called_sane g s place c told n sane at honest genuine =
     let good = sane.good place n at in
     let out = put_out c n in

@@ -1,6 +1,5 @@
 -- Election safety, and where a network begins
-use Rattle.std.proofs.Common.{◌≡◌, ℕ, ◌+◌, ◌<◌, Bool, false, List, [], refl, sym, ap, subst, ◌∙◌, arith, inl}
-use Rattle.std.specs.Prelude.{Contains}
+use Rattle.std.proofs.Common.{◌≡◌, ℕ, ◌+◌, Bool, false, List, [], refl, sym, ap, subst, ◌∙◌, arith, inl}
 use Rattle.std.proofs.lemmas.Bool.{false≢true}
 use Rattle.std.proofs.lemmas.List.Elements.{All-nil, All-same}
 use Rattle.rb_change.specs.declared.conf_state.ConfState.{ConfState}
@@ -16,7 +15,8 @@ use Rattle.rb_cluster_laws.specs.Honesty.{IsPlain, Keeps, AreHonest}
 use Rattle.rb_cluster_laws.specs.Network.{Network, Happening, run, IsStarted, IsBegun, Leads}
 use Rattle.rb_cluster_laws.specs.Votes.{IsCast, IsChosen}
 use Rattle.rb_cluster_laws.proofs.LinkedLogs.{none_linked}
-use Rattle.rb_cluster_laws.proofs.Holding.{Setting, World, IsElected, IsOwn, IsChain, IsIn, essence, world_of, follower_stands, follower_leads}
+use Rattle.rb_cluster_laws.proofs.ListLaws.{in_nothing}
+use Rattle.rb_cluster_laws.proofs.Holding.{Setting, World, IsElected, IsOwn, IsChain, IsIn, essence, world_of, still_elected, follower_stands, follower_leads}
 use Rattle.rb_cluster_laws.proofs.Electing.{one_elected}
 use Rattle.rb_cluster_laws.proofs.NetworkLaws.{IsGood, IsSane, run_sane, still_said}
 
@@ -30,19 +30,16 @@ back s =
 unfoldable pub setting_of : Bool → (members : ConfState) → members.outgoing ≡ [] → Setting
 setting_of strict members single = record { config = config_of members; single = ap set_of single; back = back members; strict = strict }
 
-in_nothing : {X : Type 0} → (x : X) → Contains [] x → ⊥
-in_nothing x among = let low : among.0 < 0 = among.1 in omega arith
-
 -- who starts has said nothing, and nobody has made a link
 begun_in : (g : Setting) (id : ℕ) (start : Snapshot) (options : Options) → IsIn g [] id [] (essence (started id start options))
 begun_in g id start options = record {
-  once = λ a b one two first second from term. absurd (in_nothing a one);
-  single = λ a b one two index term. absurd (in_nothing a one);
-  made = λ l among. absurd (in_nothing l among);
+  once = λ a b one two first second from term. absurd (in_nothing [] a refl one);
+  single = λ a b one two index term. absurd (in_nothing [] a refl one);
+  made = λ l among. absurd (in_nothing [] l refl among);
   logged = none_linked [] (started id start options).log refl;
   sent = All-nil (IsChain []);
   waiting = All-nil (IsChain []);
-  past = λ l among own. absurd (in_nothing l among);
+  past = λ l among own. absurd (in_nothing [] l refl among);
   stands = λ no. absurd (follower_stands no);
   leads = λ no. absurd (follower_leads no);
 }
@@ -69,9 +66,6 @@ begun_good strict members single k start options same =
       linked = λ _. begun_in g (k + 1) start options;
     }
 
-in_silence : (s : Network) (m : Message) → s.said ≡ [] → Contains s.said m → ⊥
-in_silence s m silent among = in_nothing m (subst (λ (said : List Message). Contains said m) silent among)
-
 pub begun_sane : (strict : Bool) (members : ConfState) (single : members.outgoing ≡ []) (s : Network) → IsBegun members s → IsSane (setting_of strict members single) s
 begun_sane strict members single s b =
     let g = setting_of strict members single in
@@ -82,8 +76,8 @@ begun_sane strict members single s b =
           (subst (λ (x : PlainNode). IsGood g [] [] k x) (sym is.is) (begun_good strict members single k is.start is.options is.config)));
       fine = All-same (Keeps g.config) s.said [] b.silent (All-nil (Keeps g.config));
       chains = λ _. All-same (IsChain []) s.said [] b.silent (All-nil (IsChain []));
-      given = λ m among gives. absurd (in_silence s m b.silent among);
-      once = λ x y one two first second from term. absurd (in_silence s x b.silent one);
+      given = λ m among gives. absurd (in_nothing s.said m b.silent among);
+      once = λ x y one two first second from term. absurd (in_nothing s.said x b.silent one);
     }
 
 -- ---- two leaders
@@ -95,24 +89,6 @@ was_elect g s id term sane l = subst (λ (n : ℕ). IsElected g s.said (l.place 
 its_id : (g : Setting) (s : Network) (id term : ℕ) → IsSane g s → (l : Leads s.nodes id term) → l.place + 1 ≡ id
 its_id g s id term sane l = sym (sane.good l.place l.node l.stands).holds.itself ∙ l.of_id
 
--- who was elected before is still so, by the same votes
-elected_on : (g : Setting) (before now : List Message) (id term : ℕ) → ((m : Message) → Contains before m → Contains now m) → IsElected g before id term → IsElected g now id term
-elected_on g before now id term still e = record {
-  may = e.may;
-  by = record {
-    votes = e.by.votes;
-    won = e.by.won;
-    cast = λ v granted. (let c = e.by.cast v granted in record {
-      answer = c.answer;
-      among = still c.answer c.among;
-      gives = c.gives;
-      by = c.by;
-      of_term = c.of_term;
-      for_it = c.for_it;
-    });
-  };
-}
-
 pub one_leader : (members : ConfState) (s : Network) (earlier later : List Happening) (first second term : ℕ) → members.outgoing ≡ [] → IsBegun members s → AreHonest (config_of members) earlier s → AreHonest (config_of members) later (run earlier s) → Leads (run earlier s).nodes first term → Leads (run later (run earlier s)).nodes second term → second ≡ first
 unfolding setting_of
 one_leader members s earlier later first second term single begun honest honest_still a b =
@@ -121,7 +97,7 @@ one_leader members s earlier later first second term single begun honest honest_
     let u = run later t in
     let sane_then : IsSane g t = run_sane g earlier s (begun_sane false members single s begun) honest (λ no. absurd (false≢true no)) in
     let sane_now : IsSane g u = run_sane g later t sane_then honest_still (λ no. absurd (false≢true no)) in
-    let was : IsElected g u.said (a.place + 1) term = elected_on g t.said u.said (a.place + 1) term (λ m said. still_said later t m said) (was_elect g t first term sane_then a) in
+    let was : IsElected g u.said (a.place + 1) term = still_elected g t.said u.said (a.place + 1) term (λ m said. still_said later t m said) (was_elect g t first term sane_then a) in
     sym (its_id g u second term sane_now b)
     ∙ one_elected g u.said (b.place + 1) (a.place + 1) term sane_now.once (was_elect g u second term sane_now b) was
     ∙ its_id g t first term sane_then a

@@ -1,39 +1,39 @@
--- What a cluster does is what a network may do: its nodes are called, and each pending message was put out or gives no vote
-use Rattle.std.proofs.Common.{◌≡◌, ◌⊎◌, ℕ, ◌+◌, ◌-◌, true, List, [], ◌∷◌, ◌++◌, Option, Some, refl, sym, ap, subst, ◌∙◌, inl, inr}
-use Rattle.std.specs.Prelude.{All, Contains, slice_get, slice_set}
-use Rattle.std.proofs.lemmas.List.Elements.{All-weaker, Contains-append_right}
+-- What a cluster does is what a network may do: its nodes are called, and each message that may come was put out or gives no vote
+use Rattle.std.proofs.Common.{◌≡◌, ◌⊎◌, ℕ, ◌+◌, true, List, [], ◌∷◌, ◌++◌, Option, Some, refl, sym, ap, subst, ◌∙◌, inl, inr}
+use Rattle.std.specs.Prelude.{Contains, slice_get, slice_set}
+use Rattle.std.proofs.lemmas.List.Elements.{Contains-append_left, Contains-append_right, Contains-append_cases, Contains-push_cases}
+use Rattle.rb_tracker.specs.Configs.{config_of, state_of}
+use Rattle.rb_tracker.specs.declared.config.Config.{Config}
 use Rattle.rb_message.specs.declared.kind.MessageKind.TheVariants as kind
 use Rattle.rb_message.specs.declared.message.Message.{Message}
-use Rattle.rb_node.specs.Node.{PlainNode, Turn}
-use Rattle.rb_node_laws.specs.Calling.{Call, after}
-use Rattle.rb_machine.specs.Cluster.{Cluster, node_at, with_node}
+use Rattle.rb_node.specs.Node.{PlainNode, Turn, message}
+use Rattle.rb_node.specs.Sends.{snapshot_of}
+use Rattle.rb_node_laws.specs.Calling.{Call, Step, Propose, Advance, after}
 use Rattle.rb_cluster_laws.specs.Honesty.{Keeps, IsHonestCall, AreHonest, IsNoAppend, IsGenuineCall, AreGenuine}
 use Rattle.rb_cluster_laws.specs.Network.{Network, Happening, put_out, happened_to, happened, run}
 use Rattle.rb_cluster_laws.proofs.Holding.{Setting}
-use Rattle.rb_cluster_laws.proofs.NetworkLaws.{IsSane, run_sane, still_said}
+use Rattle.rb_cluster_laws.proofs.NetworkLaws.{IsSane, called_network, called_sane}
+use Rattle.rb_cluster_laws.proofs.DirectiveLaws.{IsBrought, Lasts}
 
--- a message on its way was put out by a node; or it gives no vote, keeps the configuration and is no append
+-- a message that may come was put out by a node; or it gives no vote, keeps the configuration and is no append
 abbrev pub IsComing : Setting → Network → Message → Type 0
 IsComing g s m = Contains s.said m ⊎ ((m.kind ≡ kind.VoteResponse true → ⊥) × Keeps g.config m × IsNoAppend m.kind)
 
--- what a call brings is honest, and an append is genuine
-abbrev pub IsFair : Setting → Network → ℕ → Call → Type 0
-IsFair g s id call = IsHonestCall g.config s id call × IsGenuineCall s call
-
-pub record IsTied (g : Setting) (s : Network) (c : Cluster) : Type 0 where
+-- a network with these nodes, to which these messages may come
+pub record IsTied (g : Setting) (s : Network) (nodes : List PlainNode) (ms : List Message) : Type 0 where
   pub sane : IsSane g s
-  pub nodes : c.nodes ≡ s.nodes
-  pub pending : All (IsComing g s) c.pending
+  pub same : nodes ≡ s.nodes
+  pub coming : (m : Message) → Contains ms m → IsComing g s m
 
--- honest happenings lead from a network to one that is tied to the cluster
-pub record IsReached (g : Setting) (s : Network) (c : Cluster) : Type 0 where
+-- honest happenings lead from a network to such a one
+pub record IsReached (g : Setting) (s : Network) (nodes : List PlainNode) (ms : List Message) : Type 0 where
   pub happenings : List Happening
   pub honest : AreHonest g.config happenings s
   pub genuine : AreGenuine happenings s
-  pub tied : IsTied g (run happenings s) c
+  pub tied : IsTied g (run happenings s) nodes ms
 
-pub stays : (g : Setting) (s : Network) (c : Cluster) → IsTied g s c → IsReached g s c
-stays g s c tied = record { happenings = []; honest = tt; genuine = tt; tied = tied }
+pub stays : (g : Setting) (s : Network) (nodes : List PlainNode) (ms : List Message) → IsTied g s nodes ms → IsReached g s nodes ms
+stays g s nodes ms tied = record { happenings = []; honest = tt; genuine = tt; tied = tied }
 
 -- ---- one upon another
 
@@ -49,56 +49,66 @@ genuine_both : (xs ys : List Happening) (s : Network) → AreGenuine xs s → Ar
 genuine_both [] ys s first second = second
 genuine_both (x ∷ xs) ys s first second = (first.0, genuine_both xs ys (happened s x) first.1 second)
 
-pub next : (g : Setting) (s : Network) (c d : Cluster) → IsReached g s c → ((hs : List Happening) → IsTied g (run hs s) c → IsReached g (run hs s) d) → IsReached g s d
-next g s c d r go =
-    let q = go r.happenings r.tied in
-    record {
-      happenings = r.happenings ++ q.happenings;
-      honest = honest_both g r.happenings q.happenings s r.honest q.honest;
-      genuine = genuine_both r.happenings q.happenings s r.genuine q.genuine;
-      tied = subst (λ (t : Network). IsTied g t d) (sym (run_both r.happenings q.happenings s)) q.tied;
-    }
-
-pub still_coming : (g : Setting) (hs : List Happening) (s : Network) (m : Message) → IsComing g s m → IsComing g (run hs s) m
-still_coming g hs s m coming =
-    elim coming as (λ _. IsComing g (run hs s) m) [
-      | inl said ↦ inl (still_said hs s m said)
-      | inr foreign ↦ inr foreign
-    ]
-
 -- ---- a call of a node
 
-abbrev pub called_cluster : Cluster → ℕ → Call → Turn → Cluster
-called_cluster c id call t = with_node c id (after call t).node
+-- what it brings is honest, and an append is genuine
+fair : (g : Setting) (s : Network) (nodes : List PlainNode) (ms : List Message) (k : ℕ) (call : Call) → IsBrought true ms k call → IsTied g s nodes ms → IsHonestCall g.config s (k + 1) call × IsGenuineCall s call
+fair g s nodes ms k (Step m) brought tied =
+    elim (tied.coming m brought.0) as (λ _. IsHonestCall g.config s (k + 1) (Step m) × IsGenuineCall s (Step m)) [
+      | inl said ↦ (inl (said, brought.1), inl said)
+      | inr foreign ↦ (inr (foreign.0, foreign.1), inr foreign.2)
+    ]
+fair g s nodes ms k (Propose body) brought tied = (brought refl, tt)
+fair g s nodes ms k _ brought tied = (tt, tt)
 
--- the call, as it happens in the network
-abbrev pub call_of : ℕ → Call → Turn → List Happening
-call_of id call t = record { place = id - 1; call = call; told = t.events } ∷ []
-
-abbrev after_call : Network → ℕ → Call → Turn → Network
-after_call s id call t = record { nodes = slice_set s.nodes (id - 1) (after call t).node; said = s.said ++ put_out call t.node }
-
-happens_there : (g : Setting) (s : Network) (c : Cluster) (id : ℕ) (call : Call) (t : Turn) → IsTied g s c → node_at c id ≡ Some t.node → run (call_of id call t) s ≡ after_call s id call t
-happens_there g s c id call t tied at =
-    let h : Happening = record { place = id - 1; call = call; told = t.events } in
-    let there : slice_get s.nodes (id - 1) ≡ Some t.node = sym (ap (λ (nodes : List PlainNode). slice_get nodes (id - 1)) tied.nodes) ∙ at in
-    ap (λ (o : Option PlainNode). happened_to o s h) there
-
-pub call_tied : (g : Setting) (s : Network) (c : Cluster) (id : ℕ) (call : Call) (t : Turn) → IsTied g s c → node_at c id ≡ Some t.node → IsFair g s (id - 1 + 1) call → IsTied g (run (call_of id call t) s) (called_cluster c id call t)
-call_tied g s c id call t tied at fair =
-    let hs = call_of id call t in
-    let is = happens_there g s c id call t tied at in
+-- what may come then may have come before, or is put out
+calls : (g : Setting) (s : Network) (nodes : List PlainNode) (ms all : List Message) (k : ℕ) (call : Call) (t : Turn) → slice_get nodes k ≡ Some t.node → IsBrought true ms k call → ((m : Message) → Contains all m → Contains ms m ⊎ Contains (put_out call t.node) m) → IsReached g s nodes ms → IsReached g s (slice_set nodes k (after call t).node) all
+calls g s nodes ms all k call t at brought either r =
+    let now = run r.happenings s in
+    let h : Happening = record { place = k; call = call; told = t.events } in
+    let next = called_network now k call t.events t.node in
+    let there : slice_get now.nodes k ≡ Some t.node = sym (ap (λ (ns : List PlainNode). slice_get ns k) r.tied.same) ∙ at in
+    let is : run (r.happenings ++ h ∷ []) s ≡ next = run_both r.happenings (h ∷ []) s ∙ ap (λ (o : Option PlainNode). happened_to o now h) there in
+    let both = fair g now nodes ms k call brought r.tied in
+    let out = put_out call t.node in
+    let tied : IsTied g next (slice_set nodes k (after call t).node) all = record {
+      sane = (called_sane g now k call t.events t.node r.tied.sane there both.0 (λ _. both.1)).sane;
+      same = ap (λ (ns : List PlainNode). slice_set ns k (after call t).node) r.tied.same;
+      coming = λ m among.
+          elim (either m among) as (λ _. IsComing g next m) [
+            | inl before ↦
+                elim (r.tied.coming m before) as (λ _. IsComing g next m) [ inl said ↦ inl (Contains-append_left now.said out m said) | inr foreign ↦ inr foreign ]
+            | inr new ↦ inl (Contains-append_right now.said out m new)
+          ];
+    } in
     record {
-      sane = run_sane g hs s tied.sane (fair.0, tt) (λ _. (fair.1, tt));
-      nodes = ap (λ (nodes : List PlainNode). slice_set nodes (id - 1) (after call t).node) tied.nodes ∙ sym (ap (λ (x : Network). x.nodes) is);
-      pending = All-weaker (IsComing g s) (IsComing g (run hs s)) (λ m coming. still_coming g hs s m coming) c.pending tied.pending;
+      happenings = r.happenings ++ h ∷ [];
+      honest = honest_both g r.happenings (h ∷ []) s r.honest (both.0, tt);
+      genuine = genuine_both r.happenings (h ∷ []) s r.genuine (both.1, tt);
+      tied = subst (λ (x : Network). IsTied g x (slice_set nodes k (after call t).node) all) (sym is) tied;
     }
 
--- what the called node put out was said
-pub said_now : (g : Setting) (s : Network) (c : Cluster) (id : ℕ) (call : Call) (t : Turn) → IsTied g s c → node_at c id ≡ Some t.node → (m : Message) → Contains (put_out call t.node) m → Contains (run (call_of id call t) s).said m
-said_now g s c id call t tied at m out =
-    let is = happens_there g s c id call t tied at in
-    subst (λ (x : Network). Contains x.said m) (sym is) (Contains-append_right s.said (put_out call t.node) m out)
+-- ---- a snapshot sent by hand
 
-pub call_reached : (g : Setting) (s : Network) (c : Cluster) (id : ℕ) (call : Call) (t : Turn) → IsTied g s c → node_at c id ≡ Some t.node → IsFair g s (id - 1 + 1) call → IsReached g s (called_cluster c id call t)
-call_reached g s c id call t tied at fair = record { happenings = call_of id call t; honest = (fair.0, tt); genuine = (fair.1, tt); tied = call_tied g s c id call t tied at fair }
+no_vote : (n : PlainNode) → kind.Snapshot (snapshot_of n) ≡ kind.VoteResponse true → ⊥
+no_vote n e = cc
+
+shows : (g : Setting) (s : Network) (nodes : List PlainNode) (ms : List Message) (k from to : ℕ) (n : PlainNode) → slice_get nodes k ≡ Some n → IsReached g s nodes ms → IsReached g s nodes (ms ++ message from to n.term (kind.Snapshot (snapshot_of n)) ∷ [])
+shows g s nodes ms k from to n at r =
+    let now = run r.happenings s in
+    let m = message from to n.term (kind.Snapshot (snapshot_of n)) in
+    let there : slice_get now.nodes k ≡ Some n = sym (ap (λ (ns : List PlainNode). slice_get ns k) r.tied.same) ∙ at in
+    let keeps : Keeps g.config m = subst (λ (c : Config). config_of (state_of c) ≡ g.config) (sym (r.tied.sane.good k n there).holds.config) g.back in
+    let coming : (x : Message) → Contains (ms ++ m ∷ []) x → IsComing g now x = λ x among.
+    (elim (Contains-push_cases ms m x among) as (λ _. IsComing g now x) [ inl before ↦ r.tied.coming x before | inr new ↦ subst (IsComing g now) new (inr (no_vote n, keeps, tt)) ]) in
+    record { happenings = r.happenings; honest = r.honest; genuine = r.genuine; tied = record { sane = r.tied.sane; same = r.tied.same; coming = coming } }
+
+-- ---- so it lasts through steady directives
+
+pub lasts : (g : Setting) (s : Network) → Lasts true (IsReached g s)
+lasts g s = record {
+  calls = λ nodes ms k call t at brought r. calls g s nodes ms ms k call t at brought (λ m among. inl among) r;
+  advances = λ nodes ms k t at r. calls g s nodes ms (ms ++ put_out Advance t.node) k Advance t at tt (λ m among. Contains-append_cases ms (put_out Advance t.node) m among) r;
+  shows = λ nodes ms k from to n at r. shows g s nodes ms k from to n at r;
+  joins = λ free. absurd (free refl);
+}
