@@ -1,16 +1,22 @@
 -- How many rows there are of what is not as it was.
-use Rattle.std.proofs.Common.{◌≡◌, ◌∙◌, ℕ, ◌+◌, ◌-◌, ◌≤◌, Bool, true, false, List, [], ◌∷◌, ◌++◌, length, refl, ap, sym, subst, arith, inl, inr, length-append, length-drop}
-use Rattle.std.specs.Prelude.{◌&&◌, ◌==◌, if◌then◌else◌, codes, slice_index, Contains}
-use Rattle.std.specs.List.{flat_map, list_any}
+use Rattle.std.proofs.Common.{◌≡◌, ◌∙◌, ℕ, ◌+◌, ◌*◌, ◌-◌, ◌≤◌, Bool, true, false, List, [], ◌∷◌, ◌++◌, length, get_or, refl, ap, ap₂, sym, subst, arith, inl, inr, length-append, length-drop}
+use Rattle.std.specs.Prelude.{◌&&◌, ◌==◌, if◌then◌else◌, codes, nat_eq, slice_index, Contains}
+use Rattle.std.specs.List.{flat_map, list_any, slice_index_or, sum_by}
+use Rattle.std.specs.Map.{keys_of}
 use Rattle.std.specs.Str.{bytes_eq}
 use Rattle.std.proofs.lemmas.Bool.{and_parts, or_cases, or_left, or_right}
 use Rattle.std.proofs.lemmas.Bool.Decides.{Decides-eqb}
-use Rattle.std.proofs.lemmas.List.Folds.{list_any_at}
-use Rattle.std.proofs.lemmas.List.Sums.{sum_by-cons}
+use Rattle.std.proofs.lemmas.List.{get_or-map, length-map, nil_from_length}
+use Rattle.std.proofs.lemmas.List.Concat.{length-flat_map}
+use Rattle.std.proofs.lemmas.List.Elements.{All-contains_itself, All-weaker}
+use Rattle.std.proofs.lemmas.List.Folds.{flat_map-map, list_any_at}
+use Rattle.std.proofs.lemmas.List.Sums.{sum_by-cons, sum_by-le, sum_by-le-sum_by}
+use Rattle.std.proofs.lemmas.Map.Made.{is_some-lookup}
 use Rattle.std.proofs.lemmas.Slice.Eq.{bytes_eq-Decides}
 use Rattle.rb_raftlog.specs.Log.{LogValue, entries_after}
 use Rattle.rb_script.specs.Lines.{Line}
 use Rattle.rb_node.specs.Node.{PlainNode}
+use Rattle.rb_tracker.proofs.SetLaws.{if_both}
 use Rattle.rb_tracker.specs.Progresses.{PlainProgress}
 use Rattle.rb_tracker.specs.Trackers.{has_view}
 use Rattle.rb_texts.specs.Configs.{config_text}
@@ -21,9 +27,7 @@ use Rattle.rb_steps.specs.Changes.{one_unless, has_same_numbers, has_same_config
 use Rattle.rb_steps.specs.Logs.{is_same_log, log_changes, log_from, stays}
 use Rattle.rb_steps.specs.Rows.{has_text, new_row, new_rows}
 use Rattle.rb_steps.specs.States.{added_rows, changed_rows, config_row, gone_of, gone_rows, no_view_row, node_row, standing, state_rows, view_row, view_rows}
-use Rattle.rb_steps.proofs.KeepLaws.{both}
 use Rattle.rb_steps.proofs.LogLaws.{entries_count, own_same}
-use Rattle.rb_steps.proofs.StateLaws.{AreViewed, here, own_viewed, there, views_count}
 
 -- ---- what is the same has the same row
 
@@ -35,7 +39,7 @@ itself a = (bytes_eq-Decides a a).1 refl
 
 same_config : (a b : PlainNode) → a.id ≡ b.id → has_same_config a b ≡ true → config_row a ≡ config_row b
 same_config a b id e =
-    both (λ (k : ℕ) (l : List ℕ). row (codes "config") (number k ∷ text l ∷ [])) id (equal (config_text a.tracker.config) (config_text b.tracker.config) e)
+    ap₂ (λ (k : ℕ) (l : List ℕ). row (codes "config") (number k ∷ text l ∷ [])) id (equal (config_text a.tracker.config) (config_text b.tracker.config) e)
 
 view_of : ℕ → (numbers state : List ℕ) → Row
 view_of id numbers state = row (codes "view")
@@ -46,22 +50,22 @@ same_view : (id : ℕ) (a b : ℕ × PlainProgress) → is_same_view a b ≡ tru
 unfolding view_of
 same_view id a b e =
     let all = and_parts (bytes_eq (view_numbers a) (view_numbers b)) (bytes_eq (progress_state_text a.1.state) (progress_state_text b.1.state)) e in
-    both (view_of id) (equal (view_numbers a) (view_numbers b) all.0) (equal (progress_state_text a.1.state) (progress_state_text b.1.state) all.1)
+    ap₂ (view_of id) (equal (view_numbers a) (view_numbers b) all.0) (equal (progress_state_text a.1.state) (progress_state_text b.1.state) all.1)
 
 -- ---- such a row is there
 
-text_there : (olds : List Line) (a b : List ℕ) → bytes_eq a b ≡ true → has_text (a ∷ olds) b ≡ true
-text_there olds a b e = ap (λ (t : List ℕ). has_text (t ∷ olds) b) (equal a b e) ∙ here olds b
+there : (olds : List Line) (other one : Line) → has_text olds one ≡ true → has_text (other ∷ olds) one ≡ true
+there olds other one h = or_right (bytes_eq one other) (has_text olds one) h
 
-same_there : (olds : List Line) (a b : Row) → a ≡ b → has_text (next_text a ∷ olds) (next_text b) ≡ true
-same_there olds a b e = ap (λ (r : Row). has_text (next_text r ∷ olds) (next_text b)) e ∙ here olds (next_text b)
+here : (olds : List Line) (other one : Line) → other ≡ one → has_text (other ∷ olds) one ≡ true
+here olds other one e = or_left (bytes_eq one other) (has_text olds one) ((bytes_eq-Decides one other).1 (sym e))
 
 view_there : (id : ℕ) (v : ℕ × PlainProgress) (olds : List (ℕ × PlainProgress)) → list_any (is_same_view v) olds ≡ true → has_text (texts_of (view_rows id olds)) (next_text (view_row id v)) ≡ true
 view_there id v [] e = absurd cc
 view_there id v (w ∷ ws) e =
     let others = texts_of (view_rows id ws) in
     elim (or_cases (is_same_view v w) (list_any (is_same_view v) ws) e) as (λ _. has_text (next_text (view_row id w) ∷ others) (next_text (view_row id v)) ≡ true) [
-      | inl same ↦ same_there others (view_row id w) (view_row id v) (sym (same_view id v w same))
+      | inl same ↦ here others (next_text (view_row id w)) (next_text (view_row id v)) (ap next_text (sym (same_view id v w same)))
       | inr later ↦ there others (next_text (view_row id w)) (next_text (view_row id v)) (view_there id v ws later)
     ]
 
@@ -84,36 +88,25 @@ one_new false olds r is = omega (arith, one_by (has_text olds (next_text r)) r, 
 
 views_new : (id : ℕ) (olds : List Line) (before vs : List (ℕ × PlainProgress)) → ((v : ℕ × PlainProgress) → list_any (is_same_view v) before ≡ true → has_text olds (next_text (view_row id v)) ≡ true)
     → length (flat_map (new_row olds) (view_rows id vs)) ≤ views_changed before vs
-views_new id olds before [] are = omega arith
-views_new id olds before (v ∷ vs) are =
-    omega (
-      arith,
-      length-append (new_row olds (view_row id v)) (flat_map (new_row olds) (view_rows id vs)),
-      sum_by-cons (λ (w : ℕ × PlainProgress). one_unless (list_any (is_same_view w) before)) v vs,
-      one_new (list_any (is_same_view v) before) olds (view_row id v) (are v),
-      views_new id olds before vs are,
-    )
+views_new id olds before vs are =
+    let rows : ℕ × PlainProgress → List Row = λ v. new_row olds (view_row id v) in
+    let few = sum_by-le-sum_by (λ v. length (rows v)) (λ v. one_unless (list_any (is_same_view v) before)) vs (λ v. one_new (list_any (is_same_view v) before) olds (view_row id v) (are v)) in
+    omega (arith, ap (λ (rs : List Row). length rs) (flat_map-map (new_row olds) (view_row id) vs), length-flat_map rows vs, few)
 
 gone_few : (id : ℕ) (olds news : List (ℕ × PlainProgress)) → length (gone_rows id olds news) ≤ views_gone olds news
-gone_few id [] news = omega arith
-gone_few id (v ∷ vs) news =
-    omega (
-      arith,
-      length-append (gone_of id news v.0) (gone_rows id vs news),
-      sum_by-cons (λ (w : ℕ × PlainProgress). one_unless (has_view news w.0)) v vs,
-      one_by (has_view news v.0) (no_view_row id v.0),
-      gone_few id vs news,
-    )
+gone_few id olds news =
+    let rows : ℕ × PlainProgress → List Row = λ v. gone_of id news v.0 in
+    let few = sum_by-le-sum_by (λ v. length (rows v)) (λ v. one_unless (has_view news v.0)) olds (λ v. one_by (has_view news v.0) (no_view_row id v.0)) in
+    omega (arith, length-flat_map rows olds, few)
 
--- no more of them are new, or gone, than there are
-views_all : (vs : List (ℕ × PlainProgress)) → views_changed [] vs ≡ length vs
-views_all [] = refl
-views_all (v ∷ vs) = omega (arith, sum_by-cons (λ (w : ℕ × PlainProgress). one_unless (list_any (is_same_view w) [])) v vs, views_all vs)
+-- no more of them are new, or gone, than there are; and none where each is as it was
+one_each : {X : Type 0} (same : X → Bool) (xs : List X) → sum_by (λ x. one_unless (same x)) xs ≤ length xs
+one_each same xs = omega (arith, sum_by-le (λ x. one_unless (same x)) 1 xs (λ k d low. one_at_most (same (slice_index_or xs k d))))
 
-gone_most : (vs news : List (ℕ × PlainProgress)) → views_gone vs news ≤ length vs
-gone_most [] news = omega arith
-gone_most (v ∷ vs) news =
-    omega (arith, sum_by-cons (λ (w : ℕ × PlainProgress). one_unless (has_view news w.0)) v vs, one_at_most (has_view news v.0), gone_most vs news)
+none_of : {X : Type 0} (same : X → Bool) (xs : List X) → ((x : X) → Contains xs x → same x ≡ true) → sum_by (λ x. one_unless (same x)) xs ≡ 0
+none_of same xs all =
+    let none = All-weaker (Contains xs) (λ x. one_unless (same x) ≤ 0) (λ x among. (let e = ap one_unless (all x among) in omega (arith, e))) xs (All-contains_itself xs) in
+    omega (arith, sum_by-le (λ x. one_unless (same x)) 0 xs none)
 
 log_by : (t : Bool) (rs : List Row) (most : ℕ) → length rs ≤ most → length (if t then [] else rs) ≤ (if t then 0 else most)
 log_by true rs most le = omega arith
@@ -160,8 +153,8 @@ parts_few old new same =
     let more = texts_of (config_row old ∷ view_rows old.id old.tracker.views) in
     let views = texts_of (view_rows old.id old.tracker.views) in
     parts_by (has_same_numbers old new) (has_same_config old new) old.tracker.views old new
-    (text_there more (next_text (node_row old)) (next_text (node_row new)))
-    (λ e. there more (next_text (node_row old)) (next_text (config_row new)) (same_there views (config_row old) (config_row new) (same_config old new same e)))
+    (λ e. here more (next_text (node_row old)) (next_text (node_row new)) (equal (next_text (node_row old)) (next_text (node_row new)) e))
+    (λ e. there more (next_text (node_row old)) (next_text (config_row new)) (here views (next_text (config_row old)) (next_text (config_row new)) (ap next_text (same_config old new same e))))
     (λ v e.
     subst (λ (id : ℕ). has_text olds (next_text (view_row id v)) ≡ true) same
     (there more (next_text (node_row old)) (next_text (view_row old.id v)) (there views (next_text (config_row old)) (next_text (view_row old.id v)) (view_there old.id v old.tracker.views e))))
@@ -172,25 +165,23 @@ others_few old new =
     omega (
       arith,
       parts_by false false [] old new (λ e. absurd cc) (λ e. absurd cc) (λ v e. absurd cc),
-      views_all new.tracker.views,
-      gone_most old.tracker.views new.tracker.views,
+      one_each (λ (v : ℕ × PlainProgress). list_any (is_same_view v) []) new.tracker.views,
+      one_each (λ (v : ℕ × PlainProgress). has_view new.tracker.views v.0) old.tracker.views,
       log_most (is_same_log old.log new.log) (1 + length (entries_after new.log (stays old.log new.log))),
       length-drop (stays old.log new.log - new.log.base) new.log.entries,
     )
 
-node_by : (t : Bool) (old new : PlainNode) → (old.id == new.id) ≡ t → length (changed_rows old new) ≤ (if t then parts_changed old new else whole new + length old.tracker.views)
-node_by true old new e = parts_few old new ((Decides-eqb old.id new.id).0 e)
-node_by false old new e = others_few old new
-
 node_few : (old new : PlainNode) → length (changed_rows old new) ≤ node_change old new
-node_few old new = node_by (old.id == new.id) old new refl
+node_few old new =
+    if_both (λ (most : ℕ). length (changed_rows old new) ≤ most) (old.id == new.id) _ _
+    (λ same. parts_few old new ((Decides-eqb old.id new.id).0 same)) (λ _. others_few old new)
 
 added_few : (n : PlainNode) → length (added_rows n) ≤ whole n
 added_few n =
     omega (
       arith,
       length-append (standing n) (log_from n.id n.log n.log.base),
-      views_count n.id n.tracker.views,
+      length-map n.tracker.views (view_row n.id),
       entries_count (n.log.base + 1) (entries_after n.log n.log.base),
       length-drop (n.log.base - n.log.base) n.log.entries,
     )
@@ -205,41 +196,22 @@ state_few (old ∷ olds) (n ∷ ns) = omega (arith, length-append (changed_rows 
 -- ---- what is as it was counts nothing
 
 own_view : (v : ℕ × PlainProgress) → is_same_view v v ≡ true
-own_view v = both (λ (s t : Bool). s && t) (itself (view_numbers v)) (itself (progress_state_text v.1.state))
+own_view v = ap₂ (λ (s t : Bool). s && t) (itself (view_numbers v)) (itself (progress_state_text v.1.state))
+
+same_there : (olds : List (ℕ × PlainProgress)) (v : ℕ × PlainProgress) → Contains olds v → list_any (is_same_view v) olds ≡ true
+same_there olds v (k, low, is) = list_any_at (is_same_view v) olds k v low (ap (is_same_view v) is ∙ own_view v)
 
 pub view_still : (olds : List (ℕ × PlainProgress)) (v : ℕ × PlainProgress) (news : List (ℕ × PlainProgress)) → Contains olds v → views_changed olds (v ∷ news) ≡ views_changed olds news
-view_still olds v news (k, low, is) =
-    let found : list_any (is_same_view v) olds ≡ true = list_any_at (is_same_view v) olds k v low (ap (is_same_view v) is ∙ own_view v) in
-    let none : one_unless (list_any (is_same_view v) olds) ≡ 0 = ap one_unless found in
+view_still olds v news among =
+    let none : one_unless (list_any (is_same_view v) olds) ≡ 0 = ap one_unless (same_there olds v among) in
     omega (arith, sum_by-cons (λ (w : ℕ × PlainProgress). one_unless (list_any (is_same_view w) olds)) v news, none)
 
--- each of these views is one of those
-AreSame : List (ℕ × PlainProgress) → List (ℕ × PlainProgress) → Type 0
-AreSame [] olds = Unit {0}
-AreSame (v ∷ vs) olds = (list_any (is_same_view v) olds ≡ true) × AreSame vs olds
-
-are_same : (vs olds : List (ℕ × PlainProgress)) (w : ℕ × PlainProgress) → AreSame vs olds → AreSame vs (w ∷ olds)
-unfolding AreSame
-are_same [] olds w are = tt
-are_same (v ∷ vs) olds w are = (or_right (is_same_view v w) (list_any (is_same_view v) olds) are.0, are_same vs olds w are.1)
-
-own_same_views : (vs : List (ℕ × PlainProgress)) → AreSame vs vs
-unfolding AreSame
-own_same_views [] = tt
-own_same_views (v ∷ vs) = (or_left (is_same_view v v) (list_any (is_same_view v) vs) (own_view v), are_same vs vs v (own_same_views vs))
-
-none_changed : (olds vs : List (ℕ × PlainProgress)) → AreSame vs olds → views_changed olds vs ≡ 0
-unfolding AreSame
-none_changed olds [] are = refl
-none_changed olds (v ∷ vs) are =
-    let none : one_unless (list_any (is_same_view v) olds) ≡ 0 = ap one_unless are.0 in
-    omega (arith, sum_by-cons (λ (w : ℕ × PlainProgress). one_unless (list_any (is_same_view w) olds)) v vs, none, none_changed olds vs are.1)
-
-none_left : (vs news : List (ℕ × PlainProgress)) → AreViewed vs news → views_gone vs news ≡ 0
-none_left [] news are = refl
-none_left (v ∷ vs) news are =
-    let none : one_unless (has_view news v.0) ≡ 0 = ap one_unless are.0 in
-    omega (arith, sum_by-cons (λ (w : ℕ × PlainProgress). one_unless (has_view news w.0)) v vs, none, none_left vs news are.1)
+-- who has a view has one there
+viewed : (vs : List (ℕ × PlainProgress)) (v : ℕ × PlainProgress) → Contains vs v → has_view vs v.0 ≡ true
+viewed vs v (k, low, is) =
+    let here : get_or (keys_of vs) k v.0 ≡ v.0 = get_or-map (λ (e : ℕ × PlainProgress). e.0) vs k v v.0 low ∙ ap (λ (e : ℕ × PlainProgress). e.0) is in
+    is_some-lookup (nat_eq v.0) vs
+    ∙ list_any_at (nat_eq v.0) (keys_of vs) k v.0 (omega (arith, low, length-map vs (λ (e : ℕ × PlainProgress). e.0))) ((Decides-eqb v.0 (get_or (keys_of vs) k v.0)).1 (sym here))
 
 parts_still : (n : PlainNode) → parts_changed n n ≡ 0
 parts_still n =
@@ -247,7 +219,7 @@ parts_still n =
     let numbers : one_unless (has_same_numbers n n) ≡ 0 = ap one_unless (itself (next_text (node_row n))) in
     let config : one_unless (has_same_config n n) ≡ 0 = ap one_unless (itself (config_text n.tracker.config)) in
     let log : log_change n.log n.log ≡ 0 = ap (λ (t : Bool). if t then 0 else 1 + length (entries_after n.log (stays n.log n.log))) (own_same n.log) in
-    omega (arith, numbers, config, none_changed vs vs (own_same_views vs), none_left vs vs (own_viewed vs), log)
+    omega (arith, numbers, config, none_of (λ (v : ℕ × PlainProgress). list_any (is_same_view v) vs) vs (same_there vs), none_of (λ (v : ℕ × PlainProgress). has_view vs v.0) vs (viewed vs), log)
 
 node_still : (n : PlainNode) → node_change n n ≡ 0
 node_still n = ap (λ (t : Bool). if t then parts_changed n n else whole n + length n.tracker.views) ((Decides-eqb n.id n.id).1 refl) ∙ parts_still n
@@ -258,6 +230,13 @@ state_still n olds news = omega (arith, node_still n)
 pub states_still : (nodes : List PlainNode) → state_change nodes nodes ≡ 0
 states_still [] = refl
 states_still (n ∷ ns) = state_still n ns ns ∙ states_still ns
+
+-- so there is no row
+pub no_row : (n : PlainNode) → changed_rows n n ≡ []
+no_row n = nil_from_length (changed_rows n n) (omega (arith, node_few n n, node_still n))
+
+pub no_rows : (nodes : List PlainNode) → state_rows nodes nodes ≡ []
+no_rows nodes = nil_from_length (state_rows nodes nodes) (omega (arith, state_few nodes nodes, states_still nodes))
 
 -- ---- at the most
 

@@ -3,15 +3,12 @@ use Rattle.std.proofs.Common.{◌≡◌, ◌∙◌, ℕ, ◌+◌, Bool, true, fa
 use Rattle.std.specs.Prelude.{◌||◌, if◌then◌else◌, slice_get}
 use Rattle.std.specs.List.{flat_map}
 use Rattle.std.specs.Str.{bytes_eq}
+use Rattle.std.proofs.lemmas.List.{map-append}
 use Rattle.rb_script.specs.Lines.{Line}
 use Rattle.rb_page.specs.Kept.{texts_of}
 use Rattle.rb_page.specs.Rows.{Row, next_text}
 use Rattle.rb_page.proofs.KeptLaws.{left_some}
 use Rattle.rb_steps.specs.Rows.{has_text, new_row, new_texts, new_rows}
-
--- two equations at once
-pub both : {A B C : Type 0} (f : A → B → C) {a b : A} {x y : B} → a ≡ b → x ≡ y → f a x ≡ f b y
-both {A} {B} {C} f {a} {b} {x} {y} p q = ap (λ (t : A). f t x) p ∙ ap (f b) q
 
 -- what one part adds is there, and the rest is left
 pub one_part : (before after first part rest all : List Line) → part ≡ first ++ rest → after ≡ before ++ first → before ++ part ≡ all → after ++ rest ≡ all
@@ -28,11 +25,6 @@ pub not_here : (olds : List Line) (text other : Line) (i : ℕ) → slice_get ol
 not_here olds text other i got is_other =
     ap (λ (ls : List Line). has_text ls text) (left_some olds i other got) ∙ ap (λ (t : Bool). t || has_text (drop (i + 1) olds) text) is_other
 
--- texts of lists of rows
-pub texts_append : (a b : List Row) → texts_of (a ++ b) ≡ texts_of a ++ texts_of b
-texts_append [] b = refl
-texts_append (r ∷ rs) b = ap (λ (l : List Line). next_text r ∷ l) (texts_append rs b)
-
 -- new rows, as texts
 new_by : (t : Bool) (r : Row) (rest : List Row) (others : List Line) → texts_of rest ≡ others → texts_of ((if t then [] else r ∷ []) ++ rest) ≡ (if t then [] else next_text r ∷ []) ++ others
 new_by true r rest others e = e
@@ -45,11 +37,12 @@ new_of_all olds (r ∷ rs) = new_by (has_text olds (next_text r)) r (flat_map (n
 pub new_rows_are : (olds news : List Row) → new_texts (texts_of olds) (texts_of news) ≡ texts_of (new_rows olds news)
 new_rows_are olds news = sym (new_of_all (texts_of olds) news)
 
--- rows in two parts, and in more
+-- texts in two parts, rows, and texts in three
+in_two : (t0 t1 t2 x y : List Line) → t1 ≡ t0 ++ x → t2 ≡ t1 ++ y → t2 ≡ t0 ++ (x ++ y)
+in_two t0 t1 t2 x y e1 e2 = e2 ∙ ap (λ (l : List Line). l ++ y) e1 ∙ append_assoc t0 x y
+
 pub two_parts : (old mid new : List Line) (a b : List Row) → mid ≡ old ++ texts_of a → new ≡ mid ++ texts_of b → new ≡ old ++ texts_of (a ++ b)
-two_parts old mid new a b first second =
-    second ∙ ap (λ (l : List Line). l ++ texts_of b) first ∙ append_assoc old (texts_of a) (texts_of b) ∙ ap (λ (l : List Line). old ++ l) (sym (texts_append a b))
+two_parts old mid new a b first second = in_two old mid new (texts_of a) (texts_of b) first second ∙ ap (λ (l : List Line). old ++ l) (sym (map-append next_text a b))
 
 pub three_parts : (t0 t1 t2 t3 x y z : List Line) → t1 ≡ t0 ++ x → t2 ≡ t1 ++ y → t3 ≡ t2 ++ z → t3 ≡ t0 ++ (x ++ (y ++ z))
-three_parts t0 t1 t2 t3 x y z e1 e2 e3 =
-    e3 ∙ ap (λ (l : List Line). l ++ z) e2 ∙ append_assoc t1 y z ∙ ap (λ (l : List Line). l ++ (y ++ z)) e1 ∙ append_assoc t0 x (y ++ z)
+three_parts t0 t1 t2 t3 x y z e1 e2 e3 = in_two t0 t1 t3 x (y ++ z) e1 (in_two t1 t2 t3 y z e2 e3)

@@ -3,7 +3,8 @@ use Rattle.std.proofs.Common.{◌≡◌, ◌∙◌, ℕ, zero, suc, ◌<◌, ◌
 use Rattle.std.specs.Prelude.{◌==◌, if◌then◌else◌}
 use Rattle.std.specs.List.{list_all}
 use Rattle.std.proofs.lemmas.Bool.{and_from, and_parts, lt-ltb}
-use Rattle.std.proofs.lemmas.List.Folds.{list_all-append}
+use Rattle.std.proofs.lemmas.List.Folds.{list_all-append, list_all-map}
+use Rattle.rb_texts.proofs.KindLaws.{wider}
 use Rattle.rb_page.specs.Json.{is_byte}
 use Rattle.rb_script.specs.Bytes.{line_feed, carriage_return}
 use Rattle.rb_script.specs.Lines.{Line, put_before, without_returns, in_first, cut, lines}
@@ -34,10 +35,7 @@ returns_bytes (b ∷ line) h =
     put_bytes b (without_returns line) p.0 (returns_bytes line p.1)
 
 all_returns : (ls : List Line) → list_all of_bytes ls ≡ true → list_all of_bytes (map without_returns ls) ≡ true
-all_returns [] h = refl
-all_returns (line ∷ ls) h =
-    let p = and_parts (of_bytes line) (list_all of_bytes ls) h in
-    and_from (of_bytes (without_returns line)) (list_all of_bytes (map without_returns ls)) (returns_bytes line p.0) (all_returns ls p.1)
+all_returns ls h = list_all-map of_bytes without_returns ls ∙ wider of_bytes (λ line. of_bytes (without_returns line)) returns_bytes ls h
 
 first_bytes : (b : ℕ) (ls : List Line) → is_byte b ≡ true → list_all of_bytes ls ≡ true → list_all of_bytes (in_first b ls) ≡ true
 first_bytes b [] first rest = and_from (of_bytes (b ∷ [])) true (and_from (is_byte b) true first refl) refl

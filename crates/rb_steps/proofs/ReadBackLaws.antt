@@ -1,5 +1,5 @@
 -- What stands is what is written, and what stood before; a log is what stays of the one before, and what is written.
-use Rattle.std.proofs.Common.{◌≡◌, ◌∙◌, ℕ, zero, suc, ◌+◌, ◌-◌, ◌<◌, ◌⊎◌, inl, inr, Bool, true, false, List, [], ◌∷◌, ◌++◌, length, take, drop, refl, ap, sym, subst, append-nil, arith}
+use Rattle.std.proofs.Common.{◌≡◌, ◌∙◌, ℕ, zero, suc, ◌+◌, ◌-◌, ◌<◌, ◌⊎◌, inl, inr, Bool, true, false, List, [], ◌∷◌, ◌++◌, length, take, drop, refl, ap, ap₂, sym, subst, append-nil, arith}
 use Rattle.std.specs.Prelude.{◌&&◌, ◌==◌, Contains, if◌then◌else◌}
 use Rattle.std.specs.List.{flat_map, slice_index_or}
 use Rattle.std.proofs.lemmas.Bool.{and_parts, le-leb}
@@ -17,7 +17,6 @@ use Rattle.rb_page.specs.Rows.{Row, next_text}
 use Rattle.rb_steps.specs.Logs.{common, entries_read, held_after, is_same_log, log_changes, same_entry, stays}
 use Rattle.rb_steps.specs.Rows.{has_text, new_row, new_rows}
 use Rattle.rb_steps.specs.States.{changed_rows, gone_of, gone_rows, no_view_row, standing}
-use Rattle.rb_steps.proofs.KeepLaws.{both}
 use Rattle.rb_steps.proofs.LogLaws.{after_last, same_entry-Decides}
 
 -- ---- what stands
@@ -72,13 +71,13 @@ views_end old new v (k, low, is) none =
 
 -- ---- what is common
 
-take_more : (n : ℕ) (e : Entry) (es : List Entry) → take (n + 1) (e ∷ es) ≡ e ∷ take n es
-take_more n e es = let more : n + 1 ≡ suc n = omega arith in ap (λ (k : ℕ). take k (e ∷ es)) more
+take_more : (n : ℕ) (e : Entry) (es : List Entry) → take (1 + n) (e ∷ es) ≡ e ∷ take n es
+take_more n e es = let more : 1 + n ≡ suc n = omega arith in ap (λ (k : ℕ). take k (e ∷ es)) more
 
 front_by : (t : Bool) (x y : Entry) (xs ys : List Entry) → same_entry x y ≡ t → take (common xs ys) xs ≡ take (common xs ys) ys
-    → take (if t then common xs ys + 1 else 0) (x ∷ xs) ≡ take (if t then common xs ys + 1 else 0) (y ∷ ys)
+    → take (if t then 1 + common xs ys else 0) (x ∷ xs) ≡ take (if t then 1 + common xs ys else 0) (y ∷ ys)
 front_by true x y xs ys same rest =
-    take_more (common xs ys) x xs ∙ both (λ (e : Entry) (es : List Entry). e ∷ es) ((same_entry-Decides x y).0 same) rest ∙ sym (take_more (common xs ys) y ys)
+    take_more (common xs ys) x xs ∙ ap₂ (λ (e : Entry) (es : List Entry). e ∷ es) ((same_entry-Decides x y).0 same) rest ∙ sym (take_more (common xs ys) y ys)
 front_by false x y xs ys same rest = refl
 
 common_front : (xs ys : List Entry) → take (common xs ys) xs ≡ take (common xs ys) ys
@@ -112,5 +111,5 @@ still_reads_back old new is =
     ap (λ (t : Bool). if t then entries_after old new.base else []) (le-leb old.base new.base (omega (arith, base))) ∙ ap (λ (k : ℕ). drop k old.entries) none in
     let whole : take (index - new.base) old.entries ≡ old.entries = take_all (index - new.base) old.entries (omega (arith, base, old_end)) in
     let entries : new.entries ≡ old.entries =
-    reads_back old new ∙ both (λ (es fs : List Entry). take (index - new.base) es ++ fs) held (after_last new index (omega (arith, new_end))) ∙ append-nil (take (index - new.base) old.entries) ∙ whole in
+    reads_back old new ∙ ap₂ (λ (es fs : List Entry). take (index - new.base) es ++ fs) held (after_last new index (omega (arith, new_end))) ∙ append-nil (take (index - new.base) old.entries) ∙ whole in
     (sym base, sym term, entries)

@@ -1,28 +1,20 @@
 -- The rows of steps are of bytes.
-use Rattle.std.proofs.Common.{◌≡◌, ℕ, zero, suc, ◌+◌, Bool, true, false, List, [], ◌∷◌, ◌++◌, drop, refl, arith, codes}
+use Rattle.std.proofs.Common.{◌≡◌, ◌∙◌, ℕ, zero, suc, ◌+◌, Bool, true, false, List, [], ◌∷◌, ◌++◌, drop, refl, arith, codes}
 use Rattle.std.specs.Prelude.{◌&&◌, not, nat_le, if◌then◌else◌}
 use Rattle.std.specs.List.{flat_map, list_all}
 use Rattle.std.proofs.lemmas.Bool.{and_from, and_parts, leb-true, lt-ltb}
+use Rattle.std.proofs.lemmas.List.Folds.{list_all-map}
 use Rattle.rb_level.specs.declared.directive_error.DirectiveError.{DirectiveError}
-use Rattle.rb_level.specs.declared.message_type.MessageType.{MessageType}
 use Rattle.rb_level.specs.MessageTypes.{type_text}
 use Rattle.rb_message.specs.declared.event.Event.{Event}
 use Rattle.rb_message.specs.declared.event.Event.TheVariants as events
-use Rattle.rb_message.specs.declared.event.WhyNoCampaign.{WhyNoCampaign}
-use Rattle.rb_message.specs.declared.event.WhyReplaced.{WhyReplaced}
 use Rattle.rb_message.specs.declared.kind.MessageKind.{MessageKind}
 use Rattle.rb_message.specs.declared.kind.MessageKind.TheVariants as kinds
 use Rattle.rb_message.specs.declared.message.Message.{Message}
-use Rattle.rb_message.specs.declared.role.Role.{Role}
 use Rattle.rb_message.specs.Messages.{type_of}
-use Rattle.rb_raftlog.specs.declared.entry.Body.{Body}
 use Rattle.rb_raftlog.specs.declared.entry.Entry.{Entry}
 use Rattle.rb_raftlog.specs.Content.{content_end}
 use Rattle.rb_raftlog.specs.Log.{LogValue, entries_after}
-use Rattle.rb_tracker.specs.declared.changes.ChangeFault.{ChangeFault}
-use Rattle.rb_tracker.specs.declared.config.Config.{Config}
-use Rattle.rb_tracker.specs.declared.progress.ProgressState.{ProgressState}
-use Rattle.rb_tracker.specs.declared.votes.VoteResult.{VoteResult}
 use Rattle.rb_tracker.specs.Progresses.{PlainProgress}
 use Rattle.rb_tracker.specs.Trackers.{has_view}
 use Rattle.rb_node.specs.Node.{PlainNode}
@@ -75,78 +67,38 @@ verb_bytes verbs.Drop = refl
 verb_bytes verbs.Queue = refl
 verb_bytes verbs.NoRoomFor = refl
 
-role_bytes : (x : Role) → of_bytes (role_text x) ≡ true
-role_bytes x = line_bytes (role_text x) (role_one_line x)
-
-state_bytes : (x : ProgressState) → of_bytes (progress_state_text x) ≡ true
-state_bytes x = line_bytes (progress_state_text x) (progress_state_one_line x)
-
-type_bytes : (x : MessageType) → of_bytes (type_text x) ≡ true
-type_bytes x = line_bytes (type_text x) (type_one_line x)
-
-no_campaign_bytes : (x : WhyNoCampaign) → of_bytes (no_campaign_text x) ≡ true
-no_campaign_bytes x = line_bytes (no_campaign_text x) (no_campaign_one_line x)
-
-replaced_bytes : (x : WhyReplaced) → of_bytes (replaced_text x) ≡ true
-replaced_bytes x = line_bytes (replaced_text x) (replaced_one_line x)
-
-votes_bytes : (x : VoteResult) → of_bytes (votes_text x) ≡ true
-votes_bytes x = line_bytes (votes_text x) (votes_one_line x)
-
-fault_bytes : (x : ChangeFault) → of_bytes (fault_text x) ≡ true
-fault_bytes x = line_bytes (fault_text x) (fault_one_line x)
-
-config_bytes : (c : Config) → of_bytes (config_text c) ≡ true
-config_bytes c = line_bytes (config_text c) (config_one_line c)
-
-body_bytes : (body : Body) → of_bytes (body_text body) ≡ true
-body_bytes body = line_bytes (body_text body) (body_one_line body)
-
 -- one text, where the others are constants
 alone : (t : List ℕ) → of_bytes t ≡ true → (of_bytes t && true) ≡ true
 alone t h = and_from (of_bytes t) true h refl
+
+-- one that stands in a line
+told : (t : List ℕ) → is_one_line t ≡ true → (of_bytes t && true) ≡ true
+told t h = alone t (line_bytes t h)
 
 -- ---- what happened
 
 event_bytes : (e : Event) → has_bytes (event_row e) ≡ true
 unfolding event_row
-event_bytes (events.Started id term index config) = refl
-event_bytes (events.Became id role term) = alone (role_text role) (role_bytes role)
-event_bytes (events.CannotCampaign id why) = alone (no_campaign_text why) (no_campaign_bytes why)
+event_bytes (events.Became id role term) = told (role_text role) (role_one_line role)
+event_bytes (events.CannotCampaign id why) = told (no_campaign_text why) (no_campaign_one_line why)
 event_bytes (events.VoteCounted id type granted from result) =
-    and_from (of_bytes (type_text type)) (of_bytes (votes_text result) && true) (type_bytes type) (alone (votes_text result) (votes_bytes result))
-event_bytes (events.Ignored id type from) = alone (type_text type) (type_bytes type)
-event_bytes (events.DroppedProposal id) = refl
-event_bytes (events.Conflict id index commit) = refl
-event_bytes (events.AppendsNothing id) = refl
-event_bytes (events.ReplacedChange id index why) = alone (replaced_text why) (replaced_bytes why)
-event_bytes (events.Switched id config) = alone (config_text config) (config_bytes config)
-event_bytes (events.RefusedChange id index fault) = alone (fault_text fault) (fault_bytes fault)
-event_bytes (events.Restored id term index) = refl
-event_bytes (events.TransferStarts id to) = refl
-event_bytes (events.TransferEnds id to) = refl
-event_bytes (events.LostQuorum id) = refl
+    and_from (of_bytes (type_text type)) (of_bytes (votes_text result) && true) (line_bytes (type_text type) (type_one_line type)) (told (votes_text result) (votes_one_line result))
+event_bytes (events.Ignored id type from) = told (type_text type) (type_one_line type)
+event_bytes (events.ReplacedChange id index why) = told (replaced_text why) (replaced_one_line why)
+event_bytes (events.Switched id config) = told (config_text config) (config_one_line config)
+event_bytes (events.RefusedChange id index fault) = told (fault_text fault) (fault_one_line fault)
+event_bytes _ = refl
 
 said_bytes : (k : MessageKind) → list_all cell_has_bytes (said k) ≡ true
 unfolding said
-said_bytes (kinds.Vote last_term last_index transfer) = refl
-said_bytes (kinds.PreVote last_term last_index) = refl
-said_bytes (kinds.VoteResponse granted) = refl
-said_bytes (kinds.PreVoteResponse granted) = refl
-said_bytes (kinds.Append append) = refl
-said_bytes (kinds.AppendResponse matched) = refl
-said_bytes (kinds.AppendRefusal refused hint) = refl
-said_bytes (kinds.Heartbeat commit) = refl
-said_bytes kinds.HeartbeatResponse = refl
-said_bytes (kinds.Snapshot snapshot) = refl
-said_bytes (kinds.Proposal body) = alone (body_text body) (body_bytes body)
-said_bytes (kinds.TransferLeader target) = refl
-said_bytes kinds.TimeoutNow = refl
+said_bytes (kinds.Proposal body) = told (body_text body) (body_one_line body)
+said_bytes _ = refl
 
 message_bytes : (name : List ℕ) (m : Message) → of_bytes name ≡ true → has_bytes (message_row name m) ≡ true
 message_bytes name m h =
-    and_from (of_bytes name) (of_bytes (type_text (type_of m.kind)) && list_all cell_has_bytes (said m.kind)) h
-    (and_from (of_bytes (type_text (type_of m.kind))) (list_all cell_has_bytes (said m.kind)) (type_bytes (type_of m.kind)) (said_bytes m.kind))
+    let type = type_of m.kind in
+    and_from (of_bytes name) (of_bytes (type_text type) && list_all cell_has_bytes (said m.kind)) h
+    (and_from (of_bytes (type_text type)) (list_all cell_has_bytes (said m.kind)) (line_bytes (type_text type) (type_one_line type)) (said_bytes m.kind))
 
 error_bytes : (e : DirectiveError) → of_bytes (drop 7 (error_text e)) ≡ true
 error_bytes e = dropped_bytes 7 (error_text e) (line_bytes (error_text e) (error_one_line e))
@@ -157,24 +109,13 @@ one_row r h = and_from (has_bytes r) true h refl
 
 item_bytes : (item : PlainItem) → list_all has_bytes (item_rows item) ≡ true
 unfolding item_rows
-item_bytes items.nothing_else = refl
-item_bytes (items.ready id) = refl
-item_bytes (items.hard_state hard) = refl
-item_bytes (items.snapshot term index) = refl
-item_bytes (items.save index e) = one_row (entry_row (codes "save") index e) (alone (body_text e.body) (body_bytes e.body))
-item_bytes (items.apply index e) = one_row (entry_row (codes "apply") index e) (alone (body_text e.body) (body_bytes e.body))
+item_bytes (items.save index e) = one_row (entry_row (codes "save") index e) (told (body_text e.body) (body_one_line e.body))
+item_bytes (items.apply index e) = one_row (entry_row (codes "apply") index e) (told (body_text e.body) (body_one_line e.body))
 item_bytes (items.send message) = one_row (message_row (codes "send") message) (message_bytes (codes "send") message refl)
-item_bytes (items.nothing_ready id) = refl
 item_bytes (items.moved verb message) = one_row (message_row (verb_name verb) message) (message_bytes (verb_name verb) message (verb_bytes verb))
-item_bytes items.no_messages = refl
-item_bytes (items.stopped rounds) = refl
-item_bytes (items.raft_state node) = refl
-item_bytes (items.raft_log log) = refl
-item_bytes (items.entry index e unsaved) = refl
-item_bytes (items.config c) = refl
-item_bytes (items.progress id view) = refl
 item_bytes (items.event e) = one_row (event_row e) (event_bytes e)
 item_bytes (items.error e) = one_row (error_row e) (alone (drop 7 (error_text e)) (error_bytes e))
+item_bytes _ = refl
 
 pub all_both : (a b : List Row) → list_all has_bytes a ≡ true → list_all has_bytes b ≡ true → list_all has_bytes (a ++ b) ≡ true
 all_both a b p q = joined_of has_bytes a b p q
@@ -193,10 +134,9 @@ output_bytes [] h = refl
 output_bytes (line ∷ ls) h = solid_bytes (line ∷ ls) h
 
 lines_bytes : (name : List ℕ) (ls : List Line) → of_bytes name ≡ true → list_all of_bytes ls ≡ true → list_all has_bytes (line_rows name ls) ≡ true
-lines_bytes name [] named h = refl
-lines_bytes name (line ∷ ls) named h =
-    let p = and_parts (of_bytes line) (list_all of_bytes ls) h in
-    and_from (has_bytes (line_row name line)) (list_all has_bytes (line_rows name ls)) (and_from (of_bytes name) (of_bytes line && true) named (alone line p.0)) (lines_bytes name ls named p.1)
+lines_bytes name ls named h =
+    list_all-map has_bytes (line_row name) ls
+    ∙ wider of_bytes (λ line. has_bytes (line_row name line)) (λ line p. and_from (of_bytes name) (of_bytes line && true) named (alone line p)) ls h
 
 -- rows that stand only where a test fails
 if_rows : (t : Bool) (rs : List Row) → list_all has_bytes rs ≡ true → list_all has_bytes (if t then [] else rs) ≡ true
@@ -213,13 +153,13 @@ script_bytes line expected output h printed =
 views_bytes : (id : ℕ) (vs : List (ℕ × PlainProgress)) → list_all has_bytes (view_rows id vs) ≡ true
 views_bytes id [] = refl
 views_bytes id (v ∷ vs) =
-    and_from (has_bytes (view_row id v)) (list_all has_bytes (view_rows id vs)) (alone (progress_state_text v.1.state) (state_bytes v.1.state)) (views_bytes id vs)
+    and_from (has_bytes (view_row id v)) (list_all has_bytes (view_rows id vs)) (told (progress_state_text v.1.state) (progress_state_one_line v.1.state)) (views_bytes id vs)
 
 standing_bytes : (n : PlainNode) → of_bytes (content_end n.content) ≡ true → list_all has_bytes (standing n) ≡ true
 standing_bytes n h =
     and_from (has_bytes (node_row n)) (list_all has_bytes (config_row n ∷ view_rows n.id n.tracker.views))
-    (and_from (of_bytes (role_text n.role)) (of_bytes (content_end n.content) && true) (role_bytes n.role) (alone (content_end n.content) h))
-    (and_from (has_bytes (config_row n)) (list_all has_bytes (view_rows n.id n.tracker.views)) (alone (config_text n.tracker.config) (config_bytes n.tracker.config)) (views_bytes n.id n.tracker.views))
+    (and_from (of_bytes (role_text n.role)) (of_bytes (content_end n.content) && true) (line_bytes (role_text n.role) (role_one_line n.role)) (alone (content_end n.content) h))
+    (and_from (has_bytes (config_row n)) (list_all has_bytes (view_rows n.id n.tracker.views)) (told (config_text n.tracker.config) (config_one_line n.tracker.config)) (views_bytes n.id n.tracker.views))
 
 new_bytes : (olds : List Line) (rs : List Row) → list_all has_bytes rs ≡ true → list_all has_bytes (flat_map (new_row olds) rs) ≡ true
 new_bytes olds [] h = refl
@@ -234,7 +174,7 @@ gone_bytes id vs news =
 entries_bytes : (index : ℕ) (es : List Entry) → list_all has_bytes (entry_rows index es) ≡ true
 entries_bytes index [] = refl
 entries_bytes index (e ∷ es) =
-    and_from (has_bytes (entry_row (codes "entry") index e)) (list_all has_bytes (entry_rows (index + 1) es)) (alone (body_text e.body) (body_bytes e.body)) (entries_bytes (index + 1) es)
+    and_from (has_bytes (entry_row (codes "entry") index e)) (list_all has_bytes (entry_rows (index + 1) es)) (told (body_text e.body) (body_one_line e.body)) (entries_bytes (index + 1) es)
 
 log_bytes : (id : ℕ) (v : LogValue) (index : ℕ) → list_all has_bytes (log_from id v index) ≡ true
 log_bytes id v index = entries_bytes (index + 1) (entries_after v index)

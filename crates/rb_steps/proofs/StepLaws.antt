@@ -1,33 +1,31 @@
 -- The directives of a run, one after another.
-use Rattle.std.proofs.Common.{◌≡◌, ◌∙◌, ℕ, ◌+◌, List, [], ◌∷◌, ◌++◌, drop, Some, refl, ap, sym, subst, append_assoc}
-use Rattle.std.specs.Prelude.{codes, slice_get}
+use Rattle.std.proofs.Common.{◌≡◌, ◌∙◌, ℕ, ◌+◌, List, [], ◌∷◌, ◌++◌, drop, Some, refl, ap, ap₂, sym, subst}
+use Rattle.std.specs.Prelude.{slice_get}
 use Rattle.std.specs.List.{flat_map}
 use Rattle.std.proofs.lemmas.List.Concat.{flat_map-append}
+use Rattle.std.proofs.lemmas.List.Folds.{flat_map-map}
 use Rattle.rb_script.specs.Lines.{Line}
-use Rattle.rb_script.specs.Directive.{PlainDirective}
-use Rattle.rb_script.specs.Script.{PlainBlock, PlainScript}
+use Rattle.rb_script.specs.Script.{PlainBlock}
 use Rattle.rb_script.specs.Reading.{directive_of}
 use Rattle.rb_texts.specs.Items.{PlainItem}
 use Rattle.rb_page.specs.ItemRows.{item_rows, item_text}
 use Rattle.rb_page.specs.Kept.{joined, texts_of}
-use Rattle.rb_page.specs.Rows.{Row, next_text, row_text, rows_text}
+use Rattle.rb_page.specs.Rows.{Row, next_text}
 use Rattle.rb_page.proofs.KeptLaws.{left_some}
 use Rattle.rb_machine.specs.declared.screen.Way.TheVariants as ways
-use Rattle.rb_machine.specs.Cluster.{Cluster, empty}
+use Rattle.rb_machine.specs.Cluster.{Cluster}
 use Rattle.rb_machine.specs.Outcome.{outcome, happened, or_ok}
 use Rattle.rb_machine.specs.Scenes.{lines_of}
-use Rattle.rb_cluster.proofs.ToldLaws.{are_of_one}
-use Rattle.rb_steps.specs.Steps.{step, step_texts, steps_from, steps, script_rows, steps_texts, source_row, end_row}
-use Rattle.rb_steps.specs.Pages.{first_row, steps_text}
+use Rattle.rb_steps.specs.Steps.{step, step_texts, steps_from, script_rows}
 use Rattle.rb_steps.specs.States.{state_rows}
 use Rattle.rb_steps.specs.Values.{GoOnShowingBytes, ShowBytes}
-use Rattle.rb_steps.proofs.KeepLaws.{both, three_parts}
+use Rattle.rb_steps.proofs.KeepLaws.{three_parts}
 
 -- one directive more
 pub steps_more : (heads : List ℕ) (bs : List PlainBlock) (i line : ℕ) (b : PlainBlock) (c after : Cluster) → slice_get heads i ≡ Some line → slice_get bs i ≡ Some b → after ≡ (outcome c (directive_of b)).cluster
     → flat_map step_texts (steps_from (drop i heads) c (drop i bs)) ≡ step_texts (step line c b) ++ flat_map step_texts (steps_from (drop (i + 1) heads) after (drop (i + 1) bs))
 steps_more heads bs i line b c after head block next =
-    both (λ (ns : List ℕ) (more : List PlainBlock). flat_map step_texts (steps_from ns c more)) (left_some heads i line head) (left_some bs i b block)
+    ap₂ (λ (ns : List ℕ) (more : List PlainBlock). flat_map step_texts (steps_from ns c more)) (left_some heads i line head) (left_some bs i b block)
     ∙ ap (λ (d : Cluster). step_texts (step line c b) ++ flat_map step_texts (steps_from (drop (i + 1) heads) d (drop (i + 1) bs))) (sym next)
 
 -- what is shown of contents
@@ -48,30 +46,12 @@ pub step_kept : (line : ℕ) (c after : Cluster) (b : PlainBlock) (output t0 t1 
 step_kept line c after b output t0 t1 t2 t3 printed next first second third =
     let did = happened c (directive_of b) in
     three_parts t0 t1 t2 t3 (texts_of (script_rows line b.expected output)) did (texts_of (state_rows c.nodes after.nodes)) first second third
-    ∙ both (λ (o : List Line) (d : Cluster). t0 ++ (texts_of (script_rows line b.expected o) ++ (did ++ texts_of (state_rows c.nodes d.nodes)))) printed next
+    ∙ ap₂ (λ (o : List Line) (d : Cluster). t0 ++ (texts_of (script_rows line b.expected o) ++ (did ++ texts_of (state_rows c.nodes d.nodes)))) printed next
 
 -- ---- texts that are of rows
 
--- one behind the other the texts are those of rows
-pub record AreOfRows (texts : List Line) : Type 0 where
-  pub rows : List Row
-  pub is : joined texts ≡ flat_map next_text rows
-
 pub rows_joined : (rs : List Row) → joined (texts_of rs) ≡ flat_map next_text rs
-rows_joined [] = refl
-rows_joined (r ∷ rs) = ap (λ (l : List ℕ). next_text r ++ l) (rows_joined rs)
-
-of_rows : (rs : List Row) → AreOfRows (texts_of rs)
-of_rows rs = record { rows = rs; is = rows_joined rs }
-
-of_none : AreOfRows []
-of_none = record { rows = []; is = refl }
-
-of_two : (a b : List Line) → AreOfRows a → AreOfRows b → AreOfRows (a ++ b)
-of_two a b p q = record {
-  rows = p.rows ++ q.rows;
-  is = flat_map-append (λ (t : Line). t) a b ∙ both (λ (x y : List ℕ). x ++ y) p.is q.is ∙ sym (flat_map-append next_text p.rows q.rows);
-}
+rows_joined rs = flat_map-map (λ (t : Line). t) next_text rs
 
 pub items_joined : (items : List PlainItem) → joined (flat_map (lines_of ways.Rows) items) ≡ flat_map next_text (flat_map item_rows items)
 unfolding item_text
@@ -83,33 +63,3 @@ pub or_ok_joined : (ls : List Line) → joined (or_ok ways.Rows ls) ≡ joined l
 unfolding item_text item_rows
 or_ok_joined [] = refl
 or_ok_joined (l ∷ ls) = refl
-
-happened_of_rows : (c : Cluster) (d : PlainDirective) → AreOfRows (happened c d)
-happened_of_rows c d =
-    let one = are_of_one c d in
-    record { rows = flat_map item_rows one.items; is = ap joined one.kept_is ∙ or_ok_joined (flat_map (lines_of ways.Rows) one.items) ∙ items_joined one.items }
-
-step_of_rows : (line : ℕ) (c : Cluster) (b : PlainBlock) → AreOfRows (step_texts (step line c b))
-step_of_rows line c b =
-    let s = step line c b in
-    of_two (texts_of (script_rows line b.expected s.output)) (s.happened ++ texts_of s.changes) (of_rows (script_rows line b.expected s.output))
-    (of_two s.happened (texts_of s.changes) (happened_of_rows c (directive_of b)) (of_rows s.changes))
-
-steps_of_rows : (heads : List ℕ) (c : Cluster) (bs : List PlainBlock) → AreOfRows (flat_map step_texts (steps_from heads c bs))
-steps_of_rows [] c bs = of_none
-steps_of_rows (line ∷ heads) c [] = of_none
-steps_of_rows (line ∷ heads) c (b ∷ bs) =
-    of_two (step_texts (step line c b)) (flat_map step_texts (steps_from heads (outcome c (directive_of b)).cluster bs)) (step_of_rows line c b)
-    (steps_of_rows heads (outcome c (directive_of b)).cluster bs)
-
-pub texts_of_rows : (bytes heads : List ℕ) (s : PlainScript) → AreOfRows (steps_texts bytes heads s)
-texts_of_rows bytes heads s =
-    let source = texts_of (source_row bytes ∷ []) in
-    let last = texts_of (end_row s ∷ []) in
-    let all = flat_map step_texts (steps heads s) in
-    of_two source (all ++ last) (of_rows (source_row bytes ∷ [])) (of_two all last (steps_of_rows heads empty s.blocks) (of_rows (end_row s ∷ [])))
-
-pub text_is_of_rows : (name bytes heads : List ℕ) (s : PlainScript) → (rest : List Row) × (steps_text name bytes heads s ≡ rows_text (first_row name) rest)
-text_is_of_rows name bytes heads s =
-    let t = texts_of_rows bytes heads s in
-    (t.rows, ap (λ (l : List ℕ). (codes "[" ++ row_text (first_row name)) ++ (l ++ codes "]\n")) t.is ∙ append_assoc (codes "[") (row_text (first_row name)) (flat_map next_text t.rows ++ codes "]\n"))

@@ -1,5 +1,5 @@
 -- The text of steps is a text of JSON, and its value is their rows.
-use Rattle.std.proofs.Common.{◌≡◌, ◌∙◌, ℕ, true, List, [], ◌∷◌, ◌++◌, codes, refl, ap, sym, subst, append_assoc}
+use Rattle.std.proofs.Common.{◌≡◌, ◌∙◌, ℕ, true, List, [], ◌∷◌, ◌++◌, codes, refl, ap, ap₂, sym, subst, append_assoc}
 use Rattle.std.specs.List.{flat_map, list_all}
 use Rattle.std.proofs.lemmas.Bool.{and_from, and_parts}
 use Rattle.std.proofs.lemmas.List.Concat.{flat_map-append}
@@ -23,7 +23,6 @@ use Rattle.rb_cluster.proofs.ToldLaws.{are_of_one}
 use Rattle.rb_steps.specs.Pages.{first_row, steps_text}
 use Rattle.rb_steps.specs.Steps.{Step, end_row, script_rows, source_row, step, step_texts, steps, steps_from, steps_texts}
 use Rattle.rb_steps.specs.Values.{AllDid, GoOnShowingBytes, all_rows, step_rows, steps_rows}
-use Rattle.rb_steps.proofs.KeepLaws.{both}
 use Rattle.rb_steps.proofs.LineByteLaws.{blocks_bytes, expects_bytes, lines_bytes, of_bytes}
 use Rattle.rb_steps.proofs.RowByteLaws.{all_both, changes_bytes, items_bytes, script_bytes}
 use Rattle.rb_steps.proofs.StepLaws.{items_joined, or_ok_joined, rows_joined}
@@ -41,7 +40,7 @@ all_did (line ∷ heads) c (b ∷ bs) =
 -- ---- the text is that of the rows
 
 two : (a b : List Line) (x y : List Row) → joined a ≡ flat_map next_text x → joined b ≡ flat_map next_text y → joined (a ++ b) ≡ flat_map next_text (x ++ y)
-two a b x y p q = flat_map-append (λ (t : Line). t) a b ∙ both (λ (s t : List ℕ). s ++ t) p q ∙ sym (flat_map-append next_text x y)
+two a b x y p q = flat_map-append (λ (t : Line). t) a b ∙ ap₂ (λ (s t : List ℕ). s ++ t) p q ∙ sym (flat_map-append next_text x y)
 
 step_is : (s : Step) (items : List PlainItem) → s.happened ≡ shown_alone ways.Rows items → joined (step_texts s) ≡ flat_map next_text (step_rows s items)
 step_is s items did =
@@ -66,6 +65,11 @@ text_is name bytes heads s did all =
     (two between (texts_of last) (steps_rows (steps heads s) did) last (steps_are (steps heads s) did all) (rows_joined last)) in
     ap (λ (l : List ℕ). (codes "[" ++ row_text (first_row name)) ++ (l ++ codes "]\n")) texts
     ∙ append_assoc (codes "[") (row_text (first_row name)) (flat_map next_text (all_rows bytes heads s did) ++ codes "]\n")
+
+pub text_is_of_rows : (name bytes heads : List ℕ) (s : PlainScript) → (rest : List Row) × (steps_text name bytes heads s ≡ rows_text (first_row name) rest)
+text_is_of_rows name bytes heads s =
+    let did = all_did heads empty s.blocks in
+    (all_rows bytes heads s did.0, text_is name bytes heads s did.0 did.1)
 
 -- ---- the rows are of bytes
 

@@ -1,14 +1,13 @@
 -- What a directive keeps of logs: what a node knows to be committed is never changed, whatever becomes of it. (Ongaro's thesis, section 3.5:
 -- entries that are committed are durable, and are applied by all nodes in the end.)
-use Rattle.std.specs.Prelude.{◌≡◌, ℕ, ◌<◌, ◌≤◌, List, [], ◌∷◌}
-use Rattle.std.specs.List.{AllByRecursion}
+use Rattle.std.specs.Prelude.{◌≡◌, ℕ, ◌<◌, ◌≤◌, List, Some, slice_get}
 use Rattle.rb_raftlog.specs.Log.{LogValue, entry_at, last}
 use Rattle.rb_node.specs.Node.{PlainNode}
 use Rattle.rb_node_laws.specs.Sound.{IsSound}
 
 -- the indexes of each node are in order
 abbrev pub AreSound : List PlainNode → Type 0
-AreSound nodes = AllByRecursion IsSound nodes
+AreSound nodes = (k : ℕ) (n : PlainNode) → slice_get nodes k ≡ Some n → IsSound n
 
 -- the entries of a log up to an index that it has are those of before, but for what was compacted
 pub record IsKept (old new : LogValue) (index : ℕ) : Type 0 where
@@ -18,6 +17,4 @@ pub record IsKept (old new : LogValue) (index : ℕ) : Type 0 where
 
 -- those of each node, up to what it knew to be committed
 abbrev pub AreKept : List PlainNode → List PlainNode → Type 0
-AreKept [] news = Unit {0}
-AreKept (old ∷ olds) [] = Unit {0}
-AreKept (old ∷ olds) (new ∷ news) = IsKept old.log new.log old.commit × AreKept olds news
+AreKept olds news = (k : ℕ) (old new : PlainNode) → slice_get olds k ≡ Some old → slice_get news k ≡ Some new → IsKept old.log new.log old.commit

@@ -1,5 +1,7 @@
 -- What of a node's log is not as it was, as rows. (docs/PAGE.md.)
-use Rattle.std.specs.Prelude.{ℕ, ◌+◌, ◌-◌, Bool, true, false, ◌&&◌, ◌==◌, nat_le, if◌then◌else◌, codes, List, [], ◌∷◌, ◌++◌, take}
+use Rattle.std.specs.Prelude.{ℕ, ◌+◌, ◌-◌, Bool, false, ◌&&◌, ◌==◌, nat_le, if◌then◌else◌, codes, List, [], ◌∷◌, ◌++◌, take}
+use Rattle.std.specs.Cmp.Lexicographic.{pointwise}
+use Rattle.std.specs.List.{common_prefix_len}
 use Rattle.std.specs.Str.{bytes_eq}
 use Rattle.rb_raftlog.specs.declared.entry.Body.{Body}
 use Rattle.rb_raftlog.specs.declared.entry.Body.TheVariants as bodies
@@ -15,32 +17,24 @@ use Rattle.rb_page.specs.Rows.{Row, row, number}
 abbrev pub same_word : Word → Word → Bool
 same_word a b = bytes_eq (letter a.kind) (letter b.kind) && a.id == b.id
 
-abbrev pub same_words : List Word → List Word → Bool
-same_words [] [] = true
-same_words [] (b ∷ bs) = false
-same_words (a ∷ more) [] = false
-same_words (a ∷ more) (b ∷ bs) = same_word a b && same_words more bs
-
 abbrev pub same_body : Body → Body → Bool
 same_body (bodies.Payload a) (bodies.Payload b) = bytes_eq a b
 same_body (bodies.Payload a) (bodies.Change transition words) = false
 same_body (bodies.Change transition words) (bodies.Payload b) = false
-same_body (bodies.Change transition words) (bodies.Change other others) = bytes_eq (transition_text transition) (transition_text other) && same_words words others
+same_body (bodies.Change transition words) (bodies.Change other others) = bytes_eq (transition_text transition) (transition_text other) && pointwise same_word words others
 
 abbrev pub same_entry : Entry → Entry → Bool
 same_entry a b = a.term == b.term && same_body a.body b.body
-
--- how many entries are the same, one by one from the first on
-abbrev pub common : List Entry → List Entry → ℕ
-common [] bs = 0
-common (a ∷ more) [] = 0
-common (a ∷ more) (b ∷ bs) = if same_entry a b then common more bs + 1 else 0
 
 -- ---- rows
 
 -- the entries of a log past an index; none where that is below its base
 abbrev pub held_after : LogValue → ℕ → List Entry
 held_after v index = if nat_le v.base index then entries_after v index else []
+
+-- how many entries are the same, one by one from the first on
+abbrev pub common : List Entry → List Entry → ℕ
+common olds news = common_prefix_len same_entry olds news
 
 -- up to which index the entries of a log are those of before
 abbrev pub stays : LogValue → LogValue → ℕ

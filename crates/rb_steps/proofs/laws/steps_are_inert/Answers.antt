@@ -3,7 +3,7 @@ use Rattle.std.specs.List.{list_all}
 use Rattle.rb_page.specs.Escapes.{is_inert}
 use Rattle.rb_page.proofs.InertLaws.{rows_inert}
 use Rattle.rb_steps.specs.Pages.{first_row}
-use Rattle.rb_steps.proofs.StepLaws.{text_is_of_rows}
+use Rattle.rb_steps.proofs.ValueLaws.{text_is_of_rows}
 use Rattle.rb_steps.proofs.laws.steps_are_inert.Goals as goal
 
 pub returns : goal.returns

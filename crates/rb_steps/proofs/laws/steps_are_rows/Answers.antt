@@ -1,4 +1,4 @@
-use Rattle.rb_steps.proofs.StepLaws.{text_is_of_rows}
+use Rattle.rb_steps.proofs.ValueLaws.{text_is_of_rows}
 use Rattle.rb_steps.proofs.laws.steps_are_rows.Goals as goal
 
 pub returns : goal.returns

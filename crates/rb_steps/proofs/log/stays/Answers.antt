@@ -1,8 +1,9 @@
 use Rattle.std.proofs.Common.{◌≡◌, ◌∙◌, ◌≤◌, sym, arith}
 use Rattle.std.specs.Prelude.{max, min}
+use Rattle.std.proofs.lemmas.Bool.{not-false, not-true}
 use Rattle.rb_raftlog.specs.Log.{last}
 use Rattle.rb_steps.specs.Logs.{same_entry, stays}
-use Rattle.rb_steps.proofs.LogLaws.{is_false, is_true, kept_within, min_le, stays_end, stays_on, stays_over, stays_past}
+use Rattle.rb_steps.proofs.LogLaws.{kept_within, stays_end, stays_on, stays_over, stays_past}
 use Rattle.rb_steps.proofs.log.stays.Goals as goal
 
 pub loop-index-init : goal.loop-index-init
@@ -24,7 +25,7 @@ returns-then-is_other-clause-value g c =
     let above : old.base ≤ c.loop-index.index = omega (arith, c.requires.base, c.first_index-base.ensures, c.max-from.ensures, c.loop-index.auto.index) in
     let past : new.base ≤ c.loop-index.index = omega (arith, c.first_index-base.ensures, c.max-from.ensures, c.loop-index.auto.index) in
     stays_over old new (stays old new) c.loop-index.index x y above past c.entry_at.ensures c.entry_at-in-loop-index.ensures
-    (is_false (same_entry x y) (sym c.is_other.ensures ∙ c.if-is_other.true)) c.loop-index.invariant.so_far
+    (not-true (same_entry x y) (sym c.is_other.ensures ∙ c.if-is_other.true)) c.loop-index.invariant.so_far
 
 pub loop-index-preserved : goal.loop-index-preserved
 loop-index-preserved g c =
@@ -36,7 +37,7 @@ loop-index-preserved g c =
     let past : new.base ≤ c.loop-index.index = omega (arith, c.first_index-base.ensures, c.max-from.ensures, c.loop-index.auto.index) in
     record {
       so_far = stays_on old new (stays old new) c.loop-index.index x y above past c.entry_at.ensures c.entry_at-in-loop-index.ensures
-          (is_true (same_entry x y) (sym c.is_other.ensures ∙ c.if-is_other.false)) c.loop-index.invariant.so_far;
+          (not-false (same_entry x y) (sym c.is_other.ensures ∙ c.if-is_other.false)) c.loop-index.invariant.so_far;
       within = omega (arith, c.loop-index-test.true);
     }
 
@@ -46,7 +47,7 @@ returns-clause-value g c =
     let new = g.L.RaftLog.plain c.args.new.now in
     let small : min (last new) (last old) ≤ c.loop-index.index = omega (arith, c.min-last.ensures, c.last_index.ensures.value, c.last_index-2.ensures.value, c.loop-index-test.false) in
     let here : c.max.result ≡ c.loop-index.index = omega (arith, c.max.ensures, c.loop-index.invariant.within, c.loop-index-test.false, c.loop-index.auto.index) in
-    here ∙ stays_end old new (stays old new) c.loop-index.index (min_le (last new) (last old) c.loop-index.index small) c.loop-index.invariant.so_far
+    here ∙ stays_end old new (stays old new) c.loop-index.index small c.loop-index.invariant.so_far
 
 pub returns-clause-within : goal.returns-clause-within
 returns-clause-within g c =

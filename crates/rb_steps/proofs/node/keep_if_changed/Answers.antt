@@ -1,6 +1,9 @@
-use Rattle.std.proofs.Common.{refl}
-use Rattle.std.specs.Prelude.{Some}
-use Rattle.rb_steps.proofs.StateLaws.{none_kept_of_same, some_kept}
+use Rattle.std.proofs.Common.{◌≡◌, ◌++◌, subst₂}
+use Rattle.std.specs.Prelude.{OnOk}
+use Rattle.rb_node.specs.Node.{PlainNode}
+use Rattle.rb_page.specs.Kept.{texts_of}
+use Rattle.rb_steps.specs.States.{changed_rows}
+use Rattle.rb_steps.proofs.StateLaws.{none_kept_of_same}
 use Rattle.rb_steps.proofs.node.keep_if_changed.Goals as goal
 
 pub returns-then-same : goal.returns-then-same
@@ -8,6 +11,5 @@ returns-then-same g c = none_kept_of_same c.args.old.now c.args.new.now c.args.t
 
 pub returns : goal.returns
 returns g c =
-    let old = c.args.old.now in
-    some_kept c.keep_changed.result (Some old) old c.args.new.now c.status.result.now c.status-2.result.now
-    c.args.texts.now c.keep_changed.new.texts refl c.status.ensures c.status-2.ensures c.keep_changed.ensures
+    subst₂ (λ (old new : PlainNode). OnOk c.keep_changed.result (c.keep_changed.new.texts ≡ c.args.texts.now ++ texts_of (changed_rows old new)))
+    c.status.ensures c.status-2.ensures c.keep_changed.ensures

@@ -1,18 +1,17 @@
 use Rattle.std.proofs.Common.{◌∙◌, ◌+◌, ◌++◌, List, drop, ap, sym, subst, refl, append-nil, arith}
 use Rattle.std.specs.Prelude.{slice_get}
-use Rattle.std.proofs.lemmas.List.{drop_all}
+use Rattle.std.proofs.lemmas.List.{drop_all, map-append}
 use Rattle.rb_page.specs.Kept.{texts_of}
-use Rattle.rb_page.specs.Rows.{Row}
+use Rattle.rb_page.specs.Rows.{Row, next_text}
 use Rattle.rb_steps.specs.States.{node_rows, state_rows}
 use Rattle.rb_steps.specs.Values.{ShowBytes}
 use Rattle.rb_page.proofs.KeptLaws.{left_some}
-use Rattle.rb_steps.proofs.CommittedLaws.{kept_at}
-use Rattle.rb_steps.proofs.KeepLaws.{one_part, texts_append}
+use Rattle.rb_steps.proofs.KeepLaws.{one_part}
 use Rattle.rb_steps.proofs.StateLaws.{state_more, state_done}
 use Rattle.rb_steps.proofs.node.keep_states.Goals as goal
 
 pub keep_either-requires : goal.keep_either-requires
-keep_either-requires g c = λ old was. kept_at c.args.olds.now c.args.news.now c.loop-i.i old c.node_at.result.now was c.node_at.ensures.node c.requires
+keep_either-requires g c = λ old was. c.requires c.loop-i.i old c.node_at.result.now was c.node_at.ensures.node
 
 pub loop-i-init : goal.loop-i-init
 loop-i-init g c = record { texts = refl; bytes = λ rest. rest }
@@ -27,7 +26,7 @@ loop-i-preserved g c =
     let here = node_rows (slice_get olds i) n in
     record {
       texts = one_part c.loop-i.texts c.keep_either.new.texts (texts_of here) (texts_of (state_rows (drop i olds) (drop i news))) (texts_of rest) _
-          (ap texts_of (state_more olds news i n (slice_get olds i) c.node_at.ensures.node refl) ∙ texts_append here rest)
+          (ap texts_of (state_more olds news i n (slice_get olds i) c.node_at.ensures.node refl) ∙ map-append next_text here rest)
           c.in_ok-keep_either.ensures c.loop-i.invariant.texts;
       bytes = λ rest. c.loop-i.invariant.bytes (subst ShowBytes (sym (left_some news i n c.node_at.ensures.node)) (c.node_at.ensures.bytes, rest));
     }
