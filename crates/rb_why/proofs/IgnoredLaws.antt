@@ -29,23 +29,28 @@ use Rattle.rb_message.specs.declared.kind.MessageKind.TheVariants as kind
 use Rattle.rb_message.specs.declared.message.Message.{Message}
 use Rattle.rb_message.specs.declared.role.Role.{Role}
 use Rattle.rb_message.specs.declared.role.Role.TheVariants as role
-use Rattle.rb_node.specs.Node.{PlainNode, Turn, turn, told, with_node, answered_with, ignored}
-use Rattle.rb_node.specs.Terms.{followed, raised, raised_by, lowered, lowered_by, shown_term, answers_earlier, is_disturbed_by}
+use Rattle.rb_node.specs.Node.{PlainNode, Turn, turn, told, with_node, ignored}
+use Rattle.rb_node.specs.Terms.{followed, raised_by, lowered_by, shown_term, answers_earlier, is_disturbed_by}
 use Rattle.rb_node.specs.Campaigns.{why_no_campaign, campaigned_unless, campaigned, stood_unless, campaigned_after_pre_vote}
 use Rattle.rb_node.specs.Votes.{can_vote_for, count_of, counted, decided, pre_decided}
-use Rattle.rb_node.specs.Following.{heard, with_appended, after_log, append_taken, new_snapshot_taken, snapshot_taken, proposal_passed, transfer_passed, passed_on}
+use Rattle.rb_node.specs.Following.{heard, with_appended, after_log, append_taken, new_snapshot_taken, snapshot_taken, proposal_passed, transfer_passed}
 use Rattle.rb_node.specs.Leading.{is_log_full, appended, appended_change, leading, led}
 use Rattle.rb_node.specs.declared.sends.Mode.TheVariants as mode
 use Rattle.rb_node.specs.Sends.{sends, viewed}
 use Rattle.rb_node.specs.Acknowledging.{accepted_at, accepted, refused_with, refused_at, append_refused, beat_answered_at, beat_answered}
 use Rattle.rb_node.specs.Proposing.{why_replaced, change_put, put_in, takes_none, proposed}
 use Rattle.rb_node.specs.Transferring.{older_ended, transfer_started, transferred}
-use Rattle.rb_node.specs.Step.{as_follower, as_precandidate, as_candidate, as_leader, by_role_of, at_term_by, at_term, stepped}
+use Rattle.rb_node.specs.Step.{as_follower, as_precandidate, as_candidate, as_leader, by_role_of, at_term_by, stepped}
 use Rattle.rb_why.specs.declared.why.Reason.{Reason}
 use Rattle.rb_why.specs.declared.why.Reason.TheVariants as reasons
 use Rattle.rb_why.specs.declared.why.WhyIgnored.TheVariants as why
-use Rattle.rb_why.specs.Reasons.{log_reason, vote_reason, why_old, follower_reason, precandidate_reason, candidate_reason, answer_reason, view_reason, refusal_reason, transfer_reason, leader_reason, role_reason, term_reason, earlier, leader_earlier, earlier_reason, later_reason, reason}
+use Rattle.rb_why.specs.Reasons.{log_reason, vote_reason, why_old, follower_reason, precandidate_reason, candidate_reason, answer_reason, view_reason, refusal_reason, transfer_reason, leader_reason, role_reason, term_reason, leader_earlier, earlier_reason, later_reason, reason}
 use Rattle.rb_why.specs.Telling.{is_ignored, ignores, is_of_ignored}
+
+-- what holds of two choices by one test
+pub if_same : {X Y : Type 0} (R : X → Y → Type 0) (b : Bool) {x x' : X} {y y' : Y} → (b ≡ true → R x y) → (b ≡ false → R x' y') → R (if b then x else x') (if b then y else y')
+if_same R true h k = h refl
+if_same R false h k = k refl
 
 -- one of the events tells that a message is ignored, or none does
 abbrev Tells : Bool → Turn → Type 0
@@ -74,7 +79,7 @@ follows t term lead h = tells t _ refl h
 
 shows_term : (t : Turn) (m : Message) → Tells false t → Tells (is_of_ignored (leader_earlier t.node m)) (shown_term t m)
 shows_term t m h =
-    elim (answers_earlier t.node) as (λ b. Tells (is_of_ignored (if b then None else earlier t.node m)) (if b then with_node t (answered_with t.node m.from t.node.term (kind.AppendResponse 0)) else ignored t m)) [ true ↦ h | false ↦ ignoring t m ]
+    if_same (λ (o : Option Reason) (u : Turn). Tells (is_of_ignored o) u) (answers_earlier t.node) (λ _. h) (λ _. ignoring t m)
 
 lowers : (k : MessageKind) (t : Turn) (m : Message) → Tells false t → Tells (is_of_ignored (earlier_reason k t.node m)) (lowered_by k t m)
 lowers (kind.PreVote last_term last_index) t m h = h
@@ -249,8 +254,7 @@ passes_proposal t what h = if_both (Tells false) (t.node.lead == 0) _ _ (λ _. t
 
 passes_transfer : (t : Turn) (target : ℕ) (m : Message) → Tells false t → Tells (is_of_ignored (follower_reason (kind.TransferLeader target) t.node.lead)) (transfer_passed t (kind.TransferLeader target) m)
 passes_transfer t target m h =
-    elim (t.node.lead == 0) as (λ (b : Bool). Tells (is_of_ignored (if b then Some (reasons.Ignored why.NoLeader) else None)) (if b then ignored t m else with_node t (passed_on t.node (kind.TransferLeader target))))
-    [ true ↦ ignoring t m | false ↦ h ]
+    if_same (λ (o : Option Reason) (u : Turn). Tells (is_of_ignored o) u) (t.node.lead == 0) (λ _. ignoring t m) (λ _. h)
 
 -- ---- a message
 
@@ -316,19 +320,10 @@ at_a_later k t m e h = hears k t m m.term 0 e h
 steps : (t : Turn) (m : Message) → Tells false t → Tells (is_of_ignored (reason t.node m)) (stepped t m)
 unfolding reason stepped
 steps t m h =
-    elim (not (has_term m.kind) || m.term == t.node.term) as (λ (b : Bool).
-    Tells (is_of_ignored (if b then term_reason m.kind t.node m else (if nat_lt m.term t.node.term then earlier_reason m.kind t.node m else (if is_disturbed_by m.kind t.node then Some (reasons.Ignored (why.HearsLeader t.node.lead)) else later_reason m.kind t.node m))))
-    (if b then at_term t m else (if nat_lt m.term t.node.term then lowered t m else (if is_disturbed_by m.kind t.node then ignored t m else at_term (raised t m) m)))) [
-      | true ↦ at_its_term m.kind t m h
-      | false ↦ elim (nat_lt m.term t.node.term) as (λ (b : Bool).
-          Tells (is_of_ignored (if b then earlier_reason m.kind t.node m else (if is_disturbed_by m.kind t.node then Some (reasons.Ignored (why.HearsLeader t.node.lead)) else later_reason m.kind t.node m)))
-          (if b then lowered t m else (if is_disturbed_by m.kind t.node then ignored t m else at_term (raised t m) m))) [
-            | true ↦ lowers m.kind t m h
-            | false ↦ elim (is_disturbed_by m.kind t.node) as (λ (b : Bool).
-                Tells (is_of_ignored (if b then Some (reasons.Ignored (why.HearsLeader t.node.lead)) else later_reason m.kind t.node m)) (if b then ignored t m else at_term (raised t m) m))
-                [ true ↦ ignoring t m | false ↦ at_a_later m.kind t m refl h ]
-          ]
-    ]
+    let R : Option Reason → Turn → Type 0 = λ o u. Tells (is_of_ignored o) u in
+    if_same R (not (has_term m.kind) || m.term == t.node.term) (λ _. at_its_term m.kind t m h)
+    (λ _. if_same R (nat_lt m.term t.node.term) (λ _. lowers m.kind t m h)
+    (λ _. if_same R (is_disturbed_by m.kind t.node) (λ _. ignoring t m) (λ _. at_a_later m.kind t m refl h)))
 
 pub ignored_exactly : (n : PlainNode) (m : Message) → is_of_ignored (reason n m) ≡ ignores n m
 ignored_exactly n m = sym (steps (turn n []) m refl)

@@ -1,5 +1,5 @@
 -- A step answers no to who asks for a vote exactly where there is a reason
-use Rattle.std.proofs.Common.{◌≡◌, ℕ, Bool, true, false, not, ◌&&◌, ◌||◌, List, [], ◌∷◌, ◌++◌, drop, length, Option, Some, None, refl, sym, ap, arith, if◌then◌else◌, nat_lt, ◌==◌}
+use Rattle.std.proofs.Common.{◌≡◌, ℕ, Bool, true, false, not, ◌&&◌, ◌||◌, List, [], ◌∷◌, ◌++◌, drop, length, Option, Some, None, refl, sym, ap, ◌∙◌, arith, if◌then◌else◌, nat_lt, ◌==◌}
 use Rattle.std.specs.List.{list_any}
 use Rattle.std.proofs.lemmas.Bool.Decides.{nat_tests}
 use Rattle.rb_raftlog.specs.Log.{last, last_term, is_up_to_date}
@@ -13,16 +13,17 @@ use Rattle.rb_message.specs.declared.kind.MessageKind.TheVariants as kind
 use Rattle.rb_message.specs.declared.message.Message.{Message}
 use Rattle.rb_message.specs.declared.role.Role.{Role}
 use Rattle.rb_message.specs.declared.role.Role.TheVariants as role
-use Rattle.rb_node.specs.Node.{PlainNode, turn, message, answered_with, ignored}
-use Rattle.rb_node.specs.Terms.{followed, raised, lowered, answers_earlier, is_disturbed_by}
+use Rattle.rb_node.specs.Node.{PlainNode, Turn, turn, message, answered_with}
+use Rattle.rb_node.specs.Terms.{followed, answers_earlier, is_disturbed_by}
 use Rattle.rb_node.specs.Votes.{can_vote_for, voted_for, vote_answered, pre_vote_answered}
-use Rattle.rb_node.specs.Step.{at_term, stepped}
+use Rattle.rb_node.specs.Step.{stepped}
 use Rattle.rb_why.specs.declared.why.Reason.{Reason}
 use Rattle.rb_why.specs.declared.why.Reason.TheVariants as reasons
-use Rattle.rb_why.specs.declared.why.WhyIgnored.TheVariants as why
+use Rattle.rb_why.specs.declared.why.WhyRefused.{WhyRefused}
 use Rattle.rb_why.specs.declared.why.WhyRefused.TheVariants as refused
 use Rattle.rb_why.specs.Reasons.{log_reason, vote_reason, why_no_vote, follower_reason, precandidate_reason, candidate_reason, answer_reason, view_reason, refusal_reason, transfer_reason, leader_reason, role_reason, term_reason, earlier_reason, later_reason, reason}
 use Rattle.rb_why.specs.Telling.{is_no, has_new_no, refuses, is_of_refused}
+use Rattle.rb_why.proofs.IgnoredLaws.{if_same}
 
 -- ---- what is answered
 
@@ -40,26 +41,26 @@ answers ms m = ap (list_any is_no) (new_of ms (m ∷ []))
 answers_nothing : (ms : List Message) → has_new_no ms ms ≡ false
 answers_nothing ms = ap (list_any is_no) (none_new ms)
 
--- by whether the node can vote for who asks, and whether the log is up to date
-vote_by : (can upto : Bool) (n : PlainNode) (m : Message) (term index : ℕ)
-    → is_of_refused (if can then (if upto then None else Some (reasons.Refused (refused.OlderLog term index (last_term n.log) (last n.log)))) else Some (reasons.Refused (why_no_vote n)))
-    ≡ has_new_no n.waiting (if can && upto then answered_with (voted_for n m.from) m.from m.term (kind.VoteResponse true) else answered_with n m.from n.term (kind.VoteResponse false)).waiting
-vote_by true true n m term index = sym (answers n.waiting (message n.id m.from m.term (kind.VoteResponse true)))
-vote_by true false n m term index = sym (answers n.waiting (message n.id m.from n.term (kind.VoteResponse false)))
-vote_by false upto n m term index = sym (answers n.waiting (message n.id m.from n.term (kind.VoteResponse false)))
+-- by whether the node can vote for who asks, and whether the log is up to date: it becomes one that says yes, or one that says no
+answered_by : (can upto : Bool) (ms : List Message) (a b : PlainNode) (consent denial : Message) (older none : WhyRefused) → a.waiting ≡ ms ++ consent ∷ [] → b.waiting ≡ ms ++ denial ∷ [] → is_no consent ≡ false → is_no denial ≡ true
+    → is_of_refused (if can then (if upto then None else Some (reasons.Refused older)) else Some (reasons.Refused none)) ≡ has_new_no ms (if can && upto then a else b).waiting
+answered_by true true ms a b consent denial older none first second says denies = sym (ap (has_new_no ms) first ∙ answers ms consent ∙ ap (λ (t : Bool). t || false) says)
+answered_by true false ms a b consent denial older none first second says denies = sym (ap (has_new_no ms) second ∙ answers ms denial ∙ ap (λ (t : Bool). t || false) denies)
+answered_by false upto ms a b consent denial older none first second says denies = sym (ap (has_new_no ms) second ∙ answers ms denial ∙ ap (λ (t : Bool). t || false) denies)
 
 votes : (n : PlainNode) (m : Message) (term index : ℕ) → is_of_refused (vote_reason n m term index false) ≡ has_new_no n.waiting (vote_answered n m term index).waiting
-votes n m term index = vote_by (can_vote_for n m false) (is_up_to_date n.log index term) n m term index
-
-pre_vote_by : (can upto : Bool) (n : PlainNode) (m : Message) (term index : ℕ)
-    → is_of_refused (if can then (if upto then None else Some (reasons.Refused (refused.OlderLog term index (last_term n.log) (last n.log)))) else Some (reasons.Refused (why_no_vote n)))
-    ≡ has_new_no n.waiting (if can && upto then answered_with n m.from m.term (kind.PreVoteResponse true) else answered_with n m.from n.term (kind.PreVoteResponse false)).waiting
-pre_vote_by true true n m term index = sym (answers n.waiting (message n.id m.from m.term (kind.PreVoteResponse true)))
-pre_vote_by true false n m term index = sym (answers n.waiting (message n.id m.from n.term (kind.PreVoteResponse false)))
-pre_vote_by false upto n m term index = sym (answers n.waiting (message n.id m.from n.term (kind.PreVoteResponse false)))
+votes n m term index =
+    let consent = answered_with (voted_for n m.from) m.from m.term (kind.VoteResponse true) in
+    let denial = answered_with n m.from n.term (kind.VoteResponse false) in
+    answered_by (can_vote_for n m false) (is_up_to_date n.log index term) n.waiting consent denial (message n.id m.from m.term (kind.VoteResponse true)) (message n.id m.from n.term (kind.VoteResponse false))
+    (refused.OlderLog term index (last_term n.log) (last n.log)) (why_no_vote n) refl refl refl refl
 
 pre_votes : (n : PlainNode) (m : Message) (term index : ℕ) → is_of_refused (vote_reason n m term index true) ≡ has_new_no n.waiting (pre_vote_answered n m term index).waiting
-pre_votes n m term index = pre_vote_by (can_vote_for n m true) (is_up_to_date n.log index term) n m term index
+pre_votes n m term index =
+    let consent = answered_with n m.from m.term (kind.PreVoteResponse true) in
+    let denial = answered_with n m.from n.term (kind.PreVoteResponse false) in
+    answered_by (can_vote_for n m true) (is_up_to_date n.log index term) n.waiting consent denial (message n.id m.from m.term (kind.PreVoteResponse true)) (message n.id m.from n.term (kind.PreVoteResponse false))
+    (refused.OlderLog term index (last_term n.log) (last n.log)) (why_no_vote n) refl refl refl refl
 
 -- in a later term nobody has a vote yet
 is_free : (a : Bool) (rest : Bool) → (a || true || rest) ≡ true
@@ -77,16 +78,11 @@ can_later : (n : PlainNode) (m : Message) (same : Bool) → same ≡ false → (
 can_later n m true h = absurd cc
 can_later n m false h = is_free (0 == m.from) false
 
-later_vote_by : (can upto : Bool) → can ≡ true → (n : PlainNode) (m : Message) (term index : ℕ)
-    → is_of_refused (if upto then None else Some (reasons.Refused (refused.OlderLog term index (last_term n.log) (last n.log))))
-    ≡ has_new_no n.waiting (if can && upto then answered_with (voted_for (later_node n m.term) m.from) m.from m.term (kind.VoteResponse true) else answered_with (later_node n m.term) m.from m.term (kind.VoteResponse false)).waiting
-later_vote_by true true h n m term index = sym (answers n.waiting (message n.id m.from m.term (kind.VoteResponse true)))
-later_vote_by true false h n m term index = sym (answers n.waiting (message n.id m.from m.term (kind.VoteResponse false)))
-later_vote_by false upto h n m term index = absurd cc
-
 later_votes : (n : PlainNode) (m : Message) (term index : ℕ) → (m.term == n.term) ≡ false → is_of_refused (log_reason n term index) ≡ has_new_no n.waiting (vote_answered (later_node n m.term) m term index).waiting
 later_votes n m term index h =
-    later_vote_by (can_vote_for (later_node n m.term) m false) (is_up_to_date n.log index term) (can_later n m (n.term == m.term) (apart m.term n.term h)) n m term index
+    let x = later_node n m.term in
+    ap (λ (t : Bool). is_of_refused (if t then log_reason n term index else Some (reasons.Refused (why_no_vote x)))) (sym (can_later n m (n.term == m.term) (apart m.term n.term h)))
+    ∙ votes x m term index
 
 -- ---- other messages are never refused so
 
@@ -94,27 +90,14 @@ abbrev Never : Option Reason → Type 0
 Never o = is_of_refused o ≡ false
 
 follower_never : (k : MessageKind) (lead : ℕ) → Never (follower_reason k lead)
-follower_never (kind.Append append) lead = refl
-follower_never (kind.Heartbeat commit) lead = refl
-follower_never (kind.Snapshot snapshot) lead = refl
-follower_never (kind.Proposal body) lead = refl
 follower_never (kind.TransferLeader target) lead = if_both Never (lead == 0) _ _ (λ _. refl) (λ _. refl)
-follower_never kind.TimeoutNow lead = refl
 follower_never _ lead = refl
 
 precandidate_never : (k : MessageKind) → Never (precandidate_reason k)
-precandidate_never (kind.PreVoteResponse granted) = refl
-precandidate_never (kind.Append append) = refl
-precandidate_never (kind.Heartbeat commit) = refl
-precandidate_never (kind.Snapshot snapshot) = refl
 precandidate_never (kind.Proposal body) = refl
 precandidate_never _ = refl
 
 candidate_never : (k : MessageKind) → Never (candidate_reason k)
-candidate_never (kind.VoteResponse granted) = refl
-candidate_never (kind.Append append) = refl
-candidate_never (kind.Heartbeat commit) = refl
-candidate_never (kind.Snapshot snapshot) = refl
 candidate_never (kind.Proposal body) = refl
 candidate_never _ = refl
 
@@ -136,7 +119,6 @@ transfer_never n target =
     (λ _. if_both Never (target == n.id) _ _ (λ _. refl) (λ _. if_both Never (target == n.transferee) _ _ (λ _. refl) (λ _. refl)))
 
 leader_never : (k : MessageKind) (n : PlainNode) (m : Message) → Never (leader_reason k n m)
-leader_never (kind.Proposal body) n m = refl
 leader_never (kind.AppendResponse matched) n m = answer_never (place n.tracker.views m.from) m.from
 leader_never (kind.AppendRefusal refused hint) n m = refusal_never (place n.tracker.views m.from) n m.from refused
 leader_never kind.HeartbeatResponse n m = answer_never (place n.tracker.views m.from) m.from
@@ -189,35 +171,19 @@ asked : (n : PlainNode) (from to term at index : ℕ) (transfer : Bool) → IsEx
 unfolding reason stepped
 asked n from to term at index transfer =
     let m = message from to term (kind.Vote at index transfer) in
-    let t = turn n [] in
-    let P : Bool → Bool → Bool → Type 0 = λ same less disturbed.
-    is_of_refused (if same then vote_reason n m at index false else (if less then earlier_reason m.kind n m else (if disturbed then Some (reasons.Ignored (why.HearsLeader n.lead)) else log_reason n at index)))
-    ≡ has_new_no n.waiting (if same then at_term t m else (if less then lowered t m else (if disturbed then ignored t m else at_term (raised t m) m))).node.waiting in
-    let by : (same less disturbed : Bool) → (m.term == n.term) ≡ same → P same less disturbed = λ same less disturbed e. (elim same as (λ b. (m.term == n.term) ≡ b → P b less disturbed) [
-      | true ↦ λ _. votes n m at index
-      | false ↦ λ other. elim less as (λ b. P false b disturbed) [
-        | true ↦ sym (answers_nothing n.waiting)
-        | false ↦ elim disturbed as (λ b. P false false b) [ true ↦ sym (answers_nothing n.waiting) | false ↦ later_votes n m at index other ]
-      ]
-    ]) e in
-    by (m.term == n.term) (nat_lt m.term n.term) (is_disturbed_by m.kind n) refl
+    let R : Option Reason → Turn → Type 0 = λ o u. is_of_refused o ≡ has_new_no n.waiting u.node.waiting in
+    if_same R (m.term == n.term) (λ _. votes n m at index)
+    (λ other. if_same R (nat_lt m.term n.term) (λ _. sym (answers_nothing n.waiting))
+    (λ _. if_same R (is_disturbed_by m.kind n) (λ _. sym (answers_nothing n.waiting)) (λ _. later_votes n m at index other)))
 
 asked_before : (n : PlainNode) (from to term at index : ℕ) → IsExact n (message from to term (kind.PreVote at index))
 unfolding reason stepped
 asked_before n from to term at index =
     let m = message from to term (kind.PreVote at index) in
-    let t = turn n [] in
-    let P : Bool → Bool → Bool → Type 0 = λ same less disturbed.
-    is_of_refused (if same then vote_reason n m at index true else (if less then earlier_reason m.kind n m else (if disturbed then Some (reasons.Ignored (why.HearsLeader n.lead)) else vote_reason n m at index true)))
-    ≡ has_new_no n.waiting (if same then at_term t m else (if less then lowered t m else (if disturbed then ignored t m else at_term (raised t m) m))).node.waiting in
-    let by : (same less disturbed : Bool) → P same less disturbed = λ same less disturbed. elim same as (λ b. P b less disturbed) [
-      | true ↦ pre_votes n m at index
-      | false ↦ elim less as (λ b. P false b disturbed) [
-        | true ↦ sym (answers n.waiting (message n.id m.from n.term (kind.PreVoteResponse false)))
-        | false ↦ elim disturbed as (λ b. P false false b) [ true ↦ sym (answers_nothing n.waiting) | false ↦ pre_votes n m at index ]
-      ]
-    ] in
-    by (m.term == n.term) (nat_lt m.term n.term) (is_disturbed_by m.kind n)
+    let R : Option Reason → Turn → Type 0 = λ o u. is_of_refused o ≡ has_new_no n.waiting u.node.waiting in
+    if_same R (m.term == n.term) (λ _. pre_votes n m at index)
+    (λ _. if_same R (nat_lt m.term n.term) (λ _. sym (answers n.waiting (message n.id m.from n.term (kind.PreVoteResponse false))))
+    (λ _. if_same R (is_disturbed_by m.kind n) (λ _. sym (answers_nothing n.waiting)) (λ _. pre_votes n m at index)))
 
 of_kind : (k : MessageKind) (n : PlainNode) (from to term : ℕ) → IsExact n (message from to term k)
 of_kind (kind.Vote at index transfer) n from to term = asked n from to term at index transfer
