@@ -36,7 +36,7 @@ use Rattle.rb_node.specs.Ticking.{counted as counted_tick, beat_to, beat_each, h
 use Rattle.rb_node_laws.specs.Calling.{Call, Step, Campaign, Propose, Transfer, Tick, Advance, ForgetLeader, ReportUnreachable, SetTimeout, Compact, compacted_unless, after}
 use Rattle.rb_cluster_laws.specs.Honesty.{IsPlain, Keeps}
 use Rattle.rb_cluster_laws.proofs.LinkedLogs.{compacted_linked}
-use Rattle.rb_cluster_laws.proofs.Holding.{World, IsOwn, IsChain, IsFine, Holds, essence, still_linking, with_log, says}
+use Rattle.rb_cluster_laws.proofs.Holding.{World, IsOwn, IsChain, IsFine, Holds, essence, still_fits, with_log, says}
 use Rattle.rb_cluster_laws.proofs.LeaderHolds.{transfer_ended_holds}
 use Rattle.rb_cluster_laws.proofs.StepHolds.{followed_holds, campaigned_holds, Gives, stepped_holds}
 
@@ -159,18 +159,9 @@ all_heard {w} n h said =
     (λ m waits. heard_own w m n.id h.itself (All-contains (IsOwn w) n.waiting m h.waiting waits) (said m waits)) n.waiting (All-contains_itself n.waiting)
 
 saved_holds : {w : World} (n : PlainNode) → Holds w n → Holds w (saved n)
-saved_holds {w} n h = record {
-  itself = h.itself;
-  config = h.config;
-  log = h.log;
-  sent = All-nil (Keeps w.setting.config);
-  waiting = All-nil (IsOwn w);
-  stands = h.stands;
-  leads = h.leads;
-  linking =
-      still_linking (essence n) (made_durable n.log) [] []
-      (λ _ ls _ c. record { logged = c.logged; sent = All-nil (IsChain ls); waiting = All-nil (IsChain ls) }) (λ _. omega arith) h.linking;
-}
+saved_holds {w} n h =
+    still_fits (essence n) (made_durable n.log) [] [] h.log (All-nil (Keeps w.setting.config)) (All-nil (IsOwn w))
+    (λ _ ls _ c. record { logged = c.logged; sent = All-nil (IsChain ls); waiting = All-nil (IsChain ls) }) (λ _. omega arith) h
 
 advanced_holds : {w : World} (t : Turn) → ((m : Message) → Contains t.node.waiting m → IsOut w m) → Holds w t.node → Holds w (advanced t).node
 unfolding advanced

@@ -1,6 +1,6 @@
 -- What holds of each node of a network whose configuration stays: all that it says and holds keeps the configuration, and who stands or
 -- leads has its votes from those who cast them
-use Rattle.std.proofs.Common.{◌≡◌, ◌⊎◌, ℕ, ◌+◌, ◌<◌, ◌≤◌, Bool, true, List, [], ◌∷◌, ◌++◌, sym, subst, ◌∙◌, arith, inl, inr}
+use Rattle.std.proofs.Common.{◌≡◌, ◌⊎◌, ℕ, ◌+◌, ◌<◌, ◌≤◌, Bool, true, List, [], ◌∷◌, ◌++◌, refl, sym, subst, ◌∙◌, arith, inl, inr}
 use Rattle.std.specs.Prelude.{All, Contains}
 use Rattle.std.proofs.lemmas.List.Elements.{All-push}
 use Rattle.rb_raftlog.specs.Log.{LogValue, last}
@@ -152,69 +152,50 @@ pub record AreChained (ls : List Link) (log : LogValue) (out answers : List Mess
   pub waiting : All (IsChain ls) answers
 
 -- by the same links, as long as the log does not get shorter while the node leads
-pub still_linking : {w : World} (e : Essence) (log : LogValue) (sent waiting : List Message) → (w.setting.strict ≡ true → (ls : List Link) → Extends w.links ls → AreChained ls e.log e.sent e.waiting → AreChained ls log sent waiting) → (e.role ≡ role.Leader → last e.log ≤ last log) → Linking w e → Linking w (record e { log = log; sent = sent; waiting = waiting })
-still_linking {w} e log sent waiting chained longer h = record {
-  links = h.links;
-  since = h.since;
-  own = h.own;
-  holds = λ strict.
-      (let c = h.holds strict in
-      let now : AreChained h.links log sent waiting = chained strict h.links h.since (record { logged = c.logged; sent = c.sent; waiting = c.waiting }) in record {
-        once = c.once;
-        single = c.single;
-        made = c.made;
-        logged = now.logged;
-        sent = now.sent;
-        waiting = now.waiting;
-        past = c.past;
-        stands = c.stands;
-        leads = λ is l among term. (let low = c.leads is l among term in let high = longer is in omega (arith, low, high));
-      });
-}
+pub still_fits : {w : World} (e : Essence) (log : LogValue) (sent waiting : List Message) → All IsPlain log.entries → All (Keeps w.setting.config) sent → All (IsOwn w) waiting → (w.setting.strict ≡ true → (ls : List Link) → Extends w.links ls → AreChained ls e.log e.sent e.waiting → AreChained ls log sent waiting) → (e.role ≡ role.Leader → last e.log ≤ last log) → Fits w e → Fits w (record e { log = log; sent = sent; waiting = waiting })
+still_fits e log sent waiting plain says own chained longer h =
+    let l = h.linking in
+    record {
+      itself = h.itself;
+      config = h.config;
+      log = plain;
+      sent = says;
+      waiting = own;
+      stands = h.stands;
+      leads = h.leads;
+      linking = record {
+        links = l.links;
+        since = l.since;
+        own = l.own;
+        holds = λ strict.
+            (let c = l.holds strict in
+            let now : AreChained l.links log sent waiting = chained strict l.links l.since (record { logged = c.logged; sent = c.sent; waiting = c.waiting }) in record {
+              once = c.once;
+              single = c.single;
+              made = c.made;
+              logged = now.logged;
+              sent = now.sent;
+              waiting = now.waiting;
+              past = c.past;
+              stands = c.stands;
+              leads = λ is l among term. (let low = c.leads is l among term in let high = longer is in omega (arith, low, high));
+            });
+      };
+    }
 
 pub with_log : {w : World} (n : PlainNode) (v : LogValue) → All IsPlain v.entries → (w.setting.strict ≡ true → (ls : List Link) → Extends w.links ls → IsLinked ls n.log → IsLinked ls v) → (n.role ≡ role.Leader → last n.log ≤ last v) → Holds w n → Holds w (record n { log = v })
-with_log n v plain linked longer h = record {
-  itself = h.itself;
-  config = h.config;
-  log = plain;
-  sent = h.sent;
-  waiting = h.waiting;
-  stands = h.stands;
-  leads = h.leads;
-  linking =
-      still_linking (essence n) v n.sent n.waiting
-      (λ strict ls since c. record { logged = linked strict ls since c.logged; sent = c.sent; waiting = c.waiting }) longer h.linking;
-}
+with_log n v plain linked longer h =
+    still_fits (essence n) v n.sent n.waiting plain h.sent h.waiting (λ strict ls since c. record { logged = linked strict ls since c.logged; sent = c.sent; waiting = c.waiting }) longer h
 
 pub says : {w : World} (n : PlainNode) (m : Message) → Keeps w.setting.config m → ((ls : List Link) → IsLinked ls n.log → IsChain ls m) → Holds w n → Holds w (with_sent n m)
-says {w} n m fine chain h = record {
-  itself = h.itself;
-  config = h.config;
-  log = h.log;
-  sent = All-push (Keeps w.setting.config) n.sent m h.sent fine;
-  waiting = h.waiting;
-  stands = h.stands;
-  leads = h.leads;
-  linking =
-      still_linking (essence n) n.log (n.sent ++ m ∷ []) n.waiting
-      (λ _ ls _ c. record { logged = c.logged; sent = All-push (IsChain ls) n.sent m c.sent (chain ls c.logged); waiting = c.waiting })
-      (λ _. omega arith) h.linking;
-}
+says {w} n m fine chain h =
+    still_fits (essence n) n.log (n.sent ++ m ∷ []) n.waiting h.log (All-push (Keeps w.setting.config) n.sent m h.sent fine) h.waiting
+    (λ _ ls _ c. record { logged = c.logged; sent = All-push (IsChain ls) n.sent m c.sent (chain ls c.logged); waiting = c.waiting }) (λ _. omega arith) h
 
 pub waits : {w : World} (n : PlainNode) (m : Message) → m.from ≡ n.id → Keeps w.setting.config m → ((ls : List Link) → IsChain ls m) → Holds w n → Holds w (with_waiting n m)
-waits {w} n m own fine chain h = record {
-  itself = h.itself;
-  config = h.config;
-  log = h.log;
-  sent = h.sent;
-  waiting = All-push (IsOwn w) n.waiting m h.waiting (own ∙ h.itself, fine);
-  stands = h.stands;
-  leads = h.leads;
-  linking =
-      still_linking (essence n) n.log n.sent (n.waiting ++ m ∷ [])
-      (λ _ ls _ c. record { logged = c.logged; sent = c.sent; waiting = All-push (IsChain ls) n.waiting m c.waiting (chain ls) })
-      (λ _. omega arith) h.linking;
-}
+waits {w} n m own fine chain h =
+    still_fits (essence n) n.log n.sent (n.waiting ++ m ∷ []) h.log h.sent (All-push (IsOwn w) n.waiting m h.waiting (own ∙ h.itself, fine))
+    (λ _ ls _ c. record { logged = c.logged; sent = c.sent; waiting = All-push (IsChain ls) n.waiting m c.waiting (chain ls) }) (λ _. omega arith) h
 
 -- ---- another term or role, of the same log and messages
 
@@ -238,6 +219,19 @@ becomes {w} a b log sent waiting later stands leads h = record {
         ];
     leads = λ is l among term. (let old = leads is in let low = c.leads old.0 l among (term ∙ old.1) in subst (λ (v : LogValue). l.index ≤ last v) (sym log) low);
   });
+}
+
+-- with other votes: a candidate's are cast, and who leads led before
+pub turned : {w : World} (e : Essence) (term : ℕ) (r : Role) (votes : Votes) → e.term ≤ term → (r ≡ role.Candidate → ((e.term < term) ⊎ ((e.role ≡ role.Candidate) × (term ≡ e.term))) × Stands w term votes) → (r ≡ role.Leader → (e.role ≡ role.Leader) × (term ≡ e.term)) → Fits w e → Fits w (record e { term = term; role = r; votes = votes })
+turned {w} e term r votes later stands leads h = record {
+  itself = h.itself;
+  config = h.config;
+  log = h.log;
+  sent = h.sent;
+  waiting = h.waiting;
+  stands = λ is. (stands is).1;
+  leads = λ is. (let old = leads is in subst (IsElect w) (sym old.1) (h.leads old.0));
+  linking = becomes e (record e { term = term; role = r; votes = votes }) refl refl refl later (λ is. (stands is).0) leads h.linking;
 }
 
 -- ---- more that was said

@@ -36,22 +36,14 @@ use Rattle.rb_cluster_laws.specs.Honesty.{IsPlain, KeepsBy}
 use Rattle.rb_cluster_laws.specs.Votes.{IsCast}
 use Rattle.rb_cluster_laws.proofs.Links.{Link, still_linked}
 use Rattle.rb_cluster_laws.proofs.LinkedLogs.{log_from, none_linked, appended_linked}
-use Rattle.rb_cluster_laws.proofs.Holding.{World, Stands, IsChainBy, IsFine, Holds, essence, becomes, with_log, says, waits, follower_stands, follower_leads, precandidate_stands, precandidate_leads, candidate_leads}
+use Rattle.rb_cluster_laws.proofs.Holding.{World, Stands, IsChainBy, IsFine, Holds, essence, becomes, turned, with_log, says, waits, follower_stands, follower_leads, precandidate_stands, precandidate_leads, candidate_leads}
 use Rattle.rb_cluster_laws.proofs.LeaderHolds.{led_holds, accepted_holds, refused_holds, beat_answered_holds, proposed_holds, transferred_holds}
 
 -- ---- terms
 
 pub followed_holds : {w : World} (t : Turn) (term lead : ℕ) → t.node.term ≤ term → Holds w t.node → Holds w (followed t term lead).node
-followed_holds t term lead later h = record {
-  itself = h.itself;
-  config = h.config;
-  log = h.log;
-  sent = h.sent;
-  waiting = h.waiting;
-  stands = λ no. absurd (follower_stands no);
-  leads = λ no. absurd (follower_leads no);
-  linking = becomes (essence t.node) (essence (followed t term lead).node) refl refl refl later (λ no. absurd (follower_stands no)) (λ no. absurd (follower_leads no)) h.linking;
-}
+followed_holds t term lead later h =
+    turned (essence t.node) term role.Follower (followed t term lead).node.votes later (λ no. absurd (follower_stands no)) (λ no. absurd (follower_leads no)) h
 
 raised_holds : {w : World} (k : MessageKind) (t : Turn) (m : Message) → t.node.term ≤ m.term → Holds w t.node → Holds w (raised_by k t m).node
 raised_holds (kind.PreVote last_term last_index) t m later h = h
@@ -93,16 +85,9 @@ asked_holds n (id ∷ ids) term question answer asks says_so h =
 candidate_holds : {w : World} (n : PlainNode) → is_voter n.tracker.config n.id ≡ true → Holds w n → Holds w (candidate n)
 candidate_holds {w} n may h =
     let first : is_voter w.setting.config n.id ≡ true = subst (λ (c : Config). is_voter c n.id ≡ true) h.config may in
-    record {
-      itself = h.itself;
-      config = h.config;
-      log = h.log;
-      sent = h.sent;
-      waiting = h.waiting;
-      stands = λ _. record { may = subst (λ (id : ℕ). is_voter w.setting.config id ≡ true) h.itself first; counted = λ v none. absurd (false≢true none) };
-      leads = λ no. absurd (candidate_leads no);
-      linking = becomes (essence n) (essence (candidate n)) refl refl refl (omega arith) (λ _. inl (omega arith)) (λ no. absurd (candidate_leads no)) h.linking;
-    }
+    let now : is_voter w.setting.config w.id ≡ true = subst (λ (id : ℕ). is_voter w.setting.config id ≡ true) h.itself first in
+    turned (essence n) (candidate n).term role.Candidate (candidate n).votes (omega arith)
+    (λ _. (inl (omega arith), record { may = now; counted = λ v none. absurd (false≢true none) })) (λ no. absurd (candidate_leads no)) h
 
 stood_holds : {w : World} (t : Turn) (transfer : Bool) → is_voter t.node.tracker.config t.node.id ≡ true → Holds w t.node → Holds w (stood t transfer).node
 stood_holds t transfer may h =
@@ -110,16 +95,8 @@ stood_holds t transfer may h =
     asked_holds n (voters n.tracker.config) n.term (kind.Vote (last_term n.log) (last n.log) transfer) (kind.VoteResponse true) (tt, λ _. tt) (tt, λ _. tt) (candidate_holds t.node may h)
 
 precandidate_holds : {w : World} (n : PlainNode) → Holds w n → Holds w (precandidate n)
-precandidate_holds n h = record {
-  itself = h.itself;
-  config = h.config;
-  log = h.log;
-  sent = h.sent;
-  waiting = h.waiting;
-  stands = λ no. absurd (precandidate_stands no);
-  leads = λ no. absurd (precandidate_leads no);
-  linking = becomes (essence n) (essence (precandidate n)) refl refl refl (omega arith) (λ no. absurd (precandidate_stands no)) (λ no. absurd (precandidate_leads no)) h.linking;
-}
+precandidate_holds n h =
+    turned (essence n) n.term role.Precandidate (precandidate n).votes (omega arith) (λ no. absurd (precandidate_stands no)) (λ no. absurd (precandidate_leads no)) h
 
 sounded_holds : {w : World} (t : Turn) → Holds w t.node → Holds w (pre_vote_started t).node
 sounded_holds t h =
@@ -180,22 +157,17 @@ grants_after v from granted id =
     (λ _. if_both P granted _ _ (λ yes now. one_more from id (has v.granted id) granted yes (rw (has_with_id v.granted from id) at now)) (λ _ was. inl was))
 
 counted_holds : {w : World} (t : Turn) (m : Message) (granted : Bool) → (granted ≡ true → IsCast w.said m.from t.node.term w.id) → Holds w t.node → Holds w (counted t m granted).node
-counted_holds {w} t m granted cast h = record {
-  itself = h.itself;
-  config = h.config;
-  log = h.log;
-  sent = h.sent;
-  waiting = h.waiting;
-  stands = λ is. (let s : Stands w t.node.term t.node.votes = h.stands is in record {
-    may = s.may;
-    counted = λ v given. elim (grants_after t.node.votes m.from granted v given) as (λ _. IsCast w.said v t.node.term w.id) [
-      | inl old ↦ s.counted v old
-      | inr new ↦ subst (λ (i : ℕ). IsCast w.said i t.node.term w.id) new.0 (cast new.1)
-    ];
-  });
-  leads = h.leads;
-  linking = becomes (essence t.node) (essence (counted t m granted).node) refl refl refl (omega arith) (λ is. inr (is, refl)) (λ is. (is, refl)) h.linking;
-}
+counted_holds {w} t m granted cast h =
+    let n = t.node in
+    let counted_now : n.role ≡ role.Candidate → Stands w n.term (counted t m granted).node.votes = λ is.
+    (let s : Stands w n.term n.votes = h.stands is in record {
+      may = s.may;
+      counted = λ v given. elim (grants_after n.votes m.from granted v given) as (λ _. IsCast w.said v n.term w.id) [
+        | inl old ↦ s.counted v old
+        | inr new ↦ subst (λ (i : ℕ). IsCast w.said i n.term w.id) new.0 (cast new.1)
+      ];
+    }) in
+    turned (essence n) n.term n.role (counted t m granted).node.votes (omega arith) (λ is. (inr (is, refl), counted_now is)) (λ is. (is, refl)) h
 
 decided_holds : {w : World} (v : VoteResult) (t : Turn) → t.node.role ≡ role.Candidate → vote_result t.node.tracker.config t.node.votes ≡ v → Holds w t.node → Holds w (decided v t).node
 decided_holds {w} vote.Won t stands is h =
@@ -205,16 +177,8 @@ decided_holds vote.Pending t stands is h = h
 decided_holds vote.Lost t stands is h = followed_holds t t.node.term 0 (omega arith) h
 
 pre_counted_holds : {w : World} (t : Turn) (m : Message) (granted : Bool) → t.node.role ≡ role.Precandidate → Holds w t.node → Holds w (counted t m granted).node
-pre_counted_holds t m granted is h = record {
-  itself = h.itself;
-  config = h.config;
-  log = h.log;
-  sent = h.sent;
-  waiting = h.waiting;
-  stands = λ no. absurd (precandidate_stands (sym is ∙ no));
-  leads = h.leads;
-  linking = becomes (essence t.node) (essence (counted t m granted).node) refl refl refl (omega arith) (λ is. inr (is, refl)) (λ is. (is, refl)) h.linking;
-}
+pre_counted_holds t m granted is h =
+    turned (essence t.node) t.node.term t.node.role (counted t m granted).node.votes (omega arith) (λ no. absurd (precandidate_stands (sym is ∙ no))) (λ leads. (leads, refl)) h
 
 pre_decided_holds : {w : World} (v : VoteResult) (t : Turn) → Holds w t.node → Holds w (pre_decided v t).node
 pre_decided_holds vote.Won t h = campaigned_after_pre_vote_holds t h
