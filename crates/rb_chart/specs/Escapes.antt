@@ -1,6 +1,7 @@
 -- Bytes as they stand in a text of XML. (XML 1.0, W3C, section 2.4: `&` and `<` stand there by their entities alone, and so does `>` behind
 -- `]]`; here it always does.)
-use Rattle.std.specs.Prelude.{◌≡◌, ℕ, Bool, true, ◌==◌, ◌&&◌, ◌⊎◌, not, if◌then◌else◌, codes, List, [], ◌∷◌, ◌++◌}
+use Rattle.std.specs.Prelude.{◌≡◌, ℕ, Bool, true, ◌==◌, ◌&&◌, ◌⊎◌, not, if◌then◌else◌, codes, List, [], ◌∷◌}
+use Rattle.rb_page.specs.Json.{IsParted}
 
 -- neither `<` nor `>`
 abbrev pub is_no_bracket : ℕ → Bool
@@ -18,14 +19,7 @@ IsCharacter b t =
     (((b ≡ 38) × (t ≡ codes "&amp;")) ⊎ ((b ≡ 60) × (t ≡ codes "&lt;")))
     ⊎ (((b ≡ 62) × (t ≡ codes "&gt;")) ⊎ ((not (b == 38) && is_no_bracket b) ≡ true) × (t ≡ b ∷ []))
 
--- a text in two parts: of one byte, and of those behind it
-pub record IsParted (First Rest : List ℕ → Type 0) (t : List ℕ) : Type 0 where
-  pub front : List ℕ
-  pub back : List ℕ
-  pub parts : t ≡ front ++ back
-  pub first : First front
-  pub rest : Rest back
-
+-- one byte, and those behind it
 abbrev pub ReadsAs : List ℕ → List ℕ → Type 0
 ReadsAs [] t = t ≡ []
 ReadsAs (b ∷ bytes) t = IsParted (λ (u : List ℕ). IsCharacter b u) (λ (u : List ℕ). ReadsAs bytes u) t
