@@ -3,10 +3,11 @@ use Rattle.std.proofs.Common.{◌≡◌, ℕ, ◌+◌, ◌-◌, ◌<◌, ◌≤�
 use Rattle.std.specs.List.{slice_get}
 use Rattle.std.specs.Result.{result_unwrap_or}
 use Rattle.std.proofs.lemmas.Bool.{cases_lt}
+use Rattle.std.proofs.lemmas.Option.{slice_get_within}
 use Rattle.rb_raftlog.specs.declared.entry.Entry.{Entry}
 use Rattle.rb_raftlog.specs.declared.raft_log.LogFault.{LogFault}
 use Rattle.rb_raftlog.specs.Log.{LogValue, last, term_at, term_of, entry_at, found, first_new, entries_after, appended, own, compacted}
-use Rattle.rb_raftlog.proofs.TermLaws.{term_base, term_past, entry_past, slice_get_drop, slice_get_in, is_term_is, held_in}
+use Rattle.rb_raftlog.proofs.TermLaws.{term_base, term_past, entry_past, slice_get_drop, is_term_is, held_in}
 use Rattle.rb_raftlog.proofs.AppendLaws.{put, put_size, put_term_below, put_entry_below, put_term, put_entry, held_before, in_place, by_append}
 use Rattle.rb_raftlog.proofs.PlaceLaws.{ok_is, own-last, own-held, own-term_held}
 use Rattle.rb_raftlog.proofs.VoteLaws.{compacted-term, compacted-entry}
@@ -22,7 +23,7 @@ log_from prev term es = record { base = prev; base_term = term; entries = es; du
 -- ---- no entries
 
 pub none_linked : (ls : List Link) (v : LogValue) → v.entries ≡ [] → IsLinked ls v
-none_linked ls v none = λ i e t at is. (let x = entry_there v (i + 1) e at in absurd (let low = slice_get_in v.entries x.0 e x.2 in omega (arith, low, ap length none)))
+none_linked ls v none = λ i e t at is. (let x = entry_there v (i + 1) e at in absurd (let low = slice_get_within v.entries x.0 e x.2 in omega (arith, low, ap length none)))
 
 -- ---- an entry has its term
 
