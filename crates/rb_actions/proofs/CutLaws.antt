@@ -11,7 +11,7 @@ use Rattle.rb_script.specs.LineParts.{IsSolid}
 use Rattle.rb_script.specs.Valid.{IsLine}
 use Rattle.rb_script.specs.Edits.{is_text_line}
 use Rattle.rb_script.specs.Reads.{is_readable}
-use Rattle.rb_script.proofs.TextLaws.{all-append}
+use Rattle.rb_script.proofs.ListLaws.{every-append}
 use Rattle.rb_script.proofs.SharedLaws.{text_lines}
 use Rattle.rb_script.proofs.SolidLaws.{solid_expected}
 use Rattle.rb_document.specs.Changes.{spliced}
@@ -217,7 +217,7 @@ solid_all output solid = text_lines output (and_parts (is_readable output) (list
 
 form_lines : (is_double : Bool) (output : List Line) → AllByRecursion IsSolid output → AllByRecursion IsLine (form is_double output)
 form_lines false output solid = solid_all output solid
-form_lines true output solid = (rule_line, all-append output (rule ∷ rule ∷ []) (solid_all output solid) (rule_line, (rule_line, tt)))
+form_lines true output solid = (rule_line, every-append IsLine output (rule ∷ rule ∷ []) (solid_all output solid) (rule_line, (rule_line, tt)))
 
 take_map : (n : ℕ) (ls : List Line) → map without_returns (take n ls) ≡ take n (map without_returns ls)
 take_map zero ls = refl

@@ -10,7 +10,8 @@ use Rattle.rb_script.specs.declared.limits.TheConstants.{MAX_ARGUMENTS}
 use Rattle.rb_script.specs.Bytes.{opening, closing, equals_sign}
 use Rattle.rb_script.specs.Directive.{PlainArgument, PlainDirective, begins, is_inside, is_some_piece, is_value, is_word, pieces}
 use Rattle.rb_script.specs.Heads.{argument_at as argument_there, arguments_at, before, begins_space, behind_key as behind_there, directive_of, head_at, list_at, named, then_arguments, values_at, with_key, word_head}
-use Rattle.rb_script.specs.Joined.{after_while, joined, while_of}
+use Rattle.rb_script.specs.Joined.{joined}
+use Rattle.rb_script.specs.Runs.{while_of, after_while}
 use Rattle.rb_script.specs.Limits.{has_few_values}
 use Rattle.rb_script.specs.Lines.{Line, lines}
 use Rattle.rb_script.specs.Marks.{is_blank, is_space}

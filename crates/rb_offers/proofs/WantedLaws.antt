@@ -3,7 +3,7 @@ use Rattle.std.proofs.Common.{◌≡◌, ◌∙◌, ℕ, zero, suc, ◌<◌, tru
 use Rattle.rb_script.specs.declared.limits.TheConstants.{MAX_ARGUMENTS}
 use Rattle.rb_script.specs.Directive.{is_word}
 use Rattle.rb_script.specs.Marks.{is_space}
-use Rattle.rb_script.specs.Joined.{after_while}
+use Rattle.rb_script.specs.Runs.{after_while}
 use Rattle.rb_script.specs.Heads.{begins_space}
 use Rattle.rb_offers.specs.Unfinished.{PlainWanted, Reach, argument_at, behind_name, in_arguments, name, nothing, reached, wanted_of}
 

@@ -2,7 +2,7 @@
 use Rattle.std.proofs.Common.{◌≡◌, ◌∙◌, ℕ, zero, suc, ◌+◌, ◌<◌, true, false, List, [], Ok, Err, refl, ap, sym, arith}
 use Rattle.rb_script.specs.Directive.{is_word}
 use Rattle.rb_script.specs.Marks.{is_space}
-use Rattle.rb_script.specs.Joined.{while_of, after_while}
+use Rattle.rb_script.specs.Runs.{while_of, after_while}
 use Rattle.rb_script.specs.Heads.{begins_space}
 use Rattle.rb_offers.specs.Unfinished.{PlainWanted, Reach, argument_at}
 use Rattle.rb_offers.specs.Words.{counted, first_in, first_word, is_option, past, word_count, words_before}

@@ -4,7 +4,7 @@ use Rattle.std.specs.Borrow.{Bor}
 use Rattle.rb_script.specs.declared.limits.TheConstants.{MAX_ARGUMENTS}
 use Rattle.rb_script.specs.Bytes.{opening, closing, equals_sign}
 use Rattle.rb_script.specs.Marks.{is_space}
-use Rattle.rb_script.specs.Joined.{while_of, after_while}
+use Rattle.rb_script.specs.Runs.{while_of, after_while}
 use Rattle.rb_script.specs.Directive.{is_word, is_value, is_inside, is_gap, begins}
 use Rattle.rb_script.specs.Heads.{begins_space}
 use Rattle.rb_offers.specs.declared.class.Class.{Class}

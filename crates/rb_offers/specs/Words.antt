@@ -2,7 +2,7 @@
 use Rattle.std.specs.Prelude.{ℕ, zero, suc, ◌+◌, Bool, if◌then◌else◌, List, [], Ok, Err}
 use Rattle.rb_script.specs.Bytes.{equals_sign}
 use Rattle.rb_script.specs.Marks.{is_space}
-use Rattle.rb_script.specs.Joined.{while_of, after_while}
+use Rattle.rb_script.specs.Runs.{while_of, after_while}
 use Rattle.rb_script.specs.Directive.{is_word, begins}
 use Rattle.rb_script.specs.Heads.{begins_space}
 use Rattle.rb_offers.specs.Unfinished.{Reach, argument_at}

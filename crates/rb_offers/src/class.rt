@@ -1,7 +1,7 @@
 //! Classes of bytes, by which an unfinished head is cut.
 
 ghost use Rattle.std.specs.Prelude.{◌≡◌, ◌≤◌, length, take, drop};
-ghost use Rattle.rb_script.specs.Joined.{while_of, after_while};
+ghost use Rattle.rb_script.specs.Runs.{while_of, after_while};
 ghost use Rattle.rb_offers.specs.Unfinished.{is_of};
 
 use rb_script::is_space;

@@ -15,25 +15,18 @@ use Rattle.rb_script.specs.declared.argument.Argument.{Argument}
 use Rattle.rb_script.specs.declared.fault.ScriptFault.TheVariants as faults
 use Rattle.rb_script.specs.declared.tokens.HeadFault.{HeadFault}
 use Rattle.rb_script.specs.declared.tokens.HeadFault.TheVariants as head_faults
-use Rattle.rb_script.specs.Directive.{PlainArgument, is_word, is_value, begins, is_gap, is_inside, in_piece, fields, is_some_piece, without_empty, pieces}
+use Rattle.rb_script.specs.Directive.{PlainArgument, is_word, begins, is_gap, is_inside, in_piece, fields, is_some_piece, without_empty, pieces}
 use Rattle.rb_script.specs.ByteClasses.{is_piece}
 use Rattle.rb_script.specs.Lines.{Line}
 use Rattle.rb_script.specs.Marks.{is_space, is_blank}
-use Rattle.rb_script.specs.Joined.{while_of, after_while}
-use Rattle.rb_script.specs.Tokens.{token, argument_of, line_at, IsPart}
-use Rattle.rb_script.specs.Parsed.{spanned, AreParts, KeepsValues, with_one, ParsesValues, ParsesArgument, ParsesArguments, ParsesHead}
+use Rattle.rb_script.specs.Runs.{while_of, after_while}
+use Rattle.rb_script.specs.Tokens.{token, line_at, IsPart}
+use Rattle.rb_script.specs.Parsed.{KeepsValues, with_one, ParsesValues, ParsesArgument, ParsesArguments, ParsesHead}
 use Rattle.rb_script.specs.Heads.{head_at, begins_space, ValuesThere, ArgumentThere, list_at, values_at, with_key, behind_key, argument_at, ArgumentsThere, before, then_arguments, arguments_at, HeadThere, named, word_head, few_or}
-use Rattle.rb_script.proofs.TokenLaws.{begins_by, run_parts, run_all, after_stops, while_one, after_one, while_over, after_over, all_wider, some_run, after_len, after_shorter, begins_at, begins_nowhere, front_cons}
-
--- parts, told of the arguments or of their places
-pub parts_map : (head : List Line) (args : List Argument) → AllByRecursion (λ a. AreParts head (spanned a)) args → AllByRecursion (AreParts head) (map spanned args)
-parts_map head [] parts = tt
-parts_map head (a ∷ args) parts = (parts.0, parts_map head args parts.1)
-
--- the arguments, told by way of their places or not
-pub plain_map : (head : List Line) (args : List Argument) → map (argument_of head) (map spanned args) ≡ map (λ a. argument_of head (spanned a)) args
-plain_map head [] = refl
-plain_map head (a ∷ args) = ap (λ l. argument_of head (spanned a) ∷ l) (plain_map head args)
+use Rattle.rb_script.proofs.ListLaws.{every-append}
+use Rattle.rb_script.proofs.RunLaws.{begins_by, run_parts, run_all, after_stops, while_one, after_one, while_over, after_over, all_wider, after_len, after_shorter}
+use Rattle.rb_script.proofs.TokenLaws.{some_run, begins_at, begins_nowhere, front_cons}
+use Rattle.rb_script.proofs.StandsLaws.{argument_leaves}
 
 -- ---- the kinds within parentheses
 
@@ -212,11 +205,6 @@ module _ (so_far : List (List ℕ)) (left skipped : List ℕ) (total : ValuesThe
   values_shorter b next front not40 not41 n =
       omega (arith, ap length n, after_shorter is_piece skipped (values_piece b front not40 not41), ap length gap, after_len is_gap left)
 
--- one element more that passes
-all_push : {X : Type 0} (P : X → Type 0) (xs : List X) (x : X) → AllByRecursion P xs → P x → AllByRecursion P (xs ++ x ∷ [])
-all_push P [] x all here = (here, tt)
-all_push P (y ∷ xs) x all here = (all.0, all_push P xs x all.1 here)
-
 -- a value more is kept, or they are too many
 pub keeps_value : (head : List Line) (found next : Option (Vec Span Global)) (so_far : List (List ℕ)) (item : Span) (value : List ℕ) → KeepsValues head found so_far → token head item ≡ value → IsPart head item → option_map (λ v. v.items) next ≡ with_one MAX_VALUES (option_map (λ v. v.items) found) item → KeepsValues head next (so_far ++ value ∷ [])
 keeps_value head None None so_far item value keeps is part one = grind (arith, nat_tests, length_push so_far value)
@@ -233,7 +221,7 @@ keeps_value head (Some kept) (Some next) so_far item value keeps is part one =
           let items = same_Some next.items (kept.items ++ item ∷ []) e in (
             ap (map (token head)) items ∙ map_push (token head) kept.items item ∙ ap (λ vs. vs ++ token head item ∷ []) keeps.0 ∙ ap (λ v. so_far ++ v ∷ []) is,
             le-leb (length (so_far ++ value ∷ [])) MAX_VALUES (omega (arith, leb-false MAX_VALUES (length kept.items) h, ap length keeps.0, length-map kept.items (token head), length_push so_far value)),
-            subst (AllByRecursion (IsPart head)) (sym items) (all_push (IsPart head) kept.items item keeps.2 part),
+            subst (AllByRecursion (IsPart head)) (sym items) (every-append (IsPart head) kept.items (item ∷ []) keeps.2 (part, tt)),
           )
     ] refl one
 
@@ -250,61 +238,6 @@ unfolding behind_key
 values_too_many head key left bytes next b front at61 after gives =
     let e : bytes ≡ 61 ∷ next = front_cons bytes b next front after ∙ ap (λ (x : ℕ). x ∷ next) at61 in
     (record { key = token head key; has_equals = true; values = gives.0 }, ap (behind_key (token head key)) e ∙ ap (with_key (token head key)) gives.1, gives.2)
-
--- ---- what follows an argument is no longer than what it stands in
-
--- what follows the argument, if there is one, is no longer than this
-abbrev LeavesAtMost : ℕ → ArgumentThere → Type 0
-LeavesAtMost n None = Unit {0}
-LeavesAtMost n (Some found) = length found.1 ≤ n
-
--- nor longer than anything greater
-leaves_more : (n m : ℕ) (there : ArgumentThere) → n ≤ m → LeavesAtMost n there → LeavesAtMost m there
-leaves_more n m None le leaves = tt
-leaves_more n m (Some found) le leaves = omega arith
-
--- so it is with a list
-leaves_list : (key bytes : List ℕ) → LeavesAtMost (length bytes) (with_key key (list_at bytes))
-unfolding list_at
-leaves_list key bytes =
-    let after = after_while is_inside bytes in
-    elim (begins 41 after) as (λ t. LeavesAtMost (length bytes) (with_key key (cond t (Some (pieces (while_of is_inside bytes), drop 1 after)) None))) [
-      | true ↦ omega (arith, length-drop 1 after, after_len is_inside bytes)
-      | false ↦ tt
-    ]
-
--- with what follows the sign
-leaves_values : (key bytes : List ℕ) → LeavesAtMost (length bytes) (with_key key (values_at bytes))
-unfolding values_at
-leaves_values key bytes =
-    elim (begins 40 bytes) as (λ t. LeavesAtMost (length bytes) (with_key key (cond t (list_at (drop 1 bytes)) (Some (while_of is_value bytes ∷ [], after_while is_value bytes))))) [
-      | true ↦ leaves_more (length (drop 1 bytes)) (length bytes) (with_key key (list_at (drop 1 bytes))) (omega (arith, length-drop 1 bytes)) (leaves_list key (drop 1 bytes))
-      | false ↦ after_len is_value bytes
-    ]
-
--- with what follows a key
-leaves_behind : (key bytes : List ℕ) → LeavesAtMost (length bytes) (behind_key key bytes)
-unfolding behind_key
-leaves_behind key bytes =
-    elim (begins 61 bytes) as (λ t. LeavesAtMost (length bytes) (cond t (with_key key (values_at (drop 1 bytes))) (Some (record { key = key; has_equals = false; values = [] }, bytes)))) [
-      | true ↦ leaves_more (length (drop 1 bytes)) (length bytes) (with_key key (values_at (drop 1 bytes))) (omega (arith, length-drop 1 bytes)) (leaves_values key (drop 1 bytes))
-      | false ↦ omega arith
-    ]
-
--- and with an argument
-leaves_argument : (bytes : List ℕ) → LeavesAtMost (length bytes) (argument_at bytes)
-unfolding argument_at
-leaves_argument bytes =
-    let key = while_of is_word bytes in
-    let after = after_while is_word bytes in
-    elim (is_some_piece key) as (λ t. LeavesAtMost (length bytes) (cond t (behind_key key after) None)) [
-      | true ↦ leaves_more (length after) (length bytes) (behind_key key after) (after_len is_word bytes) (leaves_behind key after)
-      | false ↦ tt
-    ]
-
--- the same of the argument that was read
-pub argument_leaves : (bytes rest : List ℕ) (a : PlainArgument) → argument_at bytes ≡ Some (a, rest) → length rest ≤ length bytes
-argument_leaves bytes rest a is = subst (LeavesAtMost (length bytes)) is (leaves_argument bytes)
 
 -- ---- the bound on the number of arguments
 

@@ -2,7 +2,7 @@
 use Rattle.std.proofs.Common.{◌≡◌, ◌∙◌, ℕ, ◌+◌, ◌-◌, ◌<◌, ◌≤◌, List, [], ◌∷◌, ◌++◌, length, take, drop, get_or, Some, ap, arith}
 use Rattle.std.specs.Prelude.{slice_get}
 use Rattle.std.proofs.Math.Seq.{take-add}
-use Rattle.std.proofs.lemmas.List.{length-take, length-drop, take_more, get_or-take, get_or-drop}
+use Rattle.std.proofs.lemmas.List.{length-take, length-drop, take_more, drop-drop, get_or-take, get_or-drop}
 use Rattle.std.proofs.lemmas.Option.{slice_get-get_or, slice_get_within, get_or_from_slice_get}
 use Rattle.rb_script.specs.Lines.{Line}
 use Rattle.rb_script.specs.Flat.{between}
@@ -27,6 +27,16 @@ between_more from to ls line order got =
     ap (λ (k : ℕ). take k (drop from ls)) more
     ∙ take_more (drop from ls) n line some
     ∙ ap (λ (l : Line). take n (drop from ls) ++ l ∷ []) (get_or-drop from ls n line ∙ ap (λ (k : ℕ). get_or ls k line) place ∙ get_or_from_slice_get ls to line line got)
+
+-- a position between the two parts them
+pub between_split : (from mid to : ℕ) (ls : List Line) → from ≤ mid → mid ≤ to → between from to ls ≡ between from mid ls ++ between mid to ls
+between_split from mid to ls low high =
+    let n = mid - from in
+    let m = to - mid in
+    let count : to - from ≡ n + m = omega (arith, low, high) in
+    let place : from + n ≡ mid = omega (arith, low) in
+    ap (λ (k : ℕ). take k (drop from ls)) count ∙ take-add n m (drop from ls)
+    ∙ ap (λ (l : List Line). between from mid ls ++ take m l) (drop-drop n from ls ∙ ap (λ (k : ℕ). drop k ls) place)
 
 -- up to the second position are those up to the first, and those between
 pub take_between : (from to : ℕ) (ls : List Line) → from ≤ to → take to ls ≡ take from ls ++ between from to ls

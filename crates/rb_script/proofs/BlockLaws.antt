@@ -1,26 +1,25 @@
 -- One block: what is read is in the relation, and what is in the relation is read.
 use Rattle.std.proofs.Common.{◌≡◌, ℕ, ◌+◌, ◌<◌, true, false, cond, not, List, [], ◌∷◌, ◌++◌, length, Some, None, Result, Ok, Err, refl, ap, sym, subst, ◌∙◌, arith, inl, inr}
 use Rattle.std.specs.List.{list_all}
-use Rattle.std.proofs.lemmas.Bool.{cases_Bool}
+use Rattle.std.proofs.lemmas.Bool.{cases_Bool, not-false}
 use Rattle.rb_script.specs.declared.fault.ScriptFault.{ScriptFault}
 use Rattle.rb_script.specs.declared.fault.ScriptFault.TheVariants as faults
-use Rattle.rb_script.specs.declared.marks.Stop.TheVariants.{Head}
 use Rattle.rb_script.specs.Lines.{Line}
-use Rattle.rb_script.specs.Marks.{is_lead, is_separator, continues, stops}
+use Rattle.rb_script.specs.Marks.{is_lead, is_separator, is_input, continues}
 use Rattle.rb_script.specs.Script.{PlainBlock}
 use Rattle.rb_script.specs.Joined.{joined}
 use Rattle.rb_script.specs.Directive.{PlainArgument}
 use Rattle.rb_script.specs.Limits.{are_few}
 use Rattle.rb_script.specs.Reads.{begins_lead, IsContinued, IsDirective, ReadsBlock}
 use Rattle.rb_script.specs.Results.{◌>>=◌, Fails}
-use Rattle.rb_script.specs.Runs.{upto, onward, head_of, after_head}
+use Rattle.rb_script.specs.Runs.{while_of, after_while, head_of, after_head}
 use Rattle.rb_script.specs.Heads.{HeadThere, head_at, few_or}
 use Rattle.rb_script.specs.Expectations.{Expectation, expectation_at}
 use Rattle.rb_script.specs.Blocks.{closed_or, after_separator, line_number, lead_of, from_head, is_empty, below_head, block_at}
 use Rattle.rb_script.proofs.GrammarLaws.{head_sound, head_complete}
 use Rattle.rb_script.proofs.ResultLaws.{bind_ok, done, ok_is, fails_through}
-use Rattle.rb_script.proofs.RunLaws.{upto-append-onward, none-upto, onward-first, upto-run, leads_none, head-append-after, head_continued, head_run}
-use Rattle.rb_script.proofs.ExpectationLaws.{expectation_sound, expectation_complete}
+use Rattle.rb_script.proofs.RunLaws.{run_parts, run_all, after_first, run_of, after_run, head-append-after, head_continued, head_run}
+use Rattle.rb_script.proofs.ExpectationLaws.{Expects, expectation_sound, expectation_complete}
 
 -- ---- directives
 
@@ -55,14 +54,6 @@ continued : (ls a : List Line) (line : Line) (after : List Line) → after_head 
 continued ls [] line after e = head_continued ls line after e
 continued ls (first ∷ a) line after e = head_continued ls first (a ++ line ∷ after) e
 
--- the block of a lead, a head, an input and what was found of its expectation
-abbrev pub made : List Line → List Line → List Line → List Line × List Line → Result (PlainBlock × List Line) ScriptFault
-made lead head input found = Ok (record { lead = lead; head = head; input = input; expected = found.0 }, found.1)
-
--- what follows the head, by the faults of a missing separator and an unclosed expectation
-abbrev pub behind_head : ScriptFault → ScriptFault → List Line → (List Line × List Line → Result (PlainBlock × List Line) ScriptFault) → Result (PlainBlock × List Line) ScriptFault
-behind_head missing unclosed ls f = after_separator missing ls >>= λ after. closed_or unclosed (expectation_at after) >>= f
-
 -- the input and what was found of the expectation
 abbrev pub gathered : List Line → List Line × List Line → Result (List Line × List Line × List Line) ScriptFault
 gathered input found = Ok (input, found.0, found.1)
@@ -70,23 +61,6 @@ gathered input found = Ok (input, found.0, found.1)
 -- the block of a lead, a head and what was read below it
 abbrev pub completed : List Line → List Line → List Line × List Line × List Line → Result (PlainBlock × List Line) ScriptFault
 completed lead head below = Ok (record { lead = lead; head = head; input = below.0; expected = below.1 }, below.2)
-
--- the two steps below a head are those of below_head
-below_found : (lead head input : List Line) (x : Result (List Line × List Line) ScriptFault) → ((x >>= gathered input) >>= completed lead head) ≡ (x >>= made lead head input)
-below_found lead head input (Ok found) = refl
-below_found lead head input (Err e) = refl
-
-below_steps : (lead head input : List Line) (r : Result (List Line) ScriptFault) (g : List Line → Result (List Line × List Line) ScriptFault)
-    → ((r >>= λ after. g after >>= gathered input) >>= completed lead head) ≡ (r >>= λ after. g after >>= made lead head input)
-below_steps lead head input (Ok after) g = below_found lead head input (g after)
-below_steps lead head input (Err e) g = refl
-
--- reading a block, step by step
-pub steps : (end : ℕ) (lead ls : List Line) → block_at end lead ls ≡ (few_or (line_number end ls) (head_at (joined (head_of ls))) >>= λ _. behind_head (faults.NoSeparator (line_number end ls)) (faults.NotClosed (line_number end (onward is_separator (after_head ls)))) (onward is_separator (after_head ls)) (made lead (head_of ls) (upto is_separator (after_head ls))))
-unfolding block_at below_head
-steps end lead ls =
-    ap (λ (r : Result (PlainBlock × List Line) ScriptFault). few_or (line_number end ls) (head_at (joined (head_of ls))) >>= λ _. r)
-    (below_steps lead (head_of ls) (upto is_separator (after_head ls)) (after_separator (faults.NoSeparator (line_number end ls)) (onward is_separator (after_head ls))) (λ after. closed_or (faults.NotClosed (line_number end (onward is_separator (after_head ls)))) (expectation_at after)))
 
 -- ---- the steps of reading a block, whose head begins at line n
 
@@ -102,65 +76,54 @@ head_some (line ∷ ls) head run first =
     rw run (elim (continues line) as (λ t. 0 < length (cond t (line ∷ head_of ls) (line ∷ []))) [ true ↦ omega arith | false ↦ omega arith ])
 
 module _ (end n : ℕ) (lead ls head after : List Line) (at : n ≡ line_number end ls) (run : head ≡ head_of ls) (rest : after ≡ after_head ls) where
+  -- the head is read, and then what stands below it
+  pub steps : block_at end lead ls ≡ (few_or n (head_at (joined head)) >>= λ _. below_head end n after >>= completed lead head)
+  unfolding block_at
+  steps =
+      let of : ℕ → List Line → List Line → Result (PlainBlock × List Line) ScriptFault =
+      λ k hd af. few_or k (head_at (joined hd)) >>= λ _. below_head end k af >>= completed lead hd in
+      ap (λ (k : ℕ). of k (head_of ls) (after_head ls)) (sym at) ∙ ap (λ (hd : List Line). of n hd (after_head ls)) (sym run) ∙ ap (λ (af : List Line). of n head af) (sym rest)
+
+  behind : (there : Result (List ℕ × List PlainArgument) ScriptFault) → few_or n (head_at (joined head)) ≡ there → block_at end lead ls ≡ (there >>= λ _. below_head end n after >>= completed lead head)
+  behind there e = steps ∙ ap (λ (found : Result (List ℕ × List PlainArgument) ScriptFault). found >>= λ _. below_head end n after >>= completed lead head) e
+
   -- a head that can't be read is the fault
   pub head_fails : (e : ScriptFault) → Fails e (few_or n (head_at (joined head))) → Fails e (block_at end lead ls)
-  head_fails e h =
-      fails_through e (few_or n (head_at (joined head))) (block_at end lead ls) h (λ f. steps end lead ls ∙ ap (λ (found : Result (List ℕ × List PlainArgument) ScriptFault). found >>= λ _. behind_head (faults.NoSeparator (line_number end ls)) (faults.NotClosed (line_number end (onward is_separator (after_head ls)))) (onward is_separator (after_head ls)) (made lead (head_of ls) (upto is_separator (after_head ls))))
-      (ap (λ (hd : List Line). few_or (line_number end ls) (head_at (joined hd))) (sym run) ∙ ap (λ (k : ℕ). few_or k (head_at (joined head))) (sym at) ∙ f))
-
-  -- what is read behind a head that was read
-  behind : (x : List ℕ × List PlainArgument) → few_or n (head_at (joined head)) ≡ Ok x → block_at end lead ls ≡ behind_head (faults.NoSeparator n) (faults.NotClosed (line_number end (onward is_separator after))) (onward is_separator after) (made lead head (upto is_separator after))
-  behind x h =
-      let of : ℕ → List Line → List Line → Result (PlainBlock × List Line) ScriptFault =
-      λ k hd af. few_or k (head_at (joined hd)) >>= λ _. behind_head (faults.NoSeparator k) (faults.NotClosed (line_number end (onward is_separator af))) (onward is_separator af) (made lead hd (upto is_separator af)) in
-      steps end lead ls ∙ ap (λ (k : ℕ). of k (head_of ls) (after_head ls)) (sym at) ∙ ap (λ (hd : List Line). of n hd (after_head ls)) (sym run) ∙ ap (λ (af : List Line). of n head af) (sym rest)
-      ∙ ap (λ (found : Result (List ℕ × List PlainArgument) ScriptFault). found >>= λ _. behind_head (faults.NoSeparator n) (faults.NotClosed (line_number end (onward is_separator after))) (onward is_separator after) (made lead head (upto is_separator after))) h
+  head_fails e h = fails_through e (few_or n (head_at (joined head))) (block_at end lead ls) h (λ f. behind (Err e) f)
 
   module _ (x : List ℕ × List PlainArgument) (found : few_or n (head_at (joined head)) ≡ Ok x) where
     -- what is read below the head makes the block
     pub block_below : (r : Result (List Line × List Line × List Line) ScriptFault) → below_head end n after ≡ r → block_at end lead ls ≡ (r >>= completed lead head)
-    unfolding below_head
-    block_below r e =
-        behind x found ∙ sym (below_steps lead head (upto is_separator after) (after_separator (faults.NoSeparator n) (onward is_separator after)) (λ a. closed_or (faults.NotClosed (line_number end (onward is_separator after))) (expectation_at a)))
-        ∙ ap (λ (b : Result (List Line × List Line × List Line) ScriptFault). b >>= completed lead head) e
+    block_below r e = behind (Ok x) found ∙ ap (λ (below : Result (List Line × List Line × List Line) ScriptFault). below >>= completed lead head) e
 
     -- a fault below the head is the fault of the block
     pub below_fails : (e : ScriptFault) → Fails e (below_head end n after) → Fails e (block_at end lead ls)
     below_fails e h = fails_through e (below_head end n after) (block_at end lead ls) h (λ f. block_below (Err e) f)
 
-    -- the whole block is read
-    pub block_read : (input onwards more e next : List Line) (line : Line) → input ≡ upto is_separator after → onwards ≡ onward is_separator after → onwards ≡ line ∷ more → Some (e, next) ≡ expectation_at more
-        → block_at end lead ls ≡ Ok (record { lead = lead; head = head; input = input; expected = e }, next)
-    block_read input onwards more e next line inputs is first some =
-        let unclosed = faults.NotClosed (line_number end (onward is_separator after)) in
-        behind x found ∙ ap (λ (on : List Line). behind_head (faults.NoSeparator n) unclosed on (made lead head (upto is_separator after))) (sym is ∙ first)
-        ∙ ap (λ (there : Expectation). closed_or unclosed there >>= made lead head (upto is_separator after)) (sym some)
-        ∙ ap (λ (inp : List Line). made lead head inp (e, next)) (sym inputs)
-
-module _ (end n : ℕ) (ls onwards : List Line) (e : onwards ≡ onward is_separator ls) where
+module _ (end n : ℕ) (ls onwards : List Line) (e : onwards ≡ after_while is_input ls) where
   -- no line ---- follows
   pub below_none : onwards ≡ [] → below_head end n ls ≡ Err (faults.NoSeparator n)
   unfolding below_head
   below_none none =
-      ap (λ (on : List Line). after_separator (faults.NoSeparator n) on >>= λ after. closed_or (faults.NotClosed (line_number end (onward is_separator ls))) (expectation_at after) >>= gathered (upto is_separator ls)) (sym e ∙ none)
+      ap (λ (on : List Line). after_separator (faults.NoSeparator n) on >>= λ after. closed_or (faults.NotClosed (line_number end (after_while is_input ls))) (expectation_at after) >>= gathered (while_of is_input ls)) (sym e ∙ none)
 
   -- what follows the separator decides
-  below_first : (more : List Line) (line : Line) → onwards ≡ line ∷ more → below_head end n ls ≡ (closed_or (faults.NotClosed (line_number end onwards)) (expectation_at more) >>= gathered (upto is_separator ls))
+  below_first : (more : List Line) (line : Line) → onwards ≡ line ∷ more → below_head end n ls ≡ (closed_or (faults.NotClosed (line_number end onwards)) (expectation_at more) >>= gathered (while_of is_input ls))
   unfolding below_head
   below_first more line first =
       let of : List Line → List Line → Result (List Line × List Line × List Line) ScriptFault =
-      λ on numbered. after_separator (faults.NoSeparator n) on >>= λ after. closed_or (faults.NotClosed (line_number end numbered)) (expectation_at after) >>= gathered (upto is_separator ls) in
-      ap (λ (on : List Line). of on (onward is_separator ls)) (sym e ∙ first) ∙ ap (λ (numbered : List Line). of (line ∷ more) numbered) (sym e)
+      λ on numbered. after_separator (faults.NoSeparator n) on >>= λ after. closed_or (faults.NotClosed (line_number end numbered)) (expectation_at after) >>= gathered (while_of is_input ls) in
+      ap (λ (on : List Line). of on (after_while is_input ls)) (sym e ∙ first) ∙ ap (λ (numbered : List Line). of (line ∷ more) numbered) (sym e)
 
   -- an expectation behind line m is not closed
   pub below_open : (m : ℕ) (more : List Line) (line : Line) → m ≡ line_number end onwards → onwards ≡ line ∷ more → None ≡ expectation_at more → below_head end n ls ≡ Err (faults.NotClosed m)
   below_open m more line is first none =
-      below_first more line first ∙ ap (λ (there : Expectation). closed_or (faults.NotClosed (line_number end onwards)) there >>= gathered (upto is_separator ls)) (sym none) ∙ ap (λ (k : ℕ). Err (faults.NotClosed k)) (sym is)
+      below_first more line first ∙ ap (λ (there : Expectation). closed_or (faults.NotClosed (line_number end onwards)) there >>= gathered (while_of is_input ls)) (sym none) ∙ ap (λ (k : ℕ). Err (faults.NotClosed k)) (sym is)
 
   -- the input and the expectation are read
-  pub below_read : (input more expected next : List Line) (line : Line) → input ≡ upto is_separator ls → onwards ≡ line ∷ more → Some (expected, next) ≡ expectation_at more → below_head end n ls ≡ Ok (input, expected, next)
+  pub below_read : (input more expected next : List Line) (line : Line) → input ≡ while_of is_input ls → onwards ≡ line ∷ more → Some (expected, next) ≡ expectation_at more → below_head end n ls ≡ Ok (input, expected, next)
   below_read input more expected next line inputs first some =
-      below_first more line first ∙ ap (λ (there : Expectation). closed_or (faults.NotClosed (line_number end onwards)) there >>= gathered (upto is_separator ls)) (sym some) ∙ ap (λ (i : List Line). Ok (i, expected, next)) (sym inputs)
+      below_first more line first ∙ ap (λ (there : Expectation). closed_or (faults.NotClosed (line_number end onwards)) there >>= gathered (while_of is_input ls)) (sym some) ∙ ap (λ (i : List Line). Ok (i, expected, next)) (sym inputs)
 
 -- ---- a block that is read is in the relation
 
@@ -174,31 +137,55 @@ closed_is : (fault : ScriptFault) (found : Expectation) (x : List Line × List L
 closed_is fault None x e = absurd cc
 closed_is fault (Some y) x e = ap (λ (p : List Line × List Line). Some p) (ok_is y x e)
 
+-- what stands below a head: an input, a separator and an expectation
+record Below (ls input expected rest : List Line) : Type 0 where
+  separator : Line
+  after : List Line
+  parts : ls ≡ input ++ separator ∷ after
+  inputs : list_all is_input input ≡ true
+  separates : is_separator separator ≡ true
+  expects : Expects after expected rest
+
+below_sound : (end n : ℕ) (ls input expected rest : List Line) → below_head end n ls ≡ Ok (input, expected, rest) → Below ls input expected rest
+unfolding below_head
+below_sound end n ls input expected rest e =
+    let front = while_of is_input ls in
+    let onwards = after_while is_input ls in
+    let unclosed = faults.NotClosed (line_number end onwards) in
+    let s = bind_ok (after_separator (faults.NoSeparator n) onwards) (λ after. closed_or unclosed (expectation_at after) >>= gathered front) (input, expected, rest) e in
+    let f = bind_ok (closed_or unclosed (expectation_at s.0)) (gathered front) (input, expected, rest) s.2 in
+    let line = after_is (faults.NoSeparator n) onwards s.0 s.1 in
+    let found : List Line × List Line × List Line = (front, f.0.0, f.0.1) in
+    subst (λ (p : List Line × List Line × List Line). Below ls p.0 p.1 p.2) {x = found} (ok_is found (input, expected, rest) f.2) (record {
+      separator = line.0;
+      after = s.0;
+      parts = sym (run_parts is_input ls) ∙ ap (λ (l : List Line). front ++ l) line.1;
+      inputs = run_all is_input ls;
+      separates = not-false (is_separator line.0) (after_first is_input ls line.0 s.0 line.1);
+      expects = expectation_sound s.0 f.0.0 f.0.1 (closed_is unclosed (expectation_at s.0) f.0 f.1);
+    })
+
 -- a block that is read is in the relation
 pub block_sound : (end : ℕ) (lead ls rest : List Line) (b : PlainBlock) → block_at end lead ls ≡ Ok (b, rest) → list_all is_lead lead ≡ true → begins_lead ls ≡ false → ReadsBlock (lead ++ ls) b rest
 block_sound end lead ls rest b e leads first =
+    let n = line_number end ls in
+    let head = head_of ls in
     let ahead = after_head ls in
-    let missing = faults.NoSeparator (line_number end ls) in
-    let unclosed = faults.NotClosed (line_number end (onward is_separator ahead)) in
-    let make = made lead (head_of ls) (upto is_separator ahead) in
-    let h = bind_ok (few_or (line_number end ls) (head_at (joined (head_of ls)))) (λ _. behind_head missing unclosed (onward is_separator ahead) make) (b, rest) (sym (steps end lead ls) ∙ e) in
-    let s = bind_ok (after_separator missing (onward is_separator ahead)) (λ after. closed_or unclosed (expectation_at after) >>= make) (b, rest) h.2 in
-    let f = bind_ok (closed_or unclosed (expectation_at s.0)) make (b, rest) s.2 in
-    let line = after_is missing (onward is_separator ahead) s.0 s.1 in
-    let x = expectation_sound s.0 f.0.0 f.0.1 (closed_is unclosed (expectation_at s.0) f.0 f.1) in
-    let cut : ahead ≡ upto is_separator ahead ++ line.0 ∷ s.0 = sym (upto-append-onward is_separator ahead) ∙ ap (λ (l : List Line). upto is_separator ahead ++ l) line.1 in
-    let found : PlainBlock × List Line = (record { lead = lead; head = head_of ls; input = upto is_separator ahead; expected = f.0.0 }, f.0.1) in
-    subst (λ (p : PlainBlock × List Line). ReadsBlock (lead ++ ls) p.0 p.1) {x = found} (ok_is found (b, rest) f.2) (record {
-      separator = line.0;
-      after = s.0;
-      parts = ap (λ (l : List Line). lead ++ l) (sym (head-append-after ls) ∙ ap (λ (l : List Line). head_of ls ++ l) cut);
+    let h = bind_ok (few_or n (head_at (joined head))) (λ _. below_head end n ahead >>= completed lead head) (b, rest) (sym (steps end n lead ls head ahead refl refl refl) ∙ e) in
+    let s = bind_ok (below_head end n ahead) (completed lead head) (b, rest) h.2 in
+    let x = below_sound end n ahead s.0.0 s.0.1 s.0.2 s.1 in
+    let found : PlainBlock × List Line = (record { lead = lead; head = head; input = s.0.0; expected = s.0.1 }, s.0.2) in
+    subst (λ (p : PlainBlock × List Line). ReadsBlock (lead ++ ls) p.0 p.1) {x = found} (ok_is found (b, rest) s.2) (record {
+      separator = x.separator;
+      after = x.after;
+      parts = ap (λ (l : List Line). lead ++ l) (sym (head-append-after ls) ∙ ap (λ (l : List Line). head ++ l) x.parts);
       lead = leads;
-      head = (begins_head ls ∙ first, continued ls (upto is_separator ahead) line.0 s.0 cut);
-      directive = directive_sound (line_number end ls) (head_of ls) h.0 h.1;
-      input = none-upto is_separator ahead;
-      separates = onward-first is_separator ahead line.0 s.0 line.1;
-      readable = x.readable;
-      expected = x.expected;
+      head = (begins_head ls ∙ first, continued ls s.0.0 x.separator x.after x.parts);
+      directive = directive_sound n head h.0 h.1;
+      input = x.inputs;
+      separates = x.separates;
+      readable = x.expects.readable;
+      expected = x.expects.expected;
     })
 
 -- ---- a block in the relation is read
@@ -213,8 +200,7 @@ pub record Cut (ls lead from : List Line) : Type 0 where
 pub cut_lead : (ls lead head more : List Line) → ls ≡ lead ++ (head ++ more) → list_all is_lead lead ≡ true → begins_lead head ≡ false → Cut ls lead (head ++ more)
 cut_lead ls lead [] more e leads first = absurd cc
 cut_lead ls lead (line ∷ head) more e leads first =
-    let run = upto-run (stops Head) lead line (head ++ more) (sym (leads_none lead) ∙ leads) (ap not first) in
-    record { lead_is = ap (upto (stops Head)) e ∙ run.0; from_is = ap (onward (stops Head)) e ∙ run.1; some = refl }
+    record { lead_is = ap (while_of is_lead) e ∙ run_of is_lead lead (line ∷ head ++ more) leads first; from_is = ap (after_while is_lead) e ∙ after_run is_lead lead (line ∷ head ++ more) leads first; some = refl }
 
 -- a block in the relation is read
 pub block_complete : (end : ℕ) (ls rest : List Line) (b : PlainBlock) → ReadsBlock ls b rest → (is_empty (from_head ls) ≡ false) × (block_at end (lead_of ls) (from_head ls) ≡ Ok (b, rest))
@@ -222,9 +208,12 @@ block_complete end ls rest b r =
     let more = b.input ++ r.separator ∷ r.after in
     let c = cut_lead ls b.lead b.head more r.parts r.lead r.head.0 in
     let head = head_run b.head more r.head.1 in
-    let input = upto-run is_separator b.input r.separator r.after r.input r.separates in (
+    let n = line_number end (b.head ++ more) in
+    let stops = ap not r.separates in
+    let input = run_of is_input b.input (r.separator ∷ r.after) r.input stops in
+    let onwards = after_run is_input b.input (r.separator ∷ r.after) r.input stops in
+    let below = below_read end n more (r.separator ∷ r.after) (sym onwards) b.input r.after b.expected rest r.separator (sym input) refl (sym (expectation_complete r.after b.expected rest r.readable r.expected)) in (
       ap is_empty c.from_is ∙ c.some,
       ap (λ (l : List Line). block_at end l (from_head ls)) c.lead_is ∙ ap (λ (l : List Line). block_at end b.lead l) c.from_is
-          ∙ block_read end (line_number end (b.head ++ more)) b.lead (b.head ++ more) b.head more refl (sym head.0) (sym head.1) (r.directive.name, r.directive.args) (directive_complete (line_number end (b.head ++ more)) b.head r.directive)
-          b.input (r.separator ∷ r.after) r.after b.expected rest r.separator (sym input.0) (sym input.1) refl (sym (expectation_complete r.after b.expected rest r.readable r.expected)),
+          ∙ block_below end n b.lead (b.head ++ more) b.head more refl (sym head.0) (sym head.1) (r.directive.name, r.directive.args) (directive_complete n b.head r.directive) (Ok (b.input, b.expected, rest)) below,
     )

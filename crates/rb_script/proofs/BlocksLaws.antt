@@ -2,19 +2,18 @@
 use Rattle.std.proofs.Common.{◌≡◌, ℕ, suc, zero, ◌+◌, ◌-◌, ◌<◌, ◌≤◌, true, false, cond, List, [], ◌∷◌, ◌++◌, length, drop, Result, Ok, Err, refl, ap, sym, subst, ◌∙◌, append_assoc, arith, inl, inr}
 use Rattle.std.specs.List.{list_all}
 use Rattle.std.proofs.lemmas.List.{append-nil, drop_all, drop_more}
-use Rattle.std.proofs.lemmas.Bool.{cases_Bool, not-true}
+use Rattle.std.proofs.lemmas.Bool.{cases_Bool}
 use Rattle.rb_script.specs.declared.fault.ScriptFault.{ScriptFault}
 use Rattle.rb_script.specs.declared.fault.ScriptFault.TheVariants as faults
-use Rattle.rb_script.specs.declared.marks.Stop.TheVariants.{Head}
 use Rattle.rb_script.specs.Lines.{Line}
-use Rattle.rb_script.specs.Marks.{is_lead, stops}
+use Rattle.rb_script.specs.Marks.{is_lead}
 use Rattle.rb_script.specs.Script.{PlainBlock, PlainScript}
 use Rattle.rb_script.specs.Reads.{begins_lead, ReadsBlock, ReadsBlocks}
 use Rattle.rb_script.specs.Results.{◌>>=◌, Fails}
-use Rattle.rb_script.specs.Runs.{upto, onward}
+use Rattle.rb_script.specs.Runs.{while_of, after_while}
 use Rattle.rb_script.specs.Blocks.{lead_of, from_head, is_empty, block_at, blocks_at, behind, tail_only}
 use Rattle.rb_script.proofs.ResultLaws.{bind_ok, done, ok_is, fails_through}
-use Rattle.rb_script.proofs.RunLaws.{upto-append-onward, none-upto, onward-first, upto-whole, leads_none}
+use Rattle.rb_script.proofs.RunLaws.{run_parts, run_all, after_first, run_whole}
 use Rattle.rb_script.proofs.BlockLaws.{block_sound, block_complete}
 
 -- what was read before, and what is still read
@@ -105,16 +104,16 @@ nil_is (line ∷ ls) e = absurd cc
 
 -- the lines before a head are lead lines
 pub leads_of : (ls : List Line) → list_all is_lead (lead_of ls) ≡ true
-leads_of ls = leads_none (lead_of ls) ∙ none-upto (stops Head) ls
+leads_of ls = run_all is_lead ls
 
 -- a head is no lead line
 pub begins_from : (ls from : List Line) → from_head ls ≡ from → is_empty from ≡ false → begins_lead from ≡ false
 begins_from ls [] e some = absurd cc
-begins_from ls (line ∷ from) e some = not-true (is_lead line) (onward-first (stops Head) ls line from e)
+begins_from ls (line ∷ from) e some = after_first is_lead ls line from e
 
 -- where no head is left, the tail is in the relation
 tail_sound : (ls : List Line) → is_empty (from_head ls) ≡ true → ReadsBlocks ls [] (lead_of ls)
-tail_sound ls e = (sym (upto-append-onward (stops Head) ls) ∙ ap (λ (l : List Line). lead_of ls ++ l) (nil_is (from_head ls) e) ∙ append-nil (lead_of ls), leads_of ls)
+tail_sound ls e = (sym (run_parts is_lead ls) ∙ ap (λ (l : List Line). lead_of ls ++ l) (nil_is (from_head ls) e) ∙ append-nil (lead_of ls), leads_of ls)
 
 -- blocks and a tail in the relation, for which there is room
 abbrev Sound : ℕ → List Line → PlainScript → Type 0
@@ -123,7 +122,7 @@ Sound room ls s = ReadsBlocks ls s.blocks s.tail × (length s.blocks ≤ room)
 -- the next block that is read is in the relation
 pub next_sound : (end : ℕ) (ls rest : List Line) (b : PlainBlock) → is_empty (from_head ls) ≡ false → block_at end (lead_of ls) (from_head ls) ≡ Ok (b, rest) → ReadsBlock ls b rest
 next_sound end ls rest b some e =
-    subst (λ (l : List Line). ReadsBlock l b rest) (upto-append-onward (stops Head) ls) (block_sound end (lead_of ls) (from_head ls) rest b e (leads_of ls) (begins_from ls (from_head ls) refl some))
+    subst (λ (l : List Line). ReadsBlock l b rest) (run_parts is_lead ls) (block_sound end (lead_of ls) (from_head ls) rest b e (leads_of ls) (begins_from ls (from_head ls) refl some))
 
 -- the blocks and the tail that are read are in the relation
 pub blocks_sound : (room end : ℕ) (ls : List Line) (s : PlainScript) → blocks_at room end ls ≡ Ok s → Sound room ls s
@@ -146,8 +145,8 @@ blocks_sound (suc room) end ls s e =
 -- the blocks and the tail in the relation are read
 pub blocks_complete : (room end : ℕ) (ls : List Line) (bs : List PlainBlock) (tail : List Line) → ReadsBlocks ls bs tail → length bs ≤ room → blocks_at room end ls ≡ Ok (record { blocks = bs; tail = tail })
 blocks_complete room end ls [] tail r few =
-    let run = upto-whole (stops Head) tail (sym (leads_none tail) ∙ r.1) in
-    step_done room end ls (ap is_empty (ap (onward (stops Head)) r.0 ∙ run.1)) ∙ ap (λ (l : List Line). Ok (record { blocks = []; tail = l })) (ap (upto (stops Head)) r.0 ∙ run.0)
+    let run = run_whole is_lead tail r.1 in
+    step_done room end ls (ap is_empty (ap (after_while is_lead) r.0 ∙ run.1)) ∙ ap (λ (l : List Line). Ok (record { blocks = []; tail = l })) (ap (while_of is_lead) r.0 ∙ run.0)
 blocks_complete zero end ls (b ∷ bs) tail r few = absurd (omega arith)
 blocks_complete (suc room) end ls (b ∷ bs) tail r few =
     let block = block_complete end ls r.0.0 b r.0.1 in

@@ -2,7 +2,7 @@
 use Rattle.std.proofs.Common.{◌≡◌, ◌≢◌, ℕ, ◌+◌, ◌-◌, ◌≤◌, ◌<◌, Bool, true, false, cond, not, ◌||◌, List, [], ◌∷◌, ◌++◌, length, take, drop, min, Option, Some, None, Result, Ok, Err, suc, refl, ap, sym, subst, ◌∙◌, arith, inl, inr, ◌⊎◌}
 use Rattle.std.specs.Prelude.{◌==◌, nat_lt, nat_le, slice_get, slice_set, IfOk, IfErr, if◌then◌else◌}
 use Rattle.std.specs.List.{list_all, flat_map, AllByRecursion}
-use Rattle.std.proofs.lemmas.Bool.{cases_Bool, eq-eqb, eqb-true, eqb-false, ne_eqb, or_from, lt-ltb, le-ltb, le-leb, leb-true, false_from_ne_true}
+use Rattle.std.proofs.lemmas.Bool.{cases_Bool, cond-true, cond-false, eq-eqb, eqb-true, eqb-false, ne_eqb, or_from, lt-ltb, le-ltb, leb-true, false_from_ne_true}
 use Rattle.std.proofs.lemmas.List.{take-append-drop, drop_more, set_split, length-append, length-take, length-drop}
 use Rattle.std.proofs.lemmas.List.Concat.{flat_map-append}
 use Rattle.std.proofs.lemmas.Option.{none-some, slice_get_cases, slice_get_within, get_or_from_slice_get}
@@ -16,17 +16,15 @@ use Rattle.rb_script.specs.Script.{PlainBlock, PlainScript, block_lines, block_t
 use Rattle.rb_script.specs.Reading.{capped}
 use Rattle.rb_script.specs.Valid.{IsBlock, IsScript}
 use Rattle.rb_script.specs.Shared.{IsKeptScript}
-use Rattle.rb_script.specs.Edits.{unless, fitting, with_blocks, is_no_place, is_expectation, edited, EditFails, Makes}
-use Rattle.rb_script.proofs.SharedLaws.{every-append, every-take, every-drop, outputs_valid, outputs_count}
+use Rattle.rb_script.specs.Edits.{unless, fitting, with_blocks, is_no_place, is_expectation, edited, EditFails, Settles}
+use Rattle.rb_script.specs.Refusals.{made_by}
+use Rattle.rb_script.proofs.ListLaws.{every-append, every-take, every-drop}
+use Rattle.rb_script.proofs.SharedLaws.{outputs_valid, outputs_count}
 use Rattle.rb_script.proofs.LengthLaws.{blocks_len, blocks-cons-length, text-append-length, text-length}
 
 -- ---- outcomes
 
--- what a function answered settles an edit: it is what the edit makes, and a fault of the edit is answered as it is
-pub record Settles (r made : Result PlainScript EditFault) : Type 0 where
-  pub exact : Makes r made
-  pub early : IfErr made (λ fault. r ≡ Err fault)
-
+-- a fault of an edit fails it
 makes_fault : (fault : EditFault) (made : Result PlainScript EditFault) → made ≡ Err fault → EditFails fault made
 makes_fault NoSuchPlace made e = e
 makes_fault BadExpectation made e = e
@@ -42,29 +40,82 @@ pub refused : (fault : EditFault) (made : Result PlainScript EditFault) → made
 refused fault made e = record { exact = makes_fault fault made e; early = subst (λ (m : Result PlainScript EditFault). IfErr m (λ f. answer (Err fault) ≡ answer (Err f))) (sym e) refl }
 
 -- an edit that makes a script has no fault
-pub no_fault : (made : Result PlainScript EditFault) (s : PlainScript) (P : EditFault → Type 0) → made ≡ Ok s → IfErr made P
+no_fault : (made : Result PlainScript EditFault) (s : PlainScript) (P : EditFault → Type 0) → made ≡ Ok s → IfErr made P
 no_fault made s P e = subst (λ (m : Result PlainScript EditFault). IfErr m P) (sym e) tt
+
+-- memory ran out
+pub exhausted : (made : Result PlainScript EditFault) (s : PlainScript) → made ≡ Ok s → Settles (Err OutOfMemory) made
+exhausted made s e = record { exact = tt; early = no_fault made s (λ f. answer (Err OutOfMemory) ≡ answer (Err f)) e }
 
 -- the script was made, unless memory ran out
 pub grown : (r made : Result PlainScript EditFault) (s : PlainScript) → made ≡ Ok s → IfOk r (λ x. x ≡ s) → IfErr r (λ e. e ≡ OutOfMemory) → Settles r made
 grown (Ok x) made s e is none = record { exact = e ∙ ap (λ (y : PlainScript). Ok y) (sym is); early = no_fault made s (λ f. answer (Ok x) ≡ answer (Err f)) e }
-grown (Err d) made s e none is = record { exact = subst (λ (f : EditFault). EditFails f made) (sym is) tt; early = no_fault made s (λ f. answer (Err d) ≡ answer (Err f)) e }
+grown (Err d) made s e none is = subst (λ (f : EditFault). Settles (Err f) made) (sym is) (exhausted made s e)
 
 -- ---- tests
 
-unless_true : (test : Bool) (fault : EditFault) (made : Result PlainScript EditFault) → test ≡ true → unless test fault made ≡ Err fault
-unless_true test fault made h = ap (λ t. cond t (Err fault) made) h
-
-unless_false : (test : Bool) (fault : EditFault) (made : Result PlainScript EditFault) → test ≡ false → unless test fault made ≡ made
-unless_false test fault made h = ap (λ t. cond t (Err fault) made) h
-
 -- places count from 1
-nowhere : (k n : ℕ) → (k ≡ 0) ⊎ (n < k) → is_no_place k n ≡ true
+pub nowhere : (k n : ℕ) → (k ≡ 0) ⊎ (n < k) → is_no_place k n ≡ true
 nowhere k n (inl e) = ap (λ t. t || nat_lt n k) (eq-eqb k 0 e)
 nowhere k n (inr lt) = elim (k == 0) as (λ t. (t || nat_lt n k) ≡ true) [ true ↦ refl | false ↦ lt-ltb n k lt ]
 
-somewhere : (k n : ℕ) → k ≢ 0 → k ≤ n → is_no_place k n ≡ false
+pub somewhere : (k n : ℕ) → k ≢ 0 → k ≤ n → is_no_place k n ≡ false
 somewhere k n some le = or_from (k == 0) (nat_lt n k) (ne_eqb k 0 some) (le-ltb n k le)
+
+-- ---- the tests of an edit, in their order
+
+-- there is no such place
+abbrev pub no_place : PlainScript → Edit → Bool
+no_place s (Insert k block) = is_no_place k (length s.blocks + 1)
+no_place s (Replace k block) = is_no_place k (length s.blocks)
+no_place s (Remove k) = is_no_place k (length s.blocks)
+no_place s (Expect k lines) = is_no_place k (length s.blocks)
+no_place s Accept = false
+
+-- what is expected can't be
+abbrev pub no_expectation : Edit → List (List Line) → Bool
+no_expectation (Expect k lines) outputs = not (is_expectation lines)
+no_expectation Accept outputs = not (list_all is_expectation outputs)
+no_expectation e outputs = false
+
+-- there is no room for a block more
+abbrev pub no_room : PlainScript → Edit → Bool
+no_room s (Insert k block) = nat_le MAX_DIRECTIVES (length s.blocks)
+no_room s e = false
+
+-- what is made then; no text becomes too long where a block is taken out
+abbrev pub allowed : PlainScript → Edit → List (List Line) → Result PlainScript EditFault
+allowed s (Remove k) outputs = Ok (made_by s (Remove k) outputs)
+allowed s e outputs = fitting (made_by s e outputs)
+
+pub edited_is : (s : PlainScript) (e : Edit) (outputs : List (List Line)) → edited s e outputs ≡ unless (no_place s e) NoSuchPlace (unless (no_expectation e outputs) BadExpectation (unless (no_room s e) TooManyDirectives (allowed s e outputs)))
+unfolding edited
+edited_is s (Insert k block) outputs = refl
+edited_is s (Replace k block) outputs = refl
+edited_is s (Remove k) outputs = refl
+edited_is s (Expect k lines) outputs = refl
+edited_is s Accept outputs = refl
+
+module _ (s : PlainScript) (e : Edit) (outputs : List (List Line)) where
+  pub place_refused : no_place s e ≡ true → edited s e outputs ≡ Err NoSuchPlace
+  place_refused h = edited_is s e outputs ∙ cond-true (no_place s e) (Err NoSuchPlace) _ h
+
+  module _ (there : no_place s e ≡ false) where
+    past_place : edited s e outputs ≡ unless (no_expectation e outputs) BadExpectation (unless (no_room s e) TooManyDirectives (allowed s e outputs))
+    past_place = edited_is s e outputs ∙ cond-false (no_place s e) (Err NoSuchPlace) _ there
+
+    pub expectation_refused : no_expectation e outputs ≡ true → edited s e outputs ≡ Err BadExpectation
+    expectation_refused h = past_place ∙ cond-true (no_expectation e outputs) (Err BadExpectation) _ h
+
+    module _ (good : no_expectation e outputs ≡ false) where
+      past_expectation : edited s e outputs ≡ unless (no_room s e) TooManyDirectives (allowed s e outputs)
+      past_expectation = past_place ∙ cond-false (no_expectation e outputs) (Err BadExpectation) _ good
+
+      pub room_refused : no_room s e ≡ true → edited s e outputs ≡ Err TooManyDirectives
+      room_refused h = past_expectation ∙ cond-true (no_room s e) (Err TooManyDirectives) _ h
+
+      pub allowed_is : no_room s e ≡ false → edited s e outputs ≡ allowed s e outputs
+      allowed_is h = past_expectation ∙ cond-false (no_room s e) (Err TooManyDirectives) _ h
 
 -- ---- edits whose text may be too long
 
@@ -75,15 +126,11 @@ pub record Counts (made : Result PlainScript EditFault) (s : PlainScript) (n : �
 
 -- the text is too long
 pub too_long : {made : Result PlainScript EditFault} {s : PlainScript} {n : ℕ} → Counts made s n → MAX_SCRIPT < n → Settles (Err TooLong) made
-too_long {made} {s} {n} h lt = refused TooLong made (h.is ∙ unless_true (nat_lt MAX_SCRIPT (length (text s))) TooLong (Ok s) (lt-ltb MAX_SCRIPT (length (text s)) (omega arith)))
+too_long {made} {s} {n} h lt = refused TooLong made (h.is ∙ cond-true (nat_lt MAX_SCRIPT (length (text s))) (Err TooLong) (Ok s) (lt-ltb MAX_SCRIPT (length (text s)) (omega arith)))
 
 -- the text fits
-text_fits : {made : Result PlainScript EditFault} {s : PlainScript} {n : ℕ} → Counts made s n → n ≤ MAX_SCRIPT → made ≡ Ok s
-text_fits {made} {s} {n} h le = h.is ∙ unless_false (nat_lt MAX_SCRIPT (length (text s))) TooLong (Ok s) (le-ltb MAX_SCRIPT (length (text s)) (omega arith))
-
--- where it fits the edit has no fault
-pub fits_early : {made : Result PlainScript EditFault} {s : PlainScript} {n : ℕ} (P : EditFault → Type 0) → Counts made s n → n ≤ MAX_SCRIPT → IfErr made P
-fits_early {made} {s} P h le = no_fault made s P (text_fits h le)
+pub text_fits : {made : Result PlainScript EditFault} {s : PlainScript} {n : ℕ} → Counts made s n → n ≤ MAX_SCRIPT → made ≡ Ok s
+text_fits {made} {s} {n} h le = h.is ∙ cond-false (nat_lt MAX_SCRIPT (length (text s))) (Err TooLong) (Ok s) (le-ltb MAX_SCRIPT (length (text s)) (omega arith))
 
 -- where it fits the script was made, as one that is equal, unless memory ran out
 pub fits_grown : {made : Result PlainScript EditFault} {s : PlainScript} {n : ℕ} (r : Result PlainScript EditFault) (t : PlainScript) → Counts made s n → n ≤ MAX_SCRIPT → t ≡ s → IfOk r (λ x. x ≡ t) → IfErr r (λ e. e ≡ OutOfMemory) → Settles r made
@@ -134,30 +181,17 @@ with_removed s k = with_blocks s (part s.blocks (k - 1) [] k)
 
 -- ---- a block is put in
 
-module _ (s : PlainScript) (k : ℕ) (b : PlainBlock) where
-  -- there is no such place
-  pub insert_nowhere : (k ≡ 0) ⊎ (length s.blocks < k - 1) → edited s (Insert k b) [] ≡ Err NoSuchPlace
-  unfolding edited
-  insert_nowhere out = unless_true (is_no_place k (length s.blocks + 1)) NoSuchPlace _ (nowhere k (length s.blocks + 1) (elim out [ inl e ↦ inl e | inr lt ↦ inr (omega arith) ]))
-
+module _ (s : PlainScript) (k : ℕ) (b : PlainBlock) (outputs : List (List Line)) where
   module _ (some : k ≢ 0) (le : k - 1 ≤ length s.blocks) where
-    place_so : is_no_place k (length s.blocks + 1) ≡ false
+    pub place_so : is_no_place k (length s.blocks + 1) ≡ false
     place_so = somewhere k (length s.blocks + 1) some (omega arith)
 
-    -- there are too many blocks
-    pub insert_full : MAX_DIRECTIVES ≤ length s.blocks → edited s (Insert k b) [] ≡ Err TooManyDirectives
-    unfolding edited
-    insert_full full = unless_false (is_no_place k (length s.blocks + 1)) NoSuchPlace _ place_so ∙ unless_true (nat_le MAX_DIRECTIVES (length s.blocks)) TooManyDirectives _ (le-leb MAX_DIRECTIVES (length s.blocks) full)
-
     module _ (lt : length s.blocks < MAX_DIRECTIVES) where
-      insert_fitting : edited s (Insert k b) [] ≡ fitting (with_inserted s k b)
-      unfolding edited
-      insert_fitting =
-          unless_false (is_no_place k (length s.blocks + 1)) NoSuchPlace _ place_so
-          ∙ unless_false (nat_le MAX_DIRECTIVES (length s.blocks)) TooManyDirectives _ (false_from_ne_true (nat_le MAX_DIRECTIVES (length s.blocks)) (λ e. omega (arith, leb-true MAX_DIRECTIVES (length s.blocks) e)))
+      insert_fitting : edited s (Insert k b) outputs ≡ fitting (with_inserted s k b)
+      insert_fitting = allowed_is s (Insert k b) outputs place_so refl (false_from_ne_true (nat_le MAX_DIRECTIVES (length s.blocks)) (λ e. omega (arith, leb-true MAX_DIRECTIVES (length s.blocks) e)))
 
       -- there is room, and the text is longer by that of the block
-      pub insert_counts : (n old_len new_len : ℕ) → n ≡ min (old_len + new_len) 18446744073709551615 → old_len ≡ length (text s) → new_len ≡ capped (length (block_text b)) → Counts (edited s (Insert k b) []) (with_inserted s k b) n
+      pub insert_counts : (n old_len new_len : ℕ) → n ≡ min (old_len + new_len) 18446744073709551615 → old_len ≡ length (text s) → new_len ≡ capped (length (block_text b)) → Counts (edited s (Insert k b) outputs) (with_inserted s k b) n
       insert_counts n old_len new_len is old_is new_is =
           let old = text-length s in
           let new = text-length (with_inserted s k b) in
@@ -204,7 +238,7 @@ module _ (s : PlainScript) (k : ℕ) (old : PlainBlock) (there : Some old ≡ at
   next : suc (k - 1) ≡ k
   next = let some = some_place in omega (arith, some)
 
-  place_there : is_no_place k (length s.blocks) ≡ false
+  pub place_there : is_no_place k (length s.blocks) ≡ false
   place_there = somewhere k (length s.blocks) some_place (omega (arith, within))
 
   split : drop (k - 1) s.blocks ≡ old ∷ drop k s.blocks
@@ -227,9 +261,8 @@ module _ (s : PlainScript) (k : ℕ) (old : PlainBlock) (there : Some old ≡ at
     set_is : slice_set s.blocks (k - 1) b ≡ part s.blocks (k - 1) (b ∷ []) k
     set_is = set_split s.blocks (k - 1) b within ∙ ap (λ (n : ℕ). take (k - 1) s.blocks ++ b ∷ drop n s.blocks) next
 
-    pub replace_fitting : edited s (Replace k b) [] ≡ fitting (with_replaced s k b)
-    unfolding edited
-    replace_fitting = unless_false (is_no_place k (length s.blocks)) NoSuchPlace _ place_there ∙ ap (λ (l : List PlainBlock). fitting (with_blocks s l)) set_is
+    pub replace_fitting : (outputs : List (List Line)) → edited s (Replace k b) outputs ≡ fitting (with_replaced s k b)
+    replace_fitting outputs = allowed_is s (Replace k b) outputs place_there refl refl ∙ ap (λ (l : List PlainBlock). fitting (with_blocks s l)) set_is
 
     -- the text has that of the block in place of that of the old one
     pub replace_counts : {made : Result PlainScript EditFault} → made ≡ fitting (with_replaced s k b) → (n m new_len total : ℕ) → IsScript s → n ≡ length (text s) → m ≡ capped (length (block_text old)) → new_len ≡ capped (length (block_text b))
@@ -249,9 +282,8 @@ module _ (s : PlainScript) (k : ℕ) (old : PlainBlock) (there : Some old ≡ at
 
   -- ---- no block in its place
 
-  pub remove_made : edited s (Remove k) [] ≡ Ok (with_removed s k)
-  unfolding edited
-  remove_made = unless_false (is_no_place k (length s.blocks)) NoSuchPlace _ place_there ∙ ap (λ (n : ℕ). answer (Ok (with_blocks s (take (k - 1) s.blocks ++ drop n s.blocks)))) next
+  pub remove_made : (outputs : List (List Line)) → edited s (Remove k) outputs ≡ Ok (with_removed s k)
+  remove_made outputs = allowed_is s (Remove k) outputs place_there refl refl ∙ ap (λ (n : ℕ). answer (Ok (with_blocks s (take (k - 1) s.blocks ++ drop n s.blocks)))) next
 
   pub remove_valid : (n m : ℕ) → IsScript s → n ≡ length (text s) → m ≡ capped (length (block_text old)) → IsKeptScript (with_removed s k) (n - m)
   remove_valid n m h n_is m_is =
@@ -264,42 +296,15 @@ module _ (s : PlainScript) (k : ℕ) (old : PlainBlock) (there : Some old ≡ at
 
   -- ---- another expectation
 
-  pub expect_bad : (lines : List Line) → is_expectation lines ≡ false → edited s (Expect k lines) [] ≡ Err BadExpectation
-  unfolding edited
-  expect_bad lines bad = unless_false (is_no_place k (length s.blocks)) NoSuchPlace _ place_there ∙ unless_true (not (is_expectation lines)) BadExpectation _ (ap not bad)
-
-  pub expect_fitting : (lines : List Line) → is_expectation lines ≡ true → edited s (Expect k lines) [] ≡ fitting (with_replaced s k (expecting old lines))
-  unfolding edited
-  expect_fitting lines good =
-      unless_false (is_no_place k (length s.blocks)) NoSuchPlace _ place_there ∙ unless_false (not (is_expectation lines)) BadExpectation _ (ap not good)
+  pub expect_fitting : (lines : List Line) (outputs : List (List Line)) → is_expectation lines ≡ true → edited s (Expect k lines) outputs ≡ fitting (with_replaced s k (expecting old lines))
+  expect_fitting lines outputs good =
+      allowed_is s (Expect k lines) outputs place_there (ap not good) refl
       ∙ ap (λ (b : PlainBlock). fitting (with_blocks s (slice_set s.blocks (k - 1) (expecting b lines)))) (get_or_from_slice_get s.blocks (k - 1) old _ found)
       ∙ ap (λ (l : List PlainBlock). fitting (with_blocks s l)) (set_is (expecting old lines))
-
--- where no block stands no edit is made there
-module _ (s : PlainScript) (k : ℕ) (none : None ≡ at_place s.blocks k) where
-  pub replace_nowhere : (b : PlainBlock) → edited s (Replace k b) [] ≡ Err NoSuchPlace
-  unfolding edited
-  replace_nowhere b = unless_true (is_no_place k (length s.blocks)) NoSuchPlace _ (no_block_there s.blocks k none)
-
-  pub remove_nowhere : edited s (Remove k) [] ≡ Err NoSuchPlace
-  unfolding edited
-  remove_nowhere = unless_true (is_no_place k (length s.blocks)) NoSuchPlace _ (no_block_there s.blocks k none)
-
-  pub expect_nowhere : (lines : List Line) → edited s (Expect k lines) [] ≡ Err NoSuchPlace
-  unfolding edited
-  expect_nowhere lines = unless_true (is_no_place k (length s.blocks)) NoSuchPlace _ (no_block_there s.blocks k none)
 
 -- ---- all expectations at once
 
 module _ (s : PlainScript) (outputs : List (List Line)) where
-  pub accept_bad : list_all is_expectation outputs ≡ false → edited s Accept outputs ≡ Err BadExpectation
-  unfolding edited
-  accept_bad bad = unless_true (not (list_all is_expectation outputs)) BadExpectation _ (ap not bad)
-
-  pub accept_fitting : list_all is_expectation outputs ≡ true → edited s Accept outputs ≡ fitting (with_outputs s outputs)
-  unfolding edited
-  accept_fitting good = unless_false (not (list_all is_expectation outputs)) BadExpectation _ (ap not good)
-
   pub accept_valid : (n : ℕ) → IsScript s → length outputs ≡ length s.blocks → list_all is_expectation outputs ≡ true → n ≡ length (text (with_outputs s outputs)) → n ≤ MAX_SCRIPT → IsKeptScript (with_outputs s outputs) n
   accept_valid n h same good len le = record {
     script = record {
@@ -311,26 +316,3 @@ module _ (s : PlainScript) (outputs : List (List Line)) where
     };
     len = len;
   }
-
--- ---- the edits that use no outputs
-
--- an edit that makes the same is settled too
-pub settled_as : (r made same : Result PlainScript EditFault) → made ≡ same → Makes r same → IfErr same (λ fault. r ≡ Err fault) → Settles r made
-settled_as r made same e exact early = record { exact = subst (λ (m : Result PlainScript EditFault). Makes r m) (sym e) exact; early = subst (λ (m : Result PlainScript EditFault). IfErr m (λ fault. r ≡ answer (Err fault))) (sym e) early }
-
-module _ (s : PlainScript) (k : ℕ) (outputs : List (List Line)) where
-  pub insert_alone : (edit : Edit) (b : PlainBlock) → edit ≡ Insert k b → edited s edit outputs ≡ edited s (Insert k b) []
-  unfolding edited
-  insert_alone edit b is = ap (λ (e : Edit). edited s e outputs) is
-
-  pub replace_alone : (edit : Edit) (b : PlainBlock) → edit ≡ Replace k b → edited s edit outputs ≡ edited s (Replace k b) []
-  unfolding edited
-  replace_alone edit b is = ap (λ (e : Edit). edited s e outputs) is
-
-  pub remove_alone : (edit : Edit) → edit ≡ Remove k → edited s edit outputs ≡ edited s (Remove k) []
-  unfolding edited
-  remove_alone edit is = ap (λ (e : Edit). edited s e outputs) is
-
-  pub expect_alone : (edit : Edit) (lines : List Line) → edit ≡ Expect k lines → edited s edit outputs ≡ edited s (Expect k lines) []
-  unfolding edited
-  expect_alone edit lines is = ap (λ (e : Edit). edited s e outputs) is

@@ -1,29 +1,25 @@
 -- Where the expectation of a block ends.
 use Rattle.std.proofs.Common.{◌≡◌, true, false, not, List, [], ◌∷◌, ◌++◌, refl, ap, sym, ◌∙◌, inl, inr, ◌⊎◌}
 use Rattle.std.specs.List.{list_all, AllByRecursion}
-use Rattle.std.proofs.lemmas.Bool.{cases_Bool, and_from}
+use Rattle.std.proofs.lemmas.Bool.{false_from_ne_true}
 use Rattle.rb_script.specs.Lines.{Line}
-use Rattle.rb_script.specs.Marks.{is_blank, is_rule, rule}
+use Rattle.rb_script.specs.Marks.{is_blank, is_plain, is_rule, rule}
 use Rattle.rb_script.specs.Script.{PlainBlock}
 use Rattle.rb_script.specs.Reads.{begins_rule, begins_blank, ReadsPlain, ReadsDouble, ReadsBlock}
 use Rattle.rb_script.specs.Valid.{IsBlock}
 use Rattle.rb_script.specs.LineParts.{AreBlanks, IsRuleWithin}
 use Rattle.rb_script.specs.Ends.{above, CanBePlain}
+use Rattle.rb_script.proofs.ListLaws.{all_pass}
 use Rattle.rb_script.proofs.ExpectationLaws.{rule_is}
 use Rattle.rb_script.proofs.LinePartLaws.{blanks_complete, separator_complete}
 
 -- no line is blank
 none_blank : (ls : List Line) → AllByRecursion (λ line. is_blank line ≡ false) ls → list_all (λ line. not (is_blank line)) ls ≡ true
-none_blank [] h = refl
-none_blank (line ∷ ls) h = and_from (not (is_blank line)) (list_all (λ l. not (is_blank l)) ls) (ap not h.0) (none_blank ls h.1)
+none_blank ls h = all_pass is_plain (λ line. is_blank line ≡ false) (λ line e. ap not e) ls h
 
 -- a blank line isn't ----
 blank_rule : (line : Line) → AreBlanks line → is_rule line ≡ false
-blank_rule line h =
-    elim (cases_Bool (is_rule line)) [
-      | inl t ↦ let no : false ≡ true = ap is_blank (sym (rule_is line t)) ∙ blanks_complete line h in absurd cc
-      | inr f ↦ f
-    ]
+blank_rule line h = false_from_ne_true (is_rule line) (λ t. let no : false ≡ true = ap is_blank (sym (rule_is line t)) ∙ blanks_complete line h in cc)
 
 -- lines before a blank one begin as they do
 begins_before : (ls rest : List Line) (blank : Line) → begins_rule ls ≡ false → AreBlanks blank → begins_rule (ls ++ blank ∷ rest) ≡ false

@@ -1,14 +1,15 @@
 -- Expectations: what is read is in the relation, and what is in the relation is read.
 use Rattle.std.proofs.Common.{◌≡◌, true, false, cond, not, ◌&&◌, List, [], ◌∷◌, ◌++◌, drop, Some, None, refl, ap, sym, subst, ◌∙◌, inl, inr, ◌⊎◌}
-use Rattle.std.proofs.lemmas.Bool.{cases_Bool, and_parts, and_from, not-true}
+use Rattle.std.specs.List.{list_all}
+use Rattle.std.proofs.lemmas.Bool.{cases_Bool, and_parts, and_from, not-true, not-false}
 use Rattle.std.proofs.lemmas.List.{append-nil}
 use Rattle.std.proofs.lemmas.Slice.Eq.{bytes_eq-Decides}
 use Rattle.rb_script.specs.Lines.{Line}
-use Rattle.rb_script.specs.Marks.{is_blank, is_rule, rule}
+use Rattle.rb_script.specs.Marks.{is_blank, is_plain, is_rule, rule}
 use Rattle.rb_script.specs.Reads.{is_readable, ends_or_rules, begins_rule, begins_blank, ReadsPlain, ReadsDouble}
-use Rattle.rb_script.specs.Runs.{upto, onward}
+use Rattle.rb_script.specs.Runs.{while_of, after_while}
 use Rattle.rb_script.specs.Expectations.{Expectation, with_line, to_pair, after_blank, then_blank, plain_at, expectation_at}
-use Rattle.rb_script.proofs.RunLaws.{none_of, upto-append-onward, none-upto, onward-first, upto-run, upto-whole}
+use Rattle.rb_script.proofs.RunLaws.{run_parts, run_all, after_first, run_of, after_run, run_whole}
 
 -- ---- the double form
 
@@ -116,41 +117,42 @@ pub record Expects (after e rest : List Line) : Type 0 where
   pub expected : ReadsPlain after e rest ⊎ ReadsDouble after e rest
 
 -- where the plain form was read
-plain_closed : (ls onwards rest : List Line) → onward is_blank ls ≡ onwards → after_blank onwards ≡ rest → ((blank : Line) × (is_blank blank ≡ true) × (ls ≡ upto is_blank ls ++ blank ∷ rest)) ⊎ ((ls ≡ upto is_blank ls) × (rest ≡ []))
-plain_closed ls [] rest e h = inr (sym (upto-append-onward is_blank ls) ∙ ap (λ (l : List Line). upto is_blank ls ++ l) e ∙ append-nil (upto is_blank ls), sym h)
+plain_closed : (ls onwards rest : List Line) → after_while is_plain ls ≡ onwards → after_blank onwards ≡ rest → ((blank : Line) × (is_blank blank ≡ true) × (ls ≡ while_of is_plain ls ++ blank ∷ rest)) ⊎ ((ls ≡ while_of is_plain ls) × (rest ≡ []))
+plain_closed ls [] rest e h = inr (sym (run_parts is_plain ls) ∙ ap (λ (l : List Line). while_of is_plain ls ++ l) e ∙ append-nil (while_of is_plain ls), sym h)
 plain_closed ls (blank ∷ onwards) rest e h =
-    let t = onward-first is_blank ls blank onwards e in
+    let t = not-false (is_blank blank) (after_first is_plain ls blank onwards e) in
     let rest-is : onwards ≡ rest = sym (ap (λ b. cond b onwards (blank ∷ onwards)) t) ∙ h in
-    inl (blank, t, sym (upto-append-onward is_blank ls) ∙ ap (λ (l : List Line). upto is_blank ls ++ l) e ∙ ap (λ (l : List Line). upto is_blank ls ++ blank ∷ l) rest-is)
+    inl (blank, t, sym (run_parts is_plain ls) ∙ ap (λ (l : List Line). while_of is_plain ls ++ l) e ∙ ap (λ (l : List Line). while_of is_plain ls ++ blank ∷ l) rest-is)
 
 -- the plain form that is read is in the relation
 pub plain_sound : (ls e rest : List Line) → begins_rule ls ≡ false → plain_at ls ≡ some_pair e rest → Expects ls e rest
 unfolding plain_at
 plain_sound ls e rest first h =
-    elim (cases_Bool (is_readable (upto is_blank ls))) [
+    elim (cases_Bool (is_readable (while_of is_plain ls))) [
       | inl t ↦
-          let both = pair_is (upto is_blank ls) (after_blank (onward is_blank ls)) e rest (sym (ap (λ b. cond b (some_pair (upto is_blank ls) (after_blank (onward is_blank ls))) None) t) ∙ h) in
+          let both = pair_is (while_of is_plain ls) (after_blank (after_while is_plain ls)) e rest (sym (ap (λ b. cond b (some_pair (while_of is_plain ls) (after_blank (after_while is_plain ls))) None) t) ∙ h) in
           subst (λ (x : List Line). Expects ls x rest) both.0 (record {
             readable = t;
-            expected = inl (record { first = first; none_blank = none-upto is_blank ls; closed = plain_closed ls (onward is_blank ls) rest refl both.1 });
+            expected = inl (record { first = first; none_blank = run_all is_plain ls; closed = plain_closed ls (after_while is_plain ls) rest refl both.1 });
           })
-      | inr f ↦ let no : None ≡ some_pair e rest = sym (ap (λ b. cond b (some_pair (upto is_blank ls) (after_blank (onward is_blank ls))) None) f) ∙ h in absurd cc
+      | inr f ↦ let no : None ≡ some_pair e rest = sym (ap (λ b. cond b (some_pair (while_of is_plain ls) (after_blank (after_while is_plain ls))) None) f) ∙ h in absurd cc
     ]
 
 -- the plain form from its parts
-plain_parts : (ls e rest : List Line) → upto is_blank ls ≡ e → after_blank (onward is_blank ls) ≡ rest → is_readable e ≡ true → plain_at ls ≡ some_pair e rest
+plain_parts : (ls e rest : List Line) → while_of is_plain ls ≡ e → after_blank (after_while is_plain ls) ≡ rest → is_readable e ≡ true → plain_at ls ≡ some_pair e rest
 unfolding plain_at
 plain_parts ls e rest f g h =
-    ap (λ b. cond b (some_pair (upto is_blank ls) (after_blank (onward is_blank ls))) None) (ap is_readable f ∙ h) ∙ ap (λ (l : List Line). some_pair l (after_blank (onward is_blank ls))) f ∙ ap (λ (l : List Line). some_pair e l) g
+    ap (λ b. cond b (some_pair (while_of is_plain ls) (after_blank (after_while is_plain ls))) None) (ap is_readable f ∙ h) ∙ ap (λ (l : List Line). some_pair l (after_blank (after_while is_plain ls))) f ∙ ap (λ (l : List Line). some_pair e l) g
 
 -- the plain form in the relation is read
-plain_cut : (ls e rest : List Line) → none_of is_blank e ≡ true → is_readable e ≡ true → ((blank : Line) × (is_blank blank ≡ true) × (ls ≡ e ++ blank ∷ rest)) ⊎ ((ls ≡ e) × (rest ≡ [])) → plain_at ls ≡ some_pair e rest
-plain_cut ls e rest none readable (inl b) =
-    let run = upto-run is_blank e b.0 rest none b.1 in
-    plain_parts ls e rest (ap (upto is_blank) b.2 ∙ run.0) (ap after_blank (ap (onward is_blank) b.2 ∙ run.1) ∙ ap (λ t. cond t rest (b.0 ∷ rest)) b.1) readable
-plain_cut ls e rest none readable (inr b) =
-    let run = upto-whole is_blank e none in
-    plain_parts ls e rest (ap (upto is_blank) b.0 ∙ run.0) (ap after_blank (ap (onward is_blank) b.0 ∙ run.1) ∙ sym b.1) readable
+plain_cut : (ls e rest : List Line) → list_all is_plain e ≡ true → is_readable e ≡ true → ((blank : Line) × (is_blank blank ≡ true) × (ls ≡ e ++ blank ∷ rest)) ⊎ ((ls ≡ e) × (rest ≡ [])) → plain_at ls ≡ some_pair e rest
+plain_cut ls e rest all readable (inl b) =
+    let stops = ap not b.1 in
+    plain_parts ls e rest (ap (while_of is_plain) b.2 ∙ run_of is_plain e (b.0 ∷ rest) all stops)
+    (ap after_blank (ap (after_while is_plain) b.2 ∙ after_run is_plain e (b.0 ∷ rest) all stops) ∙ ap (λ t. cond t rest (b.0 ∷ rest)) b.1) readable
+plain_cut ls e rest all readable (inr b) =
+    let run = run_whole is_plain e all in
+    plain_parts ls e rest (ap (while_of is_plain) b.0 ∙ run.0) (ap after_blank (ap (after_while is_plain) b.0 ∙ run.1) ∙ sym b.1) readable
 
 -- what was found before the blank line was taken
 then_is : (found : Expectation) (e rest : List Line) → then_blank found ≡ some_pair e rest → (more : List Line) × (found ≡ some_pair e more) × (after_blank more ≡ rest)

@@ -1,33 +1,30 @@
 -- What a fault of reading says of the bytes.
-use Rattle.std.proofs.Common.{◌≡◌, ℕ, zero, suc, ◌+◌, ◌≤◌, ◌<◌, Bool, true, false, cond, ltb, List, [], ◌∷◌, ◌++◌, length, Option, Some, None, Ok, Err, refl, ap, sym, subst, ◌∙◌, arith, inl, inr, ◌⊎◌}
-use Rattle.std.specs.List.{AllByRecursion}
-use Rattle.std.proofs.lemmas.Bool.{cases_Bool, ltb-true, ltb-false}
-use Rattle.std.proofs.lemmas.List.{append-nil}
+use Rattle.std.proofs.Common.{◌≡◌, ℕ, zero, suc, ◌+◌, ◌-◌, ◌≤◌, ◌<◌, false, cond, ltb, List, [], ◌∷◌, ◌++◌, length, Option, Some, None, Ok, Err, refl, ap, sym, subst, ◌∙◌, arith, inl, inr, ◌⊎◌}
+use Rattle.std.proofs.lemmas.Bool.{cases_Bool, not-false, ltb-true, ltb-false}
 use Rattle.rb_script.specs.declared.fault.ScriptFault.{ScriptFault}
 use Rattle.rb_script.specs.declared.fault.ScriptFault.TheVariants as faults
 use Rattle.rb_script.specs.declared.limits.TheConstants.{MAX_SCRIPT, MAX_LINE, MAX_DIRECTIVES}
-use Rattle.rb_script.specs.declared.marks.Stop.TheVariants.{Head}
 use Rattle.rb_script.specs.Lines.{Line, lines}
-use Rattle.rb_script.specs.Marks.{is_separator, stops}
+use Rattle.rb_script.specs.Marks.{is_lead, is_separator, is_input}
 use Rattle.rb_script.specs.Script.{PlainBlock, PlainScript, text}
 use Rattle.rb_script.specs.Joined.{joined}
 use Rattle.rb_script.specs.Directive.{PlainArgument}
 use Rattle.rb_script.specs.Limits.{are_few}
-use Rattle.rb_script.specs.Reads.{IsDirective, ReadsSome, alone}
+use Rattle.rb_script.specs.Reads.{IsDirective, ReadsSome}
 use Rattle.rb_script.specs.Results.{◌>>=◌}
-use Rattle.rb_script.specs.Runs.{upto, onward, head_of, after_head}
+use Rattle.rb_script.specs.Runs.{while_of, after_while, head_of, after_head}
 use Rattle.rb_script.specs.Heads.{HeadThere, head_at, few_or}
 use Rattle.rb_script.specs.Expectations.{Expectation, expectation_at}
-use Rattle.rb_script.specs.Blocks.{closed_or, after_separator, line_number, lead_of, from_head, is_empty, block_at, blocks_at, behind, tail_only}
+use Rattle.rb_script.specs.Blocks.{closed_or, after_separator, line_number, lead_of, from_head, is_empty, below_head, block_at, blocks_at, behind, tail_only}
 use Rattle.rb_script.specs.Reading.{long_line, no_long_line, parts_of, fits_text, read_of, only_block, block_of}
-use Rattle.rb_script.specs.Faults.{IsHeadFault, StopsAt, AreBlocks, AreShort, IsFirstFault, IsScriptFault, IsBlockFault}
+use Rattle.rb_script.specs.Faults.{IsHeadFault, StopsAt, HasLongLine, AreBlocks, AreShort, IsFirstFault, IsScriptFault, IsBlockFault}
 use Rattle.rb_script.proofs.GrammarLaws.{head_sound, head_complete}
 use Rattle.rb_script.proofs.ResultLaws.{done, same_fault, bind_err, guard_err}
-use Rattle.rb_script.proofs.RunLaws.{none_of, upto-append-onward, none-upto, onward-first}
+use Rattle.rb_script.proofs.RunLaws.{run_parts, run_all, after_first, none_after}
 use Rattle.rb_script.proofs.ExpectationLaws.{expectation_complete}
-use Rattle.rb_script.proofs.BlockLaws.{after_is, directive_sound, made, behind_head, steps}
+use Rattle.rb_script.proofs.BlockLaws.{after_is, directive_sound, gathered, completed, steps}
 use Rattle.rb_script.proofs.BlocksLaws.{one_more, leads_of, begins_from, next_sound}
-use Rattle.rb_script.proofs.ScriptLaws.{long_sound, no_long_is, parts_sound, only_is}
+use Rattle.rb_script.proofs.ScriptLaws.{short_parts, parts_sound, only_alone}
 
 -- ---- one head
 
@@ -50,12 +47,6 @@ closed_err : (fault : ScriptFault) (found : Expectation) (e : ScriptFault) → c
 closed_err fault None e h = (refl, same_fault fault e h)
 closed_err fault (Some x) e h = absurd cc
 
--- where nothing was cut off no line passes
-onward_none : (p : Line → Bool) (ls : List Line) → onward p ls ≡ [] → none_of p ls ≡ true
-onward_none p ls e =
-    let same : upto p ls ≡ ls = sym (append-nil (upto p ls)) ∙ ap (λ (l : List Line). upto p ls ++ l) (sym e) ∙ upto-append-onward p ls in
-    ap (none_of p) (sym same) ∙ none-upto p ls
-
 -- a head that isn't there is in no grammar
 bad_line : (end : ℕ) (ls : List Line) → head_at (joined (head_of ls)) ≡ None → IsHeadFault end ls (faults.BadLine (line_number end ls))
 bad_line end ls none = record {
@@ -68,18 +59,18 @@ many_arguments : (end : ℕ) (ls : List Line) (x : List ℕ × List PlainArgumen
 many_arguments end ls x some many = record { name = x.0; args = x.1; number = refl; derives = head_sound (joined (head_of ls)) x.0 x.1 some; many = many }
 
 -- where nothing was cut off, no line is a separator
-no_separator : (end : ℕ) (ls : List Line) → IsDirective (head_of ls) → onward is_separator (after_head ls) ≡ [] → IsHeadFault end ls (faults.NoSeparator (line_number end ls))
-no_separator end ls d none = record { number = refl; directive = d; none = onward_none is_separator (after_head ls) none }
+no_separator : (end : ℕ) (ls : List Line) → IsDirective (head_of ls) → after_while is_input (after_head ls) ≡ [] → IsHeadFault end ls (faults.NoSeparator (line_number end ls))
+no_separator end ls d none = record { number = refl; directive = d; none = none_after is_input (after_head ls) none }
 
 -- where no expectation is read, none is in the relation
-not_closed : (end : ℕ) (ls after : List Line) (line : Line) → IsDirective (head_of ls) → onward is_separator (after_head ls) ≡ line ∷ after → expectation_at after ≡ None → IsHeadFault end ls (faults.NotClosed (line_number end (onward is_separator (after_head ls))))
+not_closed : (end : ℕ) (ls after : List Line) (line : Line) → IsDirective (head_of ls) → after_while is_input (after_head ls) ≡ line ∷ after → expectation_at after ≡ None → IsHeadFault end ls (faults.NotClosed (line_number end (after_while is_input (after_head ls))))
 not_closed end ls after line d first none = record {
-  input = upto is_separator (after_head ls);
+  input = while_of is_input (after_head ls);
   separator = line;
   after = after;
-  parts = sym (upto-append-onward is_separator (after_head ls)) ∙ ap (λ (l : List Line). upto is_separator (after_head ls) ++ l) first;
-  first = none-upto is_separator (after_head ls);
-  separates = onward-first is_separator (after_head ls) line after first;
+  parts = sym (run_parts is_input (after_head ls)) ∙ ap (λ (l : List Line). while_of is_input (after_head ls) ++ l) first;
+  first = run_all is_input (after_head ls);
+  separates = not-false (is_separator line) (after_first is_input (after_head ls) line after first);
   number = ap (line_number end) first;
   directive = d;
   none = λ expected rest readable reads. let no : None ≡ Some (expected, rest) = sym none ∙ expectation_complete after expected rest readable reads in cc;
@@ -89,30 +80,39 @@ not_closed end ls after line d first none = record {
 along : (end : ℕ) (ls : List Line) (d e : ScriptFault) → d ≡ e → IsHeadFault end ls d → IsHeadFault end ls e
 along end ls d e is h = subst (λ (x : ScriptFault). IsHeadFault end ls x) is h
 
+-- why what stands below a head isn't read
+below_fault : (end : ℕ) (ls : List Line) (e : ScriptFault) → IsDirective (head_of ls) → below_head end (line_number end ls) (after_head ls) ≡ Err e → IsHeadFault end ls e
+unfolding below_head
+below_fault end ls e d h =
+    let on = after_while is_input (after_head ls) in
+    let missing = faults.NoSeparator (line_number end ls) in
+    let unclosed = faults.NotClosed (line_number end on) in
+    let make = gathered (while_of is_input (after_head ls)) in
+    elim (bind_err (after_separator missing on) (λ after. closed_or unclosed (expectation_at after) >>= make) e h) [
+      | inl f ↦ let none = after_err missing on e f in along end ls missing e none.1 (no_separator end ls d none.0)
+      | inr t ↦
+          let line = after_is missing on t.0 t.1 in
+          elim (bind_err (closed_or unclosed (expectation_at t.0)) make e t.2) [
+            | inl f ↦ let none = closed_err unclosed (expectation_at t.0) e f in along end ls unclosed e none.1 (not_closed end ls t.0 line.0 d line.1 none.0)
+            | inr u ↦ absurd cc
+          ]
+    ]
+
 -- why a block isn't read
 block_fault : (end : ℕ) (lead ls : List Line) (e : ScriptFault) → block_at end lead ls ≡ Err e → IsHeadFault end ls e
 block_fault end lead ls e h =
     let n = line_number end ls in
-    let on = onward is_separator (after_head ls) in
-    let missing = faults.NoSeparator n in
-    let unclosed = faults.NotClosed (line_number end on) in
-    let make = made lead (head_of ls) (upto is_separator (after_head ls)) in
-    elim (bind_err (few_or n (head_at (joined (head_of ls)))) (λ _. behind_head missing unclosed on make) e (sym (steps end lead ls) ∙ h)) [
-      | inl f ↦ elim (few_err n (head_at (joined (head_of ls))) e f) [
+    let head = head_of ls in
+    let ahead = after_head ls in
+    elim (bind_err (few_or n (head_at (joined head))) (λ _. below_head end n ahead >>= completed lead head) e (sym (steps end n lead ls head ahead refl refl refl) ∙ h)) [
+      | inl f ↦ elim (few_err n (head_at (joined head)) e f) [
         | inl none ↦ along end ls (faults.BadLine n) e none.1 (bad_line end ls none.0)
         | inr many ↦ along end ls (faults.TooManyArguments n) e many.3 (many_arguments end ls many.0 many.1 many.2)
       ]
-      | inr s ↦
-          let d = directive_sound n (head_of ls) s.0 s.1 in
-          elim (bind_err (after_separator missing on) (λ after. closed_or unclosed (expectation_at after) >>= make) e s.2) [
-            | inl f ↦ let none = after_err missing on e f in along end ls missing e none.1 (no_separator end ls d none.0)
-            | inr t ↦
-                let line = after_is missing on t.0 t.1 in
-                elim (bind_err (closed_or unclosed (expectation_at t.0)) make e t.2) [
-                  | inl f ↦ let none = closed_err unclosed (expectation_at t.0) e f in along end ls unclosed e none.1 (not_closed end ls t.0 line.0 d line.1 none.0)
-                  | inr u ↦ absurd cc
-                ]
-          ]
+      | inr s ↦ elim (bind_err (below_head end n ahead) (completed lead head) e s.2) [
+        | inl f ↦ below_fault end ls e (directive_sound n head s.0 s.1) f
+        | inr u ↦ absurd cc
+      ]
     ]
 
 -- ---- all blocks
@@ -163,11 +163,7 @@ blocks_fault (suc room) end ls e h =
 
 -- the rest is lead lines and a head
 cut_rest : (ls rest : List Line) (bs : List PlainBlock) → ReadsSome ls bs rest → ReadsSome ls bs (lead_of rest ++ from_head rest)
-cut_rest ls rest bs h = subst (λ (l : List Line). ReadsSome ls bs l) (sym (upto-append-onward (stops Head) rest)) h
-
--- bytes that are short enough, as the reader found them
-short_parts : (bytes : List ℕ) (u : Unit {0}) → ltb MAX_SCRIPT (length bytes) ≡ false → no_long_line (long_line 1 (lines bytes)) ≡ Ok u → AreShort bytes
-short_parts bytes u f e = record { short = ltb-false MAX_SCRIPT (length bytes) f; short_lines = long_sound 1 (lines bytes) (no_long_is (long_line 1 (lines bytes)) u e) }
+cut_rest ls rest bs h = subst (λ (l : List Line). ReadsSome ls bs l) (sym (run_parts is_lead rest)) h
 
 -- a fault at a head is a fault of the bytes
 stops_at : (bytes : List ℕ) (e : ScriptFault) → AreShort bytes → StopsAt (lines bytes) e → IsFirstFault bytes e
@@ -202,18 +198,8 @@ stops_fault bytes e short s =
 
 -- ---- bytes
 
--- the line that was found is the first that is too long
-record FirstLong (n : ℕ) (ls : List Line) (m : ℕ) : Type 0 where
-  front : List Line
-  line : Line
-  rest : List Line
-  parts : ls ≡ front ++ line ∷ rest
-  number : m ≡ n + length front
-  short : AllByRecursion (λ l. length l ≤ MAX_LINE) front
-  long : MAX_LINE < length line
-
 -- the line that is found too long is the first
-long_found : (n : ℕ) (ls : List Line) (m : ℕ) → long_line n ls ≡ Some m → FirstLong n ls m
+long_found : (n : ℕ) (ls : List Line) (m : ℕ) → long_line n ls ≡ Some m → (n ≤ m) × HasLongLine ls (1 + m - n)
 unfolding long_line
 long_found n [] m h = absurd cc
 long_found n (line ∷ ls) m h =
@@ -221,18 +207,21 @@ long_found n (line ∷ ls) m h =
       | inl t ↦
           let same : Some n ≡ Some m = sym (ap (λ b. cond b (Some n) (long_line (n + 1) ls)) t) ∙ h in
           let is : n ≡ m = cc in
-          record { front = []; line = line; rest = ls; parts = refl; number = omega arith; short = tt; long = ltb-true MAX_LINE (length line) t }
+          (omega arith, record { front = []; line = line; rest = ls; parts = refl; number = omega arith; short = tt; long = ltb-true MAX_LINE (length line) t })
       | inr f ↦
-          let later = long_found (n + 1) ls m (sym (ap (λ b. cond b (Some n) (long_line (n + 1) ls)) f) ∙ h) in
-          record {
-            front = line ∷ later.front;
-            line = later.line;
-            rest = later.rest;
-            parts = ap (λ (l : List Line). line ∷ l) later.parts;
-            number = omega arith;
-            short = (ltb-false MAX_LINE (length line) f, later.short);
-            long = later.long;
-          }
+          let found = long_found (n + 1) ls m (sym (ap (λ b. cond b (Some n) (long_line (n + 1) ls)) f) ∙ h) in
+          let later = found.1 in (
+            omega (arith, found.0),
+            record {
+              front = line ∷ later.front;
+              line = later.line;
+              rest = later.rest;
+              parts = ap (λ (l : List Line). line ∷ l) later.parts;
+              number = omega (arith, found.0, later.number);
+              short = (ltb-false MAX_LINE (length line) f, later.short);
+              long = later.long;
+            },
+          )
     ]
 
 -- a line was told as too long
@@ -243,8 +232,8 @@ no_long_err (Some n) e h = (n, refl, same_fault (faults.LineTooLong n) e h)
 -- the line is told by its number
 long_fault : (bytes : List ℕ) (n : ℕ) → ltb MAX_SCRIPT (length bytes) ≡ false → long_line 1 (lines bytes) ≡ Some n → IsFirstFault bytes (faults.LineTooLong n)
 long_fault bytes n short h =
-    let f = long_found 1 (lines bytes) n h in
-    (ltb-false MAX_SCRIPT (length bytes) short, record { front = f.front; line = f.line; rest = f.rest; parts = f.parts; number = f.number; short = f.short; long = f.long })
+    let number : 1 + n - 1 ≡ n = omega arith in
+    (ltb-false MAX_SCRIPT (length bytes) short, subst (λ (m : ℕ). HasLongLine (lines bytes) m) number (long_found 1 (lines bytes) n h).1)
 
 -- a fault of reading the parts
 parts_fault : (bytes : List ℕ) (e : ScriptFault) → parts_of bytes ≡ Err e → IsFirstFault bytes e
@@ -258,14 +247,6 @@ parts_fault bytes e h =
         | inr x ↦ stops_fault bytes e (short_parts bytes x.0 later.0 x.1) (blocks_fault MAX_DIRECTIVES (1 + length ls) ls e x.2)
       ]
     ]
-
--- parts that were read
-record Parted (bytes : List ℕ) (s : PlainScript) : Type 0 where
-  short : AreShort bytes
-  parts : AreBlocks (lines bytes) s
-
-parted : (bytes : List ℕ) (s : PlainScript) → parts_of bytes ≡ Ok s → Parted bytes s
-parted bytes s h = let p = parts_sound bytes s h in record { short = record { short = p.short; short_lines = p.short_lines }; parts = record { parts = p.parts; few = p.few } }
 
 -- a text that is too long
 long_text : (s : PlainScript) (e : ScriptFault) → fits_text s ≡ Err e → (e ≡ faults.TooLong) × (MAX_SCRIPT < length (text s))
@@ -283,7 +264,7 @@ script_fault bytes e h =
     elim (bind_err (parts_of bytes) (λ s. fits_text s) e h) [
       | inl f ↦ inl (parts_fault bytes e f)
       | inr s ↦
-          let p = parted bytes s.0 s.1 in
+          let p = parts_sound bytes s.0 s.1 in
           let t = long_text s.0 e s.2 in
           inr (t.0, p.short, record { script = s.0; parts = p.parts; long = t.1 })
     ]
@@ -295,12 +276,6 @@ only_err (x ∷ []) [] e h = absurd cc
 only_err (x ∷ []) (line ∷ tail) e h = (sym (same_fault faults.NotOneBlock e h), λ b is none. cc)
 only_err (x ∷ y ∷ bs) tail e h = (sym (same_fault faults.NotOneBlock e h), λ b is none. cc)
 
--- one block was there alone
-alone_is : (s : PlainScript) (b : PlainBlock) → only_block s.blocks s.tail ≡ Ok b → s ≡ alone b
-alone_is s b h =
-    let only = only_is s.blocks s.tail b h in
-    ap (λ (bs : List PlainBlock). record { blocks = bs; tail = s.tail }) only.0 ∙ ap (λ (ls : List Line). record { blocks = b ∷ []; tail = ls }) only.1
-
 -- why bytes are no one block
 pub alone_fault : (bytes : List ℕ) (e : ScriptFault) → block_of bytes ≡ Err e → IsBlockFault bytes e
 unfolding block_of
@@ -308,7 +283,7 @@ alone_fault bytes e h =
     elim (bind_err (parts_of bytes) (λ s. only_block s.blocks s.tail >>= λ b. fits_text s >>= λ _. Ok b) e h) [
       | inl f ↦ inl (parts_fault bytes e f)
       | inr s ↦
-          let p = parted bytes s.0 s.1 in
+          let p = parts_sound bytes s.0 s.1 in
           elim (bind_err (only_block s.0.blocks s.0.tail) (λ b. fits_text s.0 >>= λ _. Ok b) e s.2) [
             | inl f ↦
                 let others = only_err s.0.blocks s.0.tail e f in
@@ -324,7 +299,7 @@ alone_fault bytes e h =
             | inr b ↦ elim (bind_err (fits_text s.0) (λ _. Ok b.0) e b.2) [
               | inl f ↦
                   let t = long_text s.0 e f in
-                  let is = alone_is s.0 b.0 b.1 in
+                  let is = only_alone s.0 b.0 b.1 in
                   inr (inr (
                     t.0,
                     p.short,

@@ -1,25 +1,18 @@
 -- Lines in one buffer.
 use Rattle.std.proofs.Common.{◌≡◌, ℕ, ◌+◌, ◌-◌, ◌≤◌, ◌<◌, List, [], ◌∷◌, ◌++◌, length, take, drop, get_or, refl, ap, sym, subst, ◌∙◌, append_assoc, zero, suc, length-append, arith}
 use Rattle.std.specs.Prelude.{slice_get, Option, Some, Result, Ok, Err, OnOk, OnErr}
-use Rattle.std.proofs.lemmas.List.{append-nil, take-append-drop}
+use Rattle.std.proofs.lemmas.List.{append-nil, take-append-drop, length-drop, length-take-le, take_at, drop_at, drop_more}
+use Rattle.std.proofs.lemmas.Option.{slice_get-get_or}
 use Rattle.std.proofs.lemmas.List.Concat.{flat_map-append}
 use Rattle.rb_script.specs.Lines.{Line, line_text, text_of}
 use Rattle.rb_script.specs.Flat.{ends_of, from_start, parted, line_start, between, IsFlat}
 use Rattle.rb_script.proofs.BetweenLaws.{take_between}
 
-take_front : (a b : List ℕ) → take (length a) (a ++ b) ≡ a
-take_front [] b = refl
-take_front (x ∷ a) b = ap (λ (l : List ℕ). x ∷ l) (take_front a b)
-
-drop_front : (a b : List ℕ) → drop (length a) (a ++ b) ≡ b
-drop_front [] b = refl
-drop_front (x ∷ a) b = drop_front a b
-
 -- the line that stands behind other text is cut out again
 first_part : (before line rest : List ℕ) → take ((length before + length line + 1) - length before - 1) (drop (length before) (before ++ (line ++ rest))) ≡ line
 first_part before line rest =
-    ap (λ (l : List ℕ). take ((length before + length line + 1) - length before - 1) l) (drop_front before (line ++ rest))
-    ∙ ap (λ (n : ℕ). take n (line ++ rest)) (let e : (length before + length line + 1) - length before - 1 ≡ length line = omega arith in e) ∙ take_front line rest
+    ap (λ (l : List ℕ). take ((length before + length line + 1) - length before - 1) l) (drop_at before (line ++ rest) (length before) refl)
+    ∙ take_at line rest ((length before + length line + 1) - length before - 1) (omega arith)
 
 -- lines are cut out of their text where they end
 pub parted_behind : (before : List ℕ) (ls : List Line) → parted (length before) (ends_of (length before) ls) (before ++ text_of ls) ≡ ls
@@ -89,48 +82,11 @@ pub flat_written : {X E : Type 0} (r : Result X E) (ends text ends' text' : List
 flat_written (Ok x) ends text ends' text' line flat t e h = (flat_push ends text ends' text' line flat t e).0
 flat_written (Err x) ends text ends' text' line flat t e h = (flat_nil ends' text' h.1 h.0).0
 
--- ---- a line
-
-slice_get_there : (ls : List Line) (i : ℕ) → i < length ls → (line : Line) × (slice_get ls i ≡ Some line)
-slice_get_there [] i lt = absurd (omega arith)
-slice_get_there (line ∷ ls) zero lt = (line, refl)
-slice_get_there (line ∷ ls) (suc i) lt = slice_get_there ls i (omega arith)
-
--- a line stands there in the text, with its LF
-pub record LineAt (start end : ℕ) (text : List ℕ) (line : Line) : Type 0 where
-  pub order : start < end
-  pub within : end ≤ length text
-  pub part : take (end - start - 1) (drop start text) ≡ line
+-- ---- where lines stand in the text
 
 start_next : (end : ℕ) (ends : List ℕ) (i : ℕ) → get_or (end ∷ ends) i 0 ≡ line_start end ends i
 start_next end ends zero = refl
 start_next end ends (suc i) = refl
-
-pub line_there : (before : List ℕ) (ls : List Line) (i : ℕ) (line : Line) → slice_get ls i ≡ Some line
-    → LineAt (line_start (length before) (ends_of (length before) ls) i) (get_or (ends_of (length before) ls) i 0) (before ++ text_of ls) line
-unfolding ends_of
-line_there before [] i line e = absurd cc
-line_there before (first ∷ ls) zero line e =
-    let same : first ≡ line = cc e in
-    subst (λ (l : Line). LineAt (length before) (length before + length first + 1) (before ++ (line_text first ++ text_of ls)) l) same (record {
-      order = omega arith;
-      within = omega (arith, length-append before (line_text first ++ text_of ls), length-append (line_text first) (text_of ls), length-append first (10 ∷ []));
-      part = ap (λ (l : List ℕ). take ((length before + length first + 1) - length before - 1) (drop (length before) (before ++ l))) (append_assoc first (10 ∷ []) (text_of ls)) ∙ first_part before first (10 ∷ text_of ls);
-    })
-line_there before (first ∷ ls) (suc i) line e =
-    let n = length before + length first + 1 in
-    let whole : before ++ (line_text first ++ text_of ls) ≡ (before ++ line_text first) ++ text_of ls = sym (append_assoc before (line_text first) (text_of ls)) in
-    let len : length (before ++ line_text first) ≡ n = length-append before (line_text first) ∙ ap (λ (k : ℕ). length before + k) (length-append first (10 ∷ [])) ∙ omega arith in
-    subst (λ (s : ℕ). LineAt s (get_or (ends_of n ls) i 0) (before ++ (line_text first ++ text_of ls)) line) (sym (start_next n (ends_of n ls) i))
-    (subst (λ (t : List ℕ). LineAt (line_start n (ends_of n ls) i) (get_or (ends_of n ls) i 0) t line) (sym whole)
-    (subst (λ (k : ℕ). LineAt (line_start k (ends_of k ls) i) (get_or (ends_of k ls) i 0) ((before ++ line_text first) ++ text_of ls) line) len (line_there (before ++ line_text first) ls i line e)))
-
--- a line of flat lines
-pub flat_line : (ends text : List ℕ) (i : ℕ) → IsFlat ends text → i < length ends → (line : Line) × (slice_get (parted 0 ends text) i ≡ Some line) × LineAt (line_start 0 ends i) (get_or ends i 0) text line
-flat_line ends text i flat lt =
-    let ls = parted 0 ends text in
-    let (line, there) = slice_get_there ls i (let within : i < length ls = omega (arith, parted_len 0 ends text) in within) in
-    (line, there, subst (λ (t : List ℕ). LineAt (line_start 0 ends i) (get_or ends i 0) t line) (sym flat.text_is) (subst (λ (k : List ℕ). LineAt (line_start 0 k i) (get_or k i 0) (text_of ls) line) (sym flat.ends_are) (line_there [] ls i line there)))
 
 -- line k begins behind the text of those before it
 start_is : (from : ℕ) (ls : List Line) (k : ℕ) → k ≤ length ls → line_start from (ends_of from ls) k ≡ from + length (text_of (take k ls))
@@ -177,9 +133,39 @@ flat_between ends text from to flat order within =
           ap (λ (n : ℕ). take n (drop (line_start 0 ends from) text)) count
           ∙ ap (λ (n : ℕ). take (length (text_of m)) (drop n text)) front
           ∙ ap (λ (t : List ℕ). take (length (text_of m)) (drop (length (text_of a)) t)) parts
-          ∙ ap (λ (t : List ℕ). take (length (text_of m)) t) (drop_front (text_of a) (text_of m ++ text_of r))
-          ∙ take_front (text_of m) (text_of r);
+          ∙ ap (λ (t : List ℕ). take (length (text_of m)) t) (drop_at (text_of a) (text_of m ++ text_of r) (length (text_of a)) refl)
+          ∙ take_at (text_of m) (text_of r) (length (text_of m)) refl;
     }
+
+-- a line stands there in the text, with its LF
+pub record LineAt (start end : ℕ) (text : List ℕ) (line : Line) : Type 0 where
+  pub order : start < end
+  pub within : end ≤ length text
+  pub part : take (end - start - 1) (drop start text) ≡ line
+
+-- a line of flat lines
+pub flat_line : (ends text : List ℕ) (i : ℕ) → IsFlat ends text → i < length ends → (line : Line) × (slice_get (parted 0 ends text) i ≡ Some line) × LineAt (line_start 0 ends i) (get_or ends i 0) text line
+flat_line ends text i flat lt =
+    let ls = parted 0 ends text in
+    let start = line_start 0 ends i in
+    let count = get_or ends i 0 - start in
+    let line = get_or ls i [] in
+    let there : i < length ls = omega (arith, parted_len 0 ends text) in
+    let at = flat_between ends text i (suc i) flat (omega arith) (omega arith) in
+    let one : between i (suc i) ls ≡ line ∷ [] = ap (λ (n : ℕ). take n (drop i ls)) (let e : suc i - i ≡ 1 = omega arith in e) ∙ ap (take 1) (drop_more ls i [] there) in
+    let cut : take count (drop start text) ≡ line_text line = at.part_is ∙ ap text_of one ∙ append-nil (line_text line) in
+    let rest = drop count (drop start text) in
+    let whole : drop start text ≡ line ++ 10 ∷ rest = sym (take-append-drop count (drop start text)) ∙ ap (λ (l : List ℕ). l ++ rest) cut ∙ append_assoc line (10 ∷ []) rest in
+    let short : count ≤ length (drop start text) = omega (arith, length-drop start text, at.within) in
+    let len : count ≡ length line + 1 = sym (length-take-le count (drop start text) short) ∙ ap length cut ∙ length-append line (10 ∷ []) in (
+      line,
+      slice_get-get_or ls i [] there,
+      record {
+        order = omega (arith, len);
+        within = at.within;
+        part = ap (take (count - 1)) whole ∙ take_at line (10 ∷ rest) (count - 1) (omega (arith, len));
+      },
+    )
 
 pub slice_is : (found : Option Line) (end start first : ℕ) (text : List ℕ) (line : Line) → found ≡ Some line → start ≡ first → LineAt first end text line → found ≡ Some (take (end - 1 - start) (drop start text))
 slice_is found end start first text line there e at =

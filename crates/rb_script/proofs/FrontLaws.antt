@@ -1,19 +1,17 @@
 -- What stands above an expectation, by where it stands in the lines.
-use Rattle.std.proofs.Common.{◌≡◌, ℕ, ◌+◌, ◌≤◌, List, [], ◌∷◌, length, take, map, Some, Ok, refl, ap, sym, ◌∙◌, arith}
-use Rattle.std.specs.List.{AllZip}
-use Rattle.rb_script.specs.declared.argument.Argument.{Argument}
+use Rattle.std.proofs.Common.{◌≡◌, ℕ, List, ◌++◌, map, Some, Ok, ap, sym, ◌∙◌, arith}
+use Rattle.std.proofs.lemmas.List.Elements.{All-from_recursion, All-map, recursion_from_All}
+use Rattle.std.proofs.lemmas.Simd.{map-map}
 use Rattle.rb_script.specs.declared.tokens.Tokens.{Tokens}
-use Rattle.rb_script.specs.Lines.{Line, text_of}
+use Rattle.rb_script.specs.Lines.{Line}
 use Rattle.rb_script.specs.Flat.{between}
 use Rattle.rb_script.specs.Joined.{joined}
 use Rattle.rb_script.specs.Heads.{with_inputs, directive_of, head_at, few_or}
-use Rattle.rb_script.specs.Tokens.{SpannedArgument, token, plain}
-use Rattle.rb_script.specs.Parsed.{spanned, texts, ParsesHead}
+use Rattle.rb_script.specs.Tokens.{token, argument_of, plain}
+use Rattle.rb_script.specs.Parsed.{spanned, AreParts, texts, ParsesHead}
 use Rattle.rb_script.specs.Fronts.{PlainFront, front_of, AreInOrder, block_of_front, directive_of_front, HasTokens}
-use Rattle.rb_script.proofs.ArgumentLaws.{parts_map, plain_map}
 use Rattle.rb_script.proofs.BlockLaws.{few_is}
-use Rattle.rb_script.proofs.BetweenLaws.{take_between}
-use Rattle.rb_script.proofs.LengthLaws.{text-append-length}
+use Rattle.rb_script.proofs.BetweenLaws.{between_split}
 
 -- ---- tokens
 
@@ -23,8 +21,8 @@ parsed_tokens all lead head input end number t parses =
     let h = between head input all in
     let found = few_is number (head_at (joined h)) (texts h t) parses.0 in
     record {
-      texts_are = found.0 ∙ ap (λ args. Some (token h t.name, args)) (sym (plain_map h t.args.items));
-      parts = record { name = parses.1.0; args = parts_map h t.args.items parses.1.1 };
+      texts_are = found.0 ∙ ap (λ args. Some (token h t.name, args)) (sym (map-map (argument_of h) spanned t.args.items));
+      parts = record { name = parses.1.0; args = recursion_from_All (AreParts h) (map spanned t.args.items) (All-map (AreParts h) spanned t.args.items (All-from_recursion (λ a. AreParts h (spanned a)) t.args.items parses.1.1)) };
     }
 
 -- the directive is what the grammar says of the head
@@ -32,26 +30,10 @@ pub front_plain : (f : PlainFront) (expected : List Line) → HasTokens f → pl
 unfolding directive_of
 front_plain f expected tokens = ap (with_inputs f.input) (sym tokens.texts_are)
 
--- ---- how long the text is
+-- ---- lines
 
--- the text up to a position, and from there up to another
-text_upto : (all : List Line) (from to : ℕ) → from ≤ to → length (text_of (take to all)) ≡ length (text_of (take from all)) + length (text_of (between from to all))
-text_upto all from to le = ap (λ (l : List Line). length (text_of l)) (take_between from to all le) ∙ text-append-length (take from all) (between from to all)
-
--- the three texts are one
-pub front_text_len : (all : List Line) (lead head input end : ℕ) → AreInOrder all lead head input end → length (text_of (between lead end all)) ≡ length (text_of (between lead head all)) + length (text_of (between head input all)) + length (text_of (between input end all))
-front_text_len all lead head input end order =
-    let first = text_upto all lead head order.0 in
-    let second = text_upto all head input order.1 in
-    let third = text_upto all input end order.2 in
-    let whole = text_upto all lead end (omega (arith, order.0, order.1, order.2)) in
-    omega (arith, first, second, third, whole)
-
--- ---- arguments
-
--- clones stand where the arguments do
-pub clones_are : (args clones : List Argument) → AllZip (λ a b. spanned b ≡ spanned a) args clones → map spanned clones ≡ map spanned args
-clones_are [] [] e = refl
-clones_are [] (b ∷ clones) e = absurd e
-clones_are (a ∷ args) [] e = absurd e
-clones_are (a ∷ args) (b ∷ clones) e = ap (λ (s : SpannedArgument). s ∷ map spanned clones) e.0 ∙ ap (λ (l : List SpannedArgument). spanned a ∷ l) (clones_are args clones e.1)
+-- the three stand one behind the other
+pub front_lines : (all : List Line) (lead head input end : ℕ) → AreInOrder all lead head input end → between lead end all ≡ between lead head all ++ (between head input all ++ between input end all)
+front_lines all lead head input end order =
+    between_split lead head end all order.0 (omega (arith, order.1, order.2))
+    ∙ ap (λ (l : List Line). between lead head all ++ l) (between_split head input end all order.1 order.2)

@@ -1,3 +1,4 @@
+pub mod ListLaws
 pub mod BetweenLaws
 pub mod FlatLaws
 pub mod WholeLaws
@@ -9,6 +10,7 @@ pub mod ReadingLaws
 pub mod LimitLaws
 pub mod ShortLaws
 pub mod TokenLaws
+pub mod StandsLaws
 pub mod ArgumentLaws
 pub mod GrammarLaws
 pub mod ResultLaws
@@ -22,6 +24,7 @@ pub mod TextLaws
 pub mod ValidLaws
 pub mod FaultLaws
 pub mod HeadLineLaws
+pub mod SentLaws
 pub mod WriteLaws
 pub mod LengthLaws
 pub mod SharedLaws

@@ -1,70 +1,52 @@
 -- The first of the places of a byte.
-use Rattle.std.proofs.Common.{◌≡◌, ◌≢◌, ℕ, zero, suc, ◌+◌, ◌-◌, ◌<◌, ◌≤◌, cond, eqb, List, [], ◌∷◌, length, get_or, eqb-true, eq-eqb, sym, ap, ◌∙◌, arith, inl, inr}
+use Rattle.std.proofs.Common.{◌≡◌, ◌≢◌, ℕ, zero, suc, ◌+◌, ◌-◌, ◌<◌, Bool, true, false, cond, List, [], ◌∷◌, length, get_or, eqb-true, eq-eqb, sym, ap, subst, ◌∙◌, arith, inl, inr}
 use Rattle.std.proofs.lemmas.Bool.{cases_Bool, cases_eq, false≢true}
 use Rattle.std.specs.Prelude.{Option, Some, None, IfSome, IfNone}
-use Rattle.memchr.specs.Find.{TakesFirst, is_byte, places_from, places}
+use Rattle.memchr.specs.Find.{TakesFirst, Passes, Nowhere, IsFirst, is_byte, places_from, places}
 
--- where no place is left, the byte is at none
-nowhere : (byte : ℕ) (hay : List ℕ) (i n : ℕ) → places_from (is_byte byte) hay i n ≡ [] → (k : ℕ) → i ≤ k → k < i + n → get_or hay k 0 ≢ byte
-unfolding places_from
-nowhere byte hay i zero e k low high same = absurd (omega arith)
-nowhere byte hay i (suc n) e k low high same =
-    let later = places_from (is_byte byte) hay (i + 1) n in
-    elim (cases_Bool (eqb (get_or hay i 0) byte)) [
-      | inl t ↦ let some : i ∷ later ≡ [] = sym (ap (λ b. cond b (i ∷ later) later) t) ∙ e in absurd cc
-      | inr f ↦
-          elim (cases_eq k i) [
-            | inl here ↦ absurd (false≢true (sym f ∙ eq-eqb (get_or hay i 0) byte (ap (λ (j : ℕ). get_or hay j 0) (sym here) ∙ same)))
-            | inr other ↦ nowhere byte hay (i + 1) n (sym (ap (λ b. cond b (i ∷ later) later) f) ∙ e) k (omega arith) (omega arith) same
-          ]
-    ]
+module _ (test : ℕ → Bool) (hay : List ℕ) where
+  -- where a byte fails, and none behind it passes
+  nowhere_more : (i j : ℕ) → test (get_or hay i 0) ≡ false → Nowhere (Passes test hay) (i + 1) j → Nowhere (Passes test hay) i j
+  nowhere_more i j fails later k low high passes =
+      elim (cases_eq k i) [
+        | inl here ↦ absurd (false≢true (sym fails ∙ ap (λ (n : ℕ). test (get_or hay n 0)) (sym here) ∙ passes))
+        | inr other ↦ later k (omega arith) high passes
+      ]
 
--- the first place has the byte, and none before it does
-record FirstAt (byte : ℕ) (hay : List ℕ) (i end k : ℕ) : Type 0 where
-  pub low : i ≤ k
-  pub within : k < end
-  pub is : get_or hay k 0 ≡ byte
-  pub first : (j : ℕ) → i ≤ j → j < k → get_or hay j 0 ≢ byte
+  first_here : (i n : ℕ) (found : Option ℕ) (later rest : List ℕ) → Passes test hay i → TakesFirst (i ∷ later) found rest → IsFirst (Passes test hay) i (i + suc n) found
+  first_here i n None later rest passes e = let none : i ∷ later ≡ [] = e.0 in absurd cc
+  first_here i n (Some k) later rest passes e =
+      let same : i ≡ k = cc e in
+      (record { low = omega arith; high = omega arith; before = λ j low lt. absurd (omega arith) }, subst (Passes test hay) same passes)
 
-first_at : (byte : ℕ) (hay : List ℕ) (i n k : ℕ) (rest : List ℕ) → places_from (is_byte byte) hay i n ≡ k ∷ rest → FirstAt byte hay i (i + n) k
-unfolding places_from
-first_at byte hay i zero k rest e = absurd cc
-first_at byte hay i (suc n) k rest e =
-    let later = places_from (is_byte byte) hay (i + 1) n in
-    elim (cases_Bool (eqb (get_or hay i 0) byte)) [
-      | inl t ↦
-          let found : i ∷ later ≡ k ∷ rest = sym (ap (λ b. cond b (i ∷ later) later) t) ∙ e in
-          let same : i ≡ k = cc found in
-          record {
-            low = omega arith;
-            within = omega arith;
-            is = ap (λ (j : ℕ). get_or hay j 0) (sym same) ∙ eqb-true (get_or hay i 0) byte t;
-            first = λ j low lt. absurd (omega arith);
-          }
-      | inr f ↦
-          let next = first_at byte hay (i + 1) n k rest (sym (ap (λ b. cond b (i ∷ later) later) f) ∙ e) in
-          record {
-            low = omega (arith, next.low);
-            within = omega (arith, next.within);
-            is = next.is;
-            first = λ j low lt same.
-                elim (cases_eq j i) [
-                  | inl here ↦ absurd (false≢true (sym f ∙ eq-eqb (get_or hay i 0) byte (ap (λ (m : ℕ). get_or hay m 0) (sym here) ∙ same)))
-                  | inr other ↦ next.first j (omega arith) lt same
-                ];
-          }
-    ]
+  first_behind : (i n : ℕ) (found : Option ℕ) → test (get_or hay i 0) ≡ false → IsFirst (Passes test hay) (i + 1) (i + 1 + n) found → IsFirst (Passes test hay) i (i + suc n) found
+  first_behind i n None fails later = λ k low high. nowhere_more i (i + 1 + n) fails later k low (omega arith)
+  first_behind i n (Some k) fails later = (record { low = omega (arith, later.0.low); high = omega (arith, later.0.high); before = nowhere_more i k fails later.0.before }, later.1)
+
+  -- the first place is one that passes, and none before it does
+  first_place : (i n : ℕ) (found : Option ℕ) (rest : List ℕ) → TakesFirst (places_from test hay i n) found rest → IsFirst (Passes test hay) i (i + n) found
+  unfolding places_from
+  first_place i zero None rest e = λ k low high. absurd (omega arith)
+  first_place i zero (Some k) rest e = absurd cc
+  first_place i (suc n) found rest e =
+      let later = places_from test hay (i + 1) n in
+      let is : (b : Bool) → test (get_or hay i 0) ≡ b → TakesFirst (cond b (i ∷ later) later) found rest = λ b h. subst (λ t. TakesFirst (cond t (i ∷ later) later) found rest) h e in
+      elim (cases_Bool (test (get_or hay i 0))) [
+        | inl t ↦ first_here i n found later rest t (is true t)
+        | inr f ↦ first_behind i n found f (first_place (i + 1) n found rest (is false f))
+      ]
 
 -- ---- what a search of all bytes answers
 
-pub found_none : (byte : ℕ) (hay : List ℕ) (found : Option ℕ) (rest : List ℕ) → TakesFirst (places (is_byte byte) hay) found rest → IfNone found ((k : ℕ) → k < length hay → get_or hay k 0 ≢ byte)
-found_none byte hay None rest e = λ k lt. nowhere byte hay 0 (length hay - 0) e.0 k (omega arith) (omega arith)
-found_none byte hay (Some k) rest e = tt
+module _ (byte : ℕ) (hay : List ℕ) where
+  pub found_none : (found : Option ℕ) (rest : List ℕ) → TakesFirst (places (is_byte byte) hay) found rest → IfNone found ((k : ℕ) → k < length hay → get_or hay k 0 ≢ byte)
+  found_none None rest e = λ k lt same. first_place (is_byte byte) hay 0 (length hay - 0) None rest e k (omega arith) (omega arith) (eq-eqb (get_or hay k 0) byte same)
+  found_none (Some k) rest e = tt
 
-pub found_some : (byte : ℕ) (hay : List ℕ) (found : Option ℕ) (rest : List ℕ) → TakesFirst (places (is_byte byte) hay) found rest → IfSome found (λ k. (k < length hay) × (get_or hay k 0 ≡ byte))
-found_some byte hay None rest e = tt
-found_some byte hay (Some k) rest e = let at = first_at byte hay 0 (length hay - 0) k rest e in (omega (arith, at.within), at.is)
+  pub found_some : (found : Option ℕ) (rest : List ℕ) → TakesFirst (places (is_byte byte) hay) found rest → IfSome found (λ k. (k < length hay) × (get_or hay k 0 ≡ byte))
+  found_some None rest e = tt
+  found_some (Some k) rest e = let at = first_place (is_byte byte) hay 0 (length hay - 0) (Some k) rest e in (omega (arith, at.0.high), eqb-true (get_or hay k 0) byte at.1)
 
-pub found_first : (byte : ℕ) (hay : List ℕ) (found : Option ℕ) (rest : List ℕ) → TakesFirst (places (is_byte byte) hay) found rest → IfSome found (λ k. (j : ℕ) → j < k → get_or hay j 0 ≢ byte)
-found_first byte hay None rest e = tt
-found_first byte hay (Some k) rest e = let at = first_at byte hay 0 (length hay - 0) k rest e in λ j lt. at.first j (omega arith) lt
+  pub found_first : (found : Option ℕ) (rest : List ℕ) → TakesFirst (places (is_byte byte) hay) found rest → IfSome found (λ k. (j : ℕ) → j < k → get_or hay j 0 ≢ byte)
+  found_first None rest e = tt
+  found_first (Some k) rest e = let at = first_place (is_byte byte) hay 0 (length hay - 0) (Some k) rest e in λ j lt same. at.0.before j (omega arith) lt (eq-eqb (get_or hay j 0) byte same)

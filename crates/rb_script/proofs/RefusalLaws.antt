@@ -1,8 +1,8 @@
 -- Why an edit is refused, and what it makes where it isn't.
-use Rattle.std.proofs.Common.{◌≡◌, ℕ, ◌+◌, ◌≤◌, ◌<◌, Bool, true, false, not, ◌&&◌, ◌||◌, List, [], ◌∷◌, ◌++◌, length, Result, Ok, Err, refl, ap, sym, subst, ◌∙◌, arith, inl, inr, ◌⊎◌}
-use Rattle.std.specs.Prelude.{◌==◌, nat_lt, nat_le}
+use Rattle.std.proofs.Common.{◌≡◌, ℕ, ◌+◌, ◌≤◌, ◌<◌, Bool, true, false, not, ◌&&◌, List, [], ◌∷◌, ◌++◌, length, Result, Ok, Err, refl, ap, sym, subst, ◌∙◌, arith, inl, inr, ◌⊎◌}
+use Rattle.std.specs.Prelude.{◌==◌, nat_lt}
 use Rattle.std.specs.List.{list_all, AllByRecursion}
-use Rattle.std.proofs.lemmas.Bool.{cases_Bool, and_parts, and_from, and_left, and_right, or_cases, not-true, eqb-true, eqb-false, ltb-true, ltb-false, leb-true, leb-false}
+use Rattle.std.proofs.lemmas.Bool.{cases_Bool, and_parts, and_from, and_left, and_right, or_cases, or_parts, not-true, not-false, eqb-true, eqb-false, ltb-true, ltb-false, leb-true, leb-false}
 use Rattle.rb_script.specs.declared.fault.EditFault.{EditFault}
 use Rattle.rb_script.specs.declared.fault.EditFault.TheVariants.{NoSuchPlace, BadExpectation, TooManyDirectives, TooLong}
 use Rattle.rb_script.specs.declared.edit.Edit.{Edit}
@@ -15,9 +15,11 @@ use Rattle.rb_script.specs.Reads.{is_readable, ends_or_rules}
 use Rattle.rb_script.specs.Valid.{IsLine}
 use Rattle.rb_script.specs.Edits.{is_text_line, is_expectation, unless, fitting, is_no_place, edited}
 use Rattle.rb_script.specs.LineParts.{HasNoEnd}
-use Rattle.rb_script.specs.Refusals.{IsPlace, CanBeExpected, made_by, MayBeMade, IsEditFault}
+use Rattle.rb_script.specs.Refusals.{IsPlace, HasPlace, HasExpectations, HasRoom, CanBeExpected, made_by, MayBeMade, IsEditFault}
+use Rattle.rb_script.proofs.ListLaws.{every_told, all_pass}
 use Rattle.rb_script.proofs.SharedLaws.{text_lines, line_text_is}
 use Rattle.rb_script.proofs.ExpectationLaws.{rule_is}
+use Rattle.rb_script.proofs.EditedLaws.{no_place, no_expectation, no_room, allowed, edited_is}
 
 -- ---- lines that can be read back
 
@@ -72,47 +74,35 @@ readable_complete (line ∷ ls) h =
     in
     and_from (not (is_rule line && ends_or_rules ls)) (is_readable ls) (ap not apart) (readable_complete ls (behind_first line ls h))
 
--- lines that read as themselves pass the test
-lines_pass : (ls : List Line) → AllByRecursion IsLine ls → list_all is_text_line ls ≡ true
-lines_pass [] h = refl
-lines_pass (line ∷ ls) h = and_from (is_text_line line) (list_all is_text_line ls) (line_text_is line h.0) (lines_pass ls h.1)
-
 -- lines that pass the test can be expected
 pub expectation_sound : (ls : List Line) → is_expectation ls ≡ true → CanBeExpected ls
 expectation_sound ls h = let p = and_parts (is_readable ls) (list_all is_text_line ls) h in record { no_end = readable_sound ls p.0; lines = text_lines ls p.1 }
 
 -- and the other way round
 pub expectation_complete : (ls : List Line) → CanBeExpected ls → is_expectation ls ≡ true
-expectation_complete ls h = and_from (is_readable ls) (list_all is_text_line ls) (readable_complete ls h.no_end) (lines_pass ls h.lines)
+expectation_complete ls h = and_from (is_readable ls) (list_all is_text_line ls) (readable_complete ls h.no_end) (all_pass is_text_line IsLine line_text_is ls h.lines)
 
 -- each of these can be expected
 expectations_sound : (outputs : List (List Line)) → list_all is_expectation outputs ≡ true → AllByRecursion CanBeExpected outputs
-expectations_sound [] h = tt
-expectations_sound (ls ∷ outputs) h = let p = and_parts (is_expectation ls) (list_all is_expectation outputs) h in (expectation_sound ls p.0, expectations_sound outputs p.1)
+expectations_sound outputs h = every_told is_expectation CanBeExpected expectation_sound outputs h
 
 expectations_complete : (outputs : List (List Line)) → AllByRecursion CanBeExpected outputs → list_all is_expectation outputs ≡ true
-expectations_complete [] h = refl
-expectations_complete (ls ∷ outputs) h = and_from (is_expectation ls) (list_all is_expectation outputs) (expectation_complete ls h.0) (expectations_complete outputs h.1)
+expectations_complete outputs h = all_pass is_expectation CanBeExpected expectation_complete outputs h
 
 -- ---- tests
 
--- neither holds
-or_both : (x y : Bool) → (x || y) ≡ false → (x ≡ false) × (y ≡ false)
-or_both true y h = absurd cc
-or_both false y h = (refl, h)
-
 -- where the test finds no place there is none
-no_place : (k n : ℕ) → is_no_place k n ≡ true → IsPlace k n → ⊥
-no_place k n h place =
+no_spot : (k n : ℕ) → is_no_place k n ≡ true → IsPlace k n → ⊥
+no_spot k n h place =
     elim (or_cases (k == 0) (nat_lt n k) h) [
       | inl e ↦ let zero : k ≡ 0 = eqb-true k 0 e in omega (arith, place.0)
       | inr e ↦ let past : n < k = ltb-true n k e in omega (arith, place.1)
     ]
 
 -- and else there is one
-some_place : (k n : ℕ) → is_no_place k n ≡ false → IsPlace k n
-some_place k n h =
-    let p = or_both (k == 0) (nat_lt n k) h in
+some_spot : (k n : ℕ) → is_no_place k n ≡ false → IsPlace k n
+some_spot k n h =
+    let p = or_parts (k == 0) (nat_lt n k) h in
     let some : k ≡ 0 → ⊥ = eqb-false k 0 p.0 in
     let within : k ≤ n = ltb-false n k p.1 in
     (omega arith, within)
@@ -146,16 +136,7 @@ fitting_err s d h =
 fitting_ok : (s t : PlainScript) → fitting s ≡ made t → t ≡ s
 fitting_ok s t h = let f = (unless_ok (nat_lt MAX_SCRIPT (length (text s))) TooLong (made s) t h).1 in let same : s ≡ t = cc in sym same
 
--- ---- each edit
-
-module _ (s : PlainScript) (e : Edit) (outputs : List (List Line)) (fault : EditFault) where
-  -- the fault that was found is the fault
-  is_fault : (found : EditFault) → found ≡ fault → IsEditFault s e outputs found → IsEditFault s e outputs fault
-  is_fault found same h = subst (λ (x : EditFault). IsEditFault s e outputs x) same h
-
-  -- nothing but the text was wrong
-  is_long : MayBeMade s e outputs → fitting (made_by s e outputs) ≡ refused fault → IsEditFault s e outputs fault
-  is_long may h = let f = fitting_err (made_by s e outputs) fault h in is_fault TooLong f.0 (may, f.1)
+-- ---- each test, and what it means
 
 -- what the edit expects can't be expected
 bad_lines : (ls : List Line) → not (is_expectation ls) ≡ true → CanBeExpected ls → ⊥
@@ -164,91 +145,73 @@ bad_lines ls h can = let no : true ≡ false = sym (expectation_complete ls can)
 bad_outputs : (outputs : List (List Line)) → not (list_all is_expectation outputs) ≡ true → AllByRecursion CanBeExpected outputs → ⊥
 bad_outputs outputs h can = let no : true ≡ false = sym (expectations_complete outputs can) ∙ not-true (list_all is_expectation outputs) h in cc
 
--- not twice is nothing
-not_false : (b : Bool) → not b ≡ false → b ≡ true
-not_false true h = refl
-not_false false h = absurd cc
+-- a test that finds that this isn't so
+abbrev Refutes : Bool → Type 0 → Type 0
+Refutes test P = (test ≡ true → P → ⊥) × (test ≡ false → P)
+
+place_test : (s : PlainScript) (e : Edit) → Refutes (no_place s e) (HasPlace s e)
+place_test s (Insert k block) = (no_spot k (length s.blocks + 1), some_spot k (length s.blocks + 1))
+place_test s (Replace k block) = (no_spot k (length s.blocks), some_spot k (length s.blocks))
+place_test s (Remove k) = (no_spot k (length s.blocks), some_spot k (length s.blocks))
+place_test s (Expect k lines) = (no_spot k (length s.blocks), some_spot k (length s.blocks))
+place_test s Accept = (λ h. absurd cc, λ h. tt)
+
+expectation_test : (e : Edit) (outputs : List (List Line)) → Refutes (no_expectation e outputs) (HasExpectations e outputs)
+expectation_test (Insert k block) outputs = (λ h. absurd cc, λ h. tt)
+expectation_test (Replace k block) outputs = (λ h. absurd cc, λ h. tt)
+expectation_test (Remove k) outputs = (λ h. absurd cc, λ h. tt)
+expectation_test (Expect k lines) outputs = (bad_lines lines, λ h. expectation_sound lines (not-false (is_expectation lines) h))
+expectation_test Accept outputs = (bad_outputs outputs, λ h. expectations_sound outputs (not-false (list_all is_expectation outputs) h))
+
+room_test : (s : PlainScript) (e : Edit) → Refutes (no_room s e) (HasRoom s e)
+room_test s (Insert k block) =
+    let n = length s.blocks in
+    (λ h room. let many : MAX_DIRECTIVES ≤ n = leb-true MAX_DIRECTIVES n h in omega (arith, room), λ h. leb-false MAX_DIRECTIVES n h)
+room_test s (Replace k block) = (λ h. absurd cc, λ h. tt)
+room_test s (Remove k) = (λ h. absurd cc, λ h. tt)
+room_test s (Expect k lines) = (λ h. absurd cc, λ h. tt)
+room_test s Accept = (λ h. absurd cc, λ h. tt)
+
+-- where the edit is allowed, its text alone may be too long
+allowed_err : (s : PlainScript) (e : Edit) (outputs : List (List Line)) (d : EditFault) → allowed s e outputs ≡ refused d → (TooLong ≡ d) × (MAX_SCRIPT < length (text (made_by s e outputs)))
+allowed_err s (Insert k block) outputs d h = fitting_err (made_by s (Insert k block) outputs) d h
+allowed_err s (Replace k block) outputs d h = fitting_err (made_by s (Replace k block) outputs) d h
+allowed_err s (Remove k) outputs d h = absurd cc
+allowed_err s (Expect k lines) outputs d h = fitting_err (made_by s (Expect k lines) outputs) d h
+allowed_err s Accept outputs d h = fitting_err (made_by s Accept outputs) d h
+
+allowed_ok : (s : PlainScript) (e : Edit) (outputs : List (List Line)) (t : PlainScript) → allowed s e outputs ≡ made t → t ≡ made_by s e outputs
+allowed_ok s (Insert k block) outputs t h = fitting_ok (made_by s (Insert k block) outputs) t h
+allowed_ok s (Replace k block) outputs t h = fitting_ok (made_by s (Replace k block) outputs) t h
+allowed_ok s (Remove k) outputs t h = let same : made_by s (Remove k) outputs ≡ t = cc in sym same
+allowed_ok s (Expect k lines) outputs t h = fitting_ok (made_by s (Expect k lines) outputs) t h
+allowed_ok s Accept outputs t h = fitting_ok (made_by s Accept outputs) t h
 
 -- why an edit is refused
 pub edit_fault : (s : PlainScript) (e : Edit) (outputs : List (List Line)) (fault : EditFault) → edited s e outputs ≡ Err fault → IsEditFault s e outputs fault
-unfolding edited
-edit_fault s (Insert k block) outputs fault h =
-    let e = Insert k block in
-    let n = length s.blocks in
-    let full = nat_le MAX_DIRECTIVES n in
-    let new = made_by s e outputs in
-    elim (unless_err (is_no_place k (n + 1)) NoSuchPlace fault (unless full TooManyDirectives (fitting new)) h) [
-      | inl t ↦ is_fault s e outputs fault NoSuchPlace t.1 (no_place k (n + 1) t.0)
+edit_fault s e outputs fault h =
+    let is : (found : EditFault) → found ≡ fault → IsEditFault s e outputs found → IsEditFault s e outputs fault = λ found same i. subst (λ (x : EditFault). IsEditFault s e outputs x) same i in
+    let behind = unless (no_room s e) TooManyDirectives (allowed s e outputs) in
+    elim (unless_err (no_place s e) NoSuchPlace fault (unless (no_expectation e outputs) BadExpectation behind) (sym (edited_is s e outputs) ∙ h)) [
+      | inl t ↦ is NoSuchPlace t.1 ((place_test s e).0 t.0)
       | inr f ↦
-          let place = some_place k (n + 1) f.0 in
-          elim (unless_err full TooManyDirectives fault (fitting new) f.1) [
-            | inl t ↦ let many : MAX_DIRECTIVES ≤ n = leb-true MAX_DIRECTIVES n t.0 in is_fault s e outputs fault TooManyDirectives t.1 (place, tt, λ room. omega (arith, room))
-            | inr g ↦ is_long s e outputs fault (record { place = place; expectations = tt; room = leb-false MAX_DIRECTIVES n g.0 }) g.1
+          let place = (place_test s e).1 f.0 in
+          elim (unless_err (no_expectation e outputs) BadExpectation fault behind f.1) [
+            | inl t ↦ is BadExpectation t.1 (place, (expectation_test e outputs).0 t.0)
+            | inr g ↦
+                let expectations = (expectation_test e outputs).1 g.0 in
+                elim (unless_err (no_room s e) TooManyDirectives fault (allowed s e outputs) g.1) [
+                  | inl t ↦ is TooManyDirectives t.1 (place, expectations, (room_test s e).0 t.0)
+                  | inr r ↦ let long = allowed_err s e outputs fault r.1 in is TooLong long.0 (record { place = place; expectations = expectations; room = (room_test s e).1 r.0 }, long.1)
+                ]
           ]
-    ]
-edit_fault s (Replace k block) outputs fault h =
-    let e = Replace k block in
-    let n = length s.blocks in
-    elim (unless_err (is_no_place k n) NoSuchPlace fault (fitting (made_by s e outputs)) h) [
-      | inl t ↦ is_fault s e outputs fault NoSuchPlace t.1 (no_place k n t.0)
-      | inr f ↦ is_long s e outputs fault (record { place = some_place k n f.0; expectations = tt; room = tt }) f.1
-    ]
-edit_fault s (Remove k) outputs fault h =
-    let e = Remove k in
-    let n = length s.blocks in
-    elim (unless_err (is_no_place k n) NoSuchPlace fault (made (made_by s e outputs)) h) [
-      | inl t ↦ is_fault s e outputs fault NoSuchPlace t.1 (no_place k n t.0)
-      | inr f ↦ let no : made (made_by s e outputs) ≡ refused fault = f.1 in absurd cc
-    ]
-edit_fault s (Expect k lines) outputs fault h =
-    let e = Expect k lines in
-    let n = length s.blocks in
-    let bad = not (is_expectation lines) in
-    let new = made_by s e outputs in
-    elim (unless_err (is_no_place k n) NoSuchPlace fault (unless bad BadExpectation (fitting new)) h) [
-      | inl t ↦ is_fault s e outputs fault NoSuchPlace t.1 (no_place k n t.0)
-      | inr f ↦
-          let place = some_place k n f.0 in
-          elim (unless_err bad BadExpectation fault (fitting new) f.1) [
-            | inl t ↦ is_fault s e outputs fault BadExpectation t.1 (place, bad_lines lines t.0)
-            | inr g ↦ is_long s e outputs fault (record { place = place; expectations = expectation_sound lines (not_false (is_expectation lines) g.0); room = tt }) g.1
-          ]
-    ]
-edit_fault s Accept outputs fault h =
-    let bad = not (list_all is_expectation outputs) in
-    elim (unless_err bad BadExpectation fault (fitting (made_by s Accept outputs)) h) [
-      | inl t ↦ is_fault s Accept outputs fault BadExpectation t.1 (tt, bad_outputs outputs t.0)
-      | inr g ↦ is_long s Accept outputs fault (record { place = tt; expectations = expectations_sound outputs (not_false (list_all is_expectation outputs) g.0); room = tt }) g.1
     ]
 
 -- what an edit makes
 pub edit_made : (s : PlainScript) (e : Edit) (outputs : List (List Line)) (t : PlainScript) → edited s e outputs ≡ Ok t → MayBeMade s e outputs × (t ≡ made_by s e outputs)
-unfolding edited
-edit_made s (Insert k block) outputs t h =
-    let n = length s.blocks in
-    let full = nat_le MAX_DIRECTIVES n in
-    let new = made_by s (Insert k block) outputs in
-    let p = unless_ok (is_no_place k (n + 1)) NoSuchPlace (unless full TooManyDirectives (fitting new)) t h in
-    let q = unless_ok full TooManyDirectives (fitting new) t p.1 in
-    (record { place = some_place k (n + 1) p.0; expectations = tt; room = leb-false MAX_DIRECTIVES n q.0 }, fitting_ok new t q.1)
-edit_made s (Replace k block) outputs t h =
-    let new = made_by s (Replace k block) outputs in
-    let p = unless_ok (is_no_place k (length s.blocks)) NoSuchPlace (fitting new) t h in
-    (record { place = some_place k (length s.blocks) p.0; expectations = tt; room = tt }, fitting_ok new t p.1)
-edit_made s (Remove k) outputs t h =
-    let new = made_by s (Remove k) outputs in
-    let p = unless_ok (is_no_place k (length s.blocks)) NoSuchPlace (made new) t h in
-    let is : made new ≡ made t = p.1 in
-    let same : new ≡ t = cc in
-    (record { place = some_place k (length s.blocks) p.0; expectations = tt; room = tt }, sym same)
-edit_made s (Expect k lines) outputs t h =
-    let bad = not (is_expectation lines) in
-    let new = made_by s (Expect k lines) outputs in
-    let p = unless_ok (is_no_place k (length s.blocks)) NoSuchPlace (unless bad BadExpectation (fitting new)) t h in
-    let q = unless_ok bad BadExpectation (fitting new) t p.1 in
-    (record { place = some_place k (length s.blocks) p.0; expectations = expectation_sound lines (not_false (is_expectation lines) q.0); room = tt }, fitting_ok new t q.1)
-edit_made s Accept outputs t h =
-    let bad = not (list_all is_expectation outputs) in
-    let new = made_by s Accept outputs in
-    let q = unless_ok bad BadExpectation (fitting new) t h in
-    (record { place = tt; expectations = expectations_sound outputs (not_false (list_all is_expectation outputs) q.0); room = tt }, fitting_ok new t q.1)
+edit_made s e outputs t h =
+    let behind = unless (no_room s e) TooManyDirectives (allowed s e outputs) in
+    let p = unless_ok (no_place s e) NoSuchPlace (unless (no_expectation e outputs) BadExpectation behind) t (sym (edited_is s e outputs) ∙ h) in
+    let q = unless_ok (no_expectation e outputs) BadExpectation behind t p.1 in
+    let r = unless_ok (no_room s e) TooManyDirectives (allowed s e outputs) t q.1 in
+    (record { place = (place_test s e).1 p.0; expectations = (expectation_test e outputs).1 q.0; room = (room_test s e).1 r.0 }, allowed_ok s e outputs t r.1)

@@ -60,18 +60,6 @@ early_through X Y (Some fault) e h = ap (λ (d : ScriptFault). failed {A = Y} d)
 
 -- ---- what a function answered, where reading gives what fits and nothing else
 
--- where memory didn't run out, a fault is none of an answer
-fails_ok : {X : Type 0} (e : ScriptFault) (x : X) → Fails e (done x) → e ≢ faults.OutOfMemory → ⊥
-fails_ok faults.TooLong x h ne = cc
-fails_ok (faults.LineTooLong n) x h ne = cc
-fails_ok (faults.BadLine n) x h ne = cc
-fails_ok (faults.NoSeparator n) x h ne = cc
-fails_ok (faults.NotClosed n) x h ne = cc
-fails_ok faults.TooManyDirectives x h ne = cc
-fails_ok faults.NotOneBlock x h ne = cc
-fails_ok (faults.TooManyArguments n) x h ne = cc
-fails_ok faults.OutOfMemory x h ne = ne refl
-
 -- a fault of an answer is want of memory
 pub memory_is : {X : Type 0} (e : ScriptFault) (x : X) → Fails e (done x) → e ≡ faults.OutOfMemory
 memory_is faults.TooLong x h = absurd cc
@@ -97,4 +85,4 @@ module _ {X : Type 0} (Fits : X → Type 0) (read : Result X ScriptFault) (sound
   -- where a fault is answered nothing fits, unless memory ran out
   pub none_fits : (result : Result X ScriptFault) → Gives {X = X} {Y = X} (λ x. x) result read → IfErr result (λ e. e ≢ faults.OutOfMemory → (x : X) → Fits x → ⊥)
   none_fits (Ok x) h = tt
-  none_fits (Err e) h = λ ne x fits. fails_ok e x (subst (λ (r : Result X ScriptFault). Fails e r) (complete x fits) h) ne
+  none_fits (Err e) h = λ ne x fits. ne (memory_is e x (subst (λ (r : Result X ScriptFault). Fails e r) (complete x fits) h))

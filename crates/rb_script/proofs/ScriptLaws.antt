@@ -1,5 +1,5 @@
 -- Whole scripts, and one block alone: what is read is in the relation, and what is in the relation is read.
-use Rattle.std.proofs.Common.{◌≡◌, ℕ, ◌+◌, ◌≤◌, cond, ltb, List, [], ◌∷◌, length, Option, Some, None, Result, Ok, Err, refl, ap, sym, subst, ◌∙◌, inl, inr}
+use Rattle.std.proofs.Common.{◌≡◌, ℕ, ◌+◌, ◌≤◌, false, cond, ltb, List, [], ◌∷◌, length, Option, Some, None, Result, Ok, Err, refl, ap, sym, subst, ◌∙◌, inl, inr}
 use Rattle.std.specs.List.{AllByRecursion}
 use Rattle.std.proofs.lemmas.Bool.{cases_Bool, ltb-false, le-ltb}
 use Rattle.rb_script.specs.declared.fault.ScriptFault.{ScriptFault}
@@ -7,7 +7,8 @@ use Rattle.rb_script.specs.declared.fault.ScriptFault.TheVariants as faults
 use Rattle.rb_script.specs.declared.limits.TheConstants.{MAX_SCRIPT, MAX_LINE, MAX_DIRECTIVES}
 use Rattle.rb_script.specs.Lines.{Line, lines}
 use Rattle.rb_script.specs.Script.{PlainBlock, PlainScript, text}
-use Rattle.rb_script.specs.Reads.{ReadsBlocks, Reads, alone}
+use Rattle.rb_script.specs.Reads.{Reads, alone}
+use Rattle.rb_script.specs.Faults.{AreBlocks, AreShort}
 use Rattle.rb_script.specs.Results.{◌>>=◌}
 use Rattle.rb_script.specs.Blocks.{blocks_at}
 use Rattle.rb_script.specs.Reading.{long_line, no_long_line, parts_of, fits_text, read_of, only_block, block_of}
@@ -39,12 +40,14 @@ pub no_long_is : (found : Option ℕ) (u : Unit {0}) → no_long_line found ≡ 
 no_long_is None u e = refl
 no_long_is (Some n) u e = absurd cc
 
+-- bytes that are short enough, as the reader found them
+pub short_parts : (bytes : List ℕ) (u : Unit {0}) → ltb MAX_SCRIPT (length bytes) ≡ false → no_long_line (long_line 1 (lines bytes)) ≡ Ok u → AreShort bytes
+short_parts bytes u f e = record { short = ltb-false MAX_SCRIPT (length bytes) f; short_lines = long_sound 1 (lines bytes) (no_long_is (long_line 1 (lines bytes)) u e) }
+
 -- the bytes are these blocks and this tail, whose text may be too long
 pub record ReadsParts (bytes : List ℕ) (s : PlainScript) : Type 0 where
-  pub parts : ReadsBlocks (lines bytes) s.blocks s.tail
-  pub short : length bytes ≤ MAX_SCRIPT
-  pub short_lines : AllByRecursion IsShort (lines bytes)
-  pub few : length s.blocks ≤ MAX_DIRECTIVES
+  pub short : AreShort bytes
+  pub parts : AreBlocks (lines bytes) s
 
 -- the parts that are read are in the relation
 pub parts_sound : (bytes : List ℕ) (s : PlainScript) → parts_of bytes ≡ Ok s → ReadsParts bytes s
@@ -54,24 +57,24 @@ parts_sound bytes s e =
     let a = guard_ok (ltb MAX_SCRIPT (length bytes)) faults.TooLong _ s e in
     let b = bind_ok (no_long_line (long_line 1 ls)) (λ _. blocks_at MAX_DIRECTIVES (1 + length ls) ls) s a.1 in
     let blocks = blocks_sound MAX_DIRECTIVES (1 + length ls) ls s b.2 in
-    record { parts = blocks.0; short = ltb-false MAX_SCRIPT (length bytes) a.0; short_lines = long_sound 1 ls (no_long_is (long_line 1 ls) b.0 b.1); few = blocks.1 }
+    record { short = short_parts bytes b.0 a.0 b.1; parts = record { parts = blocks.0; few = blocks.1 } }
 
 -- the parts in the relation are read
 pub parts_complete : (bytes : List ℕ) (s : PlainScript) → ReadsParts bytes s → parts_of bytes ≡ Ok s
 unfolding parts_of
 parts_complete bytes s r =
     let ls = lines bytes in
-    ap (λ b. cond b (Err faults.TooLong) (no_long_line (long_line 1 ls) >>= λ _. blocks_at MAX_DIRECTIVES (1 + length ls) ls)) (le-ltb MAX_SCRIPT (length bytes) r.short)
-    ∙ ap (λ (found : Option ℕ). no_long_line found >>= λ _. blocks_at MAX_DIRECTIVES (1 + length ls) ls) (long_complete 1 ls r.short_lines)
-    ∙ blocks_complete MAX_DIRECTIVES (1 + length ls) ls s.blocks s.tail r.parts r.few
+    ap (λ b. cond b (Err faults.TooLong) (no_long_line (long_line 1 ls) >>= λ _. blocks_at MAX_DIRECTIVES (1 + length ls) ls)) (le-ltb MAX_SCRIPT (length bytes) r.short.short)
+    ∙ ap (λ (found : Option ℕ). no_long_line found >>= λ _. blocks_at MAX_DIRECTIVES (1 + length ls) ls) (long_complete 1 ls r.short.short_lines)
+    ∙ blocks_complete MAX_DIRECTIVES (1 + length ls) ls s.blocks s.tail r.parts.parts r.parts.few
 
 -- parts whose text is short enough are a script
 pub script_parts : (bytes : List ℕ) (s : PlainScript) → ReadsParts bytes s → length (text s) ≤ MAX_SCRIPT → Reads bytes s
-script_parts bytes s r short = record { parts = r.parts; short = r.short; short_lines = r.short_lines; few = r.few; short_text = short }
+script_parts bytes s r short = record { parts = r.parts.parts; short = r.short.short; short_lines = r.short.short_lines; few = r.parts.few; short_text = short }
 
 -- a script has its parts
 pub parts_script : (bytes : List ℕ) (s : PlainScript) → Reads bytes s → ReadsParts bytes s
-parts_script bytes s r = record { parts = r.parts; short = r.short; short_lines = r.short_lines; few = r.few }
+parts_script bytes s r = record { short = record { short = r.short; short_lines = r.short_lines }; parts = record { parts = r.parts; few = r.few } }
 
 -- a text that fitted is short enough
 fits_is : (s t : PlainScript) → fits_text s ≡ Ok t → (s ≡ t) × (length (text s) ≤ MAX_SCRIPT)
@@ -110,15 +113,18 @@ only_is (x ∷ []) [] b e = (ap (λ (y : PlainBlock). y ∷ []) (ok_is x b e), r
 only_is (x ∷ []) (line ∷ tail) b e = absurd cc
 only_is (x ∷ y ∷ bs) tail b e = absurd cc
 
--- where one block was taken, it is the script, and the text fits
+-- it is the script
+pub only_alone : (s : PlainScript) (b : PlainBlock) → only_block s.blocks s.tail ≡ Ok b → s ≡ alone b
+only_alone s b h =
+    let only = only_is s.blocks s.tail b h in
+    ap (λ (bs : List PlainBlock). record { blocks = bs; tail = s.tail }) only.0 ∙ ap (λ (ls : List Line). record { blocks = b ∷ []; tail = ls }) only.1
+
+-- where one block was taken, the text fits too
 alone_is : (s : PlainScript) (b : PlainBlock) → (only_block s.blocks s.tail >>= λ x. fits_text s >>= λ _. Ok x) ≡ Ok b → (s ≡ alone b) × (length (text s) ≤ MAX_SCRIPT)
 alone_is s b e =
     let o = bind_ok (only_block s.blocks s.tail) (λ x. fits_text s >>= λ _. Ok x) b e in
     let f = bind_ok (fits_text s) (λ _. Ok o.0) b o.2 in
-    let only = only_is s.blocks s.tail o.0 o.1 in (
-      ap (λ (bs : List PlainBlock). record { blocks = bs; tail = s.tail }) only.0 ∙ ap (λ (ls : List Line). record { blocks = o.0 ∷ []; tail = ls }) only.1 ∙ ap alone (ok_is o.0 b f.2),
-      (fits_is s f.0 f.1).1,
-    )
+    (only_alone s o.0 o.1 ∙ ap alone (ok_is o.0 b f.2), (fits_is s f.0 f.1).1)
 
 -- the one block that is read is in the relation
 pub alone_sound : (bytes : List ℕ) (b : PlainBlock) → block_of bytes ≡ Ok b → Reads bytes (alone b)

@@ -1,37 +1,22 @@
 -- Edits of lists of blocks.
-use Rattle.std.proofs.Common.{◌≡◌, ℕ, ◌+◌, ◌-◌, ◌≤◌, ◌<◌, Bool, true, false, cond, not, ◌&&◌, List, [], ◌∷◌, ◌++◌, length, take, drop, get_or, Some, zero, suc, refl, ap, sym, subst, ◌∙◌, inl, inr, append_assoc, append-nil, arith}
+use Rattle.std.proofs.Common.{◌≡◌, ℕ, ◌+◌, ◌-◌, ◌≤◌, ◌<◌, Bool, true, false, cond, not, ◌&&◌, List, [], ◌∷◌, ◌++◌, length, drop, get_or, Some, zero, suc, refl, ap, sym, subst, ◌∙◌, inl, inr, arith}
 use Rattle.std.specs.Prelude.{◌==◌, nat_le, slice_get}
-use Rattle.std.proofs.lemmas.Option.{slice_get_within, get_or_from_slice_get, same_Some}
+use Rattle.std.proofs.lemmas.Option.{slice_get_within, same_Some}
 use Rattle.std.specs.declared.rc.Rc.{Rc}
 use Rattle.std.specs.declared.alloc.Global.{Global}
-use Rattle.std.specs.List.{list_all, AllByRecursion, AllZip, AppendsClones}
+use Rattle.std.specs.List.{list_all, AllByRecursion, AppendsClones}
 use Rattle.std.proofs.lemmas.Bool.{cases_Bool, and_parts, and_from, not-true, leb-true, le-leb}
-use Rattle.std.proofs.lemmas.List.{take-append-drop, drop_all, drop_more, map-append, length-map}
+use Rattle.std.proofs.lemmas.List.{drop_all, drop_more, map-append, length-map}
 use Rattle.std.proofs.Math.ListN.{get_or-map}
 use Rattle.rb_script.specs.declared.limits.TheConstants.{MAX_LINE}
 use Rattle.rb_script.specs.Lines.{Line, put_before, without_returns}
 use Rattle.rb_script.specs.Marks.{rule}
-use Rattle.rb_script.specs.Script.{PlainBlock, shown, needs_double, expecting, all_expecting}
+use Rattle.rb_script.specs.Script.{PlainBlock, shown, needs_double, block_lines, expecting, all_expecting}
 use Rattle.rb_script.specs.Reads.{is_readable}
 use Rattle.rb_script.specs.Valid.{IsLine, IsBlock}
 use Rattle.rb_script.specs.Edits.{ends_in_return, is_text_line, is_expectation}
 use Rattle.rb_script.specs.Shared.{values}
-
--- ---- what holds of each element
-
-pub every-append : {X : Type 0} (P : X → Type 0) (a b : List X) → AllByRecursion P a → AllByRecursion P b → AllByRecursion P (a ++ b)
-every-append P [] b h k = k
-every-append P (x ∷ a) b h k = (h.0, every-append P a b h.1 k)
-
-pub every-parts : {X : Type 0} (P : X → Type 0) (a b : List X) → AllByRecursion P (a ++ b) → AllByRecursion P a × AllByRecursion P b
-every-parts P [] b h = (tt, h)
-every-parts P (x ∷ a) b h = let p = every-parts P a b h.1 in ((h.0, p.0), p.1)
-
-pub every-take : {X : Type 0} (P : X → Type 0) (i : ℕ) (a : List X) → AllByRecursion P a → AllByRecursion P (take i a)
-every-take P i a h = (every-parts P (take i a) (drop i a) (subst (AllByRecursion P) (sym (take-append-drop i a)) h)).0
-
-pub every-drop : {X : Type 0} (P : X → Type 0) (i : ℕ) (a : List X) → AllByRecursion P a → AllByRecursion P (drop i a)
-every-drop P i a h = (every-parts P (take i a) (drop i a) (subst (AllByRecursion P) (sym (take-append-drop i a)) h)).1
+use Rattle.rb_script.proofs.ListLaws.{drop_there, every-append, every-parts, every_told, same_read}
 
 -- ---- lines that can be an expectation
 
@@ -82,40 +67,45 @@ text_line line h =
     record { no_end = p.0; no_return = returns_kept line (not-true (ends_in_return line) q.0); short = leb-true (length line) MAX_LINE q.1 }
 
 pub text_lines : (ls : List Line) → list_all is_text_line ls ≡ true → AllByRecursion IsLine ls
-text_lines [] h = tt
-text_lines (line ∷ ls) h = let p = and_parts (is_text_line line) (list_all is_text_line ls) h in (text_line line p.0, text_lines ls p.1)
+text_lines ls h = every_told is_text_line IsLine text_line ls h
+
+-- ---- the lines of blocks
 
 rule_line : IsLine rule
 unfolding without_returns
 rule_line = record { no_end = refl; no_return = refl; short = omega arith }
 
+empty_line : IsLine []
+unfolding without_returns
+empty_line = record { no_end = refl; no_return = refl; short = omega arith }
+
 -- the lines of either form are lines
 shown_lines : (e : List Line) → AllByRecursion IsLine e → AllByRecursion IsLine (shown e)
 shown_lines e h = elim (needs_double e) as (λ t. AllByRecursion IsLine (cond t (rule ∷ e ++ rule ∷ rule ∷ []) e)) [ true ↦ (rule_line, every-append IsLine e (rule ∷ rule ∷ []) h (rule_line, (rule_line, tt))) | false ↦ h ]
+
+-- so are those of a block
+pub lines_valid : (b : PlainBlock) → AllByRecursion IsLine b.lead → AllByRecursion IsLine b.head → AllByRecursion IsLine b.input → AllByRecursion IsLine b.expected → AllByRecursion IsLine (block_lines b)
+lines_valid b lead head input expected =
+    let last = shown b.expected ++ [] ∷ [] in
+    let ends = every-append IsLine (shown b.expected) ([] ∷ []) (shown_lines b.expected expected) (empty_line, tt) in
+    every-append IsLine b.lead (b.head ++ (b.input ++ rule ∷ last)) lead (every-append IsLine b.head (b.input ++ rule ∷ last) head (every-append IsLine b.input (rule ∷ last) input (rule_line, ends)))
 
 -- a block stays one with lines that can be an expectation in place of its own
 pub expecting_valid : (b : PlainBlock) (e : List Line) → IsBlock b → is_expectation e ≡ true → IsBlock (expecting b e)
 expecting_valid b e h is =
     let p = and_parts (is_readable e) (list_all is_text_line e) is in
     let old = shown b.expected ++ [] ∷ [] in
-    let new = shown e ++ [] ∷ [] in
     let x = every-parts IsLine b.lead (b.head ++ (b.input ++ rule ∷ old)) h.lines in
     let y = every-parts IsLine b.head (b.input ++ rule ∷ old) x.1 in
     let z = every-parts IsLine b.input (rule ∷ old) y.1 in
-    let last = every-parts IsLine (shown b.expected) ([] ∷ []) z.1.1 in
-    let ends = every-append IsLine (shown e) ([] ∷ []) (shown_lines e (text_lines e p.1)) last.1 in
     record {
       lead = h.lead;
       head = h.head;
       directive = h.directive;
       input = h.input;
       readable = p.0;
-      lines = every-append IsLine b.lead (b.head ++ (b.input ++ rule ∷ new)) x.0 (every-append IsLine b.head (b.input ++ rule ∷ new) y.0 (every-append IsLine b.input (rule ∷ new) z.0 (rule_line, ends)));
+      lines = lines_valid (expecting b e) x.0 y.0 z.0 (text_lines e p.1);
     }
-
--- what stands at a place, and those after it
-pub drop_there : {X : Type 0} (xs : List X) (i : ℕ) (x : X) → slice_get xs i ≡ Some x → drop i xs ≡ x ∷ drop (i + 1) xs
-drop_there {X} xs i x found = drop_more xs i x (slice_get_within xs i x found) ∙ ap (λ (y : X). y ∷ drop (i + 1) xs) (get_or_from_slice_get xs i x x found)
 
 -- ---- testing items one after another
 
@@ -157,16 +147,9 @@ module _ {T : Type 0} (ps : List (Rc T Global)) (i : ℕ) (p : Rc T Global) (lt 
   pub values_split : drop i (values ps) ≡ p.value ∷ drop (i + 1) (values ps)
   values_split = drop_more (values ps) i p.value some_value ∙ ap (λ (v : T). v ∷ drop (i + 1) (values ps)) value_is
 
--- clones of pointers are to the same values
-clones_values : {T : Type 0} (ps qs : List (Rc T Global)) → AllZip (λ p q. q.value ≡ p.value) ps qs → values qs ≡ values ps
-clones_values [] [] e = refl
-clones_values [] (q ∷ qs) e = absurd e
-clones_values (p ∷ ps) [] e = absurd e
-clones_values {T} (p ∷ ps) (q ∷ qs) e = ap (λ (v : T). v ∷ values qs) e.0 ∙ ap (λ (l : List T). p.value ∷ l) (clones_values ps qs e.1)
-
 -- clones of pointers were added
 pub shared_all : {T : Type 0} (old new more : List (Rc T Global)) → AppendsClones (λ p q. q.value ≡ p.value) old new more → values new ≡ values old ++ values more
-shared_all {T} old new more h = ap values h.1 ∙ map-append (λ (r : Rc T Global). r.value) old h.0 ∙ ap (λ (l : List T). values old ++ l) (clones_values more h.0 h.2)
+shared_all {T} old new more h = ap values h.1 ∙ map-append (λ (r : Rc T Global). r.value) old h.0 ∙ ap (λ (l : List T). values old ++ l) (same_read (λ (r : Rc T Global). r.value) more h.0 h.2)
 
 -- no value is left
 pub values_none : {T : Type 0} (ps : List (Rc T Global)) (i : ℕ) → length ps ≤ i → drop i (values ps) ≡ []
@@ -178,28 +161,14 @@ pushed {T} into next p v e is = ap values e ∙ map-append (λ (q : Rc T Global)
 
 -- ---- each block with its output
 
-module _ (bs : List PlainBlock) (outputs : List (List Line)) (i : ℕ) (b : PlainBlock) (output : List Line) (found : slice_get bs i ≡ Some b) (output_found : slice_get outputs i ≡ Some output) where
-  -- the block at a place with its output, and those after it
-  pub expecting_split : all_expecting (drop i bs) (drop i outputs) ≡ expecting b output ∷ all_expecting (drop (i + 1) bs) (drop (i + 1) outputs)
-  unfolding all_expecting
-  expecting_split =
-      ap (λ (l : List PlainBlock). all_expecting l (drop i outputs)) (drop_there bs i b found)
-      ∙ ap (all_expecting (b ∷ drop (i + 1) bs)) (drop_there outputs i output output_found)
-
-  -- one more block with its output was made
-  pub expecting_more : (all made next : List PlainBlock) → next ≡ made ++ expecting b output ∷ [] → made ++ all_expecting (drop i bs) (drop i outputs) ≡ all → next ++ all_expecting (drop (i + 1) bs) (drop (i + 1) outputs) ≡ all
-  expecting_more all made next e so_far =
-      let rest = all_expecting (drop (i + 1) bs) (drop (i + 1) outputs) in
-      ap (λ (l : List PlainBlock). l ++ rest) e ∙ append_assoc made (expecting b output ∷ []) rest ∙ ap (λ (l : List PlainBlock). made ++ l) (sym expecting_split) ∙ so_far
-
--- no block is left
-pub expecting_none : (bs : List PlainBlock) (outputs : List (List Line)) (i : ℕ) → length bs ≤ i → all_expecting (drop i bs) outputs ≡ []
+-- the block at a place has its output
+pub expecting_at : (bs : List PlainBlock) (outputs : List (List Line)) (i : ℕ) (b : PlainBlock) (output : List Line) → slice_get bs i ≡ Some b → slice_get outputs i ≡ Some output → slice_get (all_expecting bs outputs) i ≡ Some (expecting b output)
 unfolding all_expecting
-expecting_none bs outputs i le = ap (λ (l : List PlainBlock). all_expecting l outputs) (drop_all i bs le)
-
--- all are made
-pub expecting_all : (bs : List PlainBlock) (outputs : List (List Line)) (i : ℕ) (made all : List PlainBlock) → length bs ≤ i → made ++ all_expecting (drop i bs) (drop i outputs) ≡ all → made ≡ all
-expecting_all bs outputs i made all le so_far = sym (append-nil made) ∙ ap (λ (l : List PlainBlock). made ++ l) (sym (expecting_none bs (drop i outputs) i le)) ∙ so_far
+expecting_at [] outputs i b output found there = absurd cc
+expecting_at (x ∷ bs) [] i b output found there = absurd cc
+expecting_at (x ∷ bs) (o ∷ outputs) zero b output found there =
+    ap (λ (y : PlainBlock). Some (expecting y o)) (same_Some x b found) ∙ ap (λ (y : List Line). Some (expecting b y)) (same_Some o output there)
+expecting_at (x ∷ bs) (o ∷ outputs) (suc i) b output found there = expecting_at bs outputs i b output found there
 
 -- as many blocks as before
 pub outputs_count : (bs : List PlainBlock) (outputs : List (List Line)) → length outputs ≡ length bs → length (all_expecting bs outputs) ≡ length bs

@@ -1,8 +1,8 @@
 -- Solid lines are an expectation, which stands in the plain form.
-use Rattle.std.proofs.Common.{◌≡◌, ◌≤◌, true, false, not, ◌&&◌, ◌||◌, List, [], ◌∷◌, refl, ap, inl, inr, arith}
+use Rattle.std.proofs.Common.{◌≡◌, ◌≤◌, true, false, not, ◌&&◌, ◌||◌, List, [], ◌∷◌, refl, ap, arith}
 use Rattle.std.specs.Prelude.{◌==◌}
 use Rattle.std.specs.List.{list_all, AllByRecursion}
-use Rattle.std.proofs.lemmas.Bool.{cases_Bool, and_from, and_left, or_from, ne_eqb}
+use Rattle.std.proofs.lemmas.Bool.{and_from, and_left, or_from, ne_eqb, false_from_ne_true}
 use Rattle.rb_script.specs.Lines.{Line}
 use Rattle.rb_script.specs.Marks.{is_blank, is_rule}
 use Rattle.rb_script.specs.Script.{needs_double}
@@ -10,13 +10,14 @@ use Rattle.rb_script.specs.Reads.{is_readable, ends_or_rules}
 use Rattle.rb_script.specs.Valid.{IsLine}
 use Rattle.rb_script.specs.Edits.{ends_in_return, is_text_line, is_expectation}
 use Rattle.rb_script.specs.LineParts.{IsSolid}
+use Rattle.rb_script.proofs.ListLaws.{all_pass}
 use Rattle.rb_script.proofs.SharedLaws.{returns_kept, line_text_is}
 use Rattle.rb_script.proofs.ExpectationLaws.{rule_is}
 
 -- printable bytes hold no LF
 no_feed : (line : Line) → AllByRecursion (λ b. (32 ≤ b) × (b ≤ 126)) line → list_all (λ b. not (b == 10)) line ≡ true
-no_feed [] h = refl
-no_feed (b ∷ line) h = let at_least : 32 ≤ b = h.0.0 in and_from (not (b == 10)) (list_all (λ x. not (x == 10)) line) (ap not (ne_eqb b 10 (λ e. omega arith))) (no_feed line h.1)
+no_feed line h =
+    all_pass (λ b. not (b == 10)) (λ b. (32 ≤ b) × (b ≤ 126)) (λ b is. let at_least : 32 ≤ b = is.0 in ap not (ne_eqb b 10 (λ e. omega arith))) line h
 
 -- nor a carriage return at their end
 no_return : (line : Line) → AllByRecursion (λ b. (32 ≤ b) × (b ≤ 126)) line → ends_in_return line ≡ false
@@ -30,11 +31,7 @@ solid_line line h = record { no_end = no_feed line h.printable; no_return = retu
 
 -- it isn't ----
 solid_rule : (line : Line) → IsSolid line → is_rule line ≡ false
-solid_rule line h =
-    elim (cases_Bool (is_rule line)) [
-      | inl t ↦ absurd (h.no_rule (rule_is line t))
-      | inr f ↦ f
-    ]
+solid_rule line h = false_from_ne_true (is_rule line) (λ t. h.no_rule (rule_is line t))
 
 -- so solid lines can be read back
 solid_readable : (ls : List Line) → AllByRecursion IsSolid ls → is_readable ls ≡ true
@@ -43,8 +40,7 @@ solid_readable (line ∷ ls) h =
     and_from (not (is_rule line && ends_or_rules ls)) (is_readable ls) (ap not (and_left (is_rule line) (ends_or_rules ls) (solid_rule line h.0))) (solid_readable ls h.1)
 
 solid_lines : (ls : List Line) → AllByRecursion IsSolid ls → list_all is_text_line ls ≡ true
-solid_lines [] h = refl
-solid_lines (line ∷ ls) h = and_from (is_text_line line) (list_all is_text_line ls) (line_text_is line (solid_line line h.0)) (solid_lines ls h.1)
+solid_lines ls h = all_pass is_text_line IsSolid (λ line is. line_text_is line (solid_line line is)) ls h
 
 -- and can be expected
 pub solid_expected : (ls : List Line) → AllByRecursion IsSolid ls → is_expectation ls ≡ true

@@ -1,13 +1,14 @@
 -- The text of a valid script reads as that script.
-use Rattle.std.proofs.Common.{◌≡◌, ℕ, ◌≤◌, Bool, true, false, cond, not, ◌||◌, eqb, List, [], ◌∷◌, ◌++◌, length, map, refl, ap, sym, subst, ◌∙◌, append_assoc, inl, inr, ◌⊎◌}
+use Rattle.std.proofs.Common.{◌≡◌, ℕ, ◌≤◌, true, false, cond, not, ◌||◌, eqb, List, [], ◌∷◌, ◌++◌, length, map, refl, ap, sym, subst, ◌∙◌, append_assoc, inl, inr, ◌⊎◌}
 use Rattle.std.specs.List.{list_all, flat_map, AllByRecursion}
-use Rattle.std.proofs.lemmas.Bool.{cases_Bool, and_parts, and_from, not-true}
+use Rattle.std.proofs.lemmas.Bool.{cases_Bool, and_parts, and_from, or_parts, not-true}
 use Rattle.rb_script.specs.declared.limits.TheConstants.{MAX_LINE}
 use Rattle.rb_script.specs.Lines.{Line, in_first, cut, lines, without_returns, text_of}
 use Rattle.rb_script.specs.Marks.{is_blank, is_lead, is_rule, is_separator, rule, without_front}
 use Rattle.rb_script.specs.Script.{PlainBlock, PlainScript, needs_double, shown, block_lines, script_lines, text}
 use Rattle.rb_script.specs.Reads.{begins_rule, ReadsPlain, ReadsDouble, ReadsBlock, ReadsBlocks, Reads}
 use Rattle.rb_script.specs.Valid.{IsLine, IsBlock, IsScript}
+use Rattle.rb_script.proofs.ListLaws.{every-append, every_so}
 
 -- ---- lines
 
@@ -28,11 +29,6 @@ lines_text (line ∷ ls) all =
     ∙ ap (λ (l : Line). l ∷ map without_returns (cut (text_of ls))) all.0.no_return ∙ ap (λ (l : List Line). line ∷ l) (lines_text ls all.1)
 
 -- ---- blocks
-
--- neither holds
-or_parts : (a b : Bool) → (a || b) ≡ false → (a ≡ false) × (b ≡ false)
-or_parts true b h = absurd cc
-or_parts false b h = (refl, h)
 
 -- what the plain form can show has no blank line
 none-blank : (e : List Line) → needs_double e ≡ false → list_all (λ line. not (is_blank line)) e ≡ true
@@ -91,26 +87,20 @@ blocks_read (b ∷ bs) tail all h =
     let later = blocks_read bs tail all.1 h in
     ((more, subst (λ (l : List Line). ReadsBlock l b more) (sym (append_assoc (block_lines b) (flat_map block_lines bs) tail)) (block_reads b more all.0), later.0), later.1)
 
--- lines and lines are lines
-pub all-append : (a b : List Line) → AllByRecursion IsLine a → AllByRecursion IsLine b → AllByRecursion IsLine (a ++ b)
-all-append [] b h k = k
-all-append (line ∷ a) b h k = (h.0, all-append a b h.1 k)
-
 -- the lines of blocks are lines
 all_lines : (bs : List PlainBlock) → AllByRecursion IsBlock bs → AllByRecursion IsLine (flat_map block_lines bs)
 all_lines [] h = tt
-all_lines (b ∷ bs) h = all-append (block_lines b) (flat_map block_lines bs) h.0.lines (all_lines bs h.1)
+all_lines (b ∷ bs) h = every-append IsLine (block_lines b) (flat_map block_lines bs) h.0.lines (all_lines bs h.1)
 
 -- lines are short enough
 all_short : (ls : List Line) → AllByRecursion IsLine ls → AllByRecursion (λ line. length line ≤ MAX_LINE) ls
-all_short [] h = tt
-all_short (line ∷ ls) h = (h.0.short, all_short ls h.1)
+all_short ls h = every_so IsLine (λ line. length line ≤ MAX_LINE) (λ line is. is.short) ls h
 
 -- the text of a valid script is read as that script
 pub text_reads : (s : PlainScript) → IsScript s → Reads (text s) s
 unfolding text
 text_reads s h =
-    let held = all-append (flat_map block_lines s.blocks) s.tail (all_lines s.blocks h.blocks) h.tail_lines in
+    let held = every-append IsLine (flat_map block_lines s.blocks) s.tail (all_lines s.blocks h.blocks) h.tail_lines in
     let same = lines_text (script_lines s) held in
     record {
       parts = subst (λ (l : List Line). ReadsBlocks l s.blocks s.tail) (sym same) (blocks_read s.blocks s.tail h.blocks h.tail);

@@ -3,18 +3,18 @@ use Rattle.std.proofs.Common.{◌≡◌, ℕ, ◌≤◌, Bool, true, false, cond
 use Rattle.std.specs.List.{list_all, AllByRecursion}
 use Rattle.std.proofs.lemmas.Bool.{cases_Bool, and_parts, and_from}
 use Rattle.rb_script.specs.declared.limits.TheConstants.{MAX_SCRIPT, MAX_LINE}
-use Rattle.rb_script.specs.declared.marks.Stop.TheVariants.{Head}
 use Rattle.rb_script.specs.Lines.{Line, put_before, in_first, cut, lines, without_returns}
-use Rattle.rb_script.specs.Marks.{rule, is_lead, stops}
-use Rattle.rb_script.specs.Script.{PlainBlock, PlainScript, needs_double, shown, text}
+use Rattle.rb_script.specs.Marks.{rule, is_lead}
+use Rattle.rb_script.specs.Script.{PlainBlock, PlainScript, text}
 use Rattle.rb_script.specs.Reads.{begins_lead, ReadsPlain, ReadsDouble, ReadsBlock, ReadsBlocks, Reads}
 use Rattle.rb_script.specs.Shared.{IsKeptScript}
 use Rattle.rb_script.specs.Valid.{IsLine, IsBlock, IsScript}
 use Rattle.rb_script.specs.Blocks.{lead_of, from_head, block_at}
 use Rattle.rb_script.specs.Reading.{long_line, no_long_line, capped, parts_of}
-use Rattle.rb_script.proofs.RunLaws.{upto-append-onward}
+use Rattle.rb_script.proofs.ListLaws.{every-append, every-parts}
+use Rattle.rb_script.proofs.RunLaws.{run_parts}
 use Rattle.rb_script.proofs.BlockLaws.{block_sound}
-use Rattle.rb_script.proofs.TextLaws.{all-append}
+use Rattle.rb_script.proofs.SharedLaws.{lines_valid}
 use Rattle.rb_script.proofs.ScriptLaws.{long_sound, no_long_is, ReadsParts, parts_sound, script_parts, parts_script}
 
 -- no LF
@@ -83,38 +83,19 @@ checked_lines bytes u e = lines_are bytes (long_sound 1 (lines bytes) (no_long_i
 
 -- ---- parts
 
--- each part of lines is lines
-pub all-parts : (a b : List Line) → AllByRecursion IsLine (a ++ b) → AllByRecursion IsLine a × AllByRecursion IsLine b
-all-parts [] b h = (tt, h)
-all-parts (line ∷ a) b h = let p = all-parts a b h.1 in ((h.0, p.0), p.1)
-
 -- lines that are equal to lines
 along : (a b : List Line) → a ≡ b → AllByRecursion IsLine a → AllByRecursion IsLine b
 along a b e h = subst (λ (l : List Line). AllByRecursion IsLine l) e h
-
--- the line ---- reads as itself
-rule_line : IsLine rule
-unfolding without_returns
-rule_line = record { no_end = refl; no_return = refl; short = omega arith }
-
--- the empty line reads as itself
-empty_line : IsLine []
-unfolding without_returns
-empty_line = record { no_end = refl; no_return = refl; short = omega arith }
-
--- what is shown is lines
-shown_lines : (e : List Line) → AllByRecursion IsLine e → AllByRecursion IsLine (shown e)
-shown_lines e h = elim (needs_double e) as (λ t. AllByRecursion IsLine (cond t (rule ∷ e ++ rule ∷ rule ∷ []) e)) [ true ↦ (rule_line, all-append e (rule ∷ rule ∷ []) h (rule_line, (rule_line, tt))) | false ↦ h ]
 
 -- the expectation and what follows are lines
 expected_lines : (after e rest : List Line) → AllByRecursion IsLine after → ReadsPlain after e rest ⊎ ReadsDouble after e rest → AllByRecursion IsLine e × AllByRecursion IsLine rest
 expected_lines after e rest h (inl p) =
     elim p.closed [
-      | inl b ↦ let q = all-parts e (b.0 ∷ rest) (along after (e ++ b.0 ∷ rest) b.2 h) in (q.0, q.1.1)
+      | inl b ↦ let q = every-parts IsLine e (b.0 ∷ rest) (along after (e ++ b.0 ∷ rest) b.2 h) in (q.0, q.1.1)
       | inr b ↦ (along after e b.0 h, along [] rest (sym b.1) tt)
     ]
 expected_lines after e rest h (inr d) =
-    let q = all-parts e (rule ∷ rule ∷ d.more) (along after (rule ∷ e ++ rule ∷ rule ∷ d.more) d.parts h).1 in
+    let q = every-parts IsLine e (rule ∷ rule ∷ d.more) (along after (rule ∷ e ++ rule ∷ rule ∷ d.more) d.parts h).1 in
     elim d.closed [
       | inl b ↦ (q.0, (along d.more (b.0 ∷ rest) b.2 q.1.1.1).1)
       | inr b ↦ (q.0, along d.more rest b.1 q.1.1.1)
@@ -123,9 +104,9 @@ expected_lines after e rest h (inr d) =
 -- a block that is read is valid, and what follows it is lines
 pub block_valid : (ls rest : List Line) (b : PlainBlock) → AllByRecursion IsLine ls → ReadsBlock ls b rest → IsBlock b × AllByRecursion IsLine rest
 block_valid ls rest b h r =
-    let x = all-parts b.lead (b.head ++ (b.input ++ r.separator ∷ r.after)) (along ls (b.lead ++ (b.head ++ (b.input ++ r.separator ∷ r.after))) r.parts h) in
-    let y = all-parts b.head (b.input ++ r.separator ∷ r.after) x.1 in
-    let z = all-parts b.input (r.separator ∷ r.after) y.1 in
+    let x = every-parts IsLine b.lead (b.head ++ (b.input ++ r.separator ∷ r.after)) (along ls (b.lead ++ (b.head ++ (b.input ++ r.separator ∷ r.after))) r.parts h) in
+    let y = every-parts IsLine b.head (b.input ++ r.separator ∷ r.after) x.1 in
+    let z = every-parts IsLine b.input (r.separator ∷ r.after) y.1 in
     let e = expected_lines r.after b.expected rest z.1.1 r.expected in (
       record {
         lead = r.lead;
@@ -133,19 +114,18 @@ block_valid ls rest b h r =
         directive = r.directive;
         input = r.input;
         readable = r.readable;
-        lines = all-append b.lead (b.head ++ (b.input ++ rule ∷ (shown b.expected ++ [] ∷ []))) x.0 (all-append b.head (b.input ++ rule ∷ (shown b.expected ++ [] ∷ [])) y.0
-            (all-append b.input (rule ∷ (shown b.expected ++ [] ∷ [])) z.0 (rule_line, all-append (shown b.expected) ([] ∷ []) (shown_lines b.expected e.0) (empty_line, tt))));
+        lines = lines_valid b x.0 y.0 z.0 e.0;
       },
       e.1,
     )
 
 -- a block that is read behind lead lines is valid, and what follows it is lines
 pub made_valid : (end : ℕ) (lead ls rest : List Line) (b : PlainBlock) → block_at end lead ls ≡ Ok (b, rest) → list_all is_lead lead ≡ true → begins_lead ls ≡ false → AllByRecursion IsLine lead → AllByRecursion IsLine ls → IsBlock b × AllByRecursion IsLine rest
-made_valid end lead ls rest b e leads first before after = block_valid (lead ++ ls) rest b (all-append lead ls before after) (block_sound end lead ls rest b e leads first)
+made_valid end lead ls rest b e leads first before after = block_valid (lead ++ ls) rest b (every-append IsLine lead ls before after) (block_sound end lead ls rest b e leads first)
 
 -- the lead lines and what follows them are lines
 pub split_lines : (ls : List Line) → AllByRecursion IsLine ls → AllByRecursion IsLine (lead_of ls) × AllByRecursion IsLine (from_head ls)
-split_lines ls h = all-parts (lead_of ls) (from_head ls) (along ls (lead_of ls ++ from_head ls) (sym (upto-append-onward (stops Head) ls)) h)
+split_lines ls h = every-parts IsLine (lead_of ls) (from_head ls) (along ls (lead_of ls ++ from_head ls) (sym (run_parts is_lead ls)) h)
 
 -- blocks and a tail that are valid
 pub record AreValid (bs : List PlainBlock) (tail : List Line) : Type 0 where
@@ -163,7 +143,7 @@ blocks_valid (b ∷ bs) ls tail h r =
 
 -- the parts that are read are valid
 pub parts_valid : (bytes : List ℕ) (s : PlainScript) → ReadsParts bytes s → AreValid s.blocks s.tail
-parts_valid bytes s r = blocks_valid s.blocks (lines bytes) s.tail (lines_are bytes r.short_lines) r.parts
+parts_valid bytes s r = blocks_valid s.blocks (lines bytes) s.tail (lines_are bytes r.short.short_lines) r.parts.parts
 
 -- the script that is read is valid
 pub read_valid : (bytes : List ℕ) (s : PlainScript) → Reads bytes s → IsScript s

@@ -1,117 +1,84 @@
--- One write after another.
-use Rattle.std.proofs.Common.{◌≡◌, ℕ, Bool, true, false, cond, ◌||◌, ◌+◌, ◌-◌, List, [], ◌∷◌, ◌++◌, length, take, drop, Option, Some, Result, Ok, Err, ap, sym, subst, ◌∙◌, append_assoc, append-nil, take-append-drop, arith}
+-- The text of blocks, as it goes out.
+use Rattle.std.proofs.Common.{◌≡◌, ℕ, Bool, true, false, cond, ◌||◌, ◌+◌, ◌≤◌, List, [], ◌∷◌, ◌++◌, length, drop, Option, Some, Result, refl, ap, sym, ◌∙◌, append_assoc}
 use Rattle.std.specs.Prelude.{slice_get, IsErr}
 use Rattle.std.specs.List.{flat_map}
 use Rattle.std.specs.Io.KnownBytes.{Appends}
-use Rattle.std.proofs.KnownBytes.{Appends-nil, Appends-trans}
-use Rattle.std.proofs.lemmas.List.{take_rest}
+use Rattle.std.proofs.lemmas.List.{drop_all}
 use Rattle.std.proofs.lemmas.List.Concat.{flat_map-append}
 use Rattle.rb_script.specs.declared.sink.WriteFault.{WriteFault}
 use Rattle.rb_script.specs.Lines.{Line, line_text, text_of}
 use Rattle.rb_script.specs.Marks.{is_blank, is_rule, rule}
-use Rattle.rb_script.specs.Script.{PlainBlock, block_lines, block_text, expecting, needs_double, shown}
+use Rattle.rb_script.specs.Script.{PlainBlock, PlainScript, block_lines, block_text, expecting, needs_double, shown, opening, closing, text}
 use Rattle.rb_script.specs.Writes.{AppendsFront, Writes}
-use Rattle.rb_script.proofs.ReadingLaws.{drop_found}
-
--- ---- bytes
-
--- the front went out, and the rest is still to go
-pub record Sent (old new : Option (List ℕ)) (text rest : List ℕ) : Type 0 where
-  pub front : List ℕ
-  pub parts : text ≡ front ++ rest
-  pub appended : Appends old new front
-
--- a write took n bytes of the rest
-pub sent_more : {old mid : Option (List ℕ)} {text rest : List ℕ} (new : Option (List ℕ)) (n : ℕ) → Sent old mid text rest → Appends mid new (take n rest) → Sent old new text (take (length rest - n) (drop n rest))
-sent_more {old} {mid} {text} {rest} new n s h = record {
-  front = s.front ++ take n rest;
-  parts = s.parts ∙ ap (λ (l : List ℕ). s.front ++ l) (sym (take-append-drop n rest)) ∙ sym (append_assoc s.front (take n rest) (drop n rest)) ∙ ap (λ (l : List ℕ). (s.front ++ take n rest) ++ l) (sym (take_rest rest n));
-  appended = Appends-trans old mid new s.front (take n rest) s.appended h;
-}
-
--- nothing is left
-pub sent_all : {old new : Option (List ℕ)} {text rest : List ℕ} → length rest ≡ 0 → Sent old new text rest → Appends old new text
-sent_all {old} {new} {rest = []} e s = subst (λ (l : List ℕ). Appends old new l) (sym (s.parts ∙ append-nil s.front)) s.appended
-sent_all {rest = x ∷ rest} e s = absurd (omega arith)
-
--- ---- lines
-
--- these lines of all went out, and the rest are still to go
-pub record SentLines (old new : Option (List ℕ)) (all rest : List Line) : Type 0 where
-  pub front : List Line
-  pub parts : all ≡ front ++ rest
-  pub appended : Appends old new (text_of front)
-
-pub lines_init : (old : Option (List ℕ)) (all rest : List Line) → all ≡ rest → SentLines old old all rest
-lines_init old all rest e = record { front = []; parts = e; appended = Appends-nil old }
-
--- a piece went out
-pub lines_more : {old mid : Option (List ℕ)} {all : List Line} {text : List ℕ} (new : Option (List ℕ)) (a rest : List Line) → text ≡ text_of a → SentLines old mid all (a ++ rest) → Appends mid new text → SentLines old new all rest
-lines_more {old} {mid} {all} {text} new a rest e s h = record {
-  front = s.front ++ a;
-  parts = s.parts ∙ sym (append_assoc s.front a rest);
-  appended = subst (λ (l : List ℕ). Appends old new l) (ap (λ (l : List ℕ). text_of s.front ++ l) e ∙ sym (flat_map-append line_text s.front a)) (Appends-trans old mid new (text_of s.front) text s.appended h);
-}
-
--- a beginning of a piece went out
-pub lines_front : {old mid : Option (List ℕ)} {all : List Line} {text : List ℕ} (new : Option (List ℕ)) (a rest : List Line) → text ≡ text_of a → SentLines old mid all (a ++ rest) → AppendsFront mid new text → AppendsFront old new (text_of all)
-lines_front {old} {mid} {all} new a rest e s f = record {
-  front = text_of s.front ++ f.front;
-  rest = f.rest ++ text_of rest;
-  parts = ap text_of s.parts ∙ flat_map-append line_text s.front (a ++ rest)
-      ∙ ap (λ (l : List ℕ). text_of s.front ++ l) (flat_map-append line_text a rest ∙ ap (λ (l : List ℕ). l ++ text_of rest) (sym e ∙ f.parts) ∙ append_assoc f.front f.rest (text_of rest))
-      ∙ sym (append_assoc (text_of s.front) f.front (f.rest ++ text_of rest));
-  appended = Appends-trans old mid new (text_of s.front) f.front s.appended f.appended;
-}
-
--- the write of a piece failed, and so does the whole
-pub lines_exit : {X : Type 0} {old mid : Option (List ℕ)} {all : List Line} {text : List ℕ} (r : Result X WriteFault) (new : Option (List ℕ)) (a rest : List Line) → text ≡ text_of a → IsErr r → SentLines old mid all (a ++ rest) → AppendsFront mid new text → Writes r old new (text_of all)
-lines_exit (Ok x) new a rest e is s f = absurd cc
-lines_exit (Err d) new a rest e is s f = lines_front new a rest e s f
-
--- the last piece, whatever its write answered
-pub lines_last : {X : Type 0} {old mid : Option (List ℕ)} {all : List Line} {text : List ℕ} (r : Result X WriteFault) (new : Option (List ℕ)) (a : List Line) → text ≡ text_of a → SentLines old mid all a → Writes r mid new text → Writes r old new (text_of all)
-lines_last {old = old} {mid = mid} {all = all} {text = text} (Ok x) new a e s h =
-    subst (λ (l : List ℕ). Appends old new l) (ap (λ (l : List ℕ). text_of s.front ++ l) e ∙ sym (ap text_of s.parts ∙ flat_map-append line_text s.front a)) (Appends-trans old mid new (text_of s.front) text s.appended h)
-lines_last {old = old} {mid = mid} {all = all} (Err d) new a e s h = lines_front new a [] e (subst (λ (l : List Line). SentLines old mid all l) (sym (append-nil a)) s) h
+use Rattle.rb_script.proofs.ListLaws.{drop_there}
+use Rattle.rb_script.proofs.SentLaws.{Sent, sent_along, sent_piece, piece_exit}
 
 -- ---- whether only the double form serves
 
 pub double_more : (ls : List Line) (i : ℕ) (line : Line) (total : Bool) → slice_get ls i ≡ Some line → is_blank line ≡ false → is_rule line ≡ false → needs_double (drop i ls) ≡ total → needs_double (drop (i + 1) ls) ≡ total
 double_more ls i line total found h k so_far =
     let no : (is_blank line || is_rule line) ≡ false = ap (λ t. t || is_rule line) h ∙ k in
-    sym (ap (λ t. t || needs_double (drop (i + 1) ls)) no) ∙ sym (ap needs_double (drop_found ls i line found)) ∙ so_far
+    sym (ap (λ t. t || needs_double (drop (i + 1) ls)) no) ∙ sym (ap needs_double (drop_there ls i line found)) ∙ so_far
 
 pub double_found : (ls : List Line) (i : ℕ) (line : Line) (total : Bool) → slice_get ls i ≡ Some line → (is_blank line || is_rule line) ≡ true → needs_double (drop i ls) ≡ total → true ≡ total
 double_found ls i line total found h so_far =
-    sym (ap (λ t. t || needs_double (drop (i + 1) ls)) h) ∙ sym (ap needs_double (drop_found ls i line found)) ∙ so_far
+    sym (ap (λ t. t || needs_double (drop (i + 1) ls)) h) ∙ sym (ap needs_double (drop_there ls i line found)) ∙ so_far
 
--- the lines between a line ---- and a pair of them
-pub double_shown : (e : List Line) → needs_double e ≡ true → shown e ≡ rule ∷ e ++ rule ∷ rule ∷ []
-double_shown e h = ap (λ t. cond t (rule ∷ e ++ rule ∷ rule ∷ []) e) h
+-- ---- a block
 
--- the lines above an expectation, with the separator
-abbrev pub front_lines : List Line → List Line → List Line → List Line
-front_lines lead head input = lead ++ (head ++ (input ++ rule ∷ []))
+-- the separator, the expected lines in their form and an empty line
+form_is : (e : List Line) (double : Bool) → double ≡ needs_double e → rule ∷ (shown e ++ [] ∷ []) ≡ opening double ++ (e ++ closing double)
+form_is e double h =
+    let form = λ (t : Bool). rule ∷ (cond t (rule ∷ e ++ rule ∷ rule ∷ []) e ++ [] ∷ []) in
+    ap form (sym h) ∙ elim double as (λ t. form t ≡ opening t ++ (e ++ closing t)) [
+      | true ↦ ap (λ (l : List Line). rule ∷ l) (append_assoc (rule ∷ e) (rule ∷ rule ∷ []) ([] ∷ []))
+      | false ↦ refl
+    ]
 
--- a block is the lines above its expectation, and the rest
-pub front-append : (lead head input rest : List Line) → lead ++ (head ++ (input ++ rule ∷ rest)) ≡ front_lines lead head input ++ rest
-front-append lead head input rest =
-    sym (append_assoc lead (head ++ (input ++ rule ∷ [])) rest ∙ ap (λ (l : List Line). lead ++ l) (append_assoc head (input ++ rule ∷ []) rest ∙ ap (λ (l : List Line). head ++ l) (append_assoc input (rule ∷ []) rest)))
+abbrev pub above_text : PlainBlock → List ℕ
+above_text b = text_of (b.lead ++ (b.head ++ b.input))
+
+-- the text of a block: what stands above its separator, and that form
+pub block_parts : (b : PlainBlock) (e : List Line) (double : Bool) → double ≡ needs_double e → block_text (expecting b e) ≡ above_text b ++ (text_of (opening double) ++ (text_of e ++ text_of (closing double)))
+block_parts b e double h =
+    let form = opening double ++ (e ++ closing double) in
+    ap (λ (l : List Line). text_of (b.lead ++ (b.head ++ (b.input ++ l)))) (form_is e double h)
+    ∙ ap text_of (sym (append_assoc b.lead (b.head ++ b.input) form ∙ ap (λ (l : List Line). b.lead ++ l) (append_assoc b.head b.input form)))
+    ∙ flat_map-append line_text (b.lead ++ (b.head ++ b.input)) form
+    ∙ ap (λ (t : List ℕ). above_text b ++ t) (flat_map-append line_text (opening double) (e ++ closing double) ∙ ap (λ (t : List ℕ). text_of (opening double) ++ t) (flat_map-append line_text e (closing double)))
 
 -- ---- blocks one after another
 
--- the next block, and what follows it
-pub next_block : (bs rest : List PlainBlock) (b : PlainBlock) (tail : List Line) → bs ≡ b ∷ rest → flat_map block_lines bs ++ tail ≡ block_lines b ++ (flat_map block_lines rest ++ tail)
-next_block bs rest b tail e = ap (λ (l : List PlainBlock). flat_map block_lines l ++ tail) e ∙ append_assoc (block_lines b) (flat_map block_lines rest) tail
+texts_are : (bs : List PlainBlock) → text_of (flat_map block_lines bs) ≡ flat_map block_text bs
+texts_are [] = refl
+texts_are (b ∷ bs) = flat_map-append line_text (block_lines b) (flat_map block_lines bs) ∙ ap (λ (t : List ℕ). block_text b ++ t) (texts_are bs)
+
+-- the text of blocks from a place on, and of the tail behind them
+abbrev pub left_text : List PlainBlock → ℕ → List Line → List ℕ
+left_text bs i tail = flat_map block_text (drop i bs) ++ text_of tail
+
+-- from the first on it is all
+pub text_parts : (s : PlainScript) → left_text s.blocks 0 s.tail ≡ text s
+unfolding text
+text_parts s = sym (flat_map-append line_text (flat_map block_lines s.blocks) s.tail ∙ ap (λ (t : List ℕ). t ++ text_of s.tail) (texts_are s.blocks))
+
+module _ {old mid : Option (List ℕ)} {all put : List ℕ} (bs : List PlainBlock) (i : ℕ) (b : PlainBlock) (tail : List Line) (there : slice_get bs i ≡ Some b) (is : put ≡ block_text b) (sent : Sent old mid all (left_text bs i tail)) where
+  next : Sent old mid all (put ++ left_text bs (i + 1) tail)
+  next =
+      sent_along (ap (λ (l : List PlainBlock). flat_map block_text l ++ text_of tail) (drop_there bs i b there) ∙ append_assoc (block_text b) (flat_map block_text (drop (i + 1) bs)) (text_of tail)
+      ∙ ap (λ (t : List ℕ). t ++ left_text bs (i + 1) tail) (sym is)) sent
+
+  -- a block went out
+  pub block_more : (new : Option (List ℕ)) → Appends mid new put → Sent old new all (left_text bs (i + 1) tail)
+  block_more new h = sent_piece new put (left_text bs (i + 1) tail) next h
+
+  -- its write failed, and so does the whole
+  pub block_exit : {X : Type 0} (r : Result X WriteFault) (new : Option (List ℕ)) → IsErr r → AppendsFront mid new put → Writes r old new all
+  block_exit r new failed h = piece_exit r new put (left_text bs (i + 1) tail) failed next h
 
 -- no block is left
-pub no_block : (bs : List PlainBlock) (tail : List Line) → bs ≡ [] → flat_map block_lines bs ++ tail ≡ tail
-no_block bs tail e = ap (λ (l : List PlainBlock). flat_map block_lines l ++ tail) e
-
--- the same lines are left
-pub lines_along : {old new : Option (List ℕ)} {all a b : List Line} → a ≡ b → SentLines old new all a → SentLines old new all b
-lines_along {old} {new} {all} e s = subst (λ (l : List Line). SentLines old new all l) e s
+pub blocks_sent : {old new : Option (List ℕ)} {all : List ℕ} (bs : List PlainBlock) (i : ℕ) (tail : List Line) → length bs ≤ i → Sent old new all (left_text bs i tail) → Sent old new all (text_of tail)
+blocks_sent bs i tail le sent = sent_along (ap (λ (l : List PlainBlock). flat_map block_text l ++ text_of tail) (drop_all i bs le)) sent
 
 -- a block with its own expectation
 pub own_text : (b c v : PlainBlock) (e : List Line) → b ≡ v → c ≡ v → e ≡ c.expected → block_text (expecting b e) ≡ block_text v

@@ -3,12 +3,11 @@ use Rattle.std.specs.Prelude.{ℕ, zero, suc, ◌-◌, Bool, true, false, if◌t
 use Rattle.rb_script.specs.declared.fault.ScriptFault.{ScriptFault}
 use Rattle.rb_script.specs.declared.fault.ScriptFault.TheVariants.{NoSeparator, NotClosed, TooManyDirectives}
 use Rattle.rb_script.specs.Lines.{Line}
-use Rattle.rb_script.specs.Marks.{is_separator, stops}
-use Rattle.rb_script.specs.declared.marks.Stop.TheVariants.{Head}
+use Rattle.rb_script.specs.Marks.{is_lead, is_input}
 use Rattle.rb_script.specs.Script.{PlainBlock, PlainScript}
 use Rattle.rb_script.specs.Joined.{joined}
 use Rattle.rb_script.specs.Results.{◌>>=◌}
-use Rattle.rb_script.specs.Runs.{upto, onward, head_of, after_head}
+use Rattle.rb_script.specs.Runs.{while_of, after_while, head_of, after_head}
 use Rattle.rb_script.specs.Heads.{head_at, few_or}
 use Rattle.rb_script.specs.Expectations.{Expectation, expectation_at}
 
@@ -28,9 +27,9 @@ after_separator fault (line ∷ ls) = Ok ls
 -- what stands below a head at line n: the input, the expected lines, and the lines after them
 unfoldable pub below_head : ℕ → ℕ → List Line → Result (List Line × List Line × List Line) ScriptFault
 below_head end n ls = do
-  after ← after_separator (NoSeparator n) (onward is_separator ls)
-  found ← closed_or (NotClosed (line_number end (onward is_separator ls))) (expectation_at after)
-  Ok (upto is_separator ls, found.0, found.1)
+  after ← after_separator (NoSeparator n) (after_while is_input ls)
+  found ← closed_or (NotClosed (line_number end (after_while is_input ls))) (expectation_at after)
+  Ok (while_of is_input ls, found.0, found.1)
 
 -- a block whose lead was read, and the lines after it
 unfoldable pub block_at : ℕ → List Line → List Line → Result (PlainBlock × List Line) ScriptFault
@@ -44,10 +43,10 @@ is_empty [] = true
 is_empty (line ∷ ls) = false
 
 abbrev pub lead_of : List Line → List Line
-lead_of ls = upto (stops Head) ls
+lead_of ls = while_of is_lead ls
 
 abbrev pub from_head : List Line → List Line
-from_head ls = onward (stops Head) ls
+from_head ls = after_while is_lead ls
 
 -- these blocks stand before the script
 abbrev pub behind : List PlainBlock → PlainScript → PlainScript

@@ -1,5 +1,5 @@
 -- What an edit makes of a script: plain edits of its list of blocks. Places count from 1. (This project's.)
-use Rattle.std.specs.Prelude.{◌≡◌, ℕ, ◌+◌, ◌-◌, Bool, false, ◌&&◌, ◌||◌, ◌==◌, not, nat_lt, nat_le, if◌then◌else◌, List, [], ◌∷◌, length, insert, remove, slice_set, slice_index_or, Result, Ok, Err}
+use Rattle.std.specs.Prelude.{◌≡◌, ℕ, ◌+◌, ◌-◌, Bool, false, ◌&&◌, ◌||◌, ◌==◌, not, nat_lt, nat_le, if◌then◌else◌, List, [], ◌∷◌, length, insert, remove, slice_set, slice_index_or, Result, Ok, Err, IfErr}
 use Rattle.std.specs.List.{list_all}
 use Rattle.rb_script.specs.declared.fault.EditFault.{EditFault}
 use Rattle.rb_script.specs.declared.fault.EditFault.TheVariants.{NoSuchPlace, BadExpectation, TooManyDirectives, TooLong, OutOfMemory}
@@ -62,3 +62,8 @@ EditFails fault made = made ≡ Err fault
 abbrev pub Makes : Result PlainScript EditFault → Result PlainScript EditFault → Type 0
 Makes (Ok s) made = made ≡ Ok s
 Makes (Err e) made = EditFails e made
+
+-- what a function answered settles an edit: it is what the edit makes, and a fault of the edit is answered as it is
+pub record Settles (r made : Result PlainScript EditFault) : Type 0 where
+  pub exact : Makes r made
+  pub early : IfErr made (λ fault. r ≡ Err fault)

@@ -1,8 +1,15 @@
 -- What the code found, by positions in the lines, as lines. (This project's.)
-use Rattle.std.specs.Prelude.{ℕ, List, drop, Option, Some, None}
+use Rattle.std.specs.Prelude.{◌≡◌, ℕ, ◌≤◌, Bool, List, length, drop, Option, Some, None}
 use Rattle.rb_script.specs.Lines.{Line}
 use Rattle.rb_script.specs.Flat.{between}
+use Rattle.rb_script.specs.Runs.{while_of, after_while}
 use Rattle.rb_script.specs.Expectations.{Expectation}
+
+-- the run of lines that begins at one position ends at another
+pub record RunsTo (p : Line → Bool) (all : List Line) (start end : ℕ) : Type 0 where
+  pub order : (start ≤ end) × (end ≤ length all)
+  pub run : between start end all ≡ while_of p (drop start all)
+  pub rest : drop end all ≡ after_while p (drop start all)
 
 -- the expected lines, and the position behind them
 abbrev pub seen : List Line → Option (List Line × ℕ) → Expectation

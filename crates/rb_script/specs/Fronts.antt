@@ -1,5 +1,5 @@
 -- What a block is made of. (This project's.)
-use Rattle.std.specs.Prelude.{◌≡◌, ℕ, ◌+◌, ◌^◌, ◌<◌, ◌≤◌, List, length, map, Some}
+use Rattle.std.specs.Prelude.{◌≡◌, ℕ, ◌+◌, ◌^◌, ◌<◌, ◌≤◌, List, ◌++◌, length, map, Some}
 use Rattle.rb_script.specs.declared.span.Span.{Span}
 use Rattle.rb_script.specs.declared.argument.Argument.{Argument}
 use Rattle.rb_script.specs.Lines.{Line, text_of}
@@ -45,6 +45,9 @@ pub record IsKeptBlock (f : PlainFront) (expected : List Line) (text_len : ℕ) 
   pub tokens : HasTokens f
   pub len : text_len ≡ capped (length (block_text (block_of_front f expected)))
 
+abbrev pub lines_above : PlainFront → List Line
+lines_above f = f.lead ++ (f.head ++ f.input)
+
 -- the text without the expectation: a separator line, and an empty line after the expectation
 abbrev pub front_len : PlainFront → ℕ
-front_len f = length (text_of f.lead) + length (text_of f.head) + length (text_of f.input) + 6
+front_len f = length (text_of (lines_above f)) + 6

@@ -1,5 +1,5 @@
 -- A list in groups, one after another. (This project's.)
-use Rattle.std.specs.Prelude.{◌≡◌, ℕ, ◌+◌, ◌<◌, ◌≤◌, ◌^◌, List, length, take, slice_index}
+use Rattle.std.specs.Prelude.{◌≡◌, ℕ, ◌+◌, ◌<◌, ◌≤◌, List, length, take, slice_index}
 use Rattle.std.specs.List.{flat_map}
 use Rattle.rb_script.specs.declared.place.Place.{Place}
 
@@ -20,7 +20,6 @@ pub record AreStarts {X : Type 0} (starts : List ℕ) (gs : List (List X)) (n : 
 pub record IsGrouped {X : Type 0} (starts : List ℕ) (gs : List (List X)) (len : ℕ) : Type 0 where
   pub starts_are : AreStarts starts gs (length gs)
   pub len_is : len ≡ length (ungrouped gs)
-  pub few : len < 2 ^ 63
 
 -- what has this index stands in one of the groups from `low` up to before `high`
 pub record StandsWithin {X : Type 0} (gs : List (List X)) (at low high : ℕ) : Type 0 where

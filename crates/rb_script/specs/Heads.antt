@@ -6,7 +6,8 @@ use Rattle.rb_script.specs.Bytes.{opening, closing, equals_sign}
 use Rattle.rb_script.specs.Lines.{Line}
 use Rattle.rb_script.specs.Marks.{is_blank, is_space}
 use Rattle.rb_script.specs.Script.{PlainBlock}
-use Rattle.rb_script.specs.Joined.{joined, while_of, after_while}
+use Rattle.rb_script.specs.Joined.{joined}
+use Rattle.rb_script.specs.Runs.{while_of, after_while}
 use Rattle.rb_script.specs.Directive.{PlainArgument, PlainDirective, is_word, is_value, is_inside, pieces, begins, is_some_piece}
 use Rattle.rb_script.specs.Limits.{are_few}
 

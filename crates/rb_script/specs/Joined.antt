@@ -19,12 +19,3 @@ joined (line ∷ ls) = if continues line then body line ++ space ∷ joined ls e
 abbrev pub behind_piece : Bool → List Line → List ℕ
 behind_piece true ls = space ∷ joined ls
 behind_piece false ls = []
-
--- the bytes before the first that isn't of the class, and those from it on
-unfoldable pub while_of : (ℕ → Bool) → List ℕ → List ℕ
-while_of p [] = []
-while_of p (b ∷ bytes) = if p b then b ∷ while_of p bytes else []
-
-unfoldable pub after_while : (ℕ → Bool) → List ℕ → List ℕ
-after_while p [] = []
-after_while p (b ∷ bytes) = if p b then after_while p bytes else b ∷ bytes

@@ -2,8 +2,8 @@
 use Rattle.std.specs.Prelude.{ℕ, Bool, true, false, ◌==◌, ◌&&◌, ◌||◌, not, if◌then◌else◌, [], ◌∷◌, take, drop}
 use Rattle.std.specs.List.{list_all}
 use Rattle.std.specs.Str.{bytes_eq}
-use Rattle.rb_script.specs.declared.marks.Stop.{Stop}
-use Rattle.rb_script.specs.declared.marks.Stop.TheVariants.{Head, Separator, Blank}
+use Rattle.rb_script.specs.declared.marks.Run.{Run}
+use Rattle.rb_script.specs.declared.marks.Run.TheVariants.{Lead, Input, Plain, Continued}
 use Rattle.rb_script.specs.Bytes.{tab, space, number_sign, hyphen, backslash}
 use Rattle.rb_script.specs.Lines.{Line}
 
@@ -41,8 +41,16 @@ unfoldable pub continues : Line → Bool
 continues [] = false
 continues (b ∷ line) = if is_blank line then b == backslash else continues line
 
--- the line at which a run of lines stops
-abbrev pub stops : Stop → Line → Bool
-stops Head line = not (is_lead line)
-stops Separator line = is_separator line
-stops Blank line = is_blank line
+-- the lines of an input, and those of a plain expectation
+abbrev pub is_input : Line → Bool
+is_input line = not (is_separator line)
+
+abbrev pub is_plain : Line → Bool
+is_plain line = not (is_blank line)
+
+-- the lines of a run
+abbrev pub in_run : Run → Line → Bool
+in_run Lead line = is_lead line
+in_run Input line = is_input line
+in_run Plain line = is_plain line
+in_run Continued line = continues line

@@ -1,17 +1,17 @@
--- Runs of lines: those before the first that passes a test, and those of a head. (This project's profile of the
--- datadriven format.)
+-- Runs: what stands at the front of a list and passes a test, and what follows; and the lines of a head. (This project's profile
+-- of the datadriven format.)
 use Rattle.std.specs.Prelude.{Bool, if◌then◌else◌, List, [], ◌∷◌}
 use Rattle.rb_script.specs.Lines.{Line}
 use Rattle.rb_script.specs.Marks.{continues}
 
--- the lines before the first that passes, and those from it on
-unfoldable pub upto : (Line → Bool) → List Line → List Line
-upto p [] = []
-upto p (line ∷ ls) = if p line then [] else line ∷ upto p ls
+-- the items before the first that doesn't pass, and those from it on
+unfoldable pub while_of : {X : Type 0} → (X → Bool) → List X → List X
+while_of p [] = []
+while_of p (x ∷ xs) = if p x then x ∷ while_of p xs else []
 
-unfoldable pub onward : (Line → Bool) → List Line → List Line
-onward p [] = []
-onward p (line ∷ ls) = if p line then line ∷ ls else onward p ls
+unfoldable pub after_while : {X : Type 0} → (X → Bool) → List X → List X
+after_while p [] = []
+after_while p (x ∷ xs) = if p x then after_while p xs else x ∷ xs
 
 -- the first line and those that it asks for, and what follows
 unfoldable pub head_of : List Line → List Line

@@ -30,9 +30,12 @@ script_lines s = flat_map block_lines s.blocks ++ s.tail
 abbrev pub block_text : PlainBlock → List ℕ
 block_text b = text_of (block_lines b)
 
--- what stands above an expectation, with the separator
-abbrev pub front_text : PlainBlock → List ℕ
-front_text b = text_of (b.lead ++ (b.head ++ (b.input ++ rule ∷ [])))
+-- the lines between an input and the expected lines in their form, and those behind these
+abbrev pub opening : Bool → List Line
+opening double = if double then rule ∷ rule ∷ [] else rule ∷ []
+
+abbrev pub closing : Bool → List Line
+closing double = if double then rule ∷ rule ∷ [] ∷ [] else [] ∷ []
 
 unfoldable pub text : PlainScript → List ℕ
 text s = text_of (script_lines s)

@@ -71,11 +71,12 @@ fn are_expectations(outputs: &Grouped<Lines>) -> bool
 }
 
 impl Script {
-    ghost use Rattle.std.specs.Prelude.{◌≡◌, [], Err, IfErr, IfOk, length};
+    ghost use Rattle.std.specs.Prelude.{◌≡◌, List, Err, IfErr, IfOk, length};
+    ghost use Rattle.rb_script.specs.Lines.{Line};
     ghost use Rattle.rb_script.specs.Script.{text, with_outputs};
     ghost use Rattle.rb_script.specs.Valid.{IsScript};
     ghost use Rattle.rb_script.specs.Shared.{IsKeptScript};
-    ghost use Rattle.rb_script.specs.Edits.{edited, with_blocks, Makes};
+    ghost use Rattle.rb_script.specs.Edits.{edited, with_blocks, Makes, Settles};
     ghost use Rattle.rb_script.specs.declared.edit.Edit.TheVariants.{Insert, Replace, Remove, Expect, Accept};
 
     /// The script that the edit makes. `outputs` has one output a directive; only [`Edit::Accept`] uses them.
@@ -95,8 +96,7 @@ impl Script {
     }
 
     fn inserted(&self, place: usize, block: &Block) -> Result<Script, EditFault>
-        ensures exact { Makes result (edited self.now (Insert place block.now) []) }
-        ensures early { IfErr (edited self.now (Insert place block.now) []) (λ fault. result ≡ Err fault) }
+        ensures { (outputs : List (List Line)) → Settles result (edited self.now (Insert place block.now) outputs) }
     {
         let count = self.len();
         if place == 0 || place - 1 > count {
@@ -114,8 +114,7 @@ impl Script {
     }
 
     fn replaced(&self, place: usize, block: &Block) -> Result<Script, EditFault>
-        ensures exact { Makes result (edited self.now (Replace place block.now) []) }
-        ensures early { IfErr (edited self.now (Replace place block.now) []) (λ fault. result ≡ Err fault) }
+        ensures { (outputs : List (List Line)) → Settles result (edited self.now (Replace place block.now) outputs) }
     {
         let Some(old) = self.block(place) else {
             return Err(EditFault::NoSuchPlace);
@@ -130,8 +129,7 @@ impl Script {
     }
 
     fn removed(&self, place: usize) -> Result<Script, EditFault>
-        ensures exact { Makes result (edited self.now (Remove place) []) }
-        ensures early { IfErr (edited self.now (Remove place) []) (λ fault. result ≡ Err fault) }
+        ensures { (outputs : List (List Line)) → Settles result (edited self.now (Remove place) outputs) }
     {
         let Some(old) = self.block(place) else {
             return Err(EditFault::NoSuchPlace);
@@ -141,8 +139,7 @@ impl Script {
     }
 
     fn expecting(&self, place: usize, lines: &Lines) -> Result<Script, EditFault>
-        ensures exact { Makes result (edited self.now (Expect place lines.now) []) }
-        ensures early { IfErr (edited self.now (Expect place lines.now) []) (λ fault. result ≡ Err fault) }
+        ensures { (outputs : List (List Line)) → Settles result (edited self.now (Expect place lines.now) outputs) }
     {
         let Some(old) = self.block(place) else {
             return Err(EditFault::NoSuchPlace);
@@ -161,8 +158,7 @@ impl Script {
 
     fn accepting(&self, outputs: &Grouped<Lines>) -> Result<Script, EditFault>
         requires { length outputs.now ≡ length self.now.blocks }
-        ensures exact { Makes result (edited self.now Accept outputs.now) }
-        ensures early { IfErr (edited self.now Accept outputs.now) (λ fault. result ≡ Err fault) }
+        ensures { Settles result (edited self.now Accept outputs.now) }
     {
         if !are_expectations(outputs) {
             return Err(EditFault::BadExpectation);
@@ -234,7 +230,7 @@ impl Script {
         Ok(Script {
             alloc: self.alloc,
             blocks,
-            tail: self.tail.clone()?,
+            tail: self.tail.try_copy()?,
             text_len,
         })
     }

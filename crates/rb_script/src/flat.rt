@@ -208,7 +208,7 @@ fn is_their_text(bytes: &[u8]) -> bool
     }
 }
 
-// A position in a text. No text is so long that a `u32` doesn't count its bytes: there is no memory for it.
+// A position in a text. Lines whose text is longer than a `u32` counts are refused as if memory were wanted.
 fn counted(n: usize) -> Result<u32, AllocError>
     ensures { IfOk result (λ at. at ≡ n) }
 {

@@ -57,7 +57,7 @@ impl Front {
     ghost use Rattle.rb_script.specs.Lines.{text_of};
     ghost use Rattle.rb_script.specs.Parsed.{spanned};
     ghost use Rattle.rb_script.specs.Reading.{capped};
-    ghost use Rattle.rb_script.specs.Fronts.{front_of, front_len};
+    ghost use Rattle.rb_script.specs.Fronts.{front_of, lines_above, front_len};
 
     /// The lead, the head and the input that begin at these positions of the lines, and the tokens of the head. Nothing is copied.
     pub(crate) fn new(
@@ -86,28 +86,11 @@ impl Front {
         })
     }
 
-    /// The text of the lead.
-    pub(crate) fn lead_text(&self) -> &[u8]
-        ensures { result.now ≡ text_of self.now.lead }
+    /// The text of the lead, the head and the input, which stand one behind the other.
+    pub(crate) fn text(&self) -> &[u8]
+        ensures { result.now ≡ text_of (lines_above self.now) }
     {
-        self.all
-            .text_between(self.lead as usize, self.head as usize)
-    }
-
-    /// The text of the head.
-    pub(crate) fn head_text(&self) -> &[u8]
-        ensures { result.now ≡ text_of self.now.head }
-    {
-        self.all
-            .text_between(self.head as usize, self.input as usize)
-    }
-
-    /// The text of the input.
-    pub(crate) fn input_text(&self) -> &[u8]
-        ensures { result.now ≡ text_of self.now.input }
-    {
-        self.all
-            .text_between(self.input as usize, self.end as usize)
+        self.all.text_between(self.lead as usize, self.end as usize)
     }
 
     /// Line `i` of the head.
@@ -163,13 +146,10 @@ impl Front {
         })
     }
 
-    /// How long the text is without the expectation. The lead, the head and the input are looked at as one.
+    /// How long the text is without the expectation.
     pub(crate) fn text_len(&self) -> usize
         ensures { result ≡ capped (front_len self.now) }
     {
-        self.all
-            .text_between(self.lead as usize, self.end as usize)
-            .len()
-            .saturating_add(AROUND_LEN)
+        self.text().len().saturating_add(AROUND_LEN)
     }
 }

@@ -61,7 +61,7 @@ fn share<T: Drop>(into: &mut Vec<Rc<T>>, items: &[Rc<T>]) -> Result<(), AllocErr
 }
 
 /// Pointers to these items.
-fn shared<T: Drop>(alloc: Global, items: &[Rc<T>]) -> Result<Vec<Rc<T>>, AllocError>
+fn pointers_to<T: Drop>(alloc: Global, items: &[Rc<T>]) -> Result<Vec<Rc<T>>, AllocError>
     ensures { IfOk result (λ v. values v.items ≡ values items.now) }
 {
     let mut made = Vec::with_capacity(alloc, items.len())?;
@@ -260,20 +260,22 @@ fn place_of<T: Drop>(groups: &[Group<T>], starts: &[usize], at: usize) -> Place
 }
 
 impl<T: Drop> Grouped<T> {
-    ghost use Rattle.std.specs.Prelude.{◌≡◌, ◌==◌, ◌<◌, ◌≤◌, ◌^◌, ◌++◌, Some, length, take, drop, slice_get, option_copied, IfOk};
+    ghost use Rattle.std.specs.Prelude.{◌≡◌, ◌==◌, ◌<◌, ◌≤◌, ◌++◌, Some, length, take, drop, slice_get, option_copied, IfOk};
     ghost use Rattle.rb_script.specs.Shared.{values};
     ghost use Rattle.rb_script.specs.Groups.{ungrouped};
 
-    /// The items of these groups.
+    /// The items of these groups. No memory holds more than a `usize` counts.
     fn new(alloc: Global, groups: Vec<Group<T>>) -> Result<Grouped<T>, AllocError>
-        requires { length (ungrouped groups.items) < 2 ^ 63 }
         ensures { IfOk result (λ b. b ≡ ungrouped groups.items) }
     {
         let mut starts = Vec::with_capacity(alloc, groups.len())?;
-        let mut len = 0;
+        let mut len: usize = 0;
         for group in &groups {
             starts.push(len)?;
-            len += group.len();
+            let Some(next) = len.checked_add(group.len()) else {
+                return Err(AllocError);
+            };
+            len = next;
         }
         Ok(Grouped {
             len,
@@ -335,7 +337,6 @@ impl<T: Drop> Grouped<T> {
     ) -> Result<Grouped<T>, AllocError>
         requires from { from ≤ length self.now }
         requires to { to ≤ length self.now }
-        requires few { length (take from self.now ++ (values new.now ++ drop to self.now)) < 2 ^ 63 }
         ensures { IfOk result (λ b. b ≡ take from self.now ++ (values new.now ++ drop to self.now)) }
     {
         Grouped::new(alloc, self.groups_with(alloc, from, new, to)?)
@@ -354,7 +355,7 @@ impl<T: Drop> Grouped<T> {
         ensures { IfOk result (λ groups. ungrouped groups.items ≡ take from self.now ++ (values new.now ++ drop to self.now)) }
     {
         if self.groups.is_empty() {
-            return in_groups(alloc, shared(alloc, new)?);
+            return in_groups(alloc, pointers_to(alloc, new)?);
         }
         let front = place_of(&self.groups, &self.starts, from);
         let rest = place_of(&self.groups, &self.starts, to);

@@ -2,13 +2,13 @@
 
 ghost use Rattle.std.specs.Prelude.{◌≡◌, ◌+◌, ◌-◌, ◌<◌, ◌≤◌, ◌++◌, ◌∷◌, ℕ, length, take, drop, slice_get};
 ghost use Rattle.rb_script.specs.Lines.{Line};
-ghost use Rattle.rb_script.specs.Marks.{is_space, continues};
-ghost use Rattle.rb_script.specs.Joined.{body, joined, behind_piece, while_of, after_while};
+ghost use Rattle.rb_script.specs.Joined.{joined, behind_piece};
+ghost use Rattle.rb_script.specs.Runs.{while_of, after_while};
 ghost use Rattle.rb_script.specs.Tokens.{line_at, token, IsPart};
 ghost use Rattle.rb_script.specs.ByteClasses.{is_of};
 
 use crate::line_part::LinePart;
-use crate::marks::{continues, is_space};
+use crate::marks::{before_backslash, is_space};
 use crate::span::Span;
 use std::marker::Model;
 
@@ -56,21 +56,6 @@ impl ByteClass {
     }
 }
 
-/// The line without its last byte that is no blank, and what follows it.
-fn body(line: &[u8]) -> &[u8]
-    ensures value { result.now ≡ body line.now }
-    ensures part { result.now ≡ take (length result.now) line.now }
-{
-    let mut front = line;
-    while let Some((last, shorter)) = front.split_last() {
-        front = shorter;
-        if !is_space(*last) {
-            break;
-        }
-    }
-    front
-}
-
 /// What a line gives to the joined head, and whether the next line follows it.
 fn piece_of(head: &LinePart, line: usize) -> (&[u8], bool)
     requires { line < length head.now }
@@ -79,10 +64,9 @@ fn piece_of(head: &LinePart, line: usize) -> (&[u8], bool)
     ensures fits { length result.0.now ≤ length (line_at head.now line) }
 {
     let text = head.line(line);
-    if continues(text) {
-        (body(text), true)
-    } else {
-        (text, false)
+    match before_backslash(text) {
+        Some(body) => (body, true),
+        None => (text, false),
     }
 }
 
@@ -112,7 +96,8 @@ impl<'a> HeadCursor<'a> {
     ghost use Rattle.std.specs.Prelude.{◌≡◌, ◌<◌, ◌^◌, length, drop, slice_get, option_copied};
     ghost use Rattle.std.specs.List.{AllByRecursion};
     ghost use Rattle.rb_script.specs.Valid.{IsLine};
-    ghost use Rattle.rb_script.specs.Joined.{joined, while_of, after_while};
+    ghost use Rattle.rb_script.specs.Joined.{joined};
+    ghost use Rattle.rb_script.specs.Runs.{while_of, after_while};
     ghost use Rattle.rb_script.specs.Tokens.{token, IsPart};
     ghost use Rattle.rb_script.specs.ByteClasses.{is_of, IsWithinLine};
 

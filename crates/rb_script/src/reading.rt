@@ -3,17 +3,17 @@
 ghost use Rattle.std.specs.Prelude.{◌≡◌, ◌+◌, ◌^◌, ◌<◌, ◌≤◌, ℕ, [], ◌∷◌, ◌++◌, true, false, length, drop, not, slice_index, vec_len, IsTrue, IfOk, IfErr, IfSome, IfNone, MatchOption, None, Ok, Err};
 ghost use Rattle.std.specs.List.{list_all, AllByRecursion};
 ghost use Rattle.rb_script.specs.Lines.{lines};
-ghost use Rattle.rb_script.specs.Marks.{is_blank, is_lead, is_separator, stops};
+ghost use Rattle.rb_script.specs.Marks.{is_lead, in_run};
 ghost use Rattle.rb_script.specs.Reads.{begins_lead, begins_rule, is_readable};
 ghost use Rattle.rb_script.specs.Results.{Fails, Gives};
-ghost use Rattle.rb_script.specs.Runs.{upto, onward, head_of, after_head};
+ghost use Rattle.rb_script.specs.Runs.{head_of, after_head};
 ghost use Rattle.rb_script.specs.Expectations.{after_blank, to_pair, then_blank, plain_at, expectation_at};
 ghost use Rattle.rb_script.specs.Parsed.{ParsesHead};
 ghost use Rattle.rb_script.specs.Joined.{joined};
 ghost use Rattle.rb_script.specs.Heads.{few_or, head_at};
 ghost use Rattle.rb_script.specs.Blocks.{below_head, block_at, blocks_at};
 ghost use Rattle.rb_script.specs.Reading.{parts_of, is_one, block_of, long_line, no_long_line, capped, early_fault, read_of};
-ghost use Rattle.rb_script.specs.Found.{seen, pair_seen};
+ghost use Rattle.rb_script.specs.Found.{RunsTo, seen, pair_seen};
 ghost use Rattle.rb_script.specs.Flat.{between};
 ghost use Rattle.rb_script.specs.Script.{PlainBlock, text};
 ghost use Rattle.rb_script.specs.Valid.{IsLine};
@@ -29,7 +29,7 @@ use crate::grouped::Grouped;
 use crate::limits::{MAX_DIRECTIVES, MAX_LINE, MAX_SCRIPT};
 use crate::line_part::LinePart;
 use crate::lines::{Lines, next_line};
-use crate::marks::{Stop, continues, is_blank, is_rule};
+use crate::marks::{Run, is_blank, is_rule};
 use crate::script::Script;
 use crate::shared_lines::SharedLines;
 use crate::tokens::{Tokens, tokens_of};
@@ -40,15 +40,13 @@ use std::rc::Rc;
 
 // Positions of lines count from 0. Each of these goes from a position on, which may be behind the last line.
 
-/// Where the run of lines stops: at the first at which it should, or behind the last.
-fn run(all: &SharedLines, start: usize, stop: Stop) -> usize
+/// Where the run of lines ends: before the first that isn't of it, or behind the last.
+fn run(all: &SharedLines, start: usize, kind: Run) -> usize
     requires { start ≤ length all.now }
-    ensures order { (start ≤ result) × (result ≤ length all.now) }
-    ensures run { between start result all.now ≡ upto (stops stop) (drop start all.now) }
-    ensures rest { drop result all.now ≡ onward (stops stop) (drop start all.now) }
+    ensures { RunsTo (in_run kind) all.now start result }
 {
     for at in start..all.len() {
-        if stop.at(all.line(at)) {
+        if !kind.has(all.line(at)) {
             return at;
         }
     }
@@ -62,12 +60,11 @@ fn head(all: &SharedLines, start: usize) -> usize
     ensures run { between start result all.now ≡ head_of (drop start all.now) }
     ensures rest { drop result all.now ≡ after_head (drop start all.now) }
 {
-    for at in start..all.len() {
-        if !continues(all.line(at)) {
-            return at + 1;
-        }
+    let last = run(all, start, Run::Continued);
+    if last == all.len() {
+        return last;
     }
-    all.len()
+    last + 1
 }
 
 /// The position behind a line ----, if one is there.
@@ -118,7 +115,7 @@ fn plain(all: &SharedLines, start: usize) -> Result<Option<(Expected, usize)>, A
     ensures found { IfOk result (λ found. seen all.now found ≡ plain_at (drop start all.now)) }
     ensures within { IfOk result (λ found. IfSome found (λ p. p.1 ≤ length all.now)) }
 {
-    let end = run(all, start, Stop::Blank);
+    let end = run(all, start, Run::Plain);
     let part = Lines::part(all, start, end)?;
     let expected = Expected::new(part);
     if expected.is_readable() {
@@ -205,7 +202,7 @@ fn below_head(
     ensures order { IfOk result (λ p. (start ≤ p.0) × (p.0 ≤ length all.now)) }
     ensures within { IfOk result (λ p. p.2 ≤ length all.now) }
 {
-    let separator = run(all, start, Stop::Separator);
+    let separator = run(all, start, Run::Input);
     if separator == all.len() {
         return Err(ScriptFault::NoSeparator(number));
     }
@@ -262,7 +259,7 @@ fn blocks(alloc: Global, all: &SharedLines) -> Result<Parts, ScriptFault>
     let mut heads = Vec::new(alloc);
     let mut at = 0;
     loop {
-        let start = run(all, at, Stop::Head);
+        let start = run(all, at, Run::Lead);
         if start == all.len() {
             let tail = LinePart::new(all, at, start)?;
             let all = all.try_copy()?;
@@ -372,11 +369,9 @@ fn whole(
     requires { IsKeptScript (record { blocks = values blocks.items; tail = tail }) text_len }
     ensures { IfOk result (λ s. s ≡ record { blocks = values blocks.items; tail = tail }) }
 {
-    let blocks = Grouped::of(alloc, blocks)?;
-    let tail = Rc::new(alloc, tail)?;
     Ok(Script {
         alloc,
-        blocks,
+        blocks: Grouped::of(alloc, blocks)?,
         tail,
         text_len,
     })

@@ -7,13 +7,12 @@ use crate::line_part::LinePart;
 use crate::reading;
 use std::alloc::Global;
 use std::marker::Model;
-use std::rc::Rc;
 
 /// A script.
 pub struct Script {
     pub(crate) alloc: Global,
     pub(crate) blocks: Grouped<Block>,
-    pub(crate) tail: Rc<LinePart>,
+    pub(crate) tail: LinePart,
     // the length of the canonical text
     pub(crate) text_len: usize,
 }
@@ -38,9 +37,9 @@ impl Model for Script {
 
     ghost use Rattle.rb_script.specs.Shared.{IsKeptScript};
 
-    ghost view = { λ s. record { blocks = s.blocks; tail = s.tail.value } };
+    ghost view = { λ s. record { blocks = s.blocks; tail = s.tail } };
 
-    ghost invariant = { λ s. IsKeptScript (record { blocks = s.blocks; tail = s.tail.value }) s.text_len };
+    ghost invariant = { λ s. IsKeptScript (record { blocks = s.blocks; tail = s.tail }) s.text_len };
 }
 
 impl Script {

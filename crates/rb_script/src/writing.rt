@@ -2,7 +2,7 @@
 
 ghost use Rattle.std.specs.Prelude.{◌≡◌, IsOk, length};
 ghost use Rattle.rb_script.specs.Lines.{text_of};
-ghost use Rattle.rb_script.specs.Script.{shown, block_text, front_text, needs_double, expecting};
+ghost use Rattle.rb_script.specs.Script.{shown, opening, closing, block_text, needs_double, expecting};
 ghost use Rattle.rb_script.specs.Reading.{capped};
 ghost use Rattle.rb_script.specs.Writes.{Writes};
 
@@ -13,8 +13,11 @@ use crate::marks::{RULE_LINE, is_blank, is_rule};
 use crate::script::Script;
 use crate::sink::{Sink, WriteFault};
 
-/// The two lines `----` that close the double form.
+/// The separator, and the line `----` that opens the double form.
 const RULE_PAIR: &[u8] = b"----\n----\n";
+
+/// The two lines `----` that close the double form, and the empty line behind an expectation.
+const CLOSING: &[u8] = b"----\n----\n\n";
 
 /// How long what shows the double form is.
 const DOUBLE_LEN: usize = RULE_LINE.len() + RULE_PAIR.len();
@@ -48,29 +51,18 @@ pub(crate) fn form_len(expected: &Lines, is_double: bool) -> usize
     expected.text().len().saturating_add(marks)
 }
 
-// Writes the expected lines in their form.
-fn put_expected<S: Sink>(sink: &mut S, expected: &Lines) -> Result<(), WriteFault>
-    ensures wrote { Writes result (S.held sink.old) (S.held sink.new) (text_of (shown expected.now)) }
-    ensures all { S.takes_all sink.old → IsOk result × S.takes_all sink.new }
+// What stands above the expected lines of a block, below its input.
+fn opening(is_double: bool) -> &'static [u8]
+    ensures { result.now ≡ text_of (opening is_double) }
 {
-    if !needs_double(expected) {
-        return sink.put(expected.text());
-    }
-    sink.put(RULE_LINE)?;
-    sink.put(expected.text())?;
-    sink.put(RULE_PAIR)
+    if is_double { RULE_PAIR } else { RULE_LINE }
 }
 
-// Writes what stands above the expectation.
-fn put_front<S: Sink>(sink: &mut S, block: &Block) -> Result<(), WriteFault>
-    ensures wrote { Writes result (S.held sink.old) (S.held sink.new) (front_text block.now) }
-    ensures all { S.takes_all sink.old → IsOk result × S.takes_all sink.new }
+// What stands below them.
+fn closing(is_double: bool) -> &'static [u8]
+    ensures { result.now ≡ text_of (closing is_double) }
 {
-    let front = block.front();
-    sink.put(front.lead_text())?;
-    sink.put(front.head_text())?;
-    sink.put(front.input_text())?;
-    sink.put(RULE_LINE)
+    if is_double { CLOSING } else { b"\n" }
 }
 
 // Writes a block with these expected lines in place of its own.
@@ -78,9 +70,11 @@ fn put_block<S: Sink>(sink: &mut S, block: &Block, expected: &Lines) -> Result<(
     ensures wrote { Writes result (S.held sink.old) (S.held sink.new) (block_text (expecting block.now expected.now)) }
     ensures all { S.takes_all sink.old → IsOk result × S.takes_all sink.new }
 {
-    put_front(sink, block)?;
-    put_expected(sink, expected)?;
-    sink.put(b"\n")
+    let is_double = needs_double(expected);
+    sink.put(block.front().text())?;
+    sink.put(opening(is_double))?;
+    sink.put(expected.text())?;
+    sink.put(closing(is_double))
 }
 
 impl Script {

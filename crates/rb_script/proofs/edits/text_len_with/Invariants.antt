@@ -7,6 +7,6 @@ use Rattle.rb_script.proofs.edits.text_len_with.Given as goal
 
 abbrev pub invariant-loop-i : goal.invariant-loop-i
 invariant-loop-i l = record {
-  same : capped (l.total + blocks_len (all_expecting (drop l.i l.blocks) (drop l.i l.outputs))) ≡ capped (blocks_len (all_expecting l.blocks l.outputs));
+  same : capped (l.total + blocks_len (drop l.i (all_expecting l.blocks l.outputs))) ≡ capped (blocks_len (all_expecting l.blocks l.outputs));
   fits : l.total < 2 ^ 64;
 }

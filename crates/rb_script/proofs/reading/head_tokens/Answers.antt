@@ -6,7 +6,7 @@ use Rattle.rb_script.specs.Heads.{few_or, head_at}
 use Rattle.rb_script.specs.Parsed.{ParsesHead}
 use Rattle.rb_script.specs.Valid.{IsLine}
 use Rattle.rb_script.proofs.BetweenLaws.{length-between}
-use Rattle.rb_script.proofs.SharedLaws.{every-take}
+use Rattle.rb_script.proofs.ListLaws.{every-take}
 use Rattle.rb_script.proofs.BlockLaws.{head_some}
 use Rattle.rb_script.proofs.reading.head_tokens.Goals as goal
 

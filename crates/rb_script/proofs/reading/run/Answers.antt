@@ -1,57 +1,44 @@
-use Rattle.std.proofs.Common.{◌≡◌, ℕ, ◌+◌, drop, sym, ap, ◌∙◌, arith}
+use Rattle.std.proofs.Common.{◌≡◌, ℕ, ◌∷◌, [], true, refl, sym, ap, subst, ◌∙◌, arith}
+use Rattle.std.specs.List.{list_all}
+use Rattle.std.proofs.lemmas.Bool.{and_from}
 use Rattle.std.proofs.lemmas.List.{drop_all}
+use Rattle.std.proofs.lemmas.List.Folds.{list_all-append}
 use Rattle.rb_script.specs.Flat.{between}
-use Rattle.rb_script.specs.Marks.{stops}
-use Rattle.rb_script.specs.Runs.{upto}
+use Rattle.rb_script.specs.Marks.{in_run}
+use Rattle.rb_script.specs.Found.{RunsTo}
+use Rattle.rb_script.proofs.ListLaws.{drop_there}
+use Rattle.rb_script.proofs.RunLaws.{begins_by}
 use Rattle.rb_script.proofs.BetweenLaws.{between_more}
-use Rattle.rb_script.proofs.ReadingLaws.{drop_found, pushed, upto_more, onward_more, upto_stop, onward_stop, upto_nil, onward_nil, ended}
+use Rattle.rb_script.proofs.ReadingLaws.{run_stops}
 use Rattle.rb_script.proofs.reading.run.Goals as goal
 
 pub loop-at-preserved : goal.loop-at-preserved
 loop-at-preserved c =
-    let p = stops c.args.stop in
-    let all = c.args.all.now in
+    let p = in_run c.args.kind in
     let start = c.args.start in
     let at = c.loop-at.at in
     let line = c.line.result.now in
-    let first = drop_found all at line c.line.ensures in
-    let kept = sym c.at.ensures ∙ c.if-at.false in
+    let so_far = between start at c.args.all.now in
     record {
       order = omega (arith, c.loop-at.invariant.order);
       within = omega arith;
-      run = pushed (between start at all) (between start (at + 1) all) line (upto p (drop (at + 1) all)) (upto p (drop at all)) _ (between_more start at all line c.loop-at.invariant.order c.line.ensures) (upto_more p (drop at all) (drop (at + 1) all) line first kept) c.loop-at.invariant.run;
-      rest = sym (onward_more p (drop at all) (drop (at + 1) all) line first kept) ∙ c.loop-at.invariant.rest;
+      passes = ap (list_all p) (between_more start at c.args.all.now line c.loop-at.invariant.order c.line.ensures) ∙ list_all-append p so_far (line ∷ [])
+          ∙ and_from (list_all p so_far) (list_all p (line ∷ [])) c.loop-at.invariant.passes (and_from (p line) true (sym c.has.ensures ∙ c.if-not-has.false) refl);
     }
 
-pub returns-then-at-clause-run : goal.returns-then-at-clause-run
-returns-then-at-clause-run c =
-    let p = stops c.args.stop in
+pub returns-then-not-has : goal.returns-then-not-has
+returns-then-not-has c =
+    let p = in_run c.args.kind in
     let all = c.args.all.now in
     let at = c.loop-at.at in
-    let line = c.line.result.now in
-    ended (between c.args.start at all) (upto p (drop at all)) _ (upto_stop p (drop at all) (drop (at + 1) all) line (drop_found all at line c.line.ensures) (sym c.at.ensures ∙ c.if-at.true)) c.loop-at.invariant.run
+    let stops = ap (begins_by p) (drop_there all at c.line.result.now c.line.ensures) ∙ sym c.has.ensures ∙ c.if-not-has.true in
+    run_stops p all c.args.start at c.loop-at.invariant.order c.loop-at.invariant.within c.loop-at.invariant.passes stops
 
-pub returns-then-at-clause-rest : goal.returns-then-at-clause-rest
-returns-then-at-clause-rest c =
-    let p = stops c.args.stop in
+pub returns : goal.returns
+returns c =
+    let p = in_run c.args.kind in
     let all = c.args.all.now in
     let at = c.loop-at.at in
-    let line = c.line.result.now in
-    sym (onward_stop p (drop at all) (drop (at + 1) all) line (drop_found all at line c.line.ensures) (sym c.at.ensures ∙ c.if-at.true)) ∙ c.loop-at.invariant.rest
-
-pub returns-clause-run : goal.returns-clause-run
-returns-clause-run c =
-    let p = stops c.args.stop in
-    let all = c.args.all.now in
-    let start = c.args.start in
-    let at = c.loop-at.at in
-    let same : c.len.result ≡ at = omega (arith, c.len.ensures, c.loop-at.invariant.within) in
-    ap (λ (n : ℕ). between start n all) same ∙ ended (between start at all) (upto p (drop at all)) _ (upto_nil p (drop at all) (drop_all at all (omega arith))) c.loop-at.invariant.run
-
-pub returns-clause-rest : goal.returns-clause-rest
-returns-clause-rest c =
-    let p = stops c.args.stop in
-    let all = c.args.all.now in
-    let at = c.loop-at.at in
-    let same : c.len.result ≡ at = omega (arith, c.len.ensures, c.loop-at.invariant.within) in
-    ap (λ (n : ℕ). drop n all) same ∙ sym (onward_nil p (drop at all) (drop_all at all (omega arith))) ∙ c.loop-at.invariant.rest
+    let same : at ≡ c.len.result = omega (arith, c.len.ensures, c.loop-at.invariant.within) in
+    subst (λ (n : ℕ). RunsTo p all c.args.start n) same
+    (run_stops p all c.args.start at c.loop-at.invariant.order c.loop-at.invariant.within c.loop-at.invariant.passes (ap (begins_by p) (drop_all at all (omega arith))))

@@ -1,6 +1,6 @@
 -- What is gone from `rest` went out.
 use Rattle.std.proofs.Common.{length}
-use Rattle.rb_script.proofs.WriteLaws.{Sent}
+use Rattle.rb_script.proofs.SentLaws.{Sent}
 use Rattle.rb_script.proofs.sink.put_whole.Given as goal
 
 abbrev pub invariant-loop-rest : goal.invariant-loop-rest

@@ -3,7 +3,8 @@ use Rattle.std.specs.Prelude.{slice_get}
 use Rattle.std.specs.Option.{is_some}
 use Rattle.std.proofs.lemmas.Result.{err_from_is_err_and}
 use Rattle.rb_script.specs.Marks.{is_space}
-use Rattle.rb_script.proofs.TokenLaws.{begins_by, begins_at, begins_nowhere}
+use Rattle.rb_script.proofs.TokenLaws.{begins_at, begins_nowhere}
+use Rattle.rb_script.proofs.RunLaws.{begins_by}
 use Rattle.rb_script.proofs.ArgumentLaws.{arguments_found, arguments_bad, argument_bad, argument_fails, arguments_more, arguments_shorter}
 use Rattle.rb_script.proofs.tokens.arguments.Goals as goal
 use Rattle.rb_script.proofs.tokens.arguments.Goals.{in_default-via-in-Some+else-is_space, in_default-via-in_default}

@@ -1,5 +1,5 @@
 use Rattle.std.proofs.Common.{refl, ◌++◌, ◌∷◌, [], ◌∙◌}
-use Rattle.rb_script.specs.Joined.{while_of}
+use Rattle.rb_script.specs.Runs.{while_of}
 use Rattle.rb_script.specs.ByteClasses.{is_piece}
 use Rattle.rb_script.proofs.ArgumentLaws.{values_found, values_bad, values_none, values_more, values_shorter, keeps_token}
 use Rattle.rb_script.proofs.tokens.list.Goals as goal

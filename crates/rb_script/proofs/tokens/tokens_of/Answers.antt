@@ -1,6 +1,7 @@
 use Rattle.std.proofs.Common.{ap, ◌∙◌}
 use Rattle.rb_script.specs.Marks.{is_space}
-use Rattle.rb_script.specs.Joined.{joined, after_while}
+use Rattle.rb_script.specs.Joined.{joined}
+use Rattle.rb_script.specs.Runs.{after_while}
 use Rattle.rb_script.proofs.ArgumentLaws.{head_found, head_too_long}
 use Rattle.rb_script.proofs.tokens.tokens_of.Goals as goal
 

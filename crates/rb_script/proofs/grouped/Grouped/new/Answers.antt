@@ -1,13 +1,7 @@
-use Rattle.std.proofs.Common.{◌≡◌, ℕ, ◌+◌, ◌∙◌, ap, subst, length, get_or, arith}
+use Rattle.std.proofs.Common.{◌≡◌, ℕ, ◌∙◌, ap, subst, length, get_or, arith}
 use Rattle.rb_script.specs.Groups.{AreStarts}
-use Rattle.rb_script.proofs.GroupLaws.{before_more, before_within, before_all, starts_more}
+use Rattle.rb_script.proofs.GroupLaws.{before_more, before_all, starts_more}
 use Rattle.rb_script.proofs.grouped.Grouped.new.Goals as goal
-
-pub overflow_add-len : goal.overflow_add-len
-overflow_add-len g c =
-    let gs = c.args.groups.items in
-    let i = c.loop-group.group-index in
-    omega (arith, before_more gs i c.group-item.result (omega arith) (c.group-item.is ∙ ap (λ gs. get_or gs c.loop-group.group-index c.group-item.result) c.deref-group-items.ensures.value), before_within gs (i + 1), c.requires)
 
 pub loop-group-preserved : goal.loop-group-preserved
 loop-group-preserved g c =
@@ -15,7 +9,7 @@ loop-group-preserved g c =
     let i = c.loop-group.group-index in
     record {
       starts = starts_more gs c.loop-group.starts.items c.push.new.self.items i c.loop-group.len c.loop-group.invariant.starts c.loop-group.invariant.len c.in_ok-push.ensures.items;
-      len = omega (arith, before_more gs i c.group-item.result (omega arith) (c.group-item.is ∙ ap (λ gs. get_or gs c.loop-group.group-index c.group-item.result) c.deref-group-items.ensures.value));
+      len = omega (arith, c.in-Some.ensures, before_more gs i c.group-item.result (omega arith) (c.group-item.is ∙ ap (λ gs. get_or gs c.loop-group.group-index c.group-item.result) c.deref-group-items.ensures.value));
       within = omega arith;
     }
 
@@ -24,9 +18,7 @@ invariant_of-result g c =
     let gs = c.args.groups.items in
     let i = c.loop-group.group-index in
     let end : i ≡ length gs = omega arith in
-    let all = before_all gs i (omega arith) in
     record {
       starts_are = subst (λ (n : ℕ). AreStarts c.loop-group.starts.items gs n) end c.loop-group.invariant.starts;
-      len_is = c.loop-group.invariant.len ∙ all;
-      few = omega (arith, all, c.requires);
+      len_is = c.loop-group.invariant.len ∙ before_all gs i (omega arith);
     }

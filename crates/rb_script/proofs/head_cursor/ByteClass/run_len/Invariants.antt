@@ -1,10 +1,7 @@
-use Rattle.std.proofs.Common.{◌≡◌, ◌++◌, take, drop}
-use Rattle.rb_script.specs.Joined.{while_of, after_while}
+use Rattle.std.proofs.Common.{◌≡◌, true, take}
+use Rattle.std.specs.List.{list_all}
 use Rattle.rb_script.specs.ByteClasses.{is_of}
 use Rattle.rb_script.proofs.head_cursor.ByteClass.run_len.Given as goal
 
 abbrev pub invariant-loop-i : goal.invariant-loop-i
-invariant-loop-i l = record {
-  run : take l.i l.bytes ++ while_of (is_of l.self) (drop l.i l.bytes) ≡ while_of (is_of l.self) l.bytes;
-  rest : after_while (is_of l.self) (drop l.i l.bytes) ≡ after_while (is_of l.self) l.bytes;
-}
+invariant-loop-i l = list_all (is_of l.self) (take l.i l.bytes) ≡ true

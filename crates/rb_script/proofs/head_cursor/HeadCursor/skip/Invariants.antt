@@ -1,5 +1,5 @@
 use Rattle.std.proofs.Common.{◌≡◌, length}
-use Rattle.rb_script.specs.Joined.{after_while}
+use Rattle.rb_script.specs.Runs.{after_while}
 use Rattle.rb_script.specs.ByteClasses.{is_of}
 use Rattle.rb_script.proofs.head_cursor.HeadCursor.skip.Given as goal
 

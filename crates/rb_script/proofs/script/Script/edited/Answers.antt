@@ -1,30 +1,29 @@
-use Rattle.rb_script.proofs.EditedLaws.{settled_as, insert_alone, replace_alone, remove_alone, expect_alone}
+use Rattle.std.proofs.Common.{sym, subst}
+use Rattle.rb_script.specs.declared.edit.Edit.{Edit}
+use Rattle.rb_script.specs.Edits.{edited, Settles}
 use Rattle.rb_script.proofs.script.Script.edited.Goals as goal
 
 pub returns-in-Insert : goal.returns-in-Insert
 returns-in-Insert c =
-    let s = c.args.self.now in
-    let edit = c.in-Insert in
-    let settled = settled_as c.inserted.result _ _ (insert_alone s edit.place c.args.outputs.now c.args.edit.now edit.block edit.is) c.inserted.ensures.exact c.inserted.ensures.early in
+    let settled = subst (λ (e : Edit). Settles c.inserted.result (edited c.args.self.now e c.args.outputs.now)) (sym c.in-Insert.is) (c.inserted.ensures c.args.outputs.now) in
     record { exact = settled.exact; early = settled.early }
 
 pub returns-in-Replace : goal.returns-in-Replace
 returns-in-Replace c =
-    let s = c.args.self.now in
-    let edit = c.in-Replace in
-    let settled = settled_as c.replaced.result _ _ (replace_alone s edit.place c.args.outputs.now c.args.edit.now edit.block edit.is) c.replaced.ensures.exact c.replaced.ensures.early in
+    let settled = subst (λ (e : Edit). Settles c.replaced.result (edited c.args.self.now e c.args.outputs.now)) (sym c.in-Replace.is) (c.replaced.ensures c.args.outputs.now) in
     record { exact = settled.exact; early = settled.early }
 
 pub returns-in-Remove : goal.returns-in-Remove
 returns-in-Remove c =
-    let s = c.args.self.now in
-    let edit = c.in-Remove in
-    let settled = settled_as c.removed.result _ _ (remove_alone s edit.place c.args.outputs.now c.args.edit.now edit.is) c.removed.ensures.exact c.removed.ensures.early in
+    let settled = subst (λ (e : Edit). Settles c.removed.result (edited c.args.self.now e c.args.outputs.now)) (sym c.in-Remove.is) (c.removed.ensures c.args.outputs.now) in
     record { exact = settled.exact; early = settled.early }
 
 pub returns-in-Expect : goal.returns-in-Expect
 returns-in-Expect c =
-    let s = c.args.self.now in
-    let edit = c.in-Expect in
-    let settled = settled_as c.expecting.result _ _ (expect_alone s edit.place c.args.outputs.now c.args.edit.now edit.lines edit.is) c.expecting.ensures.exact c.expecting.ensures.early in
+    let settled = subst (λ (e : Edit). Settles c.expecting.result (edited c.args.self.now e c.args.outputs.now)) (sym c.in-Expect.is) (c.expecting.ensures c.args.outputs.now) in
+    record { exact = settled.exact; early = settled.early }
+
+pub returns-in-Accept : goal.returns-in-Accept
+returns-in-Accept c =
+    let settled = subst (λ (e : Edit). Settles c.accepting.result (edited c.args.self.now e c.args.outputs.now)) (sym c.in-Accept.is) c.accepting.ensures in
     record { exact = settled.exact; early = settled.early }

@@ -1,10 +1,9 @@
-use Rattle.rb_script.proofs.EditedLaws.{refused, grown, with_removed, old_fits, there_within, remove_nowhere, remove_made, remove_valid}
+use Rattle.rb_script.specs.declared.edit.Edit.TheVariants.{Remove}
+use Rattle.rb_script.proofs.EditedLaws.{refused, grown, place_refused, no_block_there, with_removed, old_fits, there_within, remove_made, remove_valid}
 use Rattle.rb_script.proofs.script.Script.removed.Goals as goal
 
 pub returns-in_default : goal.returns-in_default
-returns-in_default c =
-    let settled = refused _ _ (remove_nowhere c.args.self.now c.args.place c.in_default.ensures) in
-    record { exact = settled.exact; early = settled.early }
+returns-in_default c = λ outputs. refused _ _ (place_refused c.args.self.now (Remove c.args.place) outputs (no_block_there c.args.self.now.blocks c.args.place c.in_default.ensures))
 
 pub overflow_sub-text_len : goal.overflow_sub-text_len
 overflow_sub-text_len c = old_fits c.args.self.now c.args.place c.in-Some.old.now c.in-Some.ensures c.text_len.result c.text_len-2.result c.text_len.ensures.len c.text_len-2.ensures.len
@@ -19,8 +18,4 @@ with_part-requires c =
     record { from = inside.0; to = inside.1; kept = remove_valid s k old there c.text_len.result c.text_len-2.result c.text_len.ensures.valid c.text_len.ensures.len c.text_len-2.ensures.len }
 
 pub returns : goal.returns
-returns c =
-    let s = c.args.self.now in
-    let k = c.args.place in
-    let settled = grown c.with_part.result _ (with_removed s k) (remove_made s k c.in-Some.old.now c.in-Some.ensures) c.with_part.ensures.ok c.with_part.ensures.err in
-    record { exact = settled.exact; early = settled.early }
+returns c = λ outputs. grown c.with_part.result _ (with_removed c.args.self.now c.args.place) (remove_made c.args.self.now c.args.place c.in-Some.old.now c.in-Some.ensures outputs) c.with_part.ensures.ok c.with_part.ensures.err

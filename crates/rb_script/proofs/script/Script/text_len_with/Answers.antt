@@ -9,6 +9,6 @@ pub returns : goal.returns
 returns c =
     let outputs = c.args.outputs.now in
     let whole = text-length (with_outputs c.args.self.now outputs) in
-    let tail = ap length (c.text-tail.ensures ∙ ap text_of c.deref.ensures ∙ ap (λ (s : PlainScript). text_of s.tail) c.self.view_is) in
+    let tail = ap length (c.text-tail.ensures ∙ ap (λ (s : PlainScript). text_of s.tail) c.self.view_is) in
     let blocks = c.text_len_with.ensures ∙ ap (λ (s : PlainScript). capped (blocks_len (all_expecting s.blocks outputs))) c.self.view_is in
     omega (arith, whole, tail, blocks)

@@ -1,46 +1,38 @@
-use Rattle.std.proofs.Common.{◌≡◌, ◌++◌, drop, ◌+◌, ap, ◌∙◌, arith}
-use Rattle.std.proofs.lemmas.List.{drop_all}
-use Rattle.std.specs.List.{flat_map}
-use Rattle.rb_script.specs.Lines.{text_of}
-use Rattle.rb_script.specs.Script.{block_lines, block_text, script_lines, expecting, text}
-use Rattle.rb_script.proofs.SharedLaws.{drop_there}
-use Rattle.rb_script.proofs.WriteLaws.{SentLines, lines_more, lines_exit, lines_last, lines_along, next_block, no_block, own_text}
+use Rattle.std.proofs.Common.{◌≡◌, ap, refl, ◌∙◌, arith}
+use Rattle.rb_script.specs.Script.{block_text, expecting, text}
+use Rattle.rb_script.proofs.SentLaws.{sent_none, piece_last, writes_along}
+use Rattle.rb_script.proofs.WriteLaws.{text_parts, block_more, block_exit, blocks_sent, own_text}
 use Rattle.rb_script.proofs.script.Script.write_to.Given as given
 use Rattle.rb_script.proofs.script.Script.write_to.Goals as goal
 use Rattle.rb_script.proofs.script.Script.write_to.Goals.{After-put_block}
 
--- before a block is put it and those after it are still to go
-before : (g : given.Over) (c : After-put_block g)
-    → SentLines (g.S.Sink.held c.args.sink.now) (g.S.Sink.held c.loop-i.sink) (script_lines c.args.self.now) (block_lines c.at-block.result.now.value ++ (flat_map block_lines (drop (c.loop-i.i + 1) c.self.inside.blocks) ++ c.self.inside.tail.value))
-before g c =
-    let bs = c.self.inside.blocks in
-    let i = c.loop-i.i in
-    let block = c.at-block.result.now.value in
-    lines_along (next_block (drop i bs) (drop (i + 1) bs) block c.self.inside.tail.value (drop_there bs i block c.at-block.ensures)) c.loop-i.invariant.sent
-
--- what is put is its text
+-- what is put is the text of the block
 put_text : (g : given.Over) (c : After-put_block g) → block_text (expecting c.deref.result.now c.expected.result.now) ≡ block_text c.at-block.result.now.value
 put_text g c = own_text c.deref.result.now c.deref-in-loop-i.result.now c.at-block.result.now.value c.expected.result.now c.deref.ensures c.deref-in-loop-i.ensures c.expected.ensures
 
+pub loop-i-init : goal.loop-i-init
+loop-i-init g c = record { sent = sent_none _ _ _ refl; takes = λ t. t }
+
 pub returns-in_err-put_block-clause-wrote : goal.returns-in_err-put_block-clause-wrote
-unfolding text
 returns-in_err-put_block-clause-wrote g c =
-    let at = (goal.at.returns-in_err-put_block-clause-wrote g c).After-put_block in
-    lines_exit c.from_residual.result (g.S.Sink.held c.put_block.new.sink) (block_lines c.at-block.result.now.value) _ (put_text g at) c.from_residual.ensures.0 (before g at) c.in_err-put_block.ensures.wrote
+    let bs = c.self.inside.blocks in
+    let tail = c.self.inside.tail in
+    let is = put_text g (goal.at.returns-in_err-put_block-clause-wrote g c).After-put_block in
+    let whole = text_parts (record { blocks = bs; tail = tail }) ∙ ap text c.self.view_is in
+    writes_along c.from_residual.result _ _ _ _ whole
+    (block_exit bs c.loop-i.i c.at-block.result.now.value tail c.at-block.ensures is c.loop-i.invariant.sent c.from_residual.result (g.S.Sink.held c.put_block.new.sink) c.from_residual.ensures.0 c.in_err-put_block.ensures.wrote)
 
 pub loop-i-preserved : goal.loop-i-preserved
 loop-i-preserved g c =
-    let at = (goal.at.loop-i-preserved g c).After-put_block in
+    let is = put_text g (goal.at.loop-i-preserved g c).After-put_block in
     record {
-      sent = lines_more (g.S.Sink.held c.put_block.new.sink) (block_lines c.at-block.result.now.value) _ (put_text g at) (before g at) c.in_ok-put_block.ensures.wrote;
+      sent = block_more c.self.inside.blocks c.loop-i.i c.at-block.result.now.value c.self.inside.tail c.at-block.ensures is c.loop-i.invariant.sent (g.S.Sink.held c.put_block.new.sink) c.in_ok-put_block.ensures.wrote;
       takes = λ t. (c.in_ok-put_block.ensures.all (c.loop-i.invariant.takes t)).1;
     }
 
 pub returns-clause-wrote : goal.returns-clause-wrote
-unfolding text
 returns-clause-wrote g c =
     let bs = c.self.inside.blocks in
-    let i = c.loop-i.i in
-    let tail = c.self.inside.tail.value in
-    lines_last c.put.result (g.S.Sink.held c.put.new.self) tail (c.text.ensures ∙ ap text_of c.deref-2.ensures)
-    (lines_along (no_block (drop i bs) tail (drop_all i bs (omega arith))) c.loop-i.invariant.sent) c.put.ensures.wrote
+    let tail = c.self.inside.tail in
+    let whole = text_parts (record { blocks = bs; tail = tail }) ∙ ap text c.self.view_is in
+    writes_along c.put.result _ _ _ _ whole (piece_last c.put.result (g.S.Sink.held c.put.new.self) _ (blocks_sent bs c.loop-i.i tail (omega arith) c.loop-i.invariant.sent) (rw c.text.ensures at c.put.ensures.wrote))

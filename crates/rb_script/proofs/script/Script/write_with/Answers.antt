@@ -1,51 +1,51 @@
-use Rattle.std.proofs.Common.{◌≡◌, ◌++◌, List, drop, ◌+◌, ap, ◌∙◌, arith}
-use Rattle.std.specs.List.{flat_map}
-use Rattle.rb_script.specs.Lines.{Line, text_of}
-use Rattle.rb_script.specs.Script.{PlainBlock, block_lines, block_text, script_lines, with_outputs, expecting, all_expecting, text}
-use Rattle.rb_script.proofs.SharedLaws.{expecting_split, expecting_none}
-use Rattle.rb_script.proofs.WriteLaws.{SentLines, lines_more, lines_exit, lines_last, lines_along, next_block, no_block}
+use Rattle.std.proofs.Common.{◌≡◌, List, length, ap, refl, sym, ◌∙◌, arith}
+use Rattle.rb_script.specs.Lines.{Line}
+use Rattle.rb_script.specs.Script.{PlainBlock, PlainScript, block_text, with_outputs, expecting, all_expecting, text}
+use Rattle.rb_script.proofs.SharedLaws.{expecting_at, outputs_count}
+use Rattle.rb_script.proofs.SentLaws.{sent_none, piece_last, writes_along}
+use Rattle.rb_script.proofs.WriteLaws.{text_parts, block_more, block_exit, blocks_sent}
 use Rattle.rb_script.proofs.script.Script.write_with.Given as given
 use Rattle.rb_script.proofs.script.Script.write_with.Goals as goal
 use Rattle.rb_script.proofs.script.Script.write_with.Goals.{After-put_block}
 
--- before a block is put it, with its output, and those after it are still to go
-before : (g : given.Over) (c : After-put_block g)
-    → SentLines (g.S.Sink.held c.args.sink.now) (g.S.Sink.held c.loop-i.sink) (script_lines (with_outputs c.args.self.now c.args.outputs.now))
-    (block_lines (expecting c.at-block.result.now.value c.at-output.result.now.value)
-    ++ (flat_map block_lines (all_expecting (drop (c.loop-i.i + 1) c.self.inside.blocks) (drop (c.loop-i.i + 1) c.args.outputs.now)) ++ c.self.inside.tail.value))
-before g c =
-    let bs = c.self.inside.blocks in
-    let outputs = c.args.outputs.now in
-    let i = c.loop-i.i in
-    let block = c.at-block.result.now.value in
-    let output = c.at-output.result.now.value in
-    let split = expecting_split bs outputs i block output c.at-block.ensures c.at-output.ensures in
-    lines_along (next_block (all_expecting (drop i bs) (drop i outputs)) _ (expecting block output) c.self.inside.tail.value split) c.loop-i.invariant.sent
-
--- what is put is its text
+-- what is put is the text of the block with its output
 put_text : (g : given.Over) (c : After-put_block g) → block_text (expecting c.deref.result.now c.deref-in-loop-i.result.now) ≡ block_text (expecting c.at-block.result.now.value c.at-output.result.now.value)
 put_text g c = ap (λ (b : PlainBlock). block_text (expecting b c.deref-in-loop-i.result.now)) c.deref.ensures ∙ ap (λ (o : List Line). block_text (expecting c.at-block.result.now.value o)) c.deref-in-loop-i.ensures
 
+pub loop-i-init : goal.loop-i-init
+loop-i-init g c = record { sent = sent_none _ _ _ refl; takes = λ t. t }
+
 pub returns-in_err-put_block-clause-wrote : goal.returns-in_err-put_block-clause-wrote
-unfolding text
 returns-in_err-put_block-clause-wrote g c =
-    let at = (goal.at.returns-in_err-put_block-clause-wrote g c).After-put_block in
-    lines_exit c.from_residual.result (g.S.Sink.held c.put_block.new.sink) (block_lines (expecting c.at-block.result.now.value c.at-output.result.now.value)) _ (put_text g at) c.from_residual.ensures.0 (before g at) c.in_err-put_block.ensures.wrote
+    let bs = c.self.inside.blocks in
+    let tail = c.self.inside.tail in
+    let outputs = c.args.outputs.now in
+    let block = c.at-block.result.now.value in
+    let output = c.at-output.result.now.value in
+    let is = put_text g (goal.at.returns-in_err-put_block-clause-wrote g c).After-put_block in
+    let whole = text_parts (with_outputs (record { blocks = bs; tail = tail }) outputs) ∙ ap (λ (s : PlainScript). text (with_outputs s outputs)) c.self.view_is in
+    writes_along c.from_residual.result _ _ _ _ whole
+    (block_exit (all_expecting bs outputs) c.loop-i.i (expecting block output) tail (expecting_at bs outputs c.loop-i.i block output c.at-block.ensures c.at-output.ensures) is c.loop-i.invariant.sent
+    c.from_residual.result (g.S.Sink.held c.put_block.new.sink) c.from_residual.ensures.0 c.in_err-put_block.ensures.wrote)
 
 pub loop-i-preserved : goal.loop-i-preserved
 loop-i-preserved g c =
-    let at = (goal.at.loop-i-preserved g c).After-put_block in
+    let bs = c.self.inside.blocks in
+    let outputs = c.args.outputs.now in
+    let block = c.at-block.result.now.value in
+    let output = c.at-output.result.now.value in
+    let is = put_text g (goal.at.loop-i-preserved g c).After-put_block in
     record {
-      sent = lines_more (g.S.Sink.held c.put_block.new.sink) (block_lines (expecting c.at-block.result.now.value c.at-output.result.now.value)) _ (put_text g at) (before g at) c.in_ok-put_block.ensures.wrote;
+      sent = block_more (all_expecting bs outputs) c.loop-i.i (expecting block output) c.self.inside.tail (expecting_at bs outputs c.loop-i.i block output c.at-block.ensures c.at-output.ensures) is c.loop-i.invariant.sent
+          (g.S.Sink.held c.put_block.new.sink) c.in_ok-put_block.ensures.wrote;
       takes = λ t. (c.in_ok-put_block.ensures.all (c.loop-i.invariant.takes t)).1;
     }
 
 pub returns-clause-wrote : goal.returns-clause-wrote
-unfolding text
 returns-clause-wrote g c =
     let bs = c.self.inside.blocks in
+    let tail = c.self.inside.tail in
     let outputs = c.args.outputs.now in
-    let i = c.loop-i.i in
-    let tail = c.self.inside.tail.value in
-    lines_last c.put.result (g.S.Sink.held c.put.new.self) tail (c.text.ensures ∙ ap text_of c.deref-2.ensures)
-    (lines_along {all = script_lines (with_outputs c.args.self.now c.args.outputs.now)} (no_block (all_expecting (drop i bs) (drop i outputs)) tail (expecting_none bs (drop i outputs) i (omega arith))) c.loop-i.invariant.sent) c.put.ensures.wrote
+    let whole = text_parts (with_outputs (record { blocks = bs; tail = tail }) outputs) ∙ ap (λ (s : PlainScript). text (with_outputs s outputs)) c.self.view_is in
+    let count = outputs_count bs outputs (c.requires ∙ sym (ap (λ (s : PlainScript). length s.blocks) c.self.view_is)) in
+    writes_along c.put.result _ _ _ _ whole (piece_last c.put.result (g.S.Sink.held c.put.new.self) _ (blocks_sent (all_expecting bs outputs) c.loop-i.i tail (omega (arith, count)) c.loop-i.invariant.sent) (rw c.text.ensures at c.put.ensures.wrote))
