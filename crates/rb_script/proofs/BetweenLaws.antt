@@ -1,5 +1,5 @@
 -- The lines from one position up to another.
-use Rattle.std.proofs.Common.{◌≡◌, ◌∙◌, ℕ, ◌+◌, ◌-◌, ◌<◌, ◌≤◌, List, [], ◌∷◌, ◌++◌, length, take, drop, get_or, Some, ap, arith}
+use Rattle.std.proofs.Common.{◌≡◌, ◌∙◌, ℕ, ◌+◌, ◌-◌, ◌<◌, ◌≤◌, List, [], ◌∷◌, ◌++◌, length, take, drop, get_or, Some, ap, sym, arith}
 use Rattle.std.specs.Prelude.{slice_get}
 use Rattle.std.proofs.Math.Seq.{take-add}
 use Rattle.std.proofs.lemmas.List.{length-take, length-drop, take_more, drop-drop, get_or-take, get_or-drop}
@@ -10,11 +10,15 @@ use Rattle.rb_script.specs.Flat.{between}
 pub length-between : (from to : ℕ) (ls : List Line) → to ≤ length ls → length (between from to ls) ≡ to - from
 length-between from to ls h = omega (arith, h, length-take (to - from) (drop from ls), length-drop from ls)
 
-pub get-between : (from to i : ℕ) (ls : List Line) (line : Line) → to ≤ length ls → i < to - from → slice_get ls (from + i) ≡ Some line → slice_get (between from to ls) i ≡ Some line
-get-between from to i ls line within h got =
-    let short : i < length (between from to ls) = omega (arith, h, length-between from to ls within) in
-    slice_get-get_or (between from to ls) i line short
-    ∙ ap (λ (l : Line). Some l) (get_or-take (to - from) (drop from ls) i line h ∙ get_or-drop from ls i line ∙ get_or_from_slice_get ls (from + i) line line got)
+-- a position of these lines is one between the two, and the same line stands there
+pub part_before : (from to i : ℕ) (all ls : List Line) → between from to all ≡ ls → to ≤ length all → i < length ls → i < to - from
+part_before from to i all ls whole within lt = omega (arith, lt, ap length whole, length-between from to all within)
+
+pub part_line : (from to i : ℕ) (all ls : List Line) (line : Line) → between from to all ≡ ls → to ≤ length all → i < length ls → slice_get all (from + i) ≡ Some line → slice_get ls i ≡ Some line
+part_line from to i all ls line whole within lt got =
+    slice_get-get_or ls i line lt
+    ∙ ap (λ (l : List Line). Some (get_or l i line)) (sym whole)
+    ∙ ap (λ (l : Line). Some l) (get_or-take (to - from) (drop from all) i line (part_before from to i all ls whole within lt) ∙ get_or-drop from all i line ∙ get_or_from_slice_get all (from + i) line line got)
 
 -- one more
 pub between_more : (from to : ℕ) (ls : List Line) (line : Line) → from ≤ to → slice_get ls to ≡ Some line → between from (to + 1) ls ≡ between from to ls ++ line ∷ []
@@ -43,7 +47,3 @@ pub take_between : (from to : ℕ) (ls : List Line) → from ≤ to → take to 
 take_between from to ls order =
     let whole : to ≡ from + (to - from) = omega (arith, order) in
     ap (λ (k : ℕ). take k ls) whole ∙ take-add from (to - from) ls
-
--- a position of the lines is one between the two
-pub part_before : (from to i : ℕ) (all ls : List Line) → between from to all ≡ ls → to ≤ length all → i < length ls → i < to - from
-part_before from to i all ls whole within lt = omega (arith, lt, ap length whole, length-between from to all within)

@@ -161,16 +161,18 @@ three_parts {X} front new rest first second third last e1 e2 e3 e4 =
 
 -- ---- making groups
 
+-- the values of pointers, cut in two
+values_cut : {T : Type 0} (blocks kept last : List (Rc T Global)) (g : List T) (at : ℕ) → kept ≡ take at blocks → last ≡ drop at blocks → g ≡ values last → values kept ++ g ≡ values blocks
+values_cut {T} blocks kept last g at kept_is last_is g_is =
+    ap (λ (l : List T). values kept ++ l) (g_is ∙ ap values last_is) ∙ ap (λ (l : List (Rc T Global)). values l ++ values (drop at blocks)) kept_is
+    ∙ sym (map-append (λ (q : Rc T Global). q.value) (take at blocks) (drop at blocks)) ∙ ap values (take-append-drop at blocks)
+
 -- the last blocks became a group
 pub grouped_more : {T : Type 0} (blocks kept last : List (Rc T Global)) (groups next : List (List T)) (g all : List T) (at : ℕ) → kept ≡ take at blocks → last ≡ drop at blocks → g ≡ values last → next ≡ groups ++ g ∷ []
     → values blocks ++ ungrouped (reverse groups) ≡ all → values kept ++ ungrouped (reverse next) ≡ all
 grouped_more {T} blocks kept last groups next g all at kept_is last_is g_is next_is so_far =
-    let f : Rc T Global → T = λ q. q.value in
     let turned : ungrouped (reverse next) ≡ g ++ ungrouped (reverse groups) = ap (λ (l : List (List T)). ungrouped (reverse l)) next_is ∙ ap ungrouped (reverse-append groups (g ∷ [])) in
-    let both : values kept ++ g ≡ values blocks =
-    ap (λ (l : List T). values kept ++ l) (g_is ∙ ap values last_is) ∙ ap (λ (l : List (Rc T Global)). values l ++ values (drop at blocks)) kept_is
-    ∙ sym (map-append f (take at blocks) (drop at blocks)) ∙ ap values (take-append-drop at blocks) in
-    ap (λ (l : List T). values kept ++ l) turned ∙ sym (append_assoc (values kept) g (ungrouped (reverse groups))) ∙ ap (λ (l : List T). l ++ ungrouped (reverse groups)) both ∙ so_far
+    ap (λ (l : List T). values kept ++ l) turned ∙ sym (append_assoc (values kept) g (ungrouped (reverse groups))) ∙ ap (λ (l : List T). l ++ ungrouped (reverse groups)) (values_cut blocks kept last g at kept_is last_is g_is) ∙ so_far
 
 -- all of them
 pub grouped_all : {T : Type 0} (blocks : List (Rc T Global)) (groups turned : List (List T)) (all : List T) → length blocks ≡ 0 → turned ≡ reverse groups → values blocks ++ ungrouped (reverse groups) ≡ all → ungrouped turned ≡ all
@@ -180,7 +182,5 @@ grouped_all {T} blocks groups turned all none e so_far = ap ungrouped e ∙ sym 
 pub halves : {T : Type 0} (blocks first rest : List (Rc T Global)) (groups one two : List (List T)) (g h : List T) (at : ℕ) → first ≡ take at blocks → rest ≡ drop at blocks → g ≡ values first → h ≡ values rest → one ≡ groups ++ g ∷ [] → two ≡ one ++ h ∷ []
     → ungrouped two ≡ ungrouped groups ++ values blocks
 halves {T} blocks first rest groups one two g h at first_is rest_is g_is h_is one_is two_is =
-    let f : Rc T Global → T = λ q. q.value in
     ap ungrouped two_is ∙ ungrouped_end one h ∙ ap (λ (l : List T). l ++ h) (ap ungrouped one_is ∙ ungrouped_end groups g) ∙ append_assoc (ungrouped groups) g h
-    ∙ ap (λ (l : List T). ungrouped groups ++ l)
-    (ap (λ (l : List T). l ++ h) (g_is ∙ ap values first_is) ∙ ap (λ (l : List T). values (take at blocks) ++ l) (h_is ∙ ap values rest_is) ∙ sym (map-append f (take at blocks) (drop at blocks)) ∙ ap values (take-append-drop at blocks))
+    ∙ ap (λ (l : List T). ungrouped groups ++ l) (ap (λ (l : List T). l ++ h) g_is ∙ values_cut blocks first rest h at first_is rest_is h_is)

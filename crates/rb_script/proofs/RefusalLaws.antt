@@ -17,6 +17,7 @@ use Rattle.rb_script.specs.Edits.{is_text_line, is_expectation, unless, fitting,
 use Rattle.rb_script.specs.LineParts.{HasNoEnd}
 use Rattle.rb_script.specs.Refusals.{IsPlace, HasPlace, HasExpectations, HasRoom, CanBeExpected, made_by, MayBeMade, IsEditFault}
 use Rattle.rb_script.proofs.ListLaws.{every_told, all_pass}
+use Rattle.rb_script.proofs.ResultLaws.{guard_ok, guard_err}
 use Rattle.rb_script.proofs.SharedLaws.{text_lines, line_text_is}
 use Rattle.rb_script.proofs.ExpectationLaws.{rule_is}
 use Rattle.rb_script.proofs.EditedLaws.{no_place, no_expectation, no_room, allowed, edited_is}
@@ -114,36 +115,23 @@ refused fault = Err fault
 abbrev made : PlainScript → Result PlainScript EditFault
 made s = Ok s
 
--- the test passed and this is its fault, or what follows is refused
-unless_err : (test : Bool) (fault d : EditFault) (m : Result PlainScript EditFault) → unless test fault m ≡ refused d → ((test ≡ true) × (fault ≡ d)) ⊎ ((test ≡ false) × (m ≡ refused d))
-unless_err true fault d m h = let same : fault ≡ d = cc in inl (refl, same)
-unless_err false fault d m h = inr (refl, h)
-
--- the test didn't pass, and what follows is made
-unless_ok : (test : Bool) (fault : EditFault) (m : Result PlainScript EditFault) (t : PlainScript) → unless test fault m ≡ made t → (test ≡ false) × (m ≡ made t)
-unless_ok true fault m t h = absurd cc
-unless_ok false fault m t h = (refl, h)
-
 -- the text was too long
 fitting_err : (s : PlainScript) (d : EditFault) → fitting s ≡ refused d → (TooLong ≡ d) × (MAX_SCRIPT < length (text s))
 fitting_err s d h =
-    elim (unless_err (nat_lt MAX_SCRIPT (length (text s))) TooLong d (made s) h) [
+    elim (guard_err (nat_lt MAX_SCRIPT (length (text s))) TooLong (made s) d h) [
       | inl t ↦ (t.1, ltb-true MAX_SCRIPT (length (text s)) t.0)
       | inr f ↦ let no : made s ≡ refused d = f.1 in absurd cc
     ]
 
 -- the script was made
 fitting_ok : (s t : PlainScript) → fitting s ≡ made t → t ≡ s
-fitting_ok s t h = let f = (unless_ok (nat_lt MAX_SCRIPT (length (text s))) TooLong (made s) t h).1 in let same : s ≡ t = cc in sym same
+fitting_ok s t h = let f = (guard_ok (nat_lt MAX_SCRIPT (length (text s))) TooLong (made s) t h).1 in let same : s ≡ t = cc in sym same
 
 -- ---- each test, and what it means
 
--- what the edit expects can't be expected
-bad_lines : (ls : List Line) → not (is_expectation ls) ≡ true → CanBeExpected ls → ⊥
-bad_lines ls h can = let no : true ≡ false = sym (expectation_complete ls can) ∙ not-true (is_expectation ls) h in cc
-
-bad_outputs : (outputs : List (List Line)) → not (list_all is_expectation outputs) ≡ true → AllByRecursion CanBeExpected outputs → ⊥
-bad_outputs outputs h can = let no : true ≡ false = sym (expectations_complete outputs can) ∙ not-true (list_all is_expectation outputs) h in cc
+-- a test that passed didn't fail
+refuted : (test : Bool) → not test ≡ true → test ≡ true → ⊥
+refuted test h t = let no : true ≡ false = sym t ∙ not-true test h in cc
 
 -- a test that finds that this isn't so
 abbrev Refutes : Bool → Type 0 → Type 0
@@ -160,8 +148,8 @@ expectation_test : (e : Edit) (outputs : List (List Line)) → Refutes (no_expec
 expectation_test (Insert k block) outputs = (λ h. absurd cc, λ h. tt)
 expectation_test (Replace k block) outputs = (λ h. absurd cc, λ h. tt)
 expectation_test (Remove k) outputs = (λ h. absurd cc, λ h. tt)
-expectation_test (Expect k lines) outputs = (bad_lines lines, λ h. expectation_sound lines (not-false (is_expectation lines) h))
-expectation_test Accept outputs = (bad_outputs outputs, λ h. expectations_sound outputs (not-false (list_all is_expectation outputs) h))
+expectation_test (Expect k lines) outputs = (λ h can. refuted (is_expectation lines) h (expectation_complete lines can), λ h. expectation_sound lines (not-false (is_expectation lines) h))
+expectation_test Accept outputs = (λ h can. refuted (list_all is_expectation outputs) h (expectations_complete outputs can), λ h. expectations_sound outputs (not-false (list_all is_expectation outputs) h))
 
 room_test : (s : PlainScript) (e : Edit) → Refutes (no_room s e) (HasRoom s e)
 room_test s (Insert k block) =
@@ -192,15 +180,15 @@ pub edit_fault : (s : PlainScript) (e : Edit) (outputs : List (List Line)) (faul
 edit_fault s e outputs fault h =
     let is : (found : EditFault) → found ≡ fault → IsEditFault s e outputs found → IsEditFault s e outputs fault = λ found same i. subst (λ (x : EditFault). IsEditFault s e outputs x) same i in
     let behind = unless (no_room s e) TooManyDirectives (allowed s e outputs) in
-    elim (unless_err (no_place s e) NoSuchPlace fault (unless (no_expectation e outputs) BadExpectation behind) (sym (edited_is s e outputs) ∙ h)) [
+    elim (guard_err (no_place s e) NoSuchPlace (unless (no_expectation e outputs) BadExpectation behind) fault (sym (edited_is s e outputs) ∙ h)) [
       | inl t ↦ is NoSuchPlace t.1 ((place_test s e).0 t.0)
       | inr f ↦
           let place = (place_test s e).1 f.0 in
-          elim (unless_err (no_expectation e outputs) BadExpectation fault behind f.1) [
+          elim (guard_err (no_expectation e outputs) BadExpectation behind fault f.1) [
             | inl t ↦ is BadExpectation t.1 (place, (expectation_test e outputs).0 t.0)
             | inr g ↦
                 let expectations = (expectation_test e outputs).1 g.0 in
-                elim (unless_err (no_room s e) TooManyDirectives fault (allowed s e outputs) g.1) [
+                elim (guard_err (no_room s e) TooManyDirectives (allowed s e outputs) fault g.1) [
                   | inl t ↦ is TooManyDirectives t.1 (place, expectations, (room_test s e).0 t.0)
                   | inr r ↦ let long = allowed_err s e outputs fault r.1 in is TooLong long.0 (record { place = place; expectations = expectations; room = (room_test s e).1 r.0 }, long.1)
                 ]
@@ -211,7 +199,7 @@ edit_fault s e outputs fault h =
 pub edit_made : (s : PlainScript) (e : Edit) (outputs : List (List Line)) (t : PlainScript) → edited s e outputs ≡ Ok t → MayBeMade s e outputs × (t ≡ made_by s e outputs)
 edit_made s e outputs t h =
     let behind = unless (no_room s e) TooManyDirectives (allowed s e outputs) in
-    let p = unless_ok (no_place s e) NoSuchPlace (unless (no_expectation e outputs) BadExpectation behind) t (sym (edited_is s e outputs) ∙ h) in
-    let q = unless_ok (no_expectation e outputs) BadExpectation behind t p.1 in
-    let r = unless_ok (no_room s e) TooManyDirectives (allowed s e outputs) t q.1 in
+    let p = guard_ok (no_place s e) NoSuchPlace (unless (no_expectation e outputs) BadExpectation behind) t (sym (edited_is s e outputs) ∙ h) in
+    let q = guard_ok (no_expectation e outputs) BadExpectation behind t p.1 in
+    let r = guard_ok (no_room s e) TooManyDirectives (allowed s e outputs) t q.1 in
     (record { place = (place_test s e).1 p.0; expectations = (expectation_test e outputs).1 q.0; room = (room_test s e).1 r.0 }, allowed_ok s e outputs t r.1)

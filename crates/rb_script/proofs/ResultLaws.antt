@@ -19,7 +19,7 @@ pub ok_is : {A : Type 0} (x y : A) → done x ≡ done y → x ≡ y
 ok_is x y e = cc
 
 -- the test failed, and what follows was answered
-pub guard_ok : {A : Type 0} (b : Bool) (d : ScriptFault) (x : Result A ScriptFault) (y : A) → cond b (Err d) x ≡ Ok y → (b ≡ false) × (x ≡ Ok y)
+pub guard_ok : {A E : Type 0} (b : Bool) (d : E) (x : Result A E) (y : A) → cond b (Err d) x ≡ Ok y → (b ≡ false) × (x ≡ Ok y)
 guard_ok true d x y e = absurd cc
 guard_ok false d x y e = (refl, e)
 
@@ -49,8 +49,8 @@ bind_err {A} {B} (Ok x) f e h = inr (x, refl, h)
 bind_err {A} {B} (Err d) f e h = inl (ap (λ (y : ScriptFault). failed {A = A} y) (same_fault d e h))
 
 -- the test passed, or what follows failed
-pub guard_err : {A : Type 0} (b : Bool) (d : ScriptFault) (x : Result A ScriptFault) (e : ScriptFault) → cond b (Err d) x ≡ Err e → ((b ≡ true) × (d ≡ e)) ⊎ ((b ≡ false) × (x ≡ Err e))
-guard_err true d x e h = inl (refl, same_fault d e h)
+pub guard_err : {A E : Type 0} (b : Bool) (d : E) (x : Result A E) (e : E) → cond b (Err d) x ≡ Err e → ((b ≡ true) × (d ≡ e)) ⊎ ((b ≡ false) × (x ≡ Err e))
+guard_err true d x e h = let same : d ≡ e = cc in inl (refl, same)
 guard_err false d x e h = inr (refl, h)
 
 -- a fault that is found early is the same for each result

@@ -60,11 +60,10 @@ pub record NextLine (bytes : List ℕ) (feed : ℕ) (rest : List ℕ) : Type 0 w
   pub len : length line ≡ feed
   pub clean : text_of (lines rest) ≡ rest
 
-behind_feed : (bytes : List ℕ) (feed : ℕ) → text_of (lines bytes) ≡ bytes → feed < length bytes → get_or bytes feed 0 ≡ 10 → ((k : ℕ) → k < feed → get_or bytes k 0 ≢ 10) → NextLine bytes feed (drop (feed + 1) bytes)
-behind_feed bytes feed clean lt at first =
+pub next_line : (bytes : List ℕ) (feed : ℕ) (rest : List ℕ) → rest ≡ drop (feed + 1) bytes → text_of (lines bytes) ≡ bytes → feed < length bytes → get_or bytes feed 0 ≡ 10 → ((k : ℕ) → k < feed → get_or bytes k 0 ≢ 10) → NextLine bytes feed rest
+next_line bytes feed rest is clean lt at first =
     let line = without_returns (take feed bytes) in
-    let rest = drop (feed + 1) bytes in
-    let whole_rest : take (length bytes - (feed + 1)) rest ≡ rest = take_rest bytes (feed + 1) in
+    let whole_rest : take (length bytes - (feed + 1)) (drop (feed + 1) bytes) ≡ rest = take_rest bytes (feed + 1) ∙ sym is in
     let parts : lines bytes ≡ line ∷ lines rest = lines_at bytes line feed refl lt at first ∙ ap (λ (r : List ℕ). line ∷ lines r) whole_rest in
     let text : line ++ 10 ∷ text_of (lines rest) ≡ bytes = sym (append_assoc line (10 ∷ []) (text_of (lines rest))) ∙ ap text_of (sym parts) ∙ clean in
     let told : get_or bytes (length line) 0 ≡ 10 = ap (λ (t : List ℕ). get_or t (length line) 0) (sym text) ∙ get_or-append_seam line 10 (text_of (lines rest)) 0 in
@@ -77,11 +76,8 @@ behind_feed bytes feed clean lt at first =
       line = line;
       parts = parts;
       len = len;
-      clean = sym (drop-append-add line (10 ∷ text_of (lines rest)) 1) ∙ ap (drop (length line + 1)) text ∙ ap (λ (n : ℕ). drop (n + 1) bytes) len;
+      clean = sym (drop-append-add line (10 ∷ text_of (lines rest)) 1) ∙ ap (drop (length line + 1)) text ∙ ap (λ (n : ℕ). drop (n + 1) bytes) len ∙ sym is;
     }
-
-pub next_line : (bytes : List ℕ) (feed : ℕ) (rest : List ℕ) → rest ≡ drop (feed + 1) bytes → text_of (lines bytes) ≡ bytes → feed < length bytes → get_or bytes feed 0 ≡ 10 → ((k : ℕ) → k < feed → get_or bytes k 0 ≢ 10) → NextLine bytes feed rest
-next_line bytes feed rest is clean lt at first = subst (λ (r : List ℕ). NextLine bytes feed r) (sym is) (behind_feed bytes feed clean lt at first)
 
 -- with no line feed no line is left
 pub none_left : (bytes : List ℕ) → text_of (lines bytes) ≡ bytes → ((k : ℕ) → k < length bytes → get_or bytes k 0 ≢ 10) → bytes ≡ []
