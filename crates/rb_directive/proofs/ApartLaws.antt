@@ -1,6 +1,5 @@
 -- No id of `add-nodes` is a voter and a learner, since each of the two lists is refused where it shares an id with the other.
 use Rattle.std.proofs.Common.{◌≡◌, ℕ, ◌==◌, Bool, true, false, List, [], codes, get_or, Option, Some, None, unwrap_or, Ok, refl, ap, sym, ◌∙◌, subst, arith}
-use Rattle.std.specs.Prelude.{if◌then◌else◌}
 use Rattle.std.specs.List.{list_all}
 use Rattle.std.proofs.lemmas.Bool.{both_ways, eq-eqb}
 use Rattle.std.proofs.lemmas.List.Folds.{list_any_at}
@@ -13,21 +12,18 @@ use Rattle.rb_directive.specs.declared.arguments.Arguments.{Arguments}
 use Rattle.rb_directive.specs.declared.argument.Argument.{Argument}
 use Rattle.rb_directive.specs.declared.argument.Argument.TheVariants as arguments
 use Rattle.rb_directive.specs.declared.argument.Bytes.TheVariants as bytes
-use Rattle.rb_directive.specs.declared.argument.Flag.TheVariants as flags
-use Rattle.rb_directive.specs.declared.argument.LevelFor.TheVariants as levels
 use Rattle.rb_directive.specs.declared.argument.Ids.{Ids}
 use Rattle.rb_directive.specs.declared.argument.Ids.TheVariants as lists
 use Rattle.rb_directive.specs.declared.asking.AddNodes.{AddNodes}
 use Rattle.rb_directive.specs.declared.asking.Request.TheVariants as requests
 use Rattle.rb_directive.specs.declared.build.Asked.{Asked}
-use Rattle.rb_directive.specs.IdLists.{holds, share, with_ids}
+use Rattle.rb_directive.specs.IdLists.{holds, share}
 use Rattle.rb_directive.specs.Table.{directives, options}
-use Rattle.rb_directive.specs.Arguments.{nothing, listed, shares_one, excludes, number_set, ids_set}
-use Rattle.rb_directive.specs.Reading.{number_said, ids_kept}
+use Rattle.rb_directive.specs.Arguments.{nothing, shares_one, excludes, ids_set}
 use Rattle.rb_directive.specs.Requests.{add_nodes, built, request}
 use Rattle.rb_directive.specs.Whole.{name_of, AreApart}
 use Rattle.rb_directive.proofs.BuildLaws.{wanted_some, done, read_of, built_named}
-use Rattle.rb_directive.proofs.KeepLaws.{option_fits, row_fits, words_fit, word_of_fits, Keeps, AllKeep, arguments_kept, map_some, rest_still}
+use Rattle.rb_directive.proofs.KeepLaws.{option_fits, row_fits, words_fit, word_of_fits, AllKeep, arguments_kept, rest_still, SetKeeps, set_kept}
 
 share_apart : (ids others : List ℕ) → share ids others ≡ false → AreApart ids others
 share_apart ids others e id here there =
@@ -84,46 +80,25 @@ words_exclusive = refl
 
 list_apart : (which : Ids) (other : Option Ids) (ids : List ℕ) (g : Arguments) → excludes_other which other ≡ true → excludes other ids g ≡ false → IsApart g → IsApart (ids_set which ids g)
 list_apart lists.Nodes other ids g fits e p = p
-list_apart lists.Voters None ids g fits e p = absurd (cc)
-list_apart lists.Voters (Some lists.Nodes) ids g fits e p = absurd (cc)
-list_apart lists.Voters (Some lists.Voters) ids g fits e p = absurd (cc)
 list_apart lists.Voters (Some lists.Learners) ids g fits e p = shares_apart ids g.learners e
-list_apart lists.Voters (Some lists.Drop) ids g fits e p = absurd (cc)
-list_apart lists.Learners None ids g fits e p = absurd (cc)
-list_apart lists.Learners (Some lists.Nodes) ids g fits e p = absurd (cc)
+list_apart lists.Voters other ids g fits e p = absurd (cc)
 list_apart lists.Learners (Some lists.Voters) ids g fits e p = apart_back ids (unwrap_or g.voters []) (shares_apart ids g.voters e)
-list_apart lists.Learners (Some lists.Learners) ids g fits e p = absurd (cc)
-list_apart lists.Learners (Some lists.Drop) ids g fits e p = absurd (cc)
+list_apart lists.Learners other ids g fits e p = absurd (cc)
 list_apart lists.Drop other ids g fits e p = p
 
-lists_apart : (which : Ids) (other : Option Ids) (g next : Arguments) (o : Option (List ℕ)) → excludes_other which other ≡ true → ids_kept which other g o ≡ Some next → IsApart g → IsApart next
-lists_apart which other g next None fits h p = absurd (cc)
-lists_apart which other g next (Some ids) fits h p =
-    elim (excludes other ids g) as (λ b. excludes other ids g ≡ b → (if b then None else Some (ids_set which ids g)) ≡ Some next → IsApart next) [
-      | true ↦ λ e some. absurd (cc)
-      | false ↦ λ e some. let is : ids_set which ids g ≡ next = cc in subst IsApart is (list_apart which other ids g fits e p)
-    ] refl h
-
-argument_apart : (name : Name) (argument : Argument) → is_exclusive name argument ≡ true → Keeps IsApart argument
-argument_apart name (arguments.Number which low high) fits words g next h p =
-    let m = map_some (λ n. number_set which n g) (number_said low high words) next h in
-    subst IsApart m.2 (rest_still (λ some ids. AreApart (unwrap_or ids.voters []) (unwrap_or ids.learners [])) which m.0 g p)
-argument_apart name (arguments.Bytes bytes.Payload low high) fits words g next h p = subst IsApart (map_some _ _ next h).2 p
-argument_apart name (arguments.Bytes bytes.Content low high) fits words g next h p = subst IsApart (map_some _ _ next h).2 p
-argument_apart name (arguments.Level levels.Cluster) fits words g next h p = subst IsApart (map_some _ _ next h).2 p
-argument_apart name (arguments.Level levels.Directive) fits words g next h p = subst IsApart (map_some _ _ next h).2 p
-argument_apart name (arguments.Flag flags.Prevote) fits words g next h p = subst IsApart (map_some _ _ next h).2 p
-argument_apart name (arguments.Flag flags.CheckQuorum) fits words g next h p = subst IsApart (map_some _ _ next h).2 p
-argument_apart name (arguments.Flag flags.StepDown) fits words g next h p = subst IsApart (map_some _ _ next h).2 p
-argument_apart name (arguments.Flag flags.FirstVersion) fits words g next h p = subst IsApart (map_some _ _ next h).2 p
-argument_apart name arguments.Transition fits words g next h p = subst IsApart (map_some _ _ next h).2 p
-argument_apart name arguments.Types fits words g next h p = subst IsApart (map_some _ _ next h).2 p
-argument_apart name (arguments.Ids which other) fits words g next h p = lists_apart which other g next (with_ids words (Some (listed which g))) fits h p
+argument_apart : (name : Name) (argument : Argument) → is_exclusive name argument ≡ true → SetKeeps IsApart argument
+argument_apart name (arguments.Number which low high) fits =
+    λ words n g said p. rest_still (λ some ids. AreApart (unwrap_or ids.voters []) (unwrap_or ids.learners [])) which n g p
+argument_apart name (arguments.Bytes bytes.Payload low high) fits = λ words w g said p. p
+argument_apart name (arguments.Bytes bytes.Content low high) fits = λ words w g said p. p
+argument_apart name (arguments.Ids which other) fits = λ words ids g said e p. list_apart which other ids g fits e p
+argument_apart name other fits = tt
 
 arguments_apart : (row : Row) → words_fit is_exclusive row ≡ true → AllKeep IsApart row
 arguments_apart row fits = record {
-  option = λ key argument h. argument_apart row.name argument (option_fits is_exclusive options_exclusive (λ name. refl) row.name key argument h);
-  word = λ place argument h. argument_apart row.name argument (word_of_fits is_exclusive row fits refl place argument h);
+  option = λ key argument h. set_kept IsApart argument (argument_apart row.name argument
+      (option_fits is_exclusive options_exclusive (λ name. refl) row.name key argument h));
+  word = λ place argument h. set_kept IsApart argument (argument_apart row.name argument (word_of_fits is_exclusive row fits refl place argument h));
   place = λ g place p. p;
 }
 

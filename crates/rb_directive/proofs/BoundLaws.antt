@@ -23,8 +23,6 @@ use Rattle.rb_directive.specs.declared.argument.Number.{Number}
 use Rattle.rb_directive.specs.declared.argument.Number.TheVariants as numbers
 use Rattle.rb_directive.specs.declared.argument.Bytes.{Bytes}
 use Rattle.rb_directive.specs.declared.argument.Bytes.TheVariants as bytes
-use Rattle.rb_directive.specs.declared.argument.Flag.TheVariants as flags
-use Rattle.rb_directive.specs.declared.argument.LevelFor.TheVariants as levels
 use Rattle.rb_directive.specs.declared.argument.Ids.{Ids}
 use Rattle.rb_directive.specs.declared.argument.Ids.TheVariants as lists
 use Rattle.rb_directive.specs.declared.asking.AddNodes.{AddNodes}
@@ -36,12 +34,12 @@ use Rattle.rb_directive.specs.Forms.{Word, is_within, within}
 use Rattle.rb_directive.specs.IdLists.{id_of, with_id, with_ids}
 use Rattle.rb_directive.specs.Names.{number_text}
 use Rattle.rb_directive.specs.Table.{directives, options}
-use Rattle.rb_directive.specs.Arguments.{nothing, number_given, bytes_given, ids_given, listed, excludes, number_set, bytes_set, ids_set}
-use Rattle.rb_directive.specs.Reading.{only, number_said, bytes_said, ids_kept}
-use Rattle.rb_directive.specs.Requests.{IsFrom, IsId, IsNumber, AreIds, AreNodes, IsWithin, wanted, and_then, add_nodes, at_node, propose, propose_conf_change, process_ready, deliver_msgs, stabilize, wants, act_with, built, request}
+use Rattle.rb_directive.specs.Arguments.{nothing, number_given, bytes_given, ids_given, listed, number_set, bytes_set, ids_set}
+use Rattle.rb_directive.specs.Reading.{only}
+use Rattle.rb_directive.specs.Requests.{IsFrom, IsId, IsNumber, AreIds, IsWithin, wanted, and_then, add_nodes, deliver_msgs, stabilize, wants, act_with, built, request}
 use Rattle.rb_directive.proofs.ReadLaws.{ids_none}
 use Rattle.rb_directive.proofs.BuildLaws.{wanted_some, done, read_of}
-use Rattle.rb_directive.proofs.KeepLaws.{numbers_of, bytes_of, lists_of, rest_still, map_some, option_fits, row_fits, words_fit, word_of_fits, Keeps, AllKeep, arguments_kept}
+use Rattle.rb_directive.proofs.KeepLaws.{option_fits, row_fits, words_fit, word_of_fits, AllKeep, arguments_kept, numbers_of, bytes_of, lists_of, rest_still, SetKeeps, set_kept}
 
 -- ---- what one argument says
 
@@ -188,9 +186,7 @@ list_still P lists.Drop ids g h p other = p other
 
 list_kept : (name : Name) (which : Ids) (ids : List ℕ) (g : Arguments) → AreIds ids → IsGivenWithin name g → IsGivenWithin name (ids_set which ids g)
 list_kept name lists.Nodes ids g h p = record { numbers = p.numbers; bytes = p.bytes; lists = list_still AreIds lists.Nodes ids g h p.lists }
-list_kept name lists.Voters ids g h p = record { numbers = p.numbers; bytes = p.bytes; lists = list_still AreIds lists.Voters ids g h p.lists }
-list_kept name lists.Learners ids g h p = record { numbers = p.numbers; bytes = p.bytes; lists = list_still AreIds lists.Learners ids g h p.lists }
-list_kept name lists.Drop ids g h p = record { numbers = p.numbers; bytes = p.bytes; lists = list_still AreIds lists.Drop ids g h p.lists }
+list_kept name which ids g h p = record { numbers = p.numbers; bytes = p.bytes; lists = list_still AreIds which ids g h p.lists }
 
 none_are : AreIds []
 none_are = (All-nil IsId, omega arith)
@@ -201,9 +197,7 @@ or_none (Some ids) h = h
 
 listed_are : (name : Name) (which : Ids) (g : Arguments) → IsGivenWithin name g → AreIds (listed which g)
 listed_are name lists.Nodes g p = or_none g.nodes (p.lists lists.Nodes)
-listed_are name lists.Voters g p = or_none g.voters (p.lists lists.Voters)
-listed_are name lists.Learners g p = or_none g.learners (p.lists lists.Learners)
-listed_are name lists.Drop g p = or_none g.drop (p.lists lists.Drop)
+listed_are name which g p = or_none (ids_given which g) (p.lists which)
 
 -- ---- what each argument keeps
 
@@ -214,45 +208,30 @@ closer low high least most n h from =
     let below : high ≤ most = leb-true high most parts.1 in
     (omega arith, omega arith)
 
-ids_set_kept : (name : Name) (which : Ids) (other : Option Ids) (g next : Arguments) (o : Option (List ℕ)) → ((ids : List ℕ) → o ≡ Some ids → AreIds ids)
-    → ids_kept which other g o ≡ Some next → IsGivenWithin name g → IsGivenWithin name next
-ids_set_kept name which other g next None are h p = absurd (cc)
-ids_set_kept name which other g next (Some ids) are h p =
-    elim (excludes other ids g) as (λ b. (if b then None else Some (ids_set which ids g)) ≡ Some next → IsGivenWithin name next) [
-      | true ↦ λ e. absurd (cc)
-      | false ↦ λ e. let is : ids_set which ids g ≡ next = cc in subst (IsGivenWithin name) is (list_kept name which ids g (are ids refl) p)
-    ] h
-
-argument_within : (name : Name) (argument : Argument) → is_limited name argument ≡ true → Keeps (IsGivenWithin name) argument
-argument_within name (arguments.Number which low high) fits words g next h p =
-    let m = map_some (λ n. number_set which n g) (number_said low high words) next h in
-    subst (IsGivenWithin name) m.2 (number_kept name which m.0 g (closer low high (least which) (greatest name which) m.0 fits (number_from low high (only words) m.0 m.1)) p)
-argument_within name (arguments.Bytes which low high) fits words g next h p =
-    let m = map_some (λ w. bytes_set which w g) (bytes_said low high words) next h in
-    subst (IsGivenWithin name) m.2 (bytes_kept name which m.0 g (closer low high (fewest which) MAX_BYTES (length m.0) fits (bytes_from low high (only words) m.0 m.1)) p)
-argument_within name (arguments.Level levels.Cluster) fits words g next h p = subst (IsGivenWithin name) (map_some _ _ next h).2 p
-argument_within name (arguments.Level levels.Directive) fits words g next h p = subst (IsGivenWithin name) (map_some _ _ next h).2 p
-argument_within name (arguments.Flag flags.Prevote) fits words g next h p = subst (IsGivenWithin name) (map_some _ _ next h).2 p
-argument_within name (arguments.Flag flags.CheckQuorum) fits words g next h p = subst (IsGivenWithin name) (map_some _ _ next h).2 p
-argument_within name (arguments.Flag flags.StepDown) fits words g next h p = subst (IsGivenWithin name) (map_some _ _ next h).2 p
-argument_within name (arguments.Flag flags.FirstVersion) fits words g next h p = subst (IsGivenWithin name) (map_some _ _ next h).2 p
-argument_within name arguments.Transition fits words g next h p = subst (IsGivenWithin name) (map_some _ _ next h).2 p
-argument_within name arguments.Types fits words g next h p = subst (IsGivenWithin name) (map_some _ _ next h).2 p
-argument_within name (arguments.Ids which other) fits words g next h p =
-    ids_set_kept name which other g next (with_ids words (Some (listed which g))) (λ ids. ids_are words (listed which g) ids (listed_are name which g p)) h p
+argument_within : (name : Name) (argument : Argument) → is_limited name argument ≡ true → SetKeeps (IsGivenWithin name) argument
+argument_within name (arguments.Number which low high) fits =
+    λ words n g said. number_kept name which n g (closer low high (least which) (greatest name which) n fits (number_from low high (only words) n said))
+argument_within name (arguments.Bytes which low high) fits =
+    λ words w g said. bytes_kept name which w g (closer low high (fewest which) MAX_BYTES (length w) fits (bytes_from low high (only words) w said))
+argument_within name (arguments.Ids which other) fits = λ words ids g said apart p. list_kept name which ids g
+    (ids_are words (listed which g) ids (listed_are name which g p) said) p
+argument_within name other fits = tt
 
 arguments_within : (row : Row) → words_fit is_limited row ≡ true → AllKeep (IsGivenWithin row.name) row
 arguments_within row fits = record {
-  option = λ key argument h. argument_within row.name argument (option_fits is_limited options_limited (λ name. refl) row.name key argument h);
-  word = λ place argument h. argument_within row.name argument (word_of_fits is_limited row fits refl place argument h);
+  option = λ key argument h. set_kept (IsGivenWithin row.name) argument
+      (argument_within row.name argument (option_fits is_limited options_limited (λ name. refl) row.name key argument h));
+  word = λ place argument h. set_kept (IsGivenWithin row.name) argument (argument_within row.name argument (word_of_fits is_limited row fits refl place argument h));
   place = λ g place p. p;
 }
 
 -- ---- what is asked for
 
--- what holds of what is given, where it is this
-at_some : {T : Type 0} (P : T → Type 0) (o : Option T) (x : T) → o ≡ Some x → IfSome o P → P x
-at_some P o x e h = subst (λ o. IfSome o P) e h
+-- what must be given is there, and within its limits
+wanted_within : {T : Type 0} (P : T → Type 0) (Q : Type 0) (name : Word) (o : Option T) (next : T → Result Request DirectiveError) (r : Request)
+    → IfSome o P → and_then (wanted name o) next ≡ Ok r → ((x : T) → P x → next x ≡ done r → Q) → Q
+wanted_within P Q name None next r is h follows = absurd (cc)
+wanted_within P Q name (Some x) next r is h follows = follows x is h
 
 or_else : (low high n : ℕ) (o : Option ℕ) → IsFrom low high n → IfSome o (IsFrom low high) → IsFrom low high (unwrap_or o n)
 or_else low high n None default h = default
@@ -272,69 +251,46 @@ done_within made r e h = let is : made ≡ r = cc in subst IsWithin is h
 nodes_within : (g : Arguments) (r : Request) → IsGivenWithin names.AddNodes g → add_nodes g ≡ Ok r → IsWithin r
 unfolding IsWithin
 nodes_within g r p h =
-    let count = wanted_some (codes "n") g.count _ r h in
-    done_within _ r count.2 (record {
-      count = at_some (IsFrom 1 MAX_NODES) g.count count.0 count.1 (p.numbers numbers.Count);
+    wanted_within (IsFrom 1 MAX_NODES) (IsWithin r) (codes "n") g.count _ r (p.numbers numbers.Count) h (λ count few e. done_within _ r e (record {
+      count = few;
       voters = p.lists lists.Voters;
       learners = p.lists lists.Learners;
       index = index_most g.index (p.numbers numbers.Index);
       content = content_most g.content (p.bytes bytes.Content);
       inflight = or_else 1 MAX_WINDOW WINDOW g.inflight (omega arith, omega arith) (p.numbers numbers.Inflight);
-    })
+    }))
 
-node_within : (make : ℕ → Request) → ((id : ℕ) → IsId id → IsWithin (make id)) → (name : Name) (g : Arguments) (r : Request) → IsGivenWithin name g → at_node make g ≡ Ok r → IsWithin r
-node_within make is name g r p h =
-    let id = wanted_some (codes "id") g.id (λ id. done (make id)) r h in
-    done_within (make id.0) r id.2 (is id.0 (at_some IsId g.id id.0 id.1 (p.numbers numbers.Id)))
-
-propose_within : (g : Arguments) (r : Request) → IsGivenWithin names.Propose g → propose g ≡ Ok r → IsWithin r
-unfolding IsWithin
-propose_within g r p h =
-    let id = wanted_some (codes "id") g.id _ r h in
-    let payload = wanted_some (codes "payload") g.payload _ r id.2 in
-    done_within _ r payload.2 (at_some IsId g.id id.0 id.1 (p.numbers numbers.Id), at_some (λ (w : Word). IsFrom 1 MAX_BYTES (length w)) g.payload payload.0 payload.1 (p.bytes bytes.Payload))
-
-change_within : (g : Arguments) (inputs : List Line) (r : Request) → IsGivenWithin names.ProposeConfChange g → propose_conf_change g inputs ≡ Ok r → IsWithin r
-unfolding IsWithin
-change_within g inputs r p h =
-    let id = wanted_some (codes "id") g.id _ r h in
-    done_within _ r id.2 (at_some IsId g.id id.0 id.1 (p.numbers numbers.Id))
-
-ready_within : (g : Arguments) (r : Request) → IsGivenWithin names.ProcessReady g → process_ready g ≡ Ok r → IsWithin r
-unfolding IsWithin
-ready_within g r p h =
-    let ids = wanted_some (codes "id") g.nodes _ r h in
-    done_within _ r ids.2 (at_some AreIds g.nodes ids.0 ids.1 (p.lists lists.Nodes))
+-- a directive that is given a node
+node_within : (name : Name) (g : Arguments) (next : ℕ → Result Request DirectiveError) (r : Request) → IsGivenWithin name g
+    → and_then (wanted (codes "id") g.id) next ≡ Ok r → ((id : ℕ) → IsId id → next id ≡ done r → IsWithin r) → IsWithin r
+node_within name g next r p = wanted_within IsId (IsWithin r) (codes "id") g.id next r (p.numbers numbers.Id)
 
 act_within : (act : ActWith) (g : Arguments) (r : Request) → IfSome (number_given (wants act).0 g) IsId → IfSome (number_given (wants act).1 g) (IsNumber (wants act).1) → act_with act g ≡ Ok r → IsWithin r
 unfolding IsWithin
 act_within act g r node number h =
-    let id = wanted_some (number_text (wants act).0) (number_given (wants act).0 g) _ r h in
-    let value = wanted_some (number_text (wants act).1) (number_given (wants act).1 g) _ r id.2 in
-    done_within _ r value.2 (at_some IsId (number_given (wants act).0 g) id.0 id.1 node, at_some (IsNumber (wants act).1) (number_given (wants act).1 g) value.0 value.1 number)
+    wanted_within IsId (IsWithin r) (number_text (wants act).0) (number_given (wants act).0 g) _ r node h (λ id is rest.
+    wanted_within (IsNumber (wants act).1) (IsWithin r) (number_text (wants act).1) (number_given (wants act).1 g) _ r number rest (λ value some e. done_within _ r e (is, some)))
 
 with_within : (act : ActWith) (g : Arguments) (r : Request) → IsGivenWithin (names.ActWith act) g → act_with act g ≡ Ok r → IsWithin r
-with_within withs.Compact g r p h = act_within withs.Compact g r (p.numbers (wants withs.Compact).0) (p.numbers (wants withs.Compact).1) h
-with_within act g r p h = act_within act g r (p.numbers (wants act).0) (p.numbers (wants act).1) h
-
-level_within : (g : Arguments) (r : Request) → and_then (wanted (codes "level") g.level) (λ level. Ok (requests.LogLevel level)) ≡ Ok r → IsWithin r
-unfolding IsWithin
-level_within g r h = let level = wanted_some (codes "level") g.level _ r h in done_within _ r level.2 tt
+with_within withs.Compact g r p = act_within withs.Compact g r (p.numbers (wants withs.Compact).0) (p.numbers (wants withs.Compact).1)
+with_within act g r p = act_within act g r (p.numbers (wants act).0) (p.numbers (wants act).1)
 
 built_within : (name : Name) (g : Arguments) (inputs : List Line) (r : Request) → IsGivenWithin name g → built name g inputs ≡ Ok r → IsWithin r
 unfolding IsWithin
 built_within names.AddNodes g inputs r p h = nodes_within g r p h
-built_within (names.Act act) g inputs r p h = node_within (requests.Act act) (λ id is. is) (names.Act act) g r p h
-built_within names.Propose g inputs r p h = propose_within g r p h
-built_within names.ProposeConfChange g inputs r p h = change_within g inputs r p h
-built_within names.ProcessReady g inputs r p h = ready_within g r p h
+built_within (names.Act act) g inputs r p h = node_within (names.Act act) g _ r p h (λ id is e. done_within _ r e is)
+built_within names.Propose g inputs r p h =
+    node_within names.Propose g _ r p h (λ id is rest.
+    wanted_within (λ (w : Word). IsFrom 1 MAX_BYTES (length w)) (IsWithin r) (codes "payload") g.payload _ r (p.bytes bytes.Payload) rest (λ payload few e. done_within _ r e (is, few)))
+built_within names.ProposeConfChange g inputs r p h = node_within names.ProposeConfChange g _ r p h (λ id is e. done_within _ r e is)
+built_within names.ProcessReady g inputs r p h = wanted_within AreIds (IsWithin r) (codes "id") g.nodes _ r (p.lists lists.Nodes) h (λ ids are e. done_within _ r e are)
 built_within names.DeliverMsgs g inputs r p h = done_within (deliver_msgs g) r h (or_none g.nodes (p.lists lists.Nodes), or_none g.drop (p.lists lists.Drop))
 built_within names.Stabilize g inputs r p h =
     done_within (stabilize g) r h (or_none g.nodes (p.lists lists.Nodes), or_else 1 MAX_ROUNDS ROUNDS g.rounds (omega arith, omega arith) (p.numbers numbers.Rounds))
 built_within (names.ActWith act) g inputs r p h = with_within act g r p h
-built_within names.LogLevel g inputs r p h = level_within g r h
-built_within names.RaftLog g inputs r p h = node_within requests.RaftLog (λ id is. is) names.RaftLog g r p h
-built_within names.Status g inputs r p h = node_within requests.Status (λ id is. is) names.Status g r p h
+built_within names.LogLevel g inputs r p h = let level = wanted_some (codes "level") g.level _ r h in done_within _ r level.2 tt
+built_within names.RaftLog g inputs r p h = node_within names.RaftLog g _ r p h (λ id is e. done_within _ r e is)
+built_within names.Status g inputs r p h = node_within names.Status g _ r p h (λ id is e. done_within _ r e is)
 built_within names.RaftState g inputs r p h = done_within requests.RaftState r h tt
 
 -- ---- any directive

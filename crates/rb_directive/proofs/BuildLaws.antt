@@ -1,6 +1,7 @@
 -- How a request is built: by a row of the table, from what is given.
-use Rattle.std.proofs.Common.{◌≡◌, ℕ, List, codes, Option, Some, None, Ok, Err, refl, ap, sym, ◌∙◌}
+use Rattle.std.proofs.Common.{◌≡◌, ℕ, List, codes, Option, Some, None, Ok, Err, true, refl, ap, sym, ◌∙◌, subst}
 use Rattle.std.specs.Prelude.{Result}
+use Rattle.std.specs.List.{list_all}
 use Rattle.rb_script.specs.Lines.{Line}
 use Rattle.rb_script.specs.Directive.{PlainDirective}
 use Rattle.rb_level.specs.declared.directive_error.DirectiveError.{DirectiveError}
@@ -14,12 +15,12 @@ use Rattle.rb_directive.specs.declared.asking.Request.TheVariants as requests
 use Rattle.rb_directive.specs.declared.build.Asked.{Asked}
 use Rattle.rb_directive.specs.Forms.{Word}
 use Rattle.rb_directive.specs.Names.{name_text, number_text}
-use Rattle.rb_directive.specs.Table.{directives, row_in}
+use Rattle.rb_directive.specs.Table.{directives, row_in, has_option}
 use Rattle.rb_directive.specs.Arguments.{nothing, number_given}
 use Rattle.rb_directive.specs.Reading.{with_arguments}
 use Rattle.rb_directive.specs.Requests.{wanted, and_then, at_node, deliver_msgs, stabilize, wants, built, request_of, request}
 use Rattle.rb_directive.specs.Whole.{name_of}
-use Rattle.rb_directive.proofs.TableLaws.{row_named}
+use Rattle.rb_directive.proofs.TableLaws.{all_have, row_named}
 
 -- what must be given is there
 pub wanted_some : {T : Type 0} (name : Word) (o : Option T) (next : T → Result Request DirectiveError) (r : Request)
@@ -59,6 +60,13 @@ found_by (Some row) d a is h = given_by row d a is (with_arguments row d.args (O
 pub read_of : (d : PlainDirective) (a : Asked) → request d ≡ Ok a → IsReadBy d a
 unfolding request
 read_of d a h = found_by (row_in directives d.name) d a refl h
+
+-- an option that the directive lacks is refused
+pub options_taken : (d : PlainDirective) (a : Asked) → request d ≡ Ok a → list_all (has_option d.name) d.args ≡ true
+options_taken d a h =
+    let read = read_of d a h in
+    let all = all_have read.row d.args nothing read.given read.given_is in
+    subst (λ name. list_all (has_option name) d.args ≡ true) (row_named directives d.name read.row read.row_is) all
 
 -- ---- the name
 

@@ -1,17 +1,14 @@
 -- How many nodes `add-nodes` asks for is its first word, since no option is the count, and no word follows it.
-use Rattle.std.proofs.Common.{◌≡◌, ◌∙◌, ℕ, Bool, true, false, List, [], ◌∷◌, codes, Option, Some, None, Ok, Err, refl, ap, sym, subst}
+use Rattle.std.proofs.Common.{◌≡◌, ◌∙◌, ℕ, Bool, true, false, List, [], ◌∷◌, codes, Option, Some, None, Ok, refl, ap, sym, subst}
 use Rattle.std.specs.Prelude.{if◌then◌else◌}
 use Rattle.std.specs.List.{list_all}
-use Rattle.std.specs.Option.{option_map}
 use Rattle.rb_script.specs.Directive.{PlainArgument, PlainDirective}
 use Rattle.rb_text.specs.Numbers.{number_of}
 use Rattle.rb_directive.specs.declared.argument.Argument.{Argument}
 use Rattle.rb_directive.specs.declared.argument.Argument.TheVariants as arguments
 use Rattle.rb_directive.specs.declared.argument.Bytes.TheVariants as texts
-use Rattle.rb_directive.specs.declared.argument.Flag.TheVariants as flags
 use Rattle.rb_directive.specs.declared.argument.Ids.{Ids}
 use Rattle.rb_directive.specs.declared.argument.Ids.TheVariants as lists
-use Rattle.rb_directive.specs.declared.argument.LevelFor.TheVariants as levels
 use Rattle.rb_directive.specs.declared.argument.Number.{Number}
 use Rattle.rb_directive.specs.declared.argument.Number.TheVariants as numbers
 use Rattle.rb_directive.specs.declared.asking.AddNodes.{AddNodes}
@@ -25,17 +22,16 @@ use Rattle.rb_directive.specs.declared.name.Name.{Name}
 use Rattle.rb_directive.specs.declared.name.Name.TheVariants as names
 use Rattle.rb_directive.specs.declared.table.OptionRow.{OptionRow}
 use Rattle.rb_directive.specs.declared.table.Row.{Row}
-use Rattle.rb_directive.specs.Forms.{Word, is_within, within}
-use Rattle.rb_directive.specs.Arguments.{excludes, ids_set, listed, nothing, number_set}
-use Rattle.rb_directive.specs.IdLists.{with_ids}
+use Rattle.rb_directive.specs.Forms.{is_within, within}
+use Rattle.rb_directive.specs.Arguments.{ids_set, nothing, number_set}
 use Rattle.rb_directive.specs.Names.{name_text}
-use Rattle.rb_directive.specs.Reading.{ids_kept, number_said, taken, with_argument, with_arguments, with_option, with_word, words_said}
+use Rattle.rb_directive.specs.Reading.{number_said, taken, with_argument, with_arguments, with_option, with_word, words_said}
 use Rattle.rb_directive.specs.Requests.{built, request}
 use Rattle.rb_directive.specs.Table.{after, directives, option_of, options, row_in, word_of}
 use Rattle.rb_directive.specs.Whole.{first_word, name_of}
 use Rattle.rb_directive.proofs.BuildLaws.{done, read_of, request_named, wanted_some}
-use Rattle.rb_directive.proofs.KeepLaws.{map_some, option_fits, option_kept, or_bad_some}
-use Rattle.rb_directive.proofs.TableLaws.{faulty}
+use Rattle.rb_directive.proofs.KeepLaws.{map_some, option_fits, option_kept, or_bad_some, SetKeeps, set_kept}
+use Rattle.rb_directive.proofs.TableLaws.{read_along}
 
 count_row : Row
 count_row = record { name = names.AddNodes; first = Some (arguments.Number numbers.Count 1 MAX_NODES); second = None; takes_ids = false }
@@ -57,10 +53,6 @@ options_are = refl
 abbrev Stays : WordPlace → Option ℕ → Arguments → Type 0
 Stays place count g = (g.next ≡ place) × (g.count ≡ count)
 
-map_stays : {X : Type 0} (place : WordPlace) (count : Option ℕ) (f : X → Arguments) (o : Option X) (g next : Arguments)
-    → ((x : X) → Stays place count g → Stays place count (f x)) → option_map f o ≡ Some next → Stays place count g → Stays place count next
-map_stays place count f o g next each h s = let m = map_some f o next h in subst (Stays place count) m.2 (each m.0 s)
-
 number_stays : (place : WordPlace) (count : Option ℕ) (which : Number) (low high n : ℕ) (g : Arguments) → is_no_count names.AddNodes (arguments.Number which low high) ≡ true → Stays place count g → Stays place count (number_set which n g)
 number_stays place count numbers.Count low high n g fits s = absurd cc
 number_stays place count which low high n g fits s = s
@@ -69,33 +61,18 @@ list_stays : (place : WordPlace) (count : Option ℕ) (which : Ids) (ids : List 
 list_stays place count lists.Nodes ids g s = s
 list_stays place count which ids g s = s
 
-lists_stay : (place : WordPlace) (count : Option ℕ) (which : Ids) (other : Option Ids) (g next : Arguments) (o : Option (List ℕ)) → ids_kept which other g o ≡ Some next → Stays place count g → Stays place count next
-lists_stay place count which other g next None h s = absurd cc
-lists_stay place count which other g next (Some ids) h s =
-    elim (excludes other ids g) as (λ b. (if b then None else Some (ids_set which ids g)) ≡ Some next → Stays place count next) [
-      | true ↦ λ e. absurd cc
-      | false ↦ λ e. let same : ids_set which ids g ≡ next = cc in subst (Stays place count) same (list_stays place count which ids g s)
-    ] h
-
-argument_stays : (place : WordPlace) (count : Option ℕ) (a : Argument) (ws : List Word) (g next : Arguments) → is_no_count names.AddNodes a ≡ true → taken a ws g ≡ Some next → Stays place count g → Stays place count next
-argument_stays place count (arguments.Number which low high) ws g next fits h s =
-    map_stays place count (λ (n : ℕ). number_set which n g) (number_said low high ws) g next (λ (n : ℕ). number_stays place count which low high n g fits) h s
-argument_stays place count (arguments.Bytes texts.Payload low high) ws g next fits h s = subst (Stays place count) (map_some _ _ next h).2 s
-argument_stays place count (arguments.Bytes texts.Content low high) ws g next fits h s = subst (Stays place count) (map_some _ _ next h).2 s
-argument_stays place count (arguments.Level levels.Cluster) ws g next fits h s = subst (Stays place count) (map_some _ _ next h).2 s
-argument_stays place count (arguments.Level levels.Directive) ws g next fits h s = subst (Stays place count) (map_some _ _ next h).2 s
-argument_stays place count (arguments.Flag flags.Prevote) ws g next fits h s = subst (Stays place count) (map_some _ _ next h).2 s
-argument_stays place count (arguments.Flag flags.CheckQuorum) ws g next fits h s = subst (Stays place count) (map_some _ _ next h).2 s
-argument_stays place count (arguments.Flag flags.StepDown) ws g next fits h s = subst (Stays place count) (map_some _ _ next h).2 s
-argument_stays place count (arguments.Flag flags.FirstVersion) ws g next fits h s = subst (Stays place count) (map_some _ _ next h).2 s
-argument_stays place count arguments.Transition ws g next fits h s = subst (Stays place count) (map_some _ _ next h).2 s
-argument_stays place count arguments.Types ws g next fits h s = subst (Stays place count) (map_some _ _ next h).2 s
-argument_stays place count (arguments.Ids which other) ws g next fits h s = lists_stay place count which other g next (with_ids ws (Some (listed which g))) h s
+argument_stays : (place : WordPlace) (count : Option ℕ) (a : Argument) → is_no_count names.AddNodes a ≡ true → SetKeeps (Stays place count) a
+argument_stays place count (arguments.Number which low high) fits = λ words n g said. number_stays place count which low high n g fits
+argument_stays place count (arguments.Bytes texts.Payload low high) fits = λ words w g said s. s
+argument_stays place count (arguments.Bytes texts.Content low high) fits = λ words w g said s. s
+argument_stays place count (arguments.Ids which other) fits = λ words ids g said apart. list_stays place count which ids g
+argument_stays place count other fits = tt
 
 add_option : (place : WordPlace) (count : Option ℕ) (a : PlainArgument) (g next : Arguments) → with_option (option_of (name_text names.AddNodes) a.key) a g ≡ Ok next → Stays place count g → Stays place count next
 add_option place count a g next h s =
     option_kept (Stays place count) (option_of (name_text names.AddNodes) a.key)
-    (λ which is words h next e. argument_stays place count which words h next (option_fits is_no_count options_are (λ name. refl) names.AddNodes a.key which is) e) a g next h s
+    (λ which is. set_kept (Stays place count) which (argument_stays place count which
+    (option_fits is_no_count options_are (λ name. refl) names.AddNodes a.key which is))) a g next h s
 
 -- behind its first word there is none
 second_step : (count : Option ℕ) (a : PlainArgument) (g next : Arguments) → with_argument count_row a g ≡ Ok next → Stays places.Second count g → Stays places.Second count next
@@ -107,12 +84,9 @@ second_step count a g next h s =
     ] h
 
 behind_word : (count : Option ℕ) (args : List PlainArgument) (g last : Arguments) → Stays places.Second count g → with_arguments count_row args (Ok g) ≡ Ok last → last.count ≡ count
-behind_word count [] g last s h = let same : g ≡ last = cc in ap (λ (x : Arguments). x.count) (sym same) ∙ s.1
-behind_word count (a ∷ args) g last s h =
-    elim (with_argument count_row a g) as (λ r. with_argument count_row a g ≡ r → with_arguments count_row args r ≡ Ok last → last.count ≡ count) [
-      | Ok next ↦ λ e more. behind_word count args next last (second_step count a g next e s) more
-      | Err fault ↦ λ e more. absurd (faulty count_row args fault last more)
-    ] refl h
+behind_word count args g last s h =
+    read_along count_row last (λ args g. Stays places.Second count g → last.count ≡ count) (λ s. s.1)
+    (λ a args g next e more is s. is (second_step count a g next e s)) args g h s
 
 within_is : (low high n : ℕ) (o : Option ℕ) → within low high o ≡ Some n → o ≡ Some n
 within_is low high n None h = absurd cc
@@ -141,16 +115,15 @@ unfolding count_row
 first_step a g next e s = add_option places.First None a g next e s
 
 words_count : (args : List PlainArgument) (g last : Arguments) (k : ℕ) → Stays places.First None g → with_arguments count_row args (Ok g) ≡ Ok last → last.count ≡ Some k → number_of (first_word args) ≡ Some k
-words_count [] g last k s h is = let same : g ≡ last = cc in let none : None ≡ Some k = sym s.1 ∙ ap (λ (x : Arguments). x.count) same ∙ is in absurd cc
-words_count (a ∷ args) g last k s h is =
-    elim (with_argument count_row a g) as (λ r. with_argument count_row a g ≡ r → with_arguments count_row args r ≡ Ok last → number_of (first_word (a ∷ args)) ≡ Some k) [
-      | Ok next ↦ λ e more. elim a.has_equals as (λ b. a.has_equals ≡ b → (if b then with_option (option_of (name_text count_row.name) a.key) a g else with_word (word_of count_row g.next) a g) ≡ Ok next
-          → number_of (if b then first_word args else a.key) ≡ Some k) [
-            | true ↦ λ option e. words_count args next last k (first_step a g next e s) more is
-            | false ↦ λ alone e. sym (word_taken a g next last args alone e s more) ∙ is
-          ] refl e
-      | Err fault ↦ λ e more. absurd (faulty count_row args fault last more)
-    ] refl h
+words_count args g last k s h is =
+    read_along count_row last (λ args g. Stays places.First None g → number_of (first_word args) ≡ Some k)
+    (λ s. absurd (let none : None ≡ Some k = sym s.1 ∙ is in cc))
+    (λ a args g next e more rest s.
+    elim a.has_equals as (λ b. a.has_equals ≡ b → (if b then with_option (option_of (name_text count_row.name) a.key) a g else with_word (word_of count_row g.next) a g) ≡ Ok next
+    → number_of (if b then first_word args else a.key) ≡ Some k) [
+      | true ↦ λ option e. rest (first_step a g next e s)
+      | false ↦ λ alone e. sym (word_taken a g next last args alone e s more) ∙ is
+    ] refl e) args g h s
 
 made_count : (made r : AddNodes) → done (requests.AddNodes made) ≡ done (requests.AddNodes r) → made.count ≡ r.count
 made_count made r h = let same : made ≡ r = cc in ap (λ (x : AddNodes). x.count) same

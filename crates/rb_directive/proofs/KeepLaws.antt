@@ -1,6 +1,6 @@
 -- What each argument of a directive keeps, all of them keep; and what the table says of each argument.
-use Rattle.std.proofs.Common.{◌≡◌, ℕ, Bool, true, false, List, [], ◌∷◌, Option, Some, None, Ok, Err, refl, ap, sym, ◌∙◌, subst}
-use Rattle.std.specs.Prelude.{◌&&◌, if◌then◌else◌, codes}
+use Rattle.std.proofs.Common.{◌≡◌, ℕ, Bool, true, false, List, [], ◌∷◌, Option, Some, None, Ok, refl, ap, sym, ◌∙◌, subst}
+use Rattle.std.specs.Prelude.{◌&&◌, if◌then◌else◌, codes, ⊤}
 use Rattle.std.specs.List.{list_all}
 use Rattle.std.specs.Option.{option_map}
 use Rattle.std.specs.Str.{bytes_eq}
@@ -18,13 +18,16 @@ use Rattle.rb_directive.specs.declared.argument.Number.{Number}
 use Rattle.rb_directive.specs.declared.argument.Number.TheVariants as numbers
 use Rattle.rb_directive.specs.declared.argument.Argument.TheVariants as arguments
 use Rattle.rb_directive.specs.declared.argument.LevelFor.TheVariants as levels
+use Rattle.rb_directive.specs.declared.argument.Flag.TheVariants as flags
+use Rattle.rb_directive.specs.declared.argument.Ids.{Ids}
 use Rattle.rb_directive.specs.declared.argument.Ids.TheVariants as lists
 use Rattle.rb_directive.specs.Forms.{Word}
 use Rattle.rb_directive.specs.Names.{name_text, argument_text}
 use Rattle.rb_directive.specs.Table.{directives, options, row_in, option_in, option_of, after, word_at, word_of}
-use Rattle.rb_directive.specs.Arguments.{nothing, is_given, number_set}
-use Rattle.rb_directive.specs.Reading.{words_said, taken, or_bad, with_option, with_word, with_argument, with_arguments}
-use Rattle.rb_directive.proofs.TableLaws.{names_found, faulty}
+use Rattle.rb_directive.specs.IdLists.{with_ids}
+use Rattle.rb_directive.specs.Arguments.{nothing, is_given, listed, excludes, number_set, bytes_set, ids_set}
+use Rattle.rb_directive.specs.Reading.{words_said, number_said, bytes_said, ids_kept, taken, or_bad, with_option, with_word, with_argument, with_arguments}
+use Rattle.rb_directive.proofs.TableLaws.{names_found, read_along}
 
 -- ---- the table
 
@@ -130,12 +133,8 @@ argument_kept P row keep a g next h p =
     ] h
 
 pub arguments_kept : (P : Arguments → Type 0) (row : Row) → AllKeep P row → (args : List PlainArgument) (g last : Arguments) → with_arguments row args (Ok g) ≡ Ok last → P g → P last
-arguments_kept P row keep [] g last h p = let is : g ≡ last = cc in subst P is p
-arguments_kept P row keep (a ∷ args) g last h p =
-    elim (with_argument row a g) as (λ r. with_argument row a g ≡ r → with_arguments row args r ≡ Ok last → P last) [
-      | Ok next ↦ λ e more. arguments_kept P row keep args next last more (argument_kept P row keep a g next e p)
-      | Err fault ↦ λ e more. absurd (faulty row args fault last more)
-    ] refl h
+arguments_kept P row keep args g last h = read_along row last (λ args g. P g → P last) (λ p. p)
+    (λ a args g next e more kept p. kept (argument_kept P row keep a g next e p)) args g h
 
 -- ---- what is given, part by part
 
@@ -156,11 +155,38 @@ lists_of g = record nothing { nodes = g.nodes; voters = g.voters; learners = g.l
 -- setting a number leaves the bytes and the lists
 pub rest_still : (P : Arguments → Arguments → Type 0) (which : Number) (n : ℕ) (g : Arguments) → P (bytes_of g) (lists_of g) → P (bytes_of (number_set which n g)) (lists_of (number_set which n g))
 rest_still P numbers.Count n g p = p
-rest_still P numbers.Id n g p = p
-rest_still P numbers.Peer n g p = p
-rest_still P numbers.From n g p = p
-rest_still P numbers.To n g p = p
-rest_still P numbers.Index n g p = p
-rest_still P numbers.Inflight n g p = p
-rest_still P numbers.Rounds n g p = p
-rest_still P numbers.Timeout n g p = p
+rest_still P which n g p = p
+
+-- what is given, apart from levels, flags, the transition and the types
+abbrev pub limited_of : Arguments → Arguments
+limited_of g = record g { level = None; log_level = None; prevote = None; check_quorum = None; step_down = None; first_version = None; transition = None; types = None }
+
+-- P is kept where a number, bytes or a list is set to what the words say
+abbrev pub SetKeeps : (Arguments → Type 0) → Argument → Type 0
+SetKeeps P (arguments.Number which low high) = (words : List Word) (n : ℕ) (g : Arguments) → number_said low high words ≡ Some n → P g → P (number_set which n g)
+SetKeeps P (arguments.Bytes which low high) = (words : List Word) (w : Word) (g : Arguments) → bytes_said low high words ≡ Some w → P g → P (bytes_set which w g)
+SetKeeps P (arguments.Ids which other) =
+    (words : List Word) (ids : List ℕ) (g : Arguments) → with_ids words (Some (listed which g)) ≡ Some ids → excludes other ids g ≡ false → P g → P (ids_set which ids g)
+SetKeeps P other = ⊤
+
+set_list : (P : Arguments → Type 0) (which : Ids) (other : Option Ids) (g next : Arguments) (o : Option (List ℕ))
+    → ((ids : List ℕ) → o ≡ Some ids → excludes other ids g ≡ false → P (ids_set which ids g)) → ids_kept which other g o ≡ Some next → P next
+set_list P which other g next None keeps h = absurd (cc)
+set_list P which other g next (Some ids) keeps h =
+    elim (excludes other ids g) as (λ b. excludes other ids g ≡ b → (if b then None else Some (ids_set which ids g)) ≡ Some next → P next) [
+      | true ↦ λ e some. absurd (cc)
+      | false ↦ λ e some. let is : ids_set which ids g ≡ next = cc in subst P is (keeps ids refl e)
+    ] refl h
+
+-- where P looks at the numbers, the bytes and the lists, each argument keeps it that does so where it sets one of them
+pub set_kept : (P : Arguments → Type 0) (argument : Argument) → SetKeeps (λ g. P (limited_of g)) argument → Keeps (λ g. P (limited_of g)) argument
+set_kept P (arguments.Number which low high) keeps words g next h p = let m = map_some _ _ next h in subst (λ g. P (limited_of g)) m.2 (keeps words m.0 g m.1 p)
+set_kept P (arguments.Bytes which low high) keeps words g next h p = let m = map_some _ _ next h in subst (λ g. P (limited_of g)) m.2 (keeps words m.0 g m.1 p)
+set_kept P (arguments.Level levels.Cluster) keeps words g next h p = subst (λ g. P (limited_of g)) (map_some _ _ next h).2 p
+set_kept P (arguments.Level levels.Directive) keeps words g next h p = subst (λ g. P (limited_of g)) (map_some _ _ next h).2 p
+set_kept P (arguments.Flag flags.Prevote) keeps words g next h p = subst (λ g. P (limited_of g)) (map_some _ _ next h).2 p
+set_kept P (arguments.Flag which) keeps words g next h p = subst (λ g. P (limited_of g)) (map_some _ _ next h).2 p
+set_kept P arguments.Transition keeps words g next h p = subst (λ g. P (limited_of g)) (map_some _ _ next h).2 p
+set_kept P arguments.Types keeps words g next h p = subst (λ g. P (limited_of g)) (map_some _ _ next h).2 p
+set_kept P (arguments.Ids which other) keeps words g next h p =
+    set_list (λ g. P (limited_of g)) which other g next (with_ids words (Some (listed which g))) (λ ids is apart. keeps words ids g is apart p) h

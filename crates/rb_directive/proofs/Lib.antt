@@ -5,7 +5,6 @@ pub mod BuildLaws
 pub mod ChangeLaws
 pub mod CountLaws
 pub mod KeepLaws
-pub mod ListLaws
 pub mod ReadLaws
 pub mod SpellingLaws
 pub mod TableLaws

@@ -1,6 +1,7 @@
 -- The arguments that are left, one by one.
 use Rattle.std.proofs.Common.{◌≡◌, ℕ, ◌+◌, ◌<◌, Bool, true, false, List, [], ◌∷◌, ◌++◌, length, get_or, drop, Option, Some, None, Ok, Err, refl, ap, sym, ◌∙◌}
 use Rattle.std.specs.Prelude.{nat_lt, if◌then◌else◌}
+use Rattle.std.proofs.lemmas.List.{drop_more}
 use Rattle.rb_script.specs.Directive.{PlainArgument, no_argument}
 use Rattle.rb_level.specs.declared.directive_error.DirectiveError.{DirectiveError}
 use Rattle.rb_level.specs.declared.message_type.MessageType.{MessageType}
@@ -13,12 +14,11 @@ use Rattle.rb_directive.specs.Forms.{Word}
 use Rattle.rb_directive.specs.IdLists.{id_of, with_id, with_ids}
 use Rattle.rb_directive.specs.TypeSets.{with_type, with_named, with_types}
 use Rattle.rb_directive.specs.Reading.{with_argument, with_arguments}
-use Rattle.rb_directive.proofs.ListLaws.{left_more}
 
 -- one argument more
 pub read_more : (row : Row) (args : List PlainArgument) (place : ℕ) (g : Arguments) → place < length args
     → with_arguments row (drop place args) (Ok g) ≡ with_arguments row (drop (place + 1) args) (with_argument row (get_or args place no_argument) g)
-read_more row args place g h = ap (λ (l : List PlainArgument). with_arguments row l (Ok g)) (left_more args place no_argument h)
+read_more row args place g h = ap (λ (l : List PlainArgument). with_arguments row l (Ok g)) (drop_more args place no_argument h)
 
 -- a fault stays
 pub read_fault : (row : Row) (args : List PlainArgument) (e : DirectiveError) → with_arguments row args (Err e) ≡ Err e
@@ -34,7 +34,7 @@ types_none (w ∷ words) = types_none words
 
 types_more : (words : List Word) (i : ℕ) (set : TypeSet) → i < length words
     → with_types (drop i words) (Some set) ≡ with_types (drop (i + 1) words) (with_named (type_of (get_or words i [])) set)
-types_more words i set h = ap (λ (l : List Word). with_types l (Some set)) (left_more words i [] h)
+types_more words i set h = ap (λ (l : List Word). with_types l (Some set)) (drop_more words i [] h)
 
 -- a word that names a type
 pub types_named : (words : List Word) (i : ℕ) (set : TypeSet) (t : MessageType) → i < length words → Some t ≡ type_of (get_or words i [])
@@ -56,7 +56,7 @@ ids_none (w ∷ words) = ids_none words
 
 ids_more : (words : List Word) (i : ℕ) (ids : List ℕ) → i < length words
     → with_ids (drop i words) (Some ids) ≡ with_ids (drop (i + 1) words) (with_id ids (id_of (get_or words i [])))
-ids_more words i ids h = ap (λ (l : List Word). with_ids l (Some ids)) (left_more words i [] h)
+ids_more words i ids h = ap (λ (l : List Word). with_ids l (Some ids)) (drop_more words i [] h)
 
 -- a word that is an id, which has room
 pub ids_named : (words : List Word) (i : ℕ) (ids : List ℕ) (id : ℕ) → i < length words → Some id ≡ id_of (get_or words i []) → nat_lt (length ids) MAX_IDS ≡ true

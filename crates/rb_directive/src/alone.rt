@@ -51,10 +51,7 @@ fn of_first<'d>(name: Name, first: Option<Argument>, word: &[u8]) -> Option<Requ
 {
     match first {
         Some(Argument::Number(Number::Id, low, high)) => {
-            match number_within(word, low, high) {
-                Some(id) => of_node(name, id),
-                None => None,
-            }
+            of_node(name, number_within(word, low, high)?)
         }
         _ => None,
     }
@@ -67,10 +64,7 @@ fn of_word<'d>(row: &Row, word: &[u8]) -> Option<Request<'d>>
     if !row.takes_ids {
         return of_first(row.name, row.first, word);
     }
-    match id_of(word) {
-        Some(id) => of_ids(row.name, IdList::one(id)),
-        None => None,
-    }
+    of_ids(row.name, IdList::one(id_of(word)?))
 }
 
 // What a directive asks for that is given nothing.

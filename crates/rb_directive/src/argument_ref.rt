@@ -94,56 +94,39 @@ impl<'d> ArgumentRef<'d> {
     pub(crate) fn number(&self, low: u64, high: u64) -> Option<u64>
         ensures { result ≡ number_said low high (words_said self.now) }
     {
-        match self.only() {
-            Some(word) => number_within(word, low, high),
-            None => None,
-        }
+        number_within(self.only()?, low, high)
     }
 
     /// The bytes that it says, from `low` to `high` of them.
     pub(crate) fn bytes(&self, low: usize, high: usize) -> Option<&'d [u8]>
         ensures { MatchOption result (bytes_said low high (words_said self.now) ≡ None) (λ w. bytes_said low high (words_said self.now) ≡ Some w.now) }
     {
-        match self.only() {
-            Some(word) => {
-                if low <= word.len() && word.len() <= high {
-                    Some(word)
-                } else {
-                    None
-                }
-            }
-            None => None,
+        let word = self.only()?;
+        if low <= word.len() && word.len() <= high {
+            return Some(word);
         }
+        None
     }
 
     /// The level that it names.
     pub(crate) fn level(&self) -> Option<Level>
         ensures { result ≡ level_said (words_said self.now) }
     {
-        match self.only() {
-            Some(word) => level_of(word),
-            None => None,
-        }
+        level_of(self.only()?)
     }
 
     /// The choice that it says.
     pub(crate) fn flag(&self) -> Option<bool>
         ensures { result ≡ flag_said (words_said self.now) }
     {
-        match self.only() {
-            Some(word) => flag_of(word),
-            None => None,
-        }
+        flag_of(self.only()?)
     }
 
     /// The transition that it names.
     pub(crate) fn transition(&self) -> Option<Transition>
         ensures { result ≡ transition_said (words_said self.now) }
     {
-        match self.only() {
-            Some(word) => transition_of(word),
-            None => None,
-        }
+        transition_of(self.only()?)
     }
 
     /// The types that it names.
@@ -153,10 +136,7 @@ impl<'d> ArgumentRef<'d> {
     {
         let mut types = TypeSet::new();
         for at in 0..self.len() {
-            let Some(named) = type_of(self.word(at)) else {
-                return None;
-            };
-            types = types.with(named);
+            types = types.with(type_of(self.word(at))?);
         }
         Some(types)
     }
@@ -168,9 +148,7 @@ impl<'d> ArgumentRef<'d> {
     {
         let mut ids = before;
         for at in 0..self.len() {
-            let Some(id) = id_of(self.word(at)) else {
-                return None;
-            };
+            let id = id_of(self.word(at))?;
             if !ids.has_room() {
                 return None;
             }

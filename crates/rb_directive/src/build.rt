@@ -168,17 +168,6 @@ fn asked_at_length<'d>(
     Ok(Asked { request, log_level })
 }
 
-// What the directive of this row asks for.
-fn asked_of<'d>(row: &Row, directive: &'d DirectiveRef<'d>) -> Result<Asked<'d>, DirectiveError<'d>>
-    ensures { result ≡ asked_of row.now (plain directive.now) }
-{
-    if let Some(request) = asked_alone(row, directive) {
-        let log_level = None;
-        return Ok(Asked { request, log_level });
-    }
-    asked_at_length(row, directive)
-}
-
 /// What a directive asks for, or why it is refused: its name is unknown; or of the arguments, from left to right, the
 /// first that is wrong; or what is missing. No cluster is looked at, and no memory is taken.
 #[tactic(auto, unfolding(crate::specs::Requests::request))]
@@ -187,8 +176,12 @@ pub fn request<'d>(directive: &'d DirectiveRef<'d>) -> Result<Asked<'d>, Directi
     ensures within { IfOk result (λ a. IsWithin a.request) }
 {
     let name = directive.name();
-    match row_of(name) {
-        Some(row) => asked_of(row, directive),
-        None => Err(DirectiveError::UnknownDirective(ScriptWord::new(name))),
+    let Some(row) = row_of(name) else {
+        return Err(DirectiveError::UnknownDirective(ScriptWord::new(name)));
+    };
+    if let Some(request) = asked_alone(row, directive) {
+        let log_level = None;
+        return Ok(Asked { request, log_level });
     }
+    asked_at_length(row, directive)
 }

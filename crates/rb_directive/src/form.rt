@@ -24,10 +24,7 @@ pub(crate) fn number_within(word: &[u8], low: u64, high: u64) -> Option<u64>
 pub(crate) fn id_of(word: &[u8]) -> Option<u8>
     ensures { result ≡ id_of word.now }
 {
-    match number_within(word, 1, MAX_ID) {
-        Some(id) => Some(id as u8),
-        None => None,
-    }
+    Some(number_within(word, 1, MAX_ID)? as u8)
 }
 
 /// `true` or `false`.

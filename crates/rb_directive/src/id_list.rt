@@ -89,11 +89,6 @@ impl IdList {
     pub(crate) fn shares(&self, other: &IdList) -> bool
         ensures { result ≡ share self.now other.now }
     {
-        for id in self.as_slice() {
-            if other.holds(u64::from(*id)) {
-                return true;
-            }
-        }
-        false
+        self.as_slice().iter().any(|id| other.holds(u64::from(*id)))
     }
 }

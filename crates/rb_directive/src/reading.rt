@@ -3,7 +3,7 @@
 //! Each argument is looked up in the table, by its key or its place, and what it says is added to what is given. The
 //! first that is wrong ends it.
 
-ghost use Rattle.std.specs.Prelude.{◌≡◌, MatchBool, MatchResult, Some, None, Ok, Err};
+ghost use Rattle.std.specs.Prelude.{◌≡◌, MatchOption, MatchResult, Some, None, Ok, Err};
 ghost use Rattle.rb_script.specs.Tokens.{plain};
 ghost use Rattle.rb_directive.specs.Arguments.{nothing, listed};
 ghost use Rattle.rb_directive.specs.IdLists.{with_ids};
@@ -24,65 +24,45 @@ fn take_ids<'d>(
     which: Ids,
     other: Option<Ids>,
     said: &ArgumentRef<'d>,
-) -> bool
-    ensures { MatchBool result (ids_kept which other given.old (with_ids (words_said said.now) (Some (listed which given.old))) ≡ Some given.new) (ids_kept which other given.old (with_ids (words_said said.now) (Some (listed which given.old))) ≡ None) }
+) -> Option<()>
+    ensures { MatchOption result (ids_kept which other given.old (with_ids (words_said said.now) (Some (listed which given.old))) ≡ None) (λ _. ids_kept which other given.old (with_ids (words_said said.now) (Some (listed which given.old))) ≡ Some given.new) }
 {
-    let Some(ids) = said.ids(given.listed(which)) else {
-        return false;
-    };
+    let ids = said.ids(given.listed(which))?;
     if given.excludes(other, &ids) {
-        return false;
+        return None;
     }
     given.set_ids(which, ids);
-    true
+    Some(())
 }
 
 // Adds what the argument says, where it is what it has to be.
-fn take<'d>(given: &mut Arguments<'d>, argument: Argument, said: &ArgumentRef<'d>) -> bool
-    ensures { MatchBool result (taken argument (words_said said.now) given.old ≡ Some given.new) (taken argument (words_said said.now) given.old ≡ None) }
+fn take<'d>(given: &mut Arguments<'d>, argument: Argument, said: &ArgumentRef<'d>) -> Option<()>
+    ensures { MatchOption result (taken argument (words_said said.now) given.old ≡ None) (λ _. taken argument (words_said said.now) given.old ≡ Some given.new) }
 {
     match argument {
         Argument::Number(which, low, high) => {
-            let Some(number) = said.number(low, high) else {
-                return false;
-            };
-            given.set_number(which, number);
-            true
+            given.set_number(which, said.number(low, high)?);
+            Some(())
         }
         Argument::Bytes(which, low, high) => {
-            let Some(bytes) = said.bytes(low, high) else {
-                return false;
-            };
-            given.set_bytes(which, bytes);
-            true
+            given.set_bytes(which, said.bytes(low, high)?);
+            Some(())
         }
         Argument::Level(which) => {
-            let Some(level) = said.level() else {
-                return false;
-            };
-            given.set_level(which, level);
-            true
+            given.set_level(which, said.level()?);
+            Some(())
         }
         Argument::Flag(which) => {
-            let Some(flag) = said.flag() else {
-                return false;
-            };
-            given.set_flag(which, flag);
-            true
+            given.set_flag(which, said.flag()?);
+            Some(())
         }
         Argument::Transition => {
-            let Some(transition) = said.transition() else {
-                return false;
-            };
-            given.transition = Some(transition);
-            true
+            given.transition = Some(said.transition()?);
+            Some(())
         }
         Argument::Types => {
-            let Some(types) = said.types() else {
-                return false;
-            };
-            given.types = Some(types);
-            true
+            given.types = Some(said.types()?);
+            Some(())
         }
         Argument::Ids(which, other) => take_ids(given, which, other, said),
     }
@@ -100,7 +80,7 @@ fn add_option<'d>(
     let Some(argument) = option_of(row.name.text(), key) else {
         return Err(DirectiveError::UnsupportedOption(ScriptWord::new(key)));
     };
-    if given.has(argument) || !take(given, argument, said) {
+    if given.has(argument) || take(given, argument, said).is_none() {
         return Err(DirectiveError::BadArgument(ScriptWord::new(key)));
     }
     Ok(())
@@ -118,7 +98,7 @@ fn add_word<'d>(
         return Err(DirectiveError::BadArgument(ScriptWord::new(said.key())));
     };
     given.next = given.next.after();
-    if !take(given, argument, said) {
+    if take(given, argument, said).is_none() {
         return Err(DirectiveError::BadArgument(ScriptWord::new(said.key())));
     }
     Ok(())

@@ -1,5 +1,4 @@
 use Rattle.std.proofs.Common.{◌≡◌, length, false, arith, ap, sym, ◌∙◌}
-use Rattle.rb_script.specs.Directive.{plain_argument}
 use Rattle.rb_script.specs.Tokens.{plain}
 use Rattle.rb_directive.specs.Alone.{of_word}
 use Rattle.rb_directive.proofs.AloneLaws.{told_by_word}
