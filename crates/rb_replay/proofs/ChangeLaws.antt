@@ -1,6 +1,6 @@
 -- What an edit changes.
 use Rattle.std.proofs.Common.{◌≡◌, ℕ, zero, suc, ◌+◌, ◌-◌, ◌≤◌, Bool, true, false, List, [], ◌∷◌, ◌++◌, length, take, drop, map, refl, ap, sym, subst, ◌∙◌, arith, get_or, append_assoc}
-use Rattle.std.specs.Prelude.{Result, Ok, Some, IfSome, insert, remove, slice_set, nat_lt, nat_le, not}
+use Rattle.std.specs.Prelude.{Result, Ok, Option, IfSome, insert, remove, slice_set, nat_lt, nat_le, not}
 use Rattle.std.specs.List.{list_all}
 use Rattle.std.proofs.lemmas.Bool.Decides.{nat_tests}
 use Rattle.std.proofs.lemmas.List.{take_at, drop_at, length-take-le, length-drop, length-append, set_split, take-set, drop-set-lt, length-set, take-map, drop-map}
@@ -20,7 +20,7 @@ use Rattle.rb_replay.specs.declared.splice.Effect.TheVariants as effects
 use Rattle.rb_replay.specs.Run.{directives, outputs}
 use Rattle.rb_replay.specs.Report.{differing, mismatches}
 use Rattle.rb_replay.specs.Holding.{Holding, IsFresh}
-use Rattle.rb_replay.specs.Reuse.{Change, change_by, effect_of, change, change_of, change_for, IsChange, StayWhole, IsOneBlock}
+use Rattle.rb_replay.specs.Reuse.{Change, change_by, effect_of, change, change_of, change_for, IsChange, IsOneBlock}
 use Rattle.rb_replay.specs.Splices.{no_splice, IsMended}
 use Rattle.rb_replay.proofs.RunLaws.{both, outputs-same, length-outputs}
 use Rattle.rb_replay.proofs.DifferingLaws.{differing-accepted}
@@ -83,9 +83,9 @@ whole-rest : (n m : ℕ) (xs ys : List PlainBlock) → drop n xs ≡ drop m ys �
 whole-rest n m xs ys same = drop-map directive_of n xs ∙ ap (map directive_of) same ∙ sym (drop-map directive_of m ys)
 
 -- the change of an edit
-record IsEditChange (c : Change) : Type 0 where
-  is : IsChange c
-  one : IsOneBlock c
+pub record IsEditChange (c : Change) : Type 0 where
+  pub is : IsChange c
+  pub one : IsOneBlock c
 
 spliced-change : (h : Holding) (new : PlainScript) (f : ℕ) (put : List PlainBlock) (r t : ℕ) → IsFresh h → take f h.script.blocks ++ (put ++ drop r h.script.blocks) ≡ new.blocks → f ≤ r → r ≤ f + 1 → r ≤ length h.script.blocks → length put ≤ 1 → t ≡ f + length put → IsEditChange (change h new f r t)
 spliced-change h new f put r t fresh made fr rf rs few t_is =
@@ -137,29 +137,17 @@ remove-change h new k fresh e =
     (ap (λ (n : ℕ). take (k - 1) h.script.blocks ++ drop n h.script.blocks) (sym next) ∙ ap (λ (s : PlainScript). s.blocks) made.2)
     (omega arith) (omega arith) made.1 (omega arith) (omega arith)
 
-pub edit-change : (h : Holding) (edit : Edit) (new : PlainScript) → IsFresh h → edited h.script edit (outputs h.script) ≡ Ok new → IfSome (change_of h new edit) IsChange
-edit-change h (Insert k b) new fresh e = (insert-change h new k b fresh e).is
-edit-change h (Replace k b) new fresh e = (replace-change h new k b fresh e).is
-edit-change h (Remove k) new fresh e = (remove-change h new k fresh e).is
+pub edit-change : (h : Holding) (edit : Edit) (new : PlainScript) → IsFresh h → edited h.script edit (outputs h.script) ≡ Ok new → IfSome (change_of h new edit) IsEditChange
+edit-change h (Insert k b) new fresh e = insert-change h new k b fresh e
+edit-change h (Replace k b) new fresh e = replace-change h new k b fresh e
+edit-change h (Remove k) new fresh e = remove-change h new k fresh e
 edit-change h (Expect k lines) new fresh e = tt
 edit-change h Accept new fresh e = tt
 
-pub edit-one : (h : Holding) (edit : Edit) (new : PlainScript) → IsFresh h → edited h.script edit (outputs h.script) ≡ Ok new → IfSome (change_of h new edit) IsOneBlock
-edit-one h (Insert k b) new fresh e = (insert-change h new k b fresh e).one
-edit-one h (Replace k b) new fresh e = (replace-change h new k b fresh e).one
-edit-one h (Remove k) new fresh e = (remove-change h new k fresh e).one
-edit-one h (Expect k lines) new fresh e = tt
-edit-one h Accept new fresh e = tt
-
--- the change, by what the code calls it
-pub change-is : (h : Holding) (new : PlainScript) (edit : Edit) (splice : Splice) → effect_of edit ≡ effects.Replay splice → change_of h new edit ≡ Some (change_by h new splice)
-change-is h new edit splice e = ap (change_for h new) e
-
-pub splice-change : (h : Holding) (edit : Edit) (new : PlainScript) (splice : Splice) → IsFresh h → edited h.script edit (outputs h.script) ≡ Ok new → effect_of edit ≡ effects.Replay splice → IsChange (change_by h new splice)
-splice-change h edit new splice fresh e is = rw (change-is h new edit splice is) at (edit-change h edit new fresh e)
-
-pub splice-whole : (h : Holding) (edit : Edit) (new : PlainScript) (splice : Splice) → IsFresh h → edited h.script edit (outputs h.script) ≡ Ok new → effect_of edit ≡ effects.Replay splice → StayWhole (change_by h new splice)
-splice-whole h edit new splice fresh e is = let one : IsOneBlock (change_by h new splice) = rw (change-is h new edit splice is) at (edit-one h edit new fresh e) in one.whole
+-- by what the code calls it
+pub splice-change : (h : Holding) (edit : Edit) (new : PlainScript) (splice : Splice) → IsFresh h → edited h.script edit (outputs h.script) ≡ Ok new
+    → effect_of edit ≡ effects.Replay splice → IsEditChange (change_by h new splice)
+splice-change h edit new splice fresh e is = subst (λ (o : Option Change). IfSome o IsEditChange) (ap (change_for h new) is) (edit-change h edit new fresh e)
 
 -- ---- edits of expectations
 
@@ -230,9 +218,6 @@ pub record IsExpected (s new : PlainScript) (place : ℕ) : Type 0 where
   pub mended : IsMended s new no_splice (place - 1) (take 1 (drop (place - 1) (outputs s))) place
 
 pub expect-edit : (s new : PlainScript) (edit : Edit) (place : ℕ) → effect_of edit ≡ effects.Expect place → edited s edit (outputs s) ≡ Ok new → IsExpected s new place
-expect-edit s new (Insert k b) place is e = absurd cc
-expect-edit s new (Replace k b) place is e = absurd cc
-expect-edit s new (Remove k) place is e = absurd cc
 expect-edit s new (Expect k lines) place is e =
     let made = expected s new k lines (outputs s) e in
     let same : k ≡ place = cc in
@@ -242,11 +227,8 @@ expect-edit s new (Expect k lines) place is e =
       within = made.1;
       mended = expect-mended s new k lines e;
     })
-expect-edit s new Accept place is e = absurd cc
+expect-edit s new edit place is e = absurd cc
 
 pub accept-edit : (s new : PlainScript) (edit : Edit) → effect_of edit ≡ effects.Accept → edited s edit (outputs s) ≡ Ok new → (directives new ≡ directives s) × (mismatches new ≡ [])
-accept-edit s new (Insert k b) is e = absurd cc
-accept-edit s new (Replace k b) is e = absurd cc
-accept-edit s new (Remove k) is e = absurd cc
-accept-edit s new (Expect k lines) is e = absurd cc
 accept-edit s new Accept is e = (accept-directives s new e, accept-none s new e)
+accept-edit s new edit is e = absurd cc

@@ -1,11 +1,11 @@
 -- Laws of mismatches.
-use Rattle.std.proofs.Common.{◌≡◌, ℕ, zero, suc, ◌+◌, ◌-◌, ◌<◌, ◌≤◌, List, [], ◌∷◌, ◌++◌, length, take, drop, map, refl, ap, sym, ◌∙◌, arith, get_or, Bool, Some, true, false, append_assoc, subst}
-use Rattle.std.specs.Prelude.{filter, nat_lt, nat_le, ◌&&◌, Decides, slice_get}
-use Rattle.std.specs.Str.{bytes_eq}
+use Rattle.std.proofs.Common.{◌≡◌, ℕ, zero, suc, ◌+◌, ◌-◌, ◌<◌, ◌≤◌, List, [], ◌∷◌, ◌++◌, length, take, drop, map, refl, ap, sym, ◌∙◌, arith, Bool, Some, true, false, append_assoc}
+use Rattle.std.specs.Prelude.{filter, nat_lt, nat_le, Decides, slice_get}
+use Rattle.std.specs.List.{AllByRecursion}
 use Rattle.std.proofs.lemmas.Bool.{le-leb}
 use Rattle.std.proofs.lemmas.Bool.Decides.{nat_tests}
-use Rattle.std.proofs.lemmas.Slice.Eq.{bytes_eq-Decides}
-use Rattle.std.proofs.lemmas.List.{take_all, length-take-le, length-drop, take-append-drop, drop-drop, take_rest}
+use Rattle.std.proofs.lemmas.Slice.Eq.{bytes_eq-Decides, slice_eq-Decides}
+use Rattle.std.proofs.lemmas.List.{take_all, length-take-le, length-drop, take-append-drop, drop-drop}
 use Rattle.rb_script.specs.Lines.{Line}
 use Rattle.rb_script.specs.Script.{PlainBlock, PlainScript, all_expecting}
 use Rattle.rb_replay.specs.declared.splice.Splice.{Splice}
@@ -19,23 +19,8 @@ use Rattle.rb_text.proofs.SentLaws.{drop-get}
 
 -- ---- the test of lines
 
-same_lines-true : (ls os : List Line) → same_lines ls os ≡ true → ls ≡ os
-same_lines-true [] [] e = refl
-same_lines-true [] (o ∷ os) e = absurd cc
-same_lines-true (l ∷ ls) [] e = absurd cc
-same_lines-true (l ∷ ls) (o ∷ os) e = parts l o ls os (bytes_eq l o) (same_lines ls os) (bytes_eq-Decides l o).0 (same_lines-true ls os) e
-  where
-    parts : (l o : Line) (ls os : List Line) (a b : Bool) → (a ≡ true → l ≡ o) → (b ≡ true → ls ≡ os) → (a && b) ≡ true → l ∷ ls ≡ o ∷ os
-    parts l o ls os true true first rest e = both (λ (x : Line) (xs : List Line). x ∷ xs) (first refl) (rest refl)
-    parts l o ls os true false first rest e = absurd cc
-    parts l o ls os false b first rest e = absurd cc
-
-same_lines-refl : (ls : List Line) → same_lines ls ls ≡ true
-same_lines-refl [] = refl
-same_lines-refl (l ∷ ls) = let first : bytes_eq l l ≡ true = (bytes_eq-Decides l l).1 refl in rw first (same_lines-refl ls)
-
 pub same_lines-Decides : (ls os : List Line) → Decides (same_lines ls os) (ls ≡ os)
-same_lines-Decides ls os = (same_lines-true ls os, λ e. subst (λ (x : List Line). same_lines ls x ≡ true) e (same_lines-refl ls))
+same_lines-Decides ls os = slice_eq-Decides bytes_eq-Decides ls os (same_lines ls os) refl
 
 -- ---- one block on
 
@@ -138,8 +123,7 @@ differing-take place (b ∷ bs) (o ∷ os) =
 
 -- each is at most the last place
 abbrev pub AreAtMost : ℕ → List ℕ → Type 0
-AreAtMost n [] = Unit {0}
-AreAtMost n (p ∷ ps) = (p ≤ n) × AreAtMost n ps
+AreAtMost n ps = AllByRecursion (λ p. p ≤ n) ps
 
 pub differing-within : (n place : ℕ) (bs : List PlainBlock) (os : List (List Line)) → place + length bs ≤ n + 1 → AreAtMost n (differing place bs os)
 differing-within n place [] os le = tt
@@ -153,7 +137,7 @@ pub differing-accepted : (place : ℕ) (bs : List PlainBlock) (os : List (List L
 unfolding all_expecting
 differing-accepted place [] os = refl
 differing-accepted place (b ∷ bs) [] = refl
-differing-accepted place (b ∷ bs) (o ∷ os) = rw (same_lines-refl o) (differing-accepted (place + 1) bs os)
+differing-accepted place (b ∷ bs) (o ∷ os) = let same : same_lines o o ≡ true = (same_lines-Decides o o).1 refl in rw same (differing-accepted (place + 1) bs os)
 
 -- ---- mismatches that are mended
 
@@ -191,24 +175,6 @@ mended-differing old new splice from os stop m =
     (differing-append (1 + from) (take (length os) (drop from new.blocks)) os (drop (from + length os) (outputs new)) (drop (from + length os) new.blocks) mids
     ∙ ap (λ (n : ℕ). differing (1 + from) (take (length os) (drop from new.blocks)) os ++ differing (1 + from + n) (drop (from + length os) new.blocks) (drop (from + length os) (outputs new))) mids) in
     both (λ (a b : List ℕ). a ++ b) first (both (λ (a b : List ℕ). a ++ b) second third) ∙ sym split
-
-pub at_most-get : (n k d : ℕ) (ps : List ℕ) → AreAtMost n ps → k < length ps → get_or ps k d ≤ n
-at_most-get n k d [] all lt = absurd (omega arith)
-at_most-get n zero d (p ∷ ps) all lt = all.0
-at_most-get n (suc k) d (p ∷ ps) all lt = at_most-get n k d ps all.1 (omega arith)
-
--- and so is each of a part of the list
-pub at_most-rest : (n r : ℕ) (ps : List ℕ) → AreAtMost n ps → (k d : ℕ) → k < length (take (length ps - r) (drop r ps)) → get_or (take (length ps - r) (drop r ps)) k d ≤ n
-at_most-rest n r ps all k d lt = rw take_rest (at_most-get n k d (drop r ps) (at_most-drop n r ps all) (rw take_rest at lt))
-  where
-    at_most-drop : (n r : ℕ) (ps : List ℕ) → AreAtMost n ps → AreAtMost n (drop r ps)
-    at_most-drop n zero ps all = all
-    at_most-drop n (suc r) [] all = tt
-    at_most-drop n (suc r) (p ∷ ps) all = at_most-drop n r ps all.1
-
-pub at_most-more : (n m : ℕ) (ps : List ℕ) → n ≤ m → AreAtMost n ps → AreAtMost m ps
-at_most-more n m [] le all = tt
-at_most-more n m (p ∷ ps) le all = (omega (arith, all.0), at_most-more n m ps le all.1)
 
 -- a script's mismatches are ascending, and are places of it
 pub mismatches-rising : (s : PlainScript) → IsRising 0 (mismatches s)

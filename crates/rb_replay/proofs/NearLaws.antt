@@ -1,14 +1,15 @@
 -- The points of a changed script are near.
 use Rattle.std.proofs.Common.{◌≡◌, ℕ, zero, suc, ◌+◌, ◌-◌, ◌*◌, ◌/◌, ◌<◌, ◌≤◌, max, min, List, [], ◌∷◌, ◌++◌, length, map, refl, ap, sym, ◌∙◌, arith, Option, Some, None, inl, inr, get_or, true, false, subst}
 use Rattle.std.specs.Prelude.{Contains, filter, nat_lt, nat_le}
-use Rattle.std.proofs.lemmas.Bool.{cases_lt, le-leb}
-use Rattle.std.proofs.lemmas.Bool.Decides.{nat_tests, leb_tells}
+use Rattle.std.proofs.lemmas.Bool.{cases_lt, le-leb, lt-leb}
+use Rattle.std.proofs.lemmas.Bool.Decides.{leb_tells}
 use Rattle.std.proofs.lemmas.List.{append-nil}
-use Rattle.std.proofs.Math.Nat.{div-mul-le_self, lt-div-mul-add}
-use Rattle.rb_replay.specs.Points.{IsRising, AreNear, AreKept, AreSparse, AreSparseAfter, last_up_to, every, thin}
-use Rattle.rb_replay.specs.Reuse.{Change, start, old_point, new_point, Meets, IsFirstMeeting, IsChange, points_after}
+use Rattle.std.proofs.Math.Nat.{div-eq_of_lt, div-mul-le_self, lt-div-mul-add}
+use Rattle.rb_replay.specs.Points.{IsRising, AreNear, AreKept, AreSparse, AreSparseAfter, last_up_to, every}
+use Rattle.rb_replay.specs.Reuse.{Change, start, old_point, new_point, Meets, IsFirstMeeting, IsChange, fresh_points, points_before, points_after}
 use Rattle.rb_replay.proofs.RunLaws.{both}
-use Rattle.rb_replay.proofs.PointLaws.{thin-kept}
+use Rattle.rb_replay.proofs.NextLaws.{rising-first}
+use Rattle.rb_replay.proofs.PointLaws.{StartNear, thin-kept}
 use Rattle.rb_replay.proofs.PartLaws.{nothing_below}
 use Rattle.rb_replay.proofs.ReuseLaws.{start-le}
 use Rattle.rb_replay.proofs.ReadyLaws.{near-rising, all-from, none_up_to, points-met}
@@ -57,36 +58,16 @@ below-leads K n a b (p ∷ ps) near lt le =
           rw (← (nothing_below p b (p ∷ ps) (omega arith) (omega arith, near-rising K n p ps near.2)).0) (a, refl, lt, omega (arith, near.1))
     ]
 
-after-kept : (K n a x k : ℕ) (ps : List ℕ) → AreNear K n a ps → k < length ps → get_or ps k x ≡ x → AreNear K n x (filter (λ p. nat_le (x + 1) p) ps)
-after-kept K n a x k [] near lt is = absurd (omega arith)
-after-kept K n a x zero (p ∷ ps) near lt is =
-    let past : nat_le (x + 1) p ≡ false = grind (arith, nat_tests) in
-    rw past (rw (all-from (p + 1) (x + 1) ps (omega arith) (near-rising K n p ps near.2)) (subst (λ (y : ℕ). AreNear K n y ps) is near.2))
-after-kept K n a x (suc k) (p ∷ ps) near lt is =
-    let above : p < x = rising-above K n p x k ps near.2 (omega arith) is in
-    let before : nat_le (x + 1) p ≡ false = grind (arith, nat_tests) in
-    rw before (after-kept K n p x k ps near.2 (omega arith) is)
-  where
-    rising-above : (K n p x k : ℕ) (ps : List ℕ) → AreNear K n p ps → k < length ps → get_or ps k x ≡ x → p < x
-    rising-above K n p x k [] near lt is = absurd (omega arith)
-    rising-above K n p x zero (y ∷ ps) near lt is = omega (arith, near.0, is)
-    rising-above K n p x (suc k) (y ∷ ps) near lt is = let t : y < x = rising-above K n y x k ps near.2 (omega arith) is in omega (arith, near.0)
-
--- the same of all the kept points
-after-first : (K n x k : ℕ) (p : ℕ) (ps : List ℕ) → AreNear K n p ps → k < suc (length ps) → get_or (p ∷ ps) k x ≡ x → AreNear K n x (filter (λ y. nat_le (x + 1) y) (p ∷ ps))
-after-first K n x zero p ps near lt is =
-    let past : nat_le (x + 1) p ≡ false = grind (arith, nat_tests) in
-    rw past (rw (all-from (p + 1) (x + 1) ps (omega arith) (near-rising K n p ps near)) (subst (λ (y : ℕ). AreNear K n y ps) is near))
-after-first K n x (suc k) p ps near lt is =
-    elim (leb_tells (x + 1) p) [
-      | inl t ↦ absurd (not_before K n p x k ps near (omega arith) is t.1)
-      | inr f ↦ rw f.0 (after-kept K n p x k ps near (omega arith) is)
-    ]
-  where
-    not_before : (K n p x k : ℕ) (ps : List ℕ) → AreNear K n p ps → k < length ps → get_or ps k x ≡ x → x + 1 ≤ p → ⊥
-    not_before K n p x k [] near lt is le = absurd (omega arith)
-    not_before K n p x zero (y ∷ ps) near lt is le = absurd (omega (arith, near.0, is))
-    not_before K n p x (suc k) (y ∷ ps) near lt is le = not_before K n y x k ps near.2 (omega arith) is (omega (arith, near.0))
+-- those after a kept point
+after-kept : (K n x k p : ℕ) (ps : List ℕ) → AreNear K n p ps → k < suc (length ps) → get_or (p ∷ ps) k x ≡ x → AreNear K n x (filter (λ y. nat_le (x + 1) y) (p ∷ ps))
+after-kept K n x zero p ps near lt is =
+    let past : nat_le (x + 1) p ≡ false = lt-leb (x + 1) p (omega (arith, is)) in
+    rw past (rw (all-from (p + 1) (x + 1) ps (omega (arith, is)) (near-rising K n p ps near)) (subst (λ (y : ℕ). AreNear K n y ps) is near))
+after-kept K n x (suc k) p [] near lt is = absurd (omega arith)
+after-kept K n x (suc k) p (q ∷ ps) near lt is =
+    let above : p + 1 ≤ get_or (q ∷ ps) k x = rising-first (p + 1) k x (q ∷ ps) (near-rising K n p (q ∷ ps) near) (omega arith) in
+    let before : nat_le (x + 1) p ≡ false = lt-leb (x + 1) p (omega (arith, is)) in
+    rw before (after-kept K n x k q ps near.2 (omega arith) is)
 
 shift-near : (K n x r t : ℕ) (ps : List ℕ) → AreNear K n x ps → r ≤ x → AreNear K (n - r + t) (x - r + t) (map (λ p. p - r + t) ps)
 shift-near K n x r t [] near le = (omega arith, omega arith)
@@ -96,94 +77,87 @@ shift-near K n x r t (p ∷ ps) near le = (omega (arith, near.0), omega (arith, 
 on_way : (K d : ℕ) → 1 ≤ K → ((d / K) * K ≤ d) × (d < (d / K) * K + K)
 on_way K d one = let pos : zero < K = omega arith in (div-mul-le_self d K, lt-div-mul-add pos)
 
-kept-of : (K m p : ℕ) (xs rest : List ℕ) → p ≡ 0 → xs ≡ p ∷ rest → AreNear K m p rest → AreKept K m (thin K xs)
-kept-of K m p xs rest zero_first is near =
-    let zeroed : xs ≡ 0 ∷ rest = is ∙ ap (λ (y : ℕ). y ∷ rest) zero_first in
-    rw zeroed (thin-kept K m rest (subst (λ (y : ℕ). AreNear K m y rest) zero_first near))
+-- the points on the way up to the end
+way-end : (K n st : ℕ) → 1 ≤ K → st ≤ n → AreNear K n st (every K st ((n - st) / K))
+way-end K n st one le =
+    let far = on_way K (n - st) one in
+    subst (AreNear K n st) (append-nil (every K st ((n - st) / K)))
+    (leads-near K n st (st + ((n - st) / K) * K) (every K st ((n - st) / K)) [] (every-leads K st ((n - st) / K) one) (omega (arith, far.0), omega (arith, far.1)))
 
-kept-end : (K q n m st : ℕ) (ps : List ℕ) → 1 ≤ K → q ≤ m → AreKept K n ps → st ≡ last_up_to q ps → st ≤ q → AreKept K m (thin K (filter (λ p. nat_lt p (st + 1)) ps ++ every K st ((m - st) / K)))
-kept-end K q n m st [] one le kept e st_le = absurd kept
-kept-end K q n m st (p ∷ ps) one le kept e st_le =
+-- the points up to the start, and near ones from there on
+front-near : (K q n m st : ℕ) (ps rest : List ℕ) → AreKept K n ps → st ≡ last_up_to q ps → st ≤ q → AreNear K m st rest
+    → StartNear K m (filter (λ y. nat_lt y (st + 1)) ps ++ rest)
+front-near K q n m st [] rest kept e st_le near = absurd kept
+front-near K q n m st (p ∷ ps) rest kept e st_le near =
     let first : p ≡ 0 = kept.0 in
     let yes : nat_le p q ≡ true = le-leb p q (omega arith) in
     let last : last_up_to q (p ∷ ps) ≡ max p (last_up_to q ps) = rw yes refl in
-    let st_is : st ≡ max p (last_up_to q ps) = e ∙ last in
     let here : nat_lt p (st + 1) ≡ true = le-leb (suc p) (st + 1) (omega arith) in
-    let split : filter (λ y. nat_lt y (st + 1)) (p ∷ ps) ++ every K st ((m - st) / K) ≡ p ∷ (filter (λ y. nat_lt y (st + 1)) ps ++ every K st ((m - st) / K)) = rw here refl in
-    let far = on_way K (m - st) one in
-    let ends : AreNear K m (st + ((m - st) / K) * K) [] = (omega (arith, far.0), omega (arith, far.1)) in
-    let way : AreNear K m st (every K st ((m - st) / K)) = subst (AreNear K m st) (append-nil (every K st ((m - st) / K))) (leads-near K m st (st + ((m - st) / K) * K) (every K st ((m - st) / K)) [] (every-leads K st ((m - st) / K) one) ends) in
-    kept-of K m p (filter (λ y. nat_lt y (st + 1)) (p ∷ ps) ++ every K st ((m - st) / K)) (filter (λ y. nat_lt y (st + 1)) ps ++ every K st ((m - st) / K)) first split
-    (leads-near K m p st (filter (λ y. nat_lt y (st + 1)) ps) (every K st ((m - st) / K)) (front-leads K n q p st ps kept.1 (omega arith) st_is) way)
-
-nil-quotient : (K j d : ℕ) → 1 ≤ K → j * K ≤ d → d ≡ 0 → j ≡ 0
-nil-quotient K zero d one le z = refl
-nil-quotient K (suc j) d one le z = absurd (omega (arith, le))
+    rw here (first, leads-near K m p st (filter (λ y. nat_lt y (st + 1)) ps) rest (front-leads K n q p st ps kept.1 (omega arith) (e ∙ last)) near)
 
 -- a tail that begins at a meeting
-kept-met : (K q n m st s b : ℕ) (ps tail : List ℕ) → 1 ≤ K → AreKept K n ps → st ≡ last_up_to q ps → st ≤ q → q ≤ n → st ≤ s → b ≡ min (st + 1) s → AreNear K m s tail → AreKept K m (thin K (filter (λ p. nat_lt p b) ps ++ (every K st ((s - 1 - st) / K) ++ s ∷ tail)))
-kept-met K q n m st s b [] tail one kept e st_le q_le st_s b_is near = absurd kept
-kept-met K q n m st s b (p ∷ ps) tail one kept e st_le q_le st_s b_is near =
+met-near : (K q n m st s b : ℕ) (ps tail : List ℕ) → 1 ≤ K → AreKept K n ps → st ≡ last_up_to q ps → st ≤ q → q ≤ n → st ≤ s → b ≡ min (st + 1) s → AreNear K m s tail
+    → StartNear K m (filter (λ p. nat_lt p b) ps ++ (every K st ((s - 1 - st) / K) ++ s ∷ tail))
+met-near K q n m st s b ps tail one kept e st_le q_le st_s b_is near =
     elim (cases_lt st s) [
       | inl lt ↦
           let whole : b ≡ st + 1 = omega arith in
-          subst (λ (w : ℕ). AreKept K m (thin K (filter (λ y. nat_lt y w) (p ∷ ps) ++ (every K st ((s - 1 - st) / K) ++ s ∷ tail)))) (sym whole) (later K q n m st s p ps tail one kept e st_le lt near)
+          let far = on_way K (s - 1 - st) one in
+          subst (λ (w : ℕ). StartNear K m (filter (λ y. nat_lt y w) ps ++ (every K st ((s - 1 - st) / K) ++ s ∷ tail))) (sym whole)
+          (front-near K q n m st ps (every K st ((s - 1 - st) / K) ++ s ∷ tail) kept e st_le
+          (leads-near K m st (st + ((s - 1 - st) / K) * K) (every K st ((s - 1 - st) / K)) (s ∷ tail) (every-leads K st ((s - 1 - st) / K) one)
+          (omega (arith, far.0), omega (arith, far.1), near)))
       | inr ge ↦
-          let same : s ≡ st = omega arith in
           let whole : b ≡ s = omega arith in
-          let none : (s - 1 - st) / K ≡ 0 = at_once K s st one same in
-          subst (λ (w : ℕ). AreKept K m (thin K (filter (λ y. nat_lt y w) (p ∷ ps) ++ (every K st ((s - 1 - st) / K) ++ s ∷ tail)))) (sym whole)
-          (subst (λ (j : ℕ). AreKept K m (thin K (filter (λ y. nat_lt y s) (p ∷ ps) ++ (every K st j ++ s ∷ tail)))) (sym none) (at_start K n m s p ps tail kept (omega arith) near))
+          let none : (s - 1 - st) / K ≡ 0 = div-eq_of_lt (omega arith) in
+          subst (λ (w : ℕ). StartNear K m (filter (λ y. nat_lt y w) ps ++ (every K st ((s - 1 - st) / K) ++ s ∷ tail))) (sym whole)
+          (subst (λ (j : ℕ). StartNear K m (filter (λ y. nat_lt y s) ps ++ (every K st j ++ s ∷ tail))) (sym none) (at_start K n m s ps tail kept (omega arith) near))
     ]
   where
-    at_once : (K s st : ℕ) → 1 ≤ K → s ≡ st → (s - 1 - st) / K ≡ 0
-    at_once K s st one same = let far = on_way K (s - 1 - st) one in nil-quotient K ((s - 1 - st) / K) (s - 1 - st) one far.0 (omega arith)
-
-    at_start : (K n m s p : ℕ) (ps tail : List ℕ) → AreKept K n (p ∷ ps) → s ≤ n → AreNear K m s tail → AreKept K m (thin K (filter (λ y. nat_lt y s) (p ∷ ps) ++ ([] ++ s ∷ tail)))
-    at_start K n m s p ps tail kept le near =
+    at_start : (K n m s : ℕ) (ps tail : List ℕ) → AreKept K n ps → s ≤ n → AreNear K m s tail → StartNear K m (filter (λ y. nat_lt y s) ps ++ ([] ++ s ∷ tail))
+    at_start K n m s [] tail kept le near = absurd kept
+    at_start K n m s (p ∷ ps) tail kept le near =
         elim (cases_lt p s) [
           | inl lt ↦
               let here : nat_lt p s ≡ true = le-leb (suc p) s lt in
-              let split : filter (λ y. nat_lt y s) (p ∷ ps) ++ s ∷ tail ≡ p ∷ (filter (λ y. nat_lt y s) ps ++ s ∷ tail) = rw here refl in
               let front = below-leads K n p s ps kept.1 lt (omega arith) in
-              kept-of K m p (filter (λ y. nat_lt y s) (p ∷ ps) ++ s ∷ tail) (filter (λ y. nat_lt y s) ps ++ s ∷ tail) kept.0 split
-              (leads-near K m p front.0 (filter (λ y. nat_lt y s) ps) (s ∷ tail) front.1 (front.2, front.3, near))
+              rw here (kept.0, leads-near K m p front.0 (filter (λ y. nat_lt y s) ps) (s ∷ tail) front.1 (front.2, front.3, near))
           | inr ge ↦
-              let none : filter (λ y. nat_lt y s) (p ∷ ps) ≡ [] = sym (nothing_below p s (p ∷ ps) ge (omega arith, near-rising K n p ps kept.1)).0 in
-              let split : filter (λ y. nat_lt y s) (p ∷ ps) ++ s ∷ tail ≡ s ∷ tail = ap (λ (xs : List ℕ). xs ++ s ∷ tail) none in
-              kept-of K m s (filter (λ y. nat_lt y s) (p ∷ ps) ++ s ∷ tail) tail (omega (arith, kept.0)) split near
+              let none : [] ≡ filter (λ y. nat_lt y s) (p ∷ ps) = (nothing_below p s (p ∷ ps) ge (omega arith, near-rising K n p ps kept.1)).0 in
+              subst (λ (xs : List ℕ). StartNear K m (xs ++ ([] ++ s ∷ tail))) none (omega (arith, kept.0), near)
         ]
-
-    later : (K q n m st s p : ℕ) (ps tail : List ℕ) → 1 ≤ K → AreKept K n (p ∷ ps) → st ≡ last_up_to q (p ∷ ps) → st ≤ q → st < s → AreNear K m s tail → AreKept K m (thin K (filter (λ y. nat_lt y (st + 1)) (p ∷ ps) ++ (every K st ((s - 1 - st) / K) ++ s ∷ tail)))
-    later K q n m st s p ps tail one kept e st_le lt near =
-        let first : p ≡ 0 = kept.0 in
-        let yes : nat_le p q ≡ true = le-leb p q (omega arith) in
-        let last : last_up_to q (p ∷ ps) ≡ max p (last_up_to q ps) = rw yes refl in
-        let st_is : st ≡ max p (last_up_to q ps) = e ∙ last in
-        let here : nat_lt p (st + 1) ≡ true = le-leb (suc p) (st + 1) (omega arith) in
-        let split : filter (λ y. nat_lt y (st + 1)) (p ∷ ps) ++ (every K st ((s - 1 - st) / K) ++ s ∷ tail) ≡ p ∷ (filter (λ y. nat_lt y (st + 1)) ps ++ (every K st ((s - 1 - st) / K) ++ s ∷ tail)) = rw here refl in
-        let far = on_way K (s - 1 - st) one in
-        let way : AreNear K m st (every K st ((s - 1 - st) / K) ++ s ∷ tail) = leads-near K m st (st + ((s - 1 - st) / K) * K) (every K st ((s - 1 - st) / K)) (s ∷ tail) (every-leads K st ((s - 1 - st) / K) one) (omega (arith, far.0), omega (arith, far.1), near) in
-        kept-of K m p (filter (λ y. nat_lt y (st + 1)) (p ∷ ps) ++ (every K st ((s - 1 - st) / K) ++ s ∷ tail)) (filter (λ y. nat_lt y (st + 1)) ps ++ (every K st ((s - 1 - st) / K) ++ s ∷ tail)) first split
-        (leads-near K m p st (filter (λ y. nat_lt y (st + 1)) ps) (every K st ((s - 1 - st) / K) ++ s ∷ tail) (front-leads K n q p st ps kept.1 (omega arith) st_is) way)
 
 tail-near : (K n r t s x : ℕ) (ps : List ℕ) → AreKept K n ps → Contains ps x → r ≤ x → s ≡ x - r + t → AreNear K (n - r + t) s (map (λ p. p - r + t) (filter (λ p. nat_le (x + 1) p) ps))
 tail-near K n r t s x [] kept has le e = absurd kept
-tail-near K n r t s x (p ∷ ps) kept has le e = rw e (shift-near K n x r t (filter (λ y. nat_le (x + 1) y) (p ∷ ps)) (after-first K n x has.0 p ps kept.1 has.1 has.2) le)
+tail-near K n r t s x (p ∷ ps) kept has le e = rw e (shift-near K n x r t (filter (λ y. nat_le (x + 1) y) (p ∷ ps)) (after-kept K n x has.0 p ps kept.1 has.1 has.2) le)
 
--- the points of the changed script are near, and few
-pub points-kept : (c : Change) (o : Option ℕ) → IsChange c → IsFirstMeeting c o → AreKept c.spacing (length c.new.blocks) (points_after c o)
-points-kept c None is first =
+-- the points before thinning are near, and so those of the changed script are near, and few
+pub before-near : (c : Change) (o : Option ℕ) → IsChange c → IsFirstMeeting c o → StartNear c.spacing (length c.new.blocks) (points_before c o)
+before-near c None is first =
     let le : start c ≤ c.front = start-le c in
-    kept-end c.spacing c.front (length c.old.blocks) (length c.new.blocks) (start c) c.points is.spaced (omega (arith, is.new_from, is.new_within)) is.kept refl le
-points-kept c (Some s) is first =
+    front-near c.spacing c.front (length c.old.blocks) (length c.new.blocks) (start c) c.points (fresh_points c None) is.kept refl le
+    (way-end c.spacing (length c.new.blocks) (start c) is.spaced (omega (arith, is.new_from, is.new_within)))
+before-near c (Some s) is first =
     let m : Meets c s = first.0 in
     let le : start c ≤ c.front = start-le c in
     let long : length c.old.blocks - c.old_rest + c.new_rest ≡ length c.new.blocks = omega (arith, is.lengths, is.old_within) in
     let there : s ≡ old_point c s - c.old_rest + c.new_rest = omega (arith, m.in_rest) in
     let near : AreNear c.spacing (length c.new.blocks) s (map (new_point c) (filter (λ p. nat_le (old_point c s + 1) p) c.points)) =
     subst (λ (n : ℕ). AreNear c.spacing n s (map (new_point c) (filter (λ p. nat_le (old_point c s + 1) p) c.points))) long (tail-near c.spacing (length c.old.blocks) c.old_rest c.new_rest s (old_point c s) c.points is.kept m.is_kept (omega arith) there) in
-    rw (← (points-met c s is m)) (kept-met c.spacing c.front (length c.old.blocks) (length c.new.blocks) (start c) s (min (start c + 1) s) c.points (map (new_point c) (filter (λ p. nat_le (old_point c s + 1) p) c.points)) is.spaced is.kept refl le (omega (arith, is.old_from, is.old_within)) m.from_start refl near)
+    rw (← (points-met c s is m)) (met-near c.spacing c.front (length c.old.blocks) (length c.new.blocks) (start c) s (min (start c + 1) s) c.points
+    (map (new_point c) (filter (λ p. nat_le (old_point c s + 1) p) c.points)) is.spaced is.kept refl le
+    (omega (arith, is.old_from, is.old_within)) m.from_start refl near)
+
+pub points-kept : (c : Change) (o : Option ℕ) → IsChange c → IsFirstMeeting c o → AreKept c.spacing (length c.new.blocks) (points_after c o)
+points-kept c o is first = thin-kept c.spacing (length c.new.blocks) (points_before c o) (before-near c o is first)
+
+-- and they are ascending
+start-rising : (K n : ℕ) (ps : List ℕ) → StartNear K n ps → IsRising 0 ps
+start-rising K n [] near = absurd near
+start-rising K n (p ∷ ps) near = (omega arith, near-rising K n p ps near.1)
+
+pub before-rising : (c : Change) (o : Option ℕ) → IsChange c → IsFirstMeeting c o → IsRising 0 (points_before c o)
+before-rising c o is first = start-rising c.spacing (length c.new.blocks) (points_before c o) (before-near c o is first)
 
 -- the points that a start keeps
 every-first : (K from j : ℕ) → every K from (suc j) ≡ (from + K) ∷ every K (from + K) j
@@ -200,6 +174,5 @@ every-after K (suc j) one = rw every-first (every-sparse K 0 j one)
 
 pub start-kept : (K n : ℕ) → 1 ≤ K → AreKept K n (0 ∷ every K 0 (n / K))
 start-kept K n one =
-    let far = on_way K n one in
-    let ends : AreNear K n (0 + (n / K) * K) [] = (omega (arith, far.0), omega (arith, far.1)) in
-    (refl, subst (AreNear K n 0) (append-nil (every K 0 (n / K))) (leads-near K n 0 (0 + (n / K) * K) (every K 0 (n / K)) [] (every-leads K 0 (n / K) one) ends), every-after K (n / K) one)
+    let whole : n - 0 ≡ n = omega arith in
+    (refl, subst (λ (d : ℕ). AreNear K n 0 (every K 0 (d / K))) whole (way-end K n 0 one (omega arith)), every-after K (n / K) one)

@@ -7,15 +7,15 @@ use Rattle.rb_replay.specs.Points.{IsRising}
 use Rattle.rb_replay.specs.Splices.{IsNext}
 
 -- what stands later is greater
-pub rising-first : (a k : ℕ) (ps : List ℕ) → IsRising a ps → k < length ps → a ≤ get_or ps k 0
-rising-first a k [] rising lt = absurd (omega arith)
-rising-first a zero (p ∷ ps) rising lt = rising.0
-rising-first a (suc k) (p ∷ ps) rising lt = let t : p + 1 ≤ get_or ps k 0 = rising-first (p + 1) k ps rising.1 (omega arith) in omega (arith, rising.0)
+pub rising-first : (a k d : ℕ) (ps : List ℕ) → IsRising a ps → k < length ps → a ≤ get_or ps k d
+rising-first a k d [] rising lt = absurd (omega arith)
+rising-first a zero d (p ∷ ps) rising lt = rising.0
+rising-first a (suc k) d (p ∷ ps) rising lt = let t : p + 1 ≤ get_or ps k d = rising-first (p + 1) k d ps rising.1 (omega arith) in omega (arith, rising.0)
 
 pub rising-later : (a i k : ℕ) (ps : List ℕ) → IsRising a ps → i < k → k < length ps → get_or ps i 0 < get_or ps k 0
 rising-later a i k [] rising lt within = absurd (omega arith)
 rising-later a zero zero (p ∷ ps) rising lt within = absurd (omega arith)
-rising-later a zero (suc k) (p ∷ ps) rising lt within = let t : p + 1 ≤ get_or ps k 0 = rising-first (p + 1) k ps rising.1 (omega arith) in omega arith
+rising-later a zero (suc k) (p ∷ ps) rising lt within = let t : p + 1 ≤ get_or ps k 0 = rising-first (p + 1) k 0 ps rising.1 (omega arith) in omega arith
 rising-later a (suc i) zero (p ∷ ps) rising lt within = absurd (omega arith)
 rising-later a (suc i) (suc k) (p ∷ ps) rising lt within = rising-later (p + 1) i k ps rising.1 (omega arith) (omega arith)
 

@@ -1,12 +1,17 @@
 -- Laws of the plain work on points.
-use Rattle.std.proofs.Common.{◌≡◌, ℕ, zero, suc, ◌+◌, ◌-◌, ◌<◌, ◌≤◌, List, [], ◌∷◌, ◌++◌, length, take, drop, map, refl, ap, sym, ◌∙◌, arith, get_or, true, false}
-use Rattle.std.specs.Prelude.{filter, nat_lt, nat_le, remove}
+use Rattle.std.proofs.Common.{◌≡◌, ℕ, zero, suc, ◌+◌, ◌-◌, ◌<◌, ◌≤◌, List, [], ◌∷◌, ◌++◌, length, take, drop, map, refl, ap, sym, ◌∙◌, arith, get_or, true, false, subst}
+use Rattle.std.specs.Prelude.{All, filter, nat_lt, nat_le, remove}
 use Rattle.std.proofs.lemmas.Bool.{le-leb}
 use Rattle.std.proofs.lemmas.Bool.Decides.{nat_tests}
-use Rattle.std.proofs.lemmas.List.{take_at, drop_at, map-append, take-map, length-take-le, drop_more, drop_all, take_all, drop-drop, take_more, drop-map}
+use Rattle.std.proofs.lemmas.List.{take_at, drop_at, map-append, take-map, length-take-le, drop_more, drop_all, take_all, drop-drop, take_more, take_rest, drop-map}
+use Rattle.std.proofs.lemmas.List.Elements.{All-drop}
 use Rattle.rb_replay.proofs.RunLaws.{both}
 use Rattle.std.proofs.lemmas.List.Edits.{get_or-remove_below, get_or-remove_above}
 use Rattle.rb_replay.specs.Points.{thin_after, IsRising}
+
+-- what holds of each holds of those that are left
+pub all-rest : (n r : ℕ) (ps : List ℕ) → All (λ p. p ≤ n) ps → All (λ p. p ≤ n) (take (length ps - r) (drop r ps))
+all-rest n r ps all = subst (All (λ p. p ≤ n)) (sym (take_rest ps r)) (All-drop (λ p. p ≤ n) r ps all)
 
 pub nothing_below : (a bound : ℕ) (ps : List ℕ) → bound ≤ a → IsRising a ps → ([] ≡ filter (λ p. nat_lt p bound) ps) × (ps ≡ filter (λ p. nat_le bound p) ps)
 nothing_below a bound [] le rising = (refl, refl)

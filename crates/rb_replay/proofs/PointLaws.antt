@@ -1,8 +1,9 @@
 -- Laws of kept points.
 use Rattle.std.proofs.Common.{◌≡◌, ℕ, zero, suc, ◌+◌, ◌-◌, ◌*◌, ◌/◌, ◌<◌, ◌≤◌, max, List, [], ◌∷◌, length, refl, arith, ◌⊎◌, inl, inr, get_or, add-one}
-use Rattle.std.specs.Prelude.{Contains}
+use Rattle.std.specs.Prelude.{Contains, All}
 use Rattle.std.proofs.lemmas.Bool.Decides.{leb_tells}
 use Rattle.std.proofs.lemmas.Bool.{cases_lt}
+use Rattle.std.proofs.lemmas.List.Elements.{All-nil, All-cons, All-head}
 use Rattle.std.proofs.Math.Nat.{le-div_iff_mul-le}
 use Rattle.rb_replay.specs.Points.{last_up_to, thin, thin_after, AreNear, AreSparse, AreSparseAfter, AreKept}
 
@@ -41,10 +42,16 @@ thin_after-sparse K n kept p (next ∷ ps) a h =
       | inr f ↦ rw f.0 (sparse_before K kept p next (thin_after K p next ps) (omega arith) (thin_after-starts K n p next ps next (omega arith) h.2) (thin_after-sparse K n p next ps h.0 h.2))
     ]
 
--- near points from 0 on, thinned, are the kept points of a script
-pub thin-kept : (K n : ℕ) (ps : List ℕ) → AreNear K n 0 ps → AreKept K n (thin K (0 ∷ ps))
-thin-kept K n [] h = (refl, h, tt)
-thin-kept K n (p ∷ ps) h = (refl, thin_after-near K n 0 p ps h.0 h.1 h.2, thin_after-sparse K n 0 p ps h.0 h.2)
+-- near points from 0 on
+abbrev pub StartNear : ℕ → ℕ → List ℕ → Type 0
+StartNear K n [] = ⊥
+StartNear K n (p ∷ ps) = (p ≡ 0) × AreNear K n p ps
+
+-- thinned, they are the kept points of a script
+pub thin-kept : (K n : ℕ) (ps : List ℕ) → StartNear K n ps → AreKept K n (thin K ps)
+thin-kept K n [] h = absurd h
+thin-kept K n (p ∷ []) h = (h.0, h.1, tt)
+thin-kept K n (p ∷ next ∷ ps) h = (h.0, thin_after-near K n p next ps h.1.0 h.1.1 h.1.2, thin_after-sparse K n p next ps h.1.0 h.1.2)
 
 -- every second point is more than K on
 far_apart : (K n a b : ℕ) (ps : List ℕ) → a < b → AreNear K n b ps → AreSparse K a b ps → ((j : ℕ) → 2 * j ≤ length ps + 1 → a + j * (K + 1) ≤ n) × ((j : ℕ) → 2 * j ≤ length ps → b + j * (K + 1) ≤ n)
@@ -93,11 +100,16 @@ last_up_to-near K n q before (p ∷ ps) le within near =
     ]
 
 -- every kept point is one of the script
-pub near-within : (K n before : ℕ) (ps : List ℕ) → AreNear K n before ps → (k : ℕ) → k < length ps → (d : ℕ) → (before < get_or ps k d) × (get_or ps k d ≤ n)
-near-within K n before [] near k lt d = absurd (omega arith)
-near-within K n before (p ∷ []) near zero lt d = (near.0, near.2.0)
-near-within K n before (p ∷ q ∷ ps) near zero lt d = (near.0, let t = near-within K n p (q ∷ ps) near.2 0 (omega arith) d in omega (arith, t.0, t.1))
-near-within K n before (p ∷ ps) near (suc k) lt d = let t = near-within K n p ps near.2 k (omega arith) d in (omega (arith, t.0, near.0), t.1)
+near-all : (K n before : ℕ) (ps : List ℕ) → AreNear K n before ps → All (λ p. p ≤ n) (before ∷ ps)
+near-all K n before [] near = All-cons (λ p. p ≤ n) before [] near.0 (All-nil (λ p. p ≤ n))
+near-all K n before (p ∷ ps) near =
+    let more = near-all K n p ps near.2 in
+    let here : p ≤ n = All-head (λ p. p ≤ n) p ps more in
+    All-cons (λ p. p ≤ n) before (p ∷ ps) (omega (arith, near.0)) more
+
+pub kept-all : (K n : ℕ) (ps : List ℕ) → AreKept K n ps → All (λ p. p ≤ n) ps
+kept-all K n [] kept = absurd kept
+kept-all K n (p ∷ ps) kept = near-all K n p ps kept.1
 
 pub Contains-head : (p : ℕ) (ps : List ℕ) → Contains (p ∷ ps) p
 Contains-head p ps = (0, omega arith, refl)

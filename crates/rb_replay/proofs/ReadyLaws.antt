@@ -1,9 +1,11 @@
 -- Laws of what stands ready for a change.
-use Rattle.std.proofs.Common.{◌≡◌, ℕ, zero, suc, ◌+◌, ◌-◌, ◌<◌, ◌≤◌, max, min, List, [], ◌∷◌, ◌++◌, length, take, drop, map, refl, ap, sym, ◌∙◌, arith, inl, inr, get_or, true, false, append_assoc, Option, Some, None}
-use Rattle.std.specs.Prelude.{filter, nat_lt, nat_le, Result, Ok, Err, OnErr, IfOk}
-use Rattle.std.proofs.lemmas.Bool.{le-leb}
-use Rattle.std.proofs.lemmas.Bool.Decides.{nat_tests, leb_tells}
+use Rattle.std.proofs.Common.{◌≡◌, ℕ, zero, suc, ◌+◌, ◌-◌, ◌<◌, ◌≤◌, max, min, Bool, List, [], ◌∷◌, ◌++◌, length, take, drop, map, refl, ap, sym, ◌∙◌, arith, get_or, true, false, cond, append_assoc, Option, Some, None}
+use Rattle.std.specs.Prelude.{All, filter, nat_lt, nat_le, Result, Ok, Err, OnErr}
+use Rattle.std.proofs.lemmas.Bool.{le-leb, lt-leb, leb-true, ltb-true}
+use Rattle.std.proofs.lemmas.Bool.Decides.{nat_tests}
 use Rattle.std.proofs.lemmas.List.{take-append-drop, map-append, take-map, drop-map, take-take, drop_all, append-nil, length-append, length-take-le}
+use Rattle.std.proofs.lemmas.List.Elements.{All-head, All-tail}
+use Rattle.std.proofs.lemmas.Simd.{map-map}
 use Rattle.rb_script.specs.Lines.{Line}
 use Rattle.rb_machine.specs.Cluster.{Cluster}
 use Rattle.rb_replay.specs.declared.splice.Splice.{Splice}
@@ -13,7 +15,8 @@ use Rattle.rb_replay.specs.Points.{IsRising, AreNear, AreKept, last_up_to}
 use Rattle.rb_replay.specs.Reuse.{Change, start, stop, old_point, new_point, Meets, IsFirstMeeting, IsChange, StayWhole, fresh_points, points_before}
 use Rattle.rb_replay.specs.Splices.{front_bound, old_stop, run_points, IsRejoin, IsMended}
 use Rattle.rb_replay.proofs.RunLaws.{both, outputs-front, states-front, length-outputs}
-use Rattle.rb_replay.proofs.DifferingLaws.{AreAtMost}
+use Rattle.rb_replay.proofs.NextLaws.{rising-first}
+use Rattle.rb_replay.proofs.PointLaws.{kept-all}
 use Rattle.rb_replay.proofs.ReuseLaws.{parts-on, outputs-after, states-after, start-le, kept-within, stop-within}
 
 -- kept points are rising
@@ -25,26 +28,12 @@ pub kept-rising : (K n : ℕ) (ps : List ℕ) → AreKept K n ps → IsRising 0 
 kept-rising K n [] kept = absurd kept
 kept-rising K n (p ∷ ps) kept = (omega arith, near-rising K n p ps kept.1)
 
--- clusters at the points below a bound
-pub same-below : (f h : ℕ → Cluster) (b : ℕ) (ps : List ℕ) → ((p : ℕ) → p < b → f p ≡ h p) → map f (filter (λ p. nat_lt p b) ps) ≡ map h (filter (λ p. nat_lt p b) ps)
-same-below f h b [] same = refl
-same-below f h b (p ∷ ps) same =
-    elim (leb_tells (suc p) b) [
-      | inl t ↦ rw t.0 (both (λ (x : Cluster) (xs : List Cluster). x ∷ xs) (same p t.1) (same-below f h b ps same))
-      | inr e ↦ rw e.0 (same-below f h b ps same)
-    ]
-
 -- a kept point, and those after it
 pub all-from : (a b : ℕ) (ps : List ℕ) → b ≤ a → IsRising a ps → filter (λ p. nat_le b p) ps ≡ ps
 all-from a b [] le rising = refl
 all-from a b (p ∷ ps) le rising =
     let yes : nat_le b p ≡ true = le-leb b p (omega arith) in
     rw yes (ap (λ (qs : List ℕ). p ∷ qs) (all-from (p + 1) b ps (omega arith) rising.1))
-
-rising-at : (a k : ℕ) (ps : List ℕ) (x : ℕ) → IsRising a ps → k < length ps → get_or ps k x ≡ x → a ≤ x
-rising-at a k [] x rising lt is = absurd (omega arith)
-rising-at a zero (p ∷ ps) x rising lt is = omega (arith, is, rising.0)
-rising-at a (suc k) (p ∷ ps) x rising lt is = let t : p + 1 ≤ x = rising-at (p + 1) k ps x rising.1 (omega arith) is in omega (arith, rising.0)
 
 pub from-kept : (a x k : ℕ) (ps : List ℕ) → IsRising a ps → k < length ps → get_or ps k x ≡ x → filter (λ p. nat_le x p) ps ≡ x ∷ filter (λ p. nat_le (x + 1) p) ps
 from-kept a x k [] rising lt is = absurd (omega arith)
@@ -54,7 +43,7 @@ from-kept a x zero (p ∷ ps) rising lt is =
     let after : IsRising (p + 1) ps = rising.1 in
     rw (yes, past) (both (λ (q : ℕ) (qs : List ℕ). q ∷ qs) is (all-from (p + 1) x ps (omega arith) rising.1 ∙ sym (all-from (p + 1) (x + 1) ps (omega arith) rising.1)))
 from-kept a x (suc k) (p ∷ ps) rising lt is =
-    let above : p + 1 ≤ x = rising-at (p + 1) k ps x rising.1 (omega arith) is in
+    let above : p + 1 ≤ get_or ps k x = rising-first (p + 1) k x ps rising.1 (omega arith) in
     let before : nat_le x p ≡ false = grind (arith, nat_tests) in
     let before' : nat_le (x + 1) p ≡ false = grind (arith, nat_tests) in
     rw (before, before') (from-kept (p + 1) x k ps rising.1 (omega arith) is)
@@ -65,11 +54,6 @@ none_up_to a q [] lt rising = refl
 none_up_to a q (p ∷ ps) lt rising =
     let past : nat_le p q ≡ false = grind (arith, nat_tests) in
     rw past (none_up_to (p + 1) q ps (omega arith) rising.1)
-
-rising-least : (a k : ℕ) (ps : List ℕ) → IsRising a ps → k < length ps → a ≤ get_or ps k 0
-rising-least a k [] rising lt = absurd (omega arith)
-rising-least a zero (p ∷ ps) rising lt = rising.0
-rising-least a (suc k) (p ∷ ps) rising lt = let t : p + 1 ≤ get_or ps k 0 = rising-least (p + 1) k ps rising.1 (omega arith) in omega (arith, rising.0)
 
 pub start-at : (a q k : ℕ) (ps : List ℕ) → IsRising a ps → k < length ps → ((i : ℕ) → i < k + 1 → get_or ps i 0 < q + 1) → (suc k < length ps → q + 1 ≤ get_or ps (suc k) 0) → get_or ps k 0 ≡ last_up_to q ps
 start-at a q k [] rising lt below above = absurd (omega arith)
@@ -90,7 +74,7 @@ start-at a q (suc k) (p ∷ ps) rising lt below above =
     let here : p < q + 1 = below 0 (omega arith) in
     let yes : nat_le p q ≡ true = le-leb p q (omega arith) in
     let ih : get_or ps k 0 ≡ last_up_to q ps = start-at (p + 1) q k ps rising.1 (omega arith) (λ i i_lt. below (suc i) (omega arith)) (λ k_lt. above (omega arith)) in
-    let least : p + 1 ≤ get_or ps k 0 = rising-least (p + 1) k ps rising.1 (omega arith) in
+    let least : p + 1 ≤ get_or ps k 0 = rising-first (p + 1) k 0 ps rising.1 (omega arith) in
     rw yes (larger p (get_or ps k 0) (last_up_to q ps) ih least)
   where
     larger : (p x m : ℕ) → x ≡ m → p + 1 ≤ x → x ≡ max p m
@@ -197,29 +181,17 @@ abbrev pub joined_points : Change → Option ℕ → List ℕ
 joined_points c o =
     filter (λ p. nat_lt p (front_bound c o)) c.points ++ (run_points c o ++ map (new_point c) (filter (λ p. nat_le (old_stop c o + 1) p) c.points))
 
-none-past-near : (K n before : ℕ) (ps : List ℕ) → AreNear K n before ps → filter (λ p. nat_le (n + 1) p) ps ≡ []
-none-past-near K n before [] near = refl
-none-past-near K n before (p ∷ ps) near =
-    let here : p ≤ n = near-end K n p ps near.2 in
-    let no : nat_le (n + 1) p ≡ false = grind (arith, nat_tests) in
-    rw no (none-past-near K n p ps near.2)
-  where
-    near-end : (K n before : ℕ) (ps : List ℕ) → AreNear K n before ps → before ≤ n
-    near-end K n before [] near = near.0
-    near-end K n before (p ∷ ps) near = let t : p ≤ n = near-end K n p ps near.2 in omega (arith, near.0)
-
-none-past : (K n : ℕ) (ps : List ℕ) → AreKept K n ps → filter (λ p. nat_le (n + 1) p) ps ≡ []
-none-past K n [] kept = refl
-none-past K n (p ∷ ps) kept =
-    let no : nat_le (n + 1) p ≡ false = first K n p kept.0 in
-    rw no (none-past-near K n p ps kept.1)
-  where
-    first : (K n p : ℕ) → p ≡ 0 → nat_le (n + 1) p ≡ false
-    first K n p zero_first = grind (arith, nat_tests)
+none-past : (n : ℕ) (ps : List ℕ) → All (λ p. p ≤ n) ps → filter (λ p. nat_le (n + 1) p) ps ≡ []
+none-past n [] all = refl
+none-past n (p ∷ ps) all =
+    let here : p ≤ n = All-head (λ p. p ≤ n) p ps all in
+    let no : nat_le (n + 1) p ≡ false = lt-leb (n + 1) p (omega arith) in
+    rw no (none-past n ps (All-tail (λ p. p ≤ n) p ps all))
 
 pub joined-before : (c : Change) (o : Option ℕ) → IsChange c → IsFirstMeeting c o → joined_points c o ≡ points_before c o
 joined-before c None is first =
-    let none : filter (λ p. nat_le (length c.old.blocks + 1) p) c.points ≡ [] = none-past c.spacing (length c.old.blocks) c.points is.kept in
+    let none : filter (λ p. nat_le (length c.old.blocks + 1) p) c.points ≡ [] =
+    none-past (length c.old.blocks) c.points (kept-all c.spacing (length c.old.blocks) c.points is.kept) in
     ap (λ (ps : List ℕ). filter (λ p. nat_lt p (start c + 1)) c.points ++ (fresh_points c None ++ map (new_point c) ps)) none
     ∙ ap (λ (ps : List ℕ). filter (λ p. nat_lt p (start c + 1)) c.points ++ ps) (append-nil (fresh_points c None))
 joined-before c (Some s) is first =
@@ -238,34 +210,30 @@ moved-states c (Some s) p is first past within =
     let back : old_point c (new_point c p) ≡ p = omega arith in
     sym (states-after c s (new_point c p) is le (omega arith) first.0.same ∙ ap (state c.old) back)
 
--- each of the points is one of the script
-near-all : (K n before : ℕ) (ps : List ℕ) → AreNear K n before ps → (before ≤ n) × AreAtMost n ps
-near-all K n before [] near = (near.0, tt)
-near-all K n before (p ∷ ps) near = let more = near-all K n p ps near.2 in (omega (arith, near.0, more.0), (more.0, more.1))
-
-pub kept-all : (K n : ℕ) (ps : List ℕ) → AreKept K n ps → AreAtMost n ps
-kept-all K n [] kept = tt
-kept-all K n (p ∷ ps) kept = near-all K n p ps kept.1
-
-same-past : (f h : ℕ → Cluster) (to : ℕ → ℕ) (b n : ℕ) (ps : List ℕ) → AreAtMost n ps → ((p : ℕ) → b ≤ p → p ≤ n → f p ≡ h (to p)) → map f (filter (λ p. nat_le b p) ps) ≡ map h (map to (filter (λ p. nat_le b p) ps))
-same-past f h to b n [] all same = refl
-same-past f h to b n (p ∷ ps) all same =
-    elim (leb_tells b p) [
-      | inl t ↦ rw t.0 (both (λ (x : Cluster) (xs : List Cluster). x ∷ xs) (same p t.1 all.0) (same-past f h to b n ps all.1 same))
-      | inr e ↦ rw e.0 (same-past f h to b n ps all.1 same)
-    ]
+-- clusters at the points that pass a test
+same-at : (f h : ℕ → Cluster) (test : ℕ → Bool) (n : ℕ) (ps : List ℕ)
+    → All (λ p. p ≤ n) ps → ((p : ℕ) → test p ≡ true → p ≤ n → f p ≡ h p) → map f (filter test ps) ≡ map h (filter test ps)
+same-at f h test n [] all same = refl
+same-at f h test n (p ∷ ps) all same =
+    let rest : map f (filter test ps) ≡ map h (filter test ps) = same-at f h test n ps (All-tail (λ p. p ≤ n) p ps all) same in
+    elim (test p) as (λ b. test p ≡ b → map f (cond b (p ∷ filter test ps) (filter test ps)) ≡ map h (cond b (p ∷ filter test ps) (filter test ps))) [
+      | true ↦ λ yes. both (λ (x : Cluster) (xs : List Cluster). x ∷ xs) (same p yes (All-head (λ p. p ≤ n) p ps all)) rest
+      | false ↦ λ no. rest
+    ] refl
 
 pub states-ready : (c : Change) (o : Option ℕ) (rejoin : Rejoin) (kept fresh : List Cluster) → IsChange c → IsFirstMeeting c o → IsRejoin c o rejoin → kept ≡ map (state c.old) c.points → fresh ≡ map (state c.new) (run_points c o)
     → take rejoin.front kept ++ (fresh ++ drop rejoin.rest kept) ≡ map (state c.new) (joined_points c o)
 states-ready c o rejoin kept fresh is first at olds run =
-    let fronts : List ℕ = filter (λ p. nat_lt p (front_bound c o)) c.points in
-    let rests : List ℕ = filter (λ p. nat_le (old_stop c o + 1) p) c.points in
+    let within : All (λ p. p ≤ length c.old.blocks) c.points = kept-all c.spacing (length c.old.blocks) c.points is.kept in
     let one : take rejoin.front kept ≡ map (state c.new) (filter (λ p. nat_lt p (front_bound c o)) c.points) =
     ap (take rejoin.front) olds ∙ take-map (state c.old) rejoin.front c.points ∙ ap (map (state c.old)) at.fronts
-    ∙ same-below (state c.old) (state c.new) (front_bound c o) c.points (λ p lt. states-before c p is (front-small c o p lt)) in
+    ∙ same-at (state c.old) (state c.new) (λ p. nat_lt p (front_bound c o)) (length c.old.blocks) c.points within
+    (λ p lt le. states-before c p is (front-small c o p (ltb-true p (front_bound c o) lt))) in
     let three : drop rejoin.rest kept ≡ map (state c.new) (map (new_point c) (filter (λ p. nat_le (old_stop c o + 1) p) c.points)) =
     ap (drop rejoin.rest) olds ∙ drop-map (state c.old) rejoin.rest c.points ∙ ap (map (state c.old)) at.rests
-    ∙ same-past (state c.old) (state c.new) (new_point c) (old_stop c o + 1) (length c.old.blocks) c.points (kept-all c.spacing (length c.old.blocks) c.points is.kept) (λ p le within. moved-states c o p is first le within) in
+    ∙ same-at (state c.old) (λ p. state c.new (new_point c p)) (λ p. nat_le (old_stop c o + 1) p) (length c.old.blocks) c.points within
+    (λ p past le. moved-states c o p is first (leb-true (old_stop c o + 1) p past) le)
+    ∙ sym (map-map (state c.new) (new_point c) (filter (λ p. nat_le (old_stop c o + 1) p) c.points)) in
     both (λ (a b : List Cluster). a ++ b) one (both (λ (a b : List Cluster). a ++ b) run three ∙ sym (map-append (state c.new) (run_points c o) (map (new_point c) (filter (λ p. nat_le (old_stop c o + 1) p) c.points))))
     ∙ sym (map-append (state c.new) (filter (λ p. nat_lt p (front_bound c o)) c.points) (run_points c o ++ map (new_point c) (filter (λ p. nat_le (old_stop c o + 1) p) c.points)))
 
@@ -273,8 +241,3 @@ states-ready c o rejoin kept fresh is first at olds run =
 pub bounds-order : (c : Change) (o : Option ℕ) → IsChange c → IsFirstMeeting c o → front_bound c o ≤ old_stop c o + 1
 bounds-order c None is first = let le : start c ≤ old_stop c None = start-old c None is first in omega arith
 bounds-order c (Some s) is first = let le : start c ≤ old_stop c (Some s) = start-old c (Some s) is first in omega arith
-
--- what follows of a value follows where there is one
-pub ok-along : {T E : Type 0} (r : Result T E) (P Q : T → Type 0) → ((x : T) → P x → Q x) → IfOk r P → IfOk r Q
-ok-along (Ok x) P Q f p = f x p
-ok-along (Err e) P Q f p = tt

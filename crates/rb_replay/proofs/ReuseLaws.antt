@@ -1,15 +1,16 @@
 -- Laws of what a change uses again.
-use Rattle.std.proofs.Common.{◌≡◌, ℕ, zero, suc, ◌+◌, ◌-◌, ◌*◌, ◌<◌, ◌≤◌, max, List, [], ◌∷◌, length, drop, map, ap, sym, ◌∙◌, arith, Option, Some, None, ◌⊎◌, inl, inr, get_or, nat_le, true, subst, refl}
+use Rattle.std.proofs.Common.{◌≡◌, ℕ, ◌+◌, ◌-◌, ◌*◌, ◌<◌, ◌≤◌, max, List, [], ◌∷◌, length, drop, ap, sym, ◌∙◌, arith, Option, Some, None, ◌⊎◌, inl, inr, nat_le, true, subst, refl}
 use Rattle.std.proofs.lemmas.Bool.{le-leb}
 use Rattle.std.specs.Prelude.{Contains}
 use Rattle.std.proofs.lemmas.Bool.{cases_lt}
 use Rattle.std.proofs.lemmas.List.{drop-drop}
+use Rattle.std.proofs.lemmas.List.Elements.{All-contains}
 use Rattle.rb_machine.specs.Cluster.{Cluster}
 use Rattle.rb_replay.specs.Run.{directives, state, outputs}
-use Rattle.rb_replay.specs.Points.{last_up_to, AreNear, AreKept}
+use Rattle.rb_replay.specs.Points.{last_up_to, AreKept}
 use Rattle.rb_replay.specs.Reuse.{Change, start, old_point, new_point, Meets, IsFirstMeeting, stop, IsCost, IsChange, IsOneBlock}
 use Rattle.rb_replay.proofs.RunLaws.{states-on, outputs-on}
-use Rattle.rb_replay.proofs.PointLaws.{last_up_to-le, last_up_to-near, near-within, near-next, Contains-cons, Contains-head}
+use Rattle.rb_replay.proofs.PointLaws.{last_up_to-le, last_up_to-near, kept-all, near-next, Contains-cons, Contains-head}
 
 -- from the rest's beginning on, a list goes on as the other one does
 pub parts-on : {T : Type 0} (c : Change) (s : ℕ) (xs ys : List T) → drop c.new_rest xs ≡ drop c.old_rest ys → c.new_rest ≤ s → drop s xs ≡ drop (old_point c s) ys
@@ -53,15 +54,9 @@ start-near-of K n q (p ∷ ps) le kept =
 pub start-near : (c : Change) → IsChange c → c.front < start c + c.spacing
 start-near c is = start-near-of c.spacing (length c.old.blocks) c.front c.points (omega arith) is.kept
 
-near-end : (K n before : ℕ) (ps : List ℕ) → AreNear K n before ps → before ≤ n
-near-end K n before [] near = near.0
-near-end K n before (p ∷ ps) near = let t : p ≤ n = near-end K n p ps near.2 in omega arith
-
 -- a kept point is one of the old script
 pub kept-within : (K n : ℕ) (ps : List ℕ) (p : ℕ) → AreKept K n ps → Contains ps p → p ≤ n
-kept-within K n [] p kept has = absurd kept
-kept-within K n (x ∷ ps) p kept (zero, lt, is) = let t : x ≤ n = near-end K n x ps kept.1 in omega arith
-kept-within K n (x ∷ ps) p kept (suc k, lt, is) = let t : get_or ps k p ≤ n = (near-within K n x ps kept.1 k (omega arith) p).1 in omega (arith, is)
+kept-within K n ps p kept has = All-contains (λ q. q ≤ n) ps p (kept-all K n ps kept) has
 
 -- the clusters meet within the new script
 pub meets-within : (c : Change) (s : ℕ) → IsChange c → Meets c s → s ≤ length c.new.blocks

@@ -1,6 +1,6 @@
 -- Laws of one run.
-use Rattle.std.proofs.Common.{◌≡◌, ℕ, zero, suc, ◌+◌, ◌-◌, ◌<◌, ◌≤◌, List, [], ◌∷◌, ◌++◌, length, take, drop, map, refl, ap, sym, ◌∙◌, arith, add-one, get_or}
-use Rattle.std.proofs.lemmas.List.{length-map}
+use Rattle.std.proofs.Common.{◌≡◌, ℕ, zero, suc, ◌+◌, ◌-◌, ◌<◌, ◌≤◌, List, [], ◌∷◌, ◌++◌, length, take, drop, map, refl, ap, sym, ◌∙◌, arith, get_or}
+use Rattle.std.proofs.lemmas.List.{length-map, drop_more, get_or-map}
 use Rattle.std.proofs.Math.Seq.{take-add}
 use Rattle.rb_script.specs.Lines.{Line}
 use Rattle.rb_script.specs.Script.{PlainBlock, PlainScript}
@@ -77,18 +77,14 @@ pub lengths-same : (new old : PlainScript) → directives new ≡ directives old
 lengths-same new old same = sym (length-directives new) ∙ ap length same ∙ length-directives old
 
 -- the cluster one directive on, and its output
-led_suc : (c : Cluster) (bs : List PlainBlock) (i : ℕ) (b : PlainBlock) → i < length bs → led c (take (suc i) (map directive_of bs)) ≡ (outcome (led c (take i (map directive_of bs))) (directive_of (get_or bs i b))).cluster
-led_suc c [] i d lt = absurd (omega arith)
-led_suc c (b ∷ bs) zero d lt = refl
-led_suc c (b ∷ bs) (suc i) d lt = led_suc (outcome c (directive_of b)).cluster bs i d (omega arith)
-
-answers_suc : (c : Cluster) (bs : List PlainBlock) (i : ℕ) (b : PlainBlock) → i < length bs → take (suc i) (answers c (map directive_of bs)) ≡ take i (answers c (map directive_of bs)) ++ (outcome (led c (take i (map directive_of bs))) (directive_of (get_or bs i b))).output ∷ []
-answers_suc c [] i d lt = absurd (omega arith)
-answers_suc c (b ∷ bs) zero d lt = refl
-answers_suc c (b ∷ bs) (suc i) d lt = ap (λ (os : List (List Line)). (outcome c (directive_of b)).output ∷ os) (answers_suc (outcome c (directive_of b)).cluster bs i d (omega arith))
+left_next : (s : PlainScript) (i : ℕ) (b : PlainBlock) → i < length s.blocks → drop i (directives s) ≡ directive_of (get_or s.blocks i b) ∷ drop (i + 1) (directives s)
+left_next s i b lt =
+    drop_more (directives s) i (directive_of b) (omega (arith, lt, length-directives s))
+    ∙ ap (λ (d : PlainDirective). d ∷ drop (i + 1) (directives s)) (get_or-map directive_of s.blocks i b (directive_of b) lt)
 
 pub state_next : (s : PlainScript) (i : ℕ) (b : PlainBlock) → i < length s.blocks → state s (i + 1) ≡ (outcome (state s i) (directive_of (get_or s.blocks i b))).cluster
-state_next s i b lt = rw add-one (led_suc empty s.blocks i b lt)
+state_next s i b lt = state-add s i 1 ∙ ap (λ (ds : List PlainDirective). led (state s i) (take 1 ds)) (left_next s i b lt)
 
 pub outputs_next : (s : PlainScript) (i : ℕ) (b : PlainBlock) → i < length s.blocks → take (i + 1) (outputs s) ≡ take i (outputs s) ++ (outcome (state s i) (directive_of (get_or s.blocks i b))).output ∷ []
-outputs_next s i b lt = rw add-one (answers_suc empty s.blocks i b lt)
+outputs_next s i b lt =
+    take-add i 1 (outputs s) ∙ ap (λ (os : List (List Line)). take i (outputs s) ++ take 1 os) (drop-outputs s i ∙ ap (answers (state s i)) (left_next s i b lt))

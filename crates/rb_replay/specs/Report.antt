@@ -1,17 +1,18 @@
 -- Where a script's expectations are not its outputs, and the texts that say so. (This project's.)
-use Rattle.std.specs.Prelude.{ℕ, ◌+◌, Bool, true, false, ◌&&◌, if◌then◌else◌, List, [], ◌∷◌, ◌++◌, length, map, codes, decimal}
+use Rattle.std.specs.Prelude.{ℕ, ◌+◌, Bool, if◌then◌else◌, List, [], ◌∷◌, ◌++◌, length, map, codes, decimal}
 use Rattle.std.specs.List.{flat_map}
 use Rattle.std.specs.Option.{unwrap_or, option_map}
 use Rattle.std.specs.Str.{bytes_eq}
+use Rattle.std.specs.Cmp.Lexicographic.{pointwise}
 use Rattle.rb_script.specs.Lines.{Line, text_of}
 use Rattle.rb_script.specs.Script.{PlainBlock, PlainScript, text, with_outputs}
+use Rattle.rb_replay.specs.declared.report.Piece.{Piece}
+use Rattle.rb_replay.specs.declared.report.Piece.TheVariants as pieces
 use Rattle.rb_replay.specs.Run.{outputs, at_place, output_at}
 
+-- the lines are the same
 abbrev pub same_lines : List Line → List Line → Bool
-same_lines [] [] = true
-same_lines [] (line ∷ ls) = false
-same_lines (line ∷ ls) [] = false
-same_lines (line ∷ ls) (other ∷ others) = bytes_eq line other && same_lines ls others
+same_lines = pointwise bytes_eq
 
 -- the places, the first of which is `place`, where the expectation is not the output
 abbrev pub differing : ℕ → List PlainBlock → List (List Line) → List ℕ
@@ -30,6 +31,10 @@ rewritten s = text (with_outputs s (outputs s))
 -- each line after a mark
 abbrev pub marked : List ℕ → List Line → List Line
 marked mark ls = map (λ line. mark ++ line) ls
+
+abbrev pub piece_text : Piece → List ℕ
+piece_text (pieces.Bytes bytes) = bytes.now
+piece_text (pieces.Number n) = decimal n
 
 abbrev pub mismatch_line : ℕ → Line
 mismatch_line k = codes "mismatch " ++ decimal k

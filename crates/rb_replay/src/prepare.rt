@@ -25,7 +25,7 @@ impl<M: Machine> Session<M> {
         &self,
         new: &Script,
         splice: Splice,
-        answers: &Grouped<Lines>,
+        new_outputs: &Grouped<Lines>,
         from: usize,
         to: usize,
         old_stop: usize,
@@ -33,11 +33,11 @@ impl<M: Machine> Session<M> {
         requires few { length new.now.blocks ≤ MAX_DIRECTIVES }
         requires small { splice.new_rest ≤ MAX_DIRECTIVES }
         requires order { from ≤ to }
-        requires there { to ≤ length answers.now }
-        requires mended { IsMended self.now.script new.now splice from (take (to - from) (drop from answers.now)) old_stop }
+        requires there { to ≤ length new_outputs.now }
+        requires mended { IsMended self.now.script new.now splice from (take (to - from) (drop from new_outputs.now)) old_stop }
         ensures { IfOk result (λ v. v.items ≡ mismatches new.now) }
     {
-        let fresh = list_differing(self.alloc, new, answers, from, to)?;
+        let fresh = list_differing(self.alloc, new, new_outputs, from, to)?;
         let front = count_below(&self.mismatches, from + 1);
         let rest = count_below(&self.mismatches, old_stop + 1);
         joined(
@@ -61,7 +61,7 @@ impl<M: Machine> Session<M> {
         requires few { length new.now.blocks ≤ MAX_DIRECTIVES }
         requires run { IsRerun M.meaning (change_by self.now new.now splice) run.now }
         requires old_stop { old_stop ≡ old_stop_of (change_by self.now new.now splice) run.now.met }
-        ensures { IfOk result (λ answers. answers ≡ outputs new.now) }
+        ensures { IfOk result (λ made. made ≡ outputs new.now) }
     {
         let running = &run.running;
         self.outputs
@@ -75,21 +75,28 @@ impl<M: Machine> Session<M> {
         splice: Splice,
         common: Common,
         run: &Rerun<M>,
-        answers: &Grouped<Lines>,
+        new_outputs: &Grouped<Lines>,
         old_stop: usize,
     ) -> Result<Vec<usize>, AllocError>
         requires change { IsChange (change_by self.now new.now splice) }
         requires whole { common ≡ Common.Blocks → StayWhole (change_by self.now new.now splice) }
         requires few { length new.now.blocks ≤ MAX_DIRECTIVES }
         requires run { IsRerun M.meaning (change_by self.now new.now splice) run.now }
-        requires answers { answers.now ≡ outputs new.now }
+        requires outputs { new_outputs.now ≡ outputs new.now }
         requires old_stop { old_stop ≡ old_stop_of (change_by self.now new.now splice) run.now.met }
         ensures { IfOk result (λ v. v.items ≡ mismatches new.now) }
     {
         let running = &run.running;
         match common {
-            Common::Blocks => self.mended(new, splice, answers, running.from, running.at, old_stop),
-            Common::Directives => list_differing(self.alloc, new, answers, 0, new.len()),
+            Common::Blocks => self.mended(
+                new,
+                splice,
+                new_outputs,
+                running.from,
+                running.at,
+                old_stop,
+            ),
+            Common::Directives => list_differing(self.alloc, new, new_outputs, 0, new.len()),
         }
     }
 

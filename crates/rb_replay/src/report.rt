@@ -3,31 +3,46 @@
 ghost use Rattle.std.specs.Prelude.{◌≡◌, ◌++◌, ◌≤◌, ◌∷◌, [], IsOk, codes, length};
 ghost use Rattle.rb_script.specs.Lines.{text_of, line_text};
 ghost use Rattle.rb_script.specs.Writes.{Writes};
-ghost use Rattle.rb_replay.specs.Report.{marked, mismatch_line, total_line};
+ghost use Rattle.rb_replay.specs.Report.{marked, mismatch_line, total_line, piece_text};
 
 use crate::blocks::block_at;
 use crate::session::Session;
 use rb_machine::Machine;
 use rb_script::{Lines, Sink, WriteFault};
-use rb_text::put_number;
+use rb_text::{WrittenPiece, put_number, put_pieces};
 
-/// Writes a line after a mark.
-fn put_line<S: Sink>(sink: &mut S, mark: &[u8], line: &[u8]) -> Result<(), WriteFault>
-    ensures wrote { Writes result (S.held sink.old) (S.held sink.new) (line_text (mark.now ++ line.now)) }
-    ensures all { S.takes_all sink.old → IsOk result × S.takes_all sink.new }
-{
-    sink.put(mark)?;
-    sink.put(line)?;
-    sink.put(b"\n")
+/// A piece of a text.
+#[derive(Clone, Copy)]
+enum Piece<'a> {
+    /// The bytes as they are.
+    Bytes(&'a [u8]),
+    /// A number in decimal digits.
+    Number(u64),
+}
+
+impl WrittenPiece for Piece<'_> {
+    ghost text = { piece_text };
+
+    fn put<S: Sink>(&self, sink: &mut S) -> Result<(), WriteFault> {
+        match *self {
+            Piece::Bytes(bytes) => sink.put(bytes),
+            Piece::Number(n) => put_number(sink, n),
+        }
+    }
 }
 
 /// Writes each line after a mark.
-fn put_marked<S: Sink>(sink: &mut S, mark: &[u8], lines: &Lines) -> Result<(), WriteFault>
+fn put_marked<'p, S: Sink>(sink: &mut S, mark: &'p [u8], lines: &'p Lines) -> Result<(), WriteFault>
     ensures wrote { Writes result (S.held sink.old) (S.held sink.new) (text_of (marked mark.now lines.now)) }
     ensures all { S.takes_all sink.old → IsOk result × S.takes_all sink.new }
 {
     for i in 0..lines.len() {
-        put_line(sink, mark, lines.line(i))?;
+        let line = [
+            Piece::Bytes(mark),
+            Piece::Bytes(lines.line(i)),
+            Piece::Bytes(b"\n"),
+        ];
+        put_pieces(sink, &line)?;
     }
     Ok(())
 }
@@ -37,9 +52,12 @@ fn put_place<S: Sink>(sink: &mut S, place: usize) -> Result<(), WriteFault>
     ensures wrote { Writes result (S.held sink.old) (S.held sink.new) (line_text (mismatch_line place)) }
     ensures all { S.takes_all sink.old → IsOk result × S.takes_all sink.new }
 {
-    sink.put(b"mismatch ")?;
-    put_number(sink, place as u64)?;
-    sink.put(b"\n")
+    let line = [
+        Piece::Bytes(b"mismatch "),
+        Piece::Number(place as u64),
+        Piece::Bytes(b"\n"),
+    ];
+    put_pieces(sink, &line)
 }
 
 /// Writes a mismatch: where it is, what was expected, and the output.
@@ -62,10 +80,15 @@ fn put_total<S: Sink>(sink: &mut S, directives: usize, mismatches: usize) -> Res
     ensures wrote { Writes result (S.held sink.old) (S.held sink.new) (line_text (total_line directives mismatches)) }
     ensures all { S.takes_all sink.old → IsOk result × S.takes_all sink.new }
 {
-    put_number(sink, directives as u64)?;
-    sink.put(b" directives, ")?;
-    put_number(sink, mismatches as u64)?;
-    sink.put(b" mismatches\n")
+    put_pieces(
+        sink,
+        &[
+            Piece::Number(directives as u64),
+            Piece::Bytes(b" directives, "),
+            Piece::Number(mismatches as u64),
+            Piece::Bytes(b" mismatches\n"),
+        ],
+    )
 }
 
 impl<M: Machine> Session<M> {

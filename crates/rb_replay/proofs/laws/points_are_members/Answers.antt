@@ -1,4 +1,5 @@
-use Rattle.rb_replay.proofs.MemberLaws.{before-rising, members}
+use Rattle.rb_replay.proofs.NearLaws.{before-rising}
+use Rattle.rb_replay.proofs.MemberLaws.{members}
 use Rattle.rb_replay.proofs.laws.points_are_members.Goals as goal
 
 pub returns-clause-ascending : goal.returns-clause-ascending

@@ -1,18 +1,22 @@
-use Rattle.std.proofs.Common.{◌≡◌, ◌++◌, ap, sym, ◌∙◌, ℕ, List, take, drop, map, subst}
+use Rattle.std.proofs.Common.{◌≡◌, ◌≤◌, ◌++◌, ap, sym, ◌∙◌, ℕ, List, length, take, drop, map, subst, arith}
 use Rattle.std.proofs.lemmas.List.{take_rest}
+use Rattle.std.proofs.lemmas.List.Elements.{All-weaker}
 use Rattle.rb_script.specs.declared.limits.TheConstants.{MAX_DIRECTIVES}
 use Rattle.rb_replay.specs.Run.{state}
 use Rattle.rb_replay.specs.Holding.{Holding, IsFresh}
 use Rattle.rb_replay.specs.Reuse.{change_by, new_point}
 use Rattle.rb_replay.proofs.RunLaws.{both}
-use Rattle.rb_replay.proofs.DifferingLaws.{at_most-rest, at_most-more}
-use Rattle.rb_replay.proofs.ReadyLaws.{kept-all, states-ready, joined_points, joined-before}
+use Rattle.rb_replay.proofs.PartLaws.{all-rest}
+use Rattle.rb_replay.proofs.PointLaws.{kept-all}
+use Rattle.rb_replay.proofs.ReadyLaws.{states-ready, joined_points, joined-before}
 use Rattle.rb_replay.proofs.session.Session.assembled.Goals as goal
 
 pub joined-requires-clause-small : goal.joined-requires-clause-small
 joined-requires-clause-small g c =
-    rw c.deref-3.ensures.value
-    (at_most-rest MAX_DIRECTIVES c.args.rejoin.rest c.self.inside.points.items (at_most-more _ MAX_DIRECTIVES c.self.inside.points.items c.self.invariant.few (kept-all c.self.inside.spacing _ c.self.inside.points.items c.self.invariant.near)))
+    let few : length (c.self.inside.script).blocks ≤ MAX_DIRECTIVES = c.self.invariant.few in
+    let all = All-weaker (λ p. p ≤ length (c.self.inside.script).blocks) (λ p. p ≤ MAX_DIRECTIVES) (λ p le. omega arith) c.self.inside.points.items
+    (kept-all c.self.inside.spacing _ c.self.inside.points.items c.self.invariant.near) in
+    rw c.deref-3.ensures.value (all-rest MAX_DIRECTIVES c.args.rejoin.rest c.self.inside.points.items all)
 
 pub returns-clause-ready : goal.returns-clause-ready
 returns-clause-ready g c =

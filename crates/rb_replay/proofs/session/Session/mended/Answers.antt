@@ -1,18 +1,20 @@
-use Rattle.std.proofs.Common.{◌≡◌, ◌+◌, ◌-◌, ◌++◌, ap, sym, ◌∙◌, ℕ, List, length, take, drop, map, subst, arith}
+use Rattle.std.proofs.Common.{◌≡◌, ◌+◌, ◌-◌, ◌≤◌, ◌++◌, ap, sym, ◌∙◌, ℕ, List, length, take, drop, map, subst, arith}
 use Rattle.std.specs.Prelude.{filter, nat_lt, nat_le}
 use Rattle.std.proofs.lemmas.List.{take_rest, length-drop, length-take-le}
+use Rattle.std.proofs.lemmas.List.Elements.{All-from_recursion}
+use Rattle.std.proofs.lemmas.Result.{IfOk-weaker}
 use Rattle.rb_script.specs.declared.limits.TheConstants.{MAX_DIRECTIVES}
 use Rattle.rb_replay.specs.Report.{mismatches, differing}
 use Rattle.rb_replay.specs.Holding.{Holding, IsFresh}
 use Rattle.rb_replay.proofs.RunLaws.{both}
-use Rattle.rb_replay.proofs.DifferingLaws.{mismatches-rising, mismatches-within, at_most-rest, mended-differing}
-use Rattle.rb_replay.proofs.ReadyLaws.{ok-along}
+use Rattle.rb_replay.proofs.PartLaws.{all-rest}
+use Rattle.rb_replay.proofs.DifferingLaws.{mismatches-rising, mismatches-within, mended-differing}
 use Rattle.rb_replay.proofs.session.Session.mended.Goals as goal
 
 pub list_differing-requires-clause-within : goal.list_differing-requires-clause-within
 list_differing-requires-clause-within g c =
-    let held = length-drop c.args.from c.args.answers.now in
-    let long = length-take-le (c.args.to - c.args.from) (drop c.args.from c.args.answers.now) (omega (arith, held, c.requires.there)) in
+    let held = length-drop c.args.from c.args.new_outputs.now in
+    let long = length-take-le (c.args.to - c.args.from) (drop c.args.from c.args.new_outputs.now) (omega (arith, held, c.requires.there)) in
     omega (arith, long, c.requires.order, c.requires.mended.new_within)
 
 pub count_below-front-requires : goal.count_below-front-requires
@@ -24,7 +26,9 @@ count_below-rest-requires g c = rw (c.deref-2.ensures.value, c.self.invariant.co
 pub joined-requires-clause-small : goal.joined-requires-clause-small
 joined-requires-clause-small g c =
     rw (c.deref-5.ensures.value, c.self.invariant.compared)
-    (at_most-rest MAX_DIRECTIVES c.count_below-rest.result (mismatches c.self.inside.script) (mismatches-within MAX_DIRECTIVES c.self.inside.script c.self.invariant.few))
+    (all-rest MAX_DIRECTIVES c.count_below-rest.result (mismatches c.self.inside.script)
+    (All-from_recursion (λ (p : ℕ). p ≤ MAX_DIRECTIVES) (mismatches c.self.inside.script)
+    (mismatches-within MAX_DIRECTIVES c.self.inside.script c.self.invariant.few)))
 
 -- the parts that are joined
 parts : (ms one three five : List ℕ) (front rest : ℕ) (a b : ℕ) (f : ℕ → ℕ) (fresh made : List ℕ) → one ≡ ms → three ≡ ms → five ≡ ms → fresh ≡ made
@@ -40,7 +44,10 @@ returns g c =
     let held : c.self.inside.mismatches.items ≡ mismatches c.args.self.now.script = ap (λ (h : Holding). h.mismatches) c.self.view_is ∙ fresh.compared in
     let rests : drop c.count_below-rest.result c.deref-5.result.now ≡ filter (λ p. nat_le (c.args.old_stop + 1) p) c.deref-5.result.now =
     rw (c.deref-2.ensures.value ∙ sym c.deref-5.ensures.value) at c.count_below-rest.ensures.rest in
-    ok-along c.joined.result _ _ (λ v e. e ∙ parts (mismatches c.args.self.now.script) c.deref-3.result.now c.deref.result.now c.deref-5.result.now c.count_below-front.result c.count_below-rest.result (c.args.from + 1) (c.args.old_stop + 1)
-    (λ (p : ℕ). p - c.args.splice.old_rest + c.args.splice.new_rest) c.deref-4.result.now (differing (c.args.from + 1) (drop c.args.from c.args.new.now.blocks) (take (c.args.to - c.args.from) (drop c.args.from c.args.answers.now)))
+    IfOk-weaker c.joined.result _ _
+    (λ v e. e ∙ parts (mismatches c.args.self.now.script) c.deref-3.result.now c.deref.result.now c.deref-5.result.now c.count_below-front.result c.count_below-rest.result (c.args.from + 1) (c.args.old_stop + 1)
+    (λ (p : ℕ). p - c.args.splice.old_rest + c.args.splice.new_rest) c.deref-4.result.now
+    (differing (c.args.from + 1) (drop c.args.from c.args.new.now.blocks) (take (c.args.to - c.args.from) (drop c.args.from c.args.new_outputs.now)))
     (c.deref-3.ensures.value ∙ held) (c.deref.ensures.value ∙ held) (c.deref-5.ensures.value ∙ held) (c.deref-4.ensures.value ∙ c.in_ok-fresh.ensures) c.count_below-front.ensures.front rests
-    ∙ mended-differing c.args.self.now.script c.args.new.now c.args.splice c.args.from (take (c.args.to - c.args.from) (drop c.args.from c.args.answers.now)) c.args.old_stop c.requires.mended) c.joined.ensures
+    ∙ mended-differing c.args.self.now.script c.args.new.now c.args.splice c.args.from
+    (take (c.args.to - c.args.from) (drop c.args.from c.args.new_outputs.now)) c.args.old_stop c.requires.mended) c.joined.ensures

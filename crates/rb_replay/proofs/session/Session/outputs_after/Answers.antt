@@ -1,4 +1,5 @@
 use Rattle.std.proofs.Common.{◌≡◌, ◌++◌, ap, sym, ◌∙◌, ℕ, List, length, take, drop, arith, subst}
+use Rattle.std.proofs.lemmas.Result.{IfOk-weaker}
 use Rattle.rb_script.specs.Lines.{Line}
 use Rattle.rb_script.specs.Shared.{values}
 use Rattle.rb_replay.specs.Run.{outputs}
@@ -6,7 +7,7 @@ use Rattle.rb_replay.specs.Holding.{Holding, IsFresh}
 use Rattle.rb_replay.specs.Reuse.{change_by, start, stop}
 use Rattle.rb_replay.proofs.RunLaws.{length-outputs}
 use Rattle.rb_replay.proofs.ReuseLaws.{start-le}
-use Rattle.rb_replay.proofs.ReadyLaws.{outputs-ready, old_stop-within, ok-along}
+use Rattle.rb_replay.proofs.ReadyLaws.{outputs-ready, old_stop-within}
 use Rattle.rb_replay.proofs.session.Session.outputs_after.Goals as goal
 use Rattle.rb_replay.proofs.session.Session.outputs_after.Goals.{After-deref}
 use Rattle.rb_replay.proofs.session.Session.outputs_after.Given.{Over}
@@ -39,4 +40,4 @@ with_part-requires g c =
     }
 
 pub returns : goal.returns
-returns g c = ok-along c.with_part.result _ _ (λ answers e. e ∙ together g (goal.at.returns g c).After-deref) c.with_part.ensures
+returns g c = IfOk-weaker c.with_part.result _ _ (λ made e. e ∙ together g (goal.at.returns g c).After-deref) c.with_part.ensures

@@ -1,4 +1,4 @@
-use Rattle.std.proofs.Common.{subst, sym, ap}
+use Rattle.std.proofs.Common.{subst}
 use Rattle.rb_replay.specs.Run.{directives}
 use Rattle.rb_replay.specs.Holding.{Holding, IsFresh}
 use Rattle.rb_replay.specs.Turns.{IsLongestSplice}

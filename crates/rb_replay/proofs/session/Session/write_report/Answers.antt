@@ -2,13 +2,14 @@ use Rattle.std.proofs.Common.{◌≡◌, ◌+◌, ◌<◌, ◌≤◌, ◌++◌, 
 use Rattle.std.specs.List.{flat_map}
 use Rattle.std.proofs.lemmas.List.{drop_more, drop_all}
 use Rattle.std.proofs.lemmas.List.Concat.{flat_map-append}
+use Rattle.std.proofs.lemmas.List.Elements.{All-from_recursion}
 use Rattle.rb_script.specs.Lines.{Line, line_text, text_of}
 use Rattle.rb_replay.specs.Run.{outputs}
 use Rattle.rb_replay.specs.Report.{mismatches, mismatch_lines, total_line, report}
 use Rattle.rb_replay.specs.Holding.{Holding, IsFresh}
 use Rattle.rb_replay.proofs.RunLaws.{both}
 use Rattle.rb_replay.proofs.NextLaws.{rising-first}
-use Rattle.rb_replay.proofs.DifferingLaws.{differing-rising, mismatches-within, at_most-get}
+use Rattle.rb_replay.proofs.DifferingLaws.{differing-rising, mismatches-within}
 use Rattle.rb_text.proofs.SentLaws.{sent_piece, piece_exit, piece_last, sent_along}
 use Rattle.rb_replay.proofs.session.Session.write_report.Goals as goal
 
@@ -22,14 +23,16 @@ put_mismatch_at-requires-clause-first g c =
     let fresh : IsFresh c.args.self.now = subst IsFresh c.self.view_is c.self.invariant in
     let held : c.deref-place-items.result.now ≡ mismatches c.args.self.now.script = c.deref-place-items.ensures.value ∙ ap (λ (h : Holding). h.mismatches) c.self.view_is ∙ fresh.compared in
     let lt : c.loop-place.place-index < length (mismatches c.args.self.now.script) = rw held at c.loop-place-test.true in
-    rw held (rising-first 1 c.loop-place.place-index (mismatches c.args.self.now.script) (differing-rising 1 c.args.self.now.script.blocks (outputs c.args.self.now.script)) lt)
+    rw held (rising-first 1 c.loop-place.place-index 0 (mismatches c.args.self.now.script)
+    (differing-rising 1 c.args.self.now.script.blocks (outputs c.args.self.now.script)) lt)
 
 pub put_mismatch_at-requires-clause-within : goal.put_mismatch_at-requires-clause-within
 put_mismatch_at-requires-clause-within g c =
     let fresh : IsFresh c.args.self.now = subst IsFresh c.self.view_is c.self.invariant in
     let held : c.deref-place-items.result.now ≡ mismatches c.args.self.now.script = c.deref-place-items.ensures.value ∙ ap (λ (h : Holding). h.mismatches) c.self.view_is ∙ fresh.compared in
     let lt : c.loop-place.place-index < length (mismatches c.args.self.now.script) = rw held at c.loop-place-test.true in
-    rw held (at_most-get (length c.args.self.now.script.blocks) c.loop-place.place-index 0 (mismatches c.args.self.now.script) (mismatches-within (length c.args.self.now.script.blocks) c.args.self.now.script (omega arith)) lt)
+    rw held (All-from_recursion (λ (p : ℕ). p ≤ length c.args.self.now.script.blocks) (mismatches c.args.self.now.script)
+    (mismatches-within (length c.args.self.now.script.blocks) c.args.self.now.script (omega arith)) c.loop-place.place-index 0 lt)
 
 pub returns-in_err-put_mismatch_at-clause-wrote : goal.returns-in_err-put_mismatch_at-clause-wrote
 unfolding report
