@@ -2,7 +2,6 @@ pub mod ListLaws
 pub mod IdLaws
 pub mod ViewLaws
 pub mod JoinLaws
-pub mod SolidLaws
 pub mod OutcomeLaws
 pub mod SendLaws
 pub mod MailLaws

@@ -1,8 +1,10 @@
 -- Whose mail is pending, and what stays of it when nodes get theirs.
-use Rattle.std.proofs.Common.{◌≡◌, ◌<◌, ℕ, Bool, true, false, not, cond, List, [], ◌∷◌, Option, Some, None, length, get_or, drop, ◌+◌, refl, ap, sym, ◌∙◌}
-use Rattle.std.proofs.lemmas.Bool.{or_parts, or_from}
+use Rattle.std.proofs.Common.{◌≡◌, ◌<◌, ℕ, Bool, false, not, cond, List, [], ◌∷◌, Option, Some, None, length, get_or, drop, ◌+◌, refl, ap, sym, ◌∙◌}
+use Rattle.std.proofs.lemmas.Bool.{or_parts, both_ways, false_from_ne_true}
 use Rattle.std.proofs.lemmas.List.{at_drop_more}
-use Rattle.std.specs.List.{filter, list_any}
+use Rattle.std.proofs.lemmas.List.Elements.{All-filter}
+use Rattle.std.proofs.lemmas.List.Folds.{list_any_at, list_any_none}
+use Rattle.std.specs.List.{All, filter, list_any}
 use Rattle.rb_directive.specs.declared.type_set.TypeSet.{TypeSet}
 use Rattle.rb_message.specs.declared.message.Message.{Message}
 use Rattle.rb_node.specs.Node.{PlainNode, Turn}
@@ -26,15 +28,10 @@ all_stay p (x ∷ xs) h =
     let parts : (p x ≡ false) × (list_any p xs ≡ false) = or_parts (p x) (list_any p xs) h in
     ap (λ b. cond (not b) (x ∷ filter (λ y. not (p y)) xs) (filter (λ y. not (p y)) xs)) parts.0 ∙ ap (λ l. x ∷ l) (all_stay p xs parts.1)
 
-kept_once : {X : Type 0} → (p : X → Bool) (b : Bool) (x : X) (xs : List X) → p x ≡ false → list_any p xs ≡ false → list_any p (cond b (x ∷ xs) xs) ≡ false
-kept_once p true x xs h t = or_from (p x) (list_any p xs) h t
-kept_once p false x xs h t = t
-
 none_kept : {X : Type 0} → (p q : X → Bool) (xs : List X) → list_any p xs ≡ false → list_any p (filter q xs) ≡ false
-none_kept p q [] h = refl
-none_kept p q (x ∷ xs) h =
-    let parts : (p x ≡ false) × (list_any p xs ≡ false) = or_parts (p x) (list_any p xs) h in
-    kept_once p (q x) x (filter q xs) parts.0 (none_kept p q xs parts.1)
+none_kept p q xs h =
+    let fails : All (λ x. p x ≡ false) xs = λ k d lt. false_from_ne_true (p (get_or xs k d)) (λ yes. both_ways (list_any p xs) h (list_any_at p xs k d lt yes)) in
+    list_any_none p (filter q xs) (All-filter q (λ x. p x ≡ false) xs fails)
 
 -- ---- what is pending once a node has its mail
 

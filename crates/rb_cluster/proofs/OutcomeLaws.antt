@@ -1,9 +1,11 @@
 -- What is known where nothing refuses a directive, what an output is like, and what single directives leave as it was.
-use Rattle.std.proofs.Common.{◌≡◌, ℕ, ◌+◌, ◌<◌, ◌≤◌, get_or, drop, Bool, true, false, List, [], ◌∷◌, ◌++◌, length, Option, Some, None, Ok, Err, refl, ap, sym, ◌∙◌, subst, append-nil, append_assoc, arith}
-use Rattle.std.specs.Prelude.{if◌then◌else◌, nat_lt, is_some, Result}
-use Rattle.std.specs.List.{list_all, range_with_len, AllByRecursion}
+use Rattle.std.proofs.Common.{◌≡◌, ℕ, ◌+◌, ◌<◌, ◌≤◌, Bool, true, false, List, [], ◌∷◌, ◌++◌, length, Option, Some, None, Ok, Err, refl, ap, sym, ◌∙◌, subst, append-nil, append_assoc, arith}
+use Rattle.std.specs.Prelude.{if◌then◌else◌, nat_lt, Result}
+use Rattle.std.specs.List.{list_all, flat_map, range_with_len, AllByRecursion}
 use Rattle.std.specs.Option.{option_or, unwrap_or}
+use Rattle.std.proofs.lemmas.Bool.{and_from}
 use Rattle.std.proofs.lemmas.Bool.Decides.{nat_tests}
+use Rattle.std.proofs.lemmas.List.Folds.{list_all-append}
 use Rattle.rb_script.specs.declared.limits.TheConstants.{MAX_LINE}
 use Rattle.rb_script.specs.Lines.{Line}
 use Rattle.rb_script.specs.Script.{needs_double}
@@ -23,20 +25,21 @@ use Rattle.rb_raftlog.specs.declared.snapshot.Snapshot.{Snapshot}
 use Rattle.rb_node.specs.declared.options.Options.{Options}
 use Rattle.rb_node.specs.Node.{PlainNode}
 use Rattle.rb_node.specs.Calls.{node_started}
-use Rattle.rb_texts.specs.Items.{nothing_else, error}
+use Rattle.rb_texts.specs.Items.{nothing_else}
 use Rattle.rb_texts.specs.Shapes.{is_solid}
 use Rattle.rb_texts.specs.Texts.{line_of}
 use Rattle.rb_texts.proofs.ShownLaws.{all_solid}
 use Rattle.rb_texts.proofs.PrintedLaws.{printed_expected, printed_plain}
+use Rattle.rb_machine.specs.declared.screen.Form.{Form}
 use Rattle.rb_machine.specs.declared.screen.Form.TheVariants as forms
 use Rattle.rb_machine.specs.AddNodes.{add_nodes_fault, is_low, start, options, began, added_each, nodes_added}
-use Rattle.rb_machine.specs.Cluster.{Cluster, node_at}
-use Rattle.rb_machine.specs.Outcome.{absent, first_absent, missing_node, own_fault, fault, refusal_of, refusal, effect, level_set, or_ok, ended, screen_of, unless_refused, outcome_of, refused, outcome, is_output}
+use Rattle.rb_machine.specs.Cluster.{Cluster}
+use Rattle.rb_machine.specs.Outcome.{Outcome, missing_node, own_fault, fault, refusal_of, refusal, effect, level_set, or_ok, screen_of, unless_refused, outcome_of, refused, outcome, is_output}
 use Rattle.rb_machine.specs.Scenes.{Scene, scene}
 use Rattle.rb_machine.specs.declared.screen.Way.TheVariants as ways
 use Rattle.rb_machine.specs.Views.{log_shown_by, status_shown_by}
-use Rattle.rb_cluster.proofs.ListLaws.{left_more}
-use Rattle.rb_cluster.proofs.SolidLaws.{IsSolidScreen, effect_solid}
+use Rattle.rb_cluster.specs.Told.{Told, item, because, told_lines}
+use Rattle.rb_cluster.proofs.ToldLaws.{Shows, outcome_shows}
 
 -- ---- where nothing refuses it
 
@@ -67,32 +70,6 @@ pub index_for : (asked : AddNodes) → IsWithin (requests.AddNodes asked) → un
 unfolding IsWithin
 index_for asked h = omega (arith, h.index)
 
--- ---- nodes that must exist
-
-one_absent : (fault rest all : Option DirectiveError) → is_some fault ≡ true → option_or fault rest ≡ all → fault ≡ all
-one_absent None rest all h inv = absurd (cc)
-one_absent (Some e) rest all h inv = inv
-
-one_here : (fault rest all : Option DirectiveError) → is_some fault ≡ false → option_or fault rest ≡ all → rest ≡ all
-one_here None rest all h inv = inv
-one_here (Some e) rest all h inv = absurd (cc)
-
-first_of : (nodes : List PlainNode) (ids : List ℕ) (i id : ℕ) (fault all : Option DirectiveError) → i < length ids → id ≡ get_or ids i 0 → fault ≡ absent nodes id
-    → first_absent nodes (drop i ids) ≡ all → option_or fault (first_absent nodes (drop (i + 1) ids)) ≡ all
-first_of nodes ids i id fault all h here is inv =
-    ap (λ (o : Option DirectiveError). option_or o (first_absent nodes (drop (i + 1) ids))) (is ∙ ap (absent nodes) here)
-    ∙ sym (ap (first_absent nodes) (left_more ids i 0 h)) ∙ inv
-
--- an id that no node has is the first such one
-pub absent_here : (nodes : List PlainNode) (ids : List ℕ) (i id : ℕ) (fault all : Option DirectiveError) → i < length ids → id ≡ get_or ids i 0 → fault ≡ absent nodes id → is_some fault ≡ true
-    → first_absent nodes (drop i ids) ≡ all → fault ≡ all
-absent_here nodes ids i id fault all h here is missing inv = one_absent fault (first_absent nodes (drop (i + 1) ids)) all missing (first_of nodes ids i id fault all h here is inv)
-
--- one that a node has is passed over
-pub absent_later : (nodes : List PlainNode) (ids : List ℕ) (i id : ℕ) (fault all : Option DirectiveError) → i < length ids → id ≡ get_or ids i 0 → fault ≡ absent nodes id → is_some fault ≡ false
-    → first_absent nodes (drop i ids) ≡ all → first_absent nodes (drop (i + 1) ids) ≡ all
-absent_later nodes ids i id fault all h here is there inv = one_here fault (first_absent nodes (drop (i + 1) ids)) all there (first_of nodes ids i id fault all h here is inv)
-
 -- ---- what is printed
 
 or_ok_is_output : (level : Level) (lines : List Line) → list_all is_solid lines ≡ true → is_output (or_ok (ways.At level) lines) ≡ true
@@ -100,26 +77,19 @@ unfolding is_output
 or_ok_is_output level [] h = all_solid level nothing_else
 or_ok_is_output level (line ∷ lines) h = h
 
-ended_is_output : (s : Scene) → IsSolidScreen s.screen → is_output (ended s).output ≡ true
-ended_is_output s h = ap (λ way. is_output (or_ok way s.screen.lines)) h.printed ∙ or_ok_is_output h.level s.screen.lines h.each
-
-error_is_output : (level : Level) (e : DirectiveError) → is_output (line_of level (error e)) ≡ true
-unfolding is_output
-error_is_output level e = all_solid level (error e)
-
-unless_refused_is_output : (e : Option DirectiveError) (a : Asked) (c : Cluster) → is_output (unless_refused forms.Lines e a c).output ≡ true
-unless_refused_is_output (Some e) a c = error_is_output c.level e
-unless_refused_is_output None a c =
-    ended_is_output (effect a.request (scene c (screen_of forms.Lines a c))) (effect_solid a.request (scene c (screen_of forms.Lines a c)) (record { level = unwrap_or a.log_level c.level; printed = refl; each = refl }))
-
-of_is_output : (r : Result Asked DirectiveError) (c : Cluster) → is_output (outcome_of forms.Lines r c).output ≡ true
-of_is_output (Err e) c = error_is_output c.level e
-of_is_output (Ok a) c = unless_refused_is_output (fault a.request c) a c
+-- each line of what is told is solid: a level shows no reasons
+told_solid : (level : Level) (told : List Told) → list_all is_solid (flat_map (told_lines (ways.At level)) told) ≡ true
+told_solid level [] = refl
+told_solid level (item i ∷ told) = list_all-append is_solid (line_of level i) (flat_map (told_lines (ways.At level)) told)
+    ∙ and_from _ _ (all_solid level i) (told_solid level told)
+told_solid level (because reason ∷ told) = told_solid level told
 
 -- each directive gives a line or more
 pub outcome_is_output : (c : Cluster) (d : PlainDirective) → is_output (outcome c d).output ≡ true
 unfolding outcome
-outcome_is_output c d = of_is_output (request d) c
+outcome_is_output c d =
+    let s : Shows (λ (form : Form). outcome_of form (request d) c) = outcome_shows (request d) c in
+    ap (λ (o : Outcome). is_output o.output) (s.is forms.Lines) ∙ or_ok_is_output s.level (flat_map (told_lines (ways.At s.level)) s.told) (told_solid s.level s.told)
 
 output_solid : (ls : List Line) → is_output ls ≡ true → list_all is_solid ls ≡ true
 unfolding is_output
@@ -165,62 +135,39 @@ outcome_has P c d a is stays done_so =
     subst (λ r. P (outcome_of forms.Lines r c).cluster) (sym is) (by_fault (fault a.request c))
 
 -- nodes join at the end
-joins : (start : Snapshot) (options : Options) (s : Scene) (ids : List ℕ) → (more : List PlainNode) × ((added_each start options s ids).cluster.nodes ≡ s.cluster.nodes ++ more)
-joins start options s [] = ([], sym (append-nil s.cluster.nodes))
+joins : (start : Snapshot) (options : Options) (s : Scene) (ids : List ℕ)
+    → (more : List PlainNode) × ((added_each start options s ids).cluster ≡ record s.cluster { nodes = s.cluster.nodes ++ more })
+joins start options s [] = ([], ap (λ (nodes : List PlainNode). record s.cluster { nodes = nodes }) (sym (append-nil s.cluster.nodes)))
 joins start options s (id ∷ ids) =
     let node : PlainNode = (node_started id start options []).node in
-    let rest : (more : List PlainNode) × ((added_each start options s (id ∷ ids)).cluster.nodes ≡ (s.cluster.nodes ++ node ∷ []) ++ more) = joins start options (began s (node_started id start options [])) ids in
-    (node ∷ rest.0, rest.1 ∙ append_assoc s.cluster.nodes (node ∷ []) rest.0)
+    let rest : (more : List PlainNode) × ((added_each start options s (id ∷ ids)).cluster ≡ record s.cluster { nodes = (s.cluster.nodes ++ node ∷ []) ++ more }) =
+    joins start options (began s (node_started id start options [])) ids in
+    (node ∷ rest.0, rest.1 ∙ ap (λ (nodes : List PlainNode). record s.cluster { nodes = nodes }) (append_assoc s.cluster.nodes (node ∷ []) rest.0))
 
-joins_pending : (start : Snapshot) (options : Options) (s : Scene) (ids : List ℕ) → (added_each start options s ids).cluster.pending ≡ s.cluster.pending
-joins_pending start options s [] = refl
-joins_pending start options s (id ∷ ids) = joins_pending start options (began s (node_started id start options [])) ids
-
-joins_level : (start : Snapshot) (options : Options) (s : Scene) (ids : List ℕ) → (added_each start options s ids).cluster.level ≡ s.cluster.level
-joins_level start options s [] = refl
-joins_level start options s (id ∷ ids) = joins_level start options (began s (node_started id start options [])) ids
-
-pub add_nodes_keeps : (c : Cluster) (d : PlainDirective) (a : Asked) (r : AddNodes) → request d ≡ Ok a → a.request ≡ requests.AddNodes r → (more : List PlainNode) × ((outcome c d).cluster.nodes ≡ c.nodes ++ more)
+pub add_nodes_joins : (c : Cluster) (d : PlainDirective) (a : Asked) (r : AddNodes) → request d ≡ Ok a → a.request ≡ requests.AddNodes r
+    → (more : List PlainNode) × ((outcome c d).cluster ≡ record c { nodes = c.nodes ++ more })
 unfolding nodes_added
-add_nodes_keeps c d a r is adds =
+add_nodes_joins c d a r is adds =
     let s : Scene = scene c (screen_of forms.Lines a c) in
-    let P : Cluster → Type 0 = λ after. (more : List PlainNode) × (after.nodes ≡ c.nodes ++ more) in
-    outcome_has P c d a is ([], sym (append-nil c.nodes)) (subst (λ q. P (effect q s).cluster) (sym adds) (joins (start r) (options r) s (range_with_len (length c.nodes + 1) r.count)))
-
-pub add_nodes_keeps_pending : (c : Cluster) (d : PlainDirective) (a : Asked) (r : AddNodes) → request d ≡ Ok a → a.request ≡ requests.AddNodes r → (outcome c d).cluster.pending ≡ c.pending
-unfolding nodes_added
-add_nodes_keeps_pending c d a r is adds =
-    let s : Scene = scene c (screen_of forms.Lines a c) in
-    outcome_has (λ after. after.pending ≡ c.pending) c d a is refl (ap (λ q. (effect q s).cluster.pending) adds ∙ joins_pending (start r) (options r) s (range_with_len (length c.nodes + 1) r.count))
-
-pub add_nodes_keeps_level : (c : Cluster) (d : PlainDirective) (a : Asked) (r : AddNodes) → request d ≡ Ok a → a.request ≡ requests.AddNodes r → (outcome c d).cluster.level ≡ c.level
-unfolding nodes_added
-add_nodes_keeps_level c d a r is adds =
-    let s : Scene = scene c (screen_of forms.Lines a c) in
-    outcome_has (λ after. after.level ≡ c.level) c d a is refl (ap (λ q. (effect q s).cluster.level) adds ∙ joins_level (start r) (options r) s (range_with_len (length c.nodes + 1) r.count))
+    let P : Cluster → Type 0 = λ after. (more : List PlainNode) × (after ≡ record c { nodes = c.nodes ++ more }) in
+    outcome_has P c d a is ([], ap (λ (nodes : List PlainNode). record c { nodes = nodes }) (sym (append-nil c.nodes)))
+    (subst (λ q. P (effect q s).cluster) (sym adds) (joins (start r) (options r) s (range_with_len (length c.nodes + 1) r.count)))
 
 -- what is printed alone
 
-log_keeps : (n : Option PlainNode) (s : Scene) → (log_shown_by n s).cluster ≡ s.cluster
+pub view_keeps : (r : Request) → ((s : Scene) → (effect r s).cluster ≡ s.cluster) → (c : Cluster) (d : PlainDirective) (a : Asked) → request d ≡ Ok a → a.request ≡ r
+    → (outcome c d).cluster ≡ c
+view_keeps r keeps c d a is shows =
+    let s : Scene = scene c (screen_of forms.Lines a c) in
+    outcome_has (λ after. after ≡ c) c d a is refl (ap (λ q. (effect q s).cluster) shows ∙ keeps s)
+
+pub log_keeps : (n : Option PlainNode) (s : Scene) → (log_shown_by n s).cluster ≡ s.cluster
 log_keeps None s = refl
 log_keeps (Some n) s = refl
 
-status_keeps : (n : Option PlainNode) (s : Scene) → (status_shown_by n s).cluster ≡ s.cluster
+pub status_keeps : (n : Option PlainNode) (s : Scene) → (status_shown_by n s).cluster ≡ s.cluster
 status_keeps None s = refl
 status_keeps (Some n) s = refl
-
-pub raft_log_keeps : (c : Cluster) (d : PlainDirective) (a : Asked) (id : ℕ) → request d ≡ Ok a → a.request ≡ requests.RaftLog id → (outcome c d).cluster ≡ c
-raft_log_keeps c d a id is shows =
-    let s : Scene = scene c (screen_of forms.Lines a c) in
-    outcome_has (λ after. after ≡ c) c d a is refl (ap (λ r. (effect r s).cluster) shows ∙ log_keeps (node_at c id) s)
-
-pub status_keeps_all : (c : Cluster) (d : PlainDirective) (a : Asked) (id : ℕ) → request d ≡ Ok a → a.request ≡ requests.Status id → (outcome c d).cluster ≡ c
-status_keeps_all c d a id is shows =
-    let s : Scene = scene c (screen_of forms.Lines a c) in
-    outcome_has (λ after. after ≡ c) c d a is refl (ap (λ r. (effect r s).cluster) shows ∙ status_keeps (node_at c id) s)
-
-pub raft_state_keeps : (c : Cluster) (d : PlainDirective) (a : Asked) → request d ≡ Ok a → a.request ≡ requests.RaftState → (outcome c d).cluster ≡ c
-raft_state_keeps c d a is shows = outcome_has (λ after. after ≡ c) c d a is refl (ap (λ r. (effect r (scene c (screen_of forms.Lines a c))).cluster) shows)
 
 -- the level alone
 

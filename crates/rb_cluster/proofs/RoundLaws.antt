@@ -1,12 +1,9 @@
 -- Rounds one at a time, and the nodes that they are over.
-use Rattle.std.proofs.Common.{length, append_assoc, append-nil, ◌≡◌, ◌<◌, ◌≤◌, ◌+◌, ◌-◌, ℕ, suc, zero, Bool, true, false, cond, List, [], ◌∷◌, ◌++◌, refl, ap, sym, ◌∙◌, arith}
-use Rattle.std.specs.List.{filter, range_with_len}
+use Rattle.std.proofs.Common.{length, ◌≡◌, ◌<◌, ◌≤◌, ◌+◌, ◌-◌, ℕ, suc, zero, true, false, cond, List, [], ◌∷◌, refl, ap, sym, ◌∙◌, arith}
 use Rattle.rb_directive.specs.IdLists.{holds}
 use Rattle.rb_texts.specs.Items.{stopped}
 use Rattle.rb_machine.specs.Rounds.{is_chosen, has_work, round, settled}
 use Rattle.rb_machine.specs.Scenes.{Scene, shown}
-
--- ---- rounds
 
 settled_more : (allowed n : ℕ) (s : Scene) (ids : List ℕ) → has_work s.cluster ids ≡ true → settled allowed (suc n) s ids ≡ settled allowed n (round s ids) ids
 unfolding settled
@@ -34,35 +31,7 @@ settled_over allowed done s ids h work =
     let e : allowed - done ≡ zero = omega arith in
     ap (λ n. settled allowed n s ids) e ∙ settled_none allowed s ids work
 
--- ---- the chosen nodes, from an id on
-
-abbrev pub chosen_from : List ℕ → ℕ → ℕ → List ℕ
-chosen_from named id end = filter (is_chosen named) (range_with_len id (end - id))
-
-pub chosen_more : (named : List ℕ) (id end : ℕ) → id < end → chosen_from named id end ≡ cond (is_chosen named id) (id ∷ chosen_from named (id + 1) end) (chosen_from named (id + 1) end)
-chosen_more named id end h =
-    let e : end - id ≡ suc (end - (id + 1)) = omega arith in
-    ap (λ n. filter (is_chosen named) (range_with_len id n)) e
-
-pub chosen_none : (named : List ℕ) (id end : ℕ) → end ≤ id → chosen_from named id end ≡ []
-chosen_none named id end h =
-    let e : end - id ≡ zero = omega arith in
-    ap (λ n. filter (is_chosen named) (range_with_len id n)) e
-
 -- where some are named, those are chosen
 pub chosen_named : (ids : List ℕ) (id : ℕ) → 0 < length ids → is_chosen ids id ≡ holds ids id
 chosen_named [] id h = absurd (omega arith)
 chosen_named (named ∷ ids) id h = refl
-
--- a chosen id joins those so far, any other is passed over
-pub chosen_put : (named : List ℕ) (id end : ℕ) (before after all : List ℕ) → id < end → is_chosen named id ≡ true → after ≡ before ++ id ∷ [] → before ++ chosen_from named id end ≡ all → after ++ chosen_from named (id + 1) end ≡ all
-chosen_put named id end before after all h is_named e inv =
-    ap (λ (l : List ℕ). l ++ chosen_from named (id + 1) end) e ∙ append_assoc before (id ∷ []) (chosen_from named (id + 1) end)
-    ∙ ap (λ (l : List ℕ). before ++ l) (sym (chosen_more named id end h ∙ ap (λ (b : Bool). cond b (id ∷ chosen_from named (id + 1) end) (chosen_from named (id + 1) end)) is_named)) ∙ inv
-
-pub chosen_pass : (named : List ℕ) (id end : ℕ) (before all : List ℕ) → id < end → is_chosen named id ≡ false → before ++ chosen_from named id end ≡ all → before ++ chosen_from named (id + 1) end ≡ all
-chosen_pass named id end before all h not_named inv =
-    ap (λ (l : List ℕ). before ++ l) (sym (chosen_more named id end h ∙ ap (λ (b : Bool). cond b (id ∷ chosen_from named (id + 1) end) (chosen_from named (id + 1) end)) not_named)) ∙ inv
-
-pub chosen_all : (named : List ℕ) (id end : ℕ) (before all : List ℕ) → end ≤ id → before ++ chosen_from named id end ≡ all → before ≡ all
-chosen_all named id end before all h inv = sym (append-nil before) ∙ ap (λ (l : List ℕ). before ++ l) (sym (chosen_none named id end h)) ∙ inv

@@ -28,15 +28,16 @@ use Rattle.rb_node.specs.Readying.{has_ready, handed, advanced}
 use Rattle.rb_texts.specs.Items.{PlainItem, error, event, moved, no_messages, nothing_ready, stopped}
 use Rattle.rb_texts.specs.declared.item.Verb.TheVariants as verbs
 use Rattle.rb_why.specs.declared.why.Reason.{Reason}
+use Rattle.rb_machine.specs.declared.screen.Form.{Form}
 use Rattle.rb_machine.specs.declared.screen.Form.TheVariants as forms
 use Rattle.rb_machine.specs.declared.screen.Screen.{Screen}
 use Rattle.rb_machine.specs.Acts as acts
-use Rattle.rb_machine.specs.AddNodes.{start, options, added_each, nodes_added}
+use Rattle.rb_machine.specs.AddNodes.{start, options, began, added_each, nodes_added}
 use Rattle.rb_machine.specs.Cluster.{Cluster, node_at, with_node}
 use Rattle.rb_machine.specs.Deliveries.{received, all_received, delivered, delivered_each, drop_item, dropped, dropped_each, meets_any, msgs_delivered}
 use Rattle.rb_machine.specs.declared.screen.Way.{Way}
 use Rattle.rb_machine.specs.declared.screen.Way.TheVariants as ways
-use Rattle.rb_machine.specs.Outcome.{effect, fault, level_set, or_ok, refused, screen_of, unless_refused, outcome_of, outcome, happened, explanation}
+use Rattle.rb_machine.specs.Outcome.{Outcome, effect, fault, level_set, way_of, or_ok, refused, ended, screen_of, unless_refused, outcome_of, outcome, happened, explanation}
 use Rattle.rb_machine.specs.Pending.{has_room, mail, other_mail, with_pending, pushed, sent, all_sent}
 use Rattle.rb_machine.specs.Readies.{advanced_by, all_done, ready_done, ready_done_by, ready_done_each, ready_items}
 use Rattle.rb_machine.specs.Rounds.{chosen, is_ready, has_work, readied_each, round, settled}
@@ -88,6 +89,20 @@ explained_tells c reason = record {
   is = λ a. ap (λ (ls : List Line). scene c (record a { lines = a.lines ++ ls })) (sym (append-nil (lines_because a.way reason)));
 }
 
+-- the same, seen otherwise
+along_tells : (done other : Screen → Scene) → ((a : Screen) → done a ≡ other a) → Tells done → Tells other
+along_tells done other same t = record { cluster = t.cluster; told = t.told; is = λ a. sym (same a) ∙ t.is a }
+
+-- what is done for each of a list, one after another
+each_tells : {X : Type 0} (one : Scene → X → Scene) (each : Scene → List X → Scene) → ((s : Scene) → each s [] ≡ s)
+    → ((s : Scene) (x : X) (xs : List X) → each s (x ∷ xs) ≡ each (one s x) xs)
+    → ((c : Cluster) (x : X) → Tells (λ (a : Screen). one (scene c a) x)) → (c : Cluster) (xs : List X) → Tells (λ (a : Screen). each (scene c a) xs)
+each_tells {X} one each none more tells c [] = along_tells (λ (a : Screen). scene c a) (λ (a : Screen). each (scene c a) []) (λ a. sym (none (scene c a))) (none_tells c)
+each_tells {X} one each none more tells c (x ∷ xs) =
+    let t : Tells (λ (a : Screen). one (scene c a) x) = tells c x in
+    along_tells (λ (a : Screen). each (one (scene c a) x) xs) (λ (a : Screen). each (scene c a) (x ∷ xs)) (λ a. sym (more (scene c a) x xs))
+    (after_tells (λ (a : Screen). one (scene c a) x) (λ (s : Scene). each s xs) t (each_tells one each none more tells t.cluster xs))
+
 if_tells : (b : Bool) (first second : Screen → Scene) → Tells first → Tells second → Tells (λ (a : Screen). if b then first a else second a)
 if_tells true first second t u = record { cluster = t.cluster; told = t.told; is = t.is }
 if_tells false first second t u = record { cluster = u.cluster; told = u.told; is = u.is }
@@ -109,12 +124,8 @@ transferred_tells c from to =
     after_tells (λ (a : Screen). acted (scene c a) from act) (λ (s : Scene). explained s why) t (explained_tells t.cluster why)
 
 added_tells : (start : Snapshot) (options : Options) (c : Cluster) (ids : List ℕ) → Tells (λ (a : Screen). added_each start options (scene c a) ids)
-added_tells start options c [] = none_tells c
-added_tells start options c (id ∷ ids) =
-    let t : Turn = node_started id start options [] in
-    let more : Cluster = record c { nodes = c.nodes ++ t.node ∷ [] } in
-    after_tells (λ (a : Screen). all_shown (scene more a) (map event t.events)) (λ (s : Scene). added_each start options s ids)
-    (all_tells more (map event t.events)) (added_tells start options more ids)
+added_tells start options = each_tells (λ s id. began s (node_started id start options [])) (added_each start options) (λ s. refl) (λ s id ids. refl)
+    (λ c id. let t : Turn = node_started id start options [] in all_tells (record c { nodes = c.nodes ++ t.node ∷ [] }) (map event t.events))
 
 nodes_added_tells : (asked : AddNodes) (c : Cluster) → Tells (λ (a : Screen). nodes_added asked (scene c a))
 unfolding nodes_added
@@ -128,10 +139,7 @@ sent_tells c m =
     (none_tells (with_pending c (c.pending ++ m ∷ []))) (one_tells c (moved verbs.NoRoomFor m))
 
 all_sent_tells : (c : Cluster) (ms : List Message) → Tells (λ (a : Screen). all_sent (scene c a) ms)
-all_sent_tells c [] = none_tells c
-all_sent_tells c (m ∷ ms) =
-    let t : Tells (λ (a : Screen). sent (scene c a) m) = sent_tells c m in
-    after_tells (λ (a : Screen). sent (scene c a) m) (λ (s : Scene). all_sent s ms) t (all_sent_tells t.cluster ms)
+all_sent_tells = each_tells sent all_sent (λ s. refl) (λ s m ms. refl) sent_tells
 
 -- ---- delivering and dropping
 
@@ -145,30 +153,23 @@ received_tells c id m =
     (explained_tells t.cluster (reason_at c id m))
 
 all_received_tells : (c : Cluster) (id : ℕ) (ms : List Message) → Tells (λ (a : Screen). all_received (scene c a) id ms)
-all_received_tells c id [] = none_tells c
-all_received_tells c id (m ∷ ms) =
-    let t : Tells (λ (a : Screen). received (scene c a) id m) = received_tells c id m in
-    after_tells (λ (a : Screen). received (scene c a) id m) (λ (s : Scene). all_received s id ms) t (all_received_tells t.cluster id ms)
+all_received_tells c id = each_tells (λ s m. received s id m) (λ s ms. all_received s id ms) (λ s. refl) (λ s m ms. refl) (λ c m. received_tells c id m) c
 
 delivered_tells : (c : Cluster) (id : ℕ) (types : Option TypeSet) → Tells (λ (a : Screen). delivered (scene c a) id types)
 unfolding delivered
 delivered_tells c id types = all_received_tells (with_pending c (other_mail c.pending id types)) id (mail c.pending id types)
 
 delivered_each_tells : (c : Cluster) (ids : List ℕ) (types : Option TypeSet) → Tells (λ (a : Screen). delivered_each (scene c a) ids types)
-delivered_each_tells c [] types = none_tells c
-delivered_each_tells c (id ∷ ids) types =
-    let t : Tells (λ (a : Screen). delivered (scene c a) id types) = delivered_tells c id types in
-    after_tells (λ (a : Screen). delivered (scene c a) id types) (λ (s : Scene). delivered_each s ids types) t (delivered_each_tells t.cluster ids types)
+delivered_each_tells c ids types = each_tells (λ s id. delivered s id types) (λ s ids. delivered_each s ids types) (λ s. refl) (λ s id ids. refl)
+    (λ c id. delivered_tells c id types) c ids
 
 dropped_tells : (c : Cluster) (id : ℕ) (types : Option TypeSet) → Tells (λ (a : Screen). dropped (scene c a) id types)
 unfolding dropped
 dropped_tells c id types = all_tells (with_pending c (other_mail c.pending id types)) (map drop_item (mail c.pending id types))
 
 dropped_each_tells : (c : Cluster) (ids : List ℕ) (types : Option TypeSet) → Tells (λ (a : Screen). dropped_each (scene c a) ids types)
-dropped_each_tells c [] types = none_tells c
-dropped_each_tells c (id ∷ ids) types =
-    let t : Tells (λ (a : Screen). dropped (scene c a) id types) = dropped_tells c id types in
-    after_tells (λ (a : Screen). dropped (scene c a) id types) (λ (s : Scene). dropped_each s ids types) t (dropped_each_tells t.cluster ids types)
+dropped_each_tells c ids types = each_tells (λ s id. dropped s id types) (λ s ids. dropped_each s ids types) (λ s. refl) (λ s id ids. refl)
+    (λ c id. dropped_tells c id types) c ids
 
 msgs_delivered_tells : (asked : DeliverMsgs) (c : Cluster) → Tells (λ (a : Screen). msgs_delivered asked (scene c a))
 unfolding msgs_delivered
@@ -206,19 +207,13 @@ ready_done_tells : (c : Cluster) (id : ℕ) → Tells (λ (a : Screen). ready_do
 ready_done_tells c id = ready_done_by_tells (node_at c id) c id
 
 ready_done_each_tells : (c : Cluster) (ids : List ℕ) → Tells (λ (a : Screen). ready_done_each (scene c a) ids)
-ready_done_each_tells c [] = none_tells c
-ready_done_each_tells c (id ∷ ids) =
-    let t : Tells (λ (a : Screen). ready_done (scene c a) id) = ready_done_tells c id in
-    after_tells (λ (a : Screen). ready_done (scene c a) id) (λ (s : Scene). ready_done_each s ids) t (ready_done_each_tells t.cluster ids)
+ready_done_each_tells = each_tells ready_done ready_done_each (λ s. refl) (λ s id ids. refl) ready_done_tells
 
 -- ---- rounds
 
 readied_each_tells : (c : Cluster) (ids : List ℕ) → Tells (λ (a : Screen). readied_each (scene c a) ids)
-readied_each_tells c [] = none_tells c
-readied_each_tells c (id ∷ ids) =
-    let t : Tells (λ (a : Screen). if is_ready c id then ready_done (scene c a) id else scene c a) =
-    if_tells (is_ready c id) (λ (a : Screen). ready_done (scene c a) id) (λ (a : Screen). scene c a) (ready_done_tells c id) (none_tells c) in
-    after_tells (λ (a : Screen). if is_ready c id then ready_done (scene c a) id else scene c a) (λ (s : Scene). readied_each s ids) t (readied_each_tells t.cluster ids)
+readied_each_tells = each_tells (λ s id. if is_ready s.cluster id then ready_done s id else s) readied_each (λ s. refl) (λ s id ids. refl)
+    (λ c id. if_tells (is_ready c id) (λ (a : Screen). ready_done (scene c a) id) (λ (a : Screen). scene c a) (ready_done_tells c id) (none_tells c))
 
 round_tells : (c : Cluster) (ids : List ℕ) → Tells (λ (a : Screen). round (scene c a) ids)
 unfolding round
@@ -300,75 +295,63 @@ kept_alone [] = refl
 kept_alone (item i ∷ told) = ap (λ (ls : List Line). lines_of ways.Rows i ++ ls) (kept_alone told)
 kept_alone (because reason ∷ told) = kept_alone told
 
-refused_of_one : (c : Cluster) (e : DirectiveError) → AreOfOne (refused forms.Lines c e).output (refused forms.Rows c e).output
-refused_of_one c e = record {
-  level = c.level;
-  items = error e ∷ [];
-  printed_is = sym (ap (or_ok (ways.At c.level)) (append-nil (lines_of (ways.At c.level) (error e))));
-  kept_is = refl;
-}
+abbrev with_output : Cluster → List Line → Outcome
+with_output c lines = record { cluster = c; output = lines }
 
-unless_of_one : (e : Option DirectiveError) (a : Asked) (c : Cluster) → AreOfOne (unless_refused forms.Lines e a c).output (unless_refused forms.Rows e a c).output
-unless_of_one (Some e) a c = refused_of_one c e
-unless_of_one None a c =
-    let t : Tells (λ (screen : Screen). effect a.request (scene c screen)) = effect_tells a.request c in record {
-      level = unwrap_or a.log_level c.level;
-      items = flat_map items_of t.told;
-      printed_is =
-          ap (λ (s : Scene). or_ok s.screen.way s.screen.lines) (t.is (screen_of forms.Lines a c))
-          ∙ ap (or_ok (ways.At (unwrap_or a.log_level c.level))) (printed_alone (unwrap_or a.log_level c.level) t.told);
-      kept_is = ap (λ (s : Scene). or_ok s.screen.way s.screen.lines) (t.is (screen_of forms.Rows a c)) ∙ ap (or_ok ways.Rows) (kept_alone t.told);
-    }
+-- what a directive shows in a form
+abbrev told_outcome : Form → Cluster → Level → List Told → Outcome
+told_outcome form c level told = with_output c (or_ok (way_of form level) (flat_map (told_lines (way_of form level)) told))
 
-outcome_of_one : (r : Result Asked DirectiveError) (c : Cluster) → AreOfOne (outcome_of forms.Lines r c).output (outcome_of forms.Rows r c).output
-outcome_of_one (Err e) c = refused_of_one c e
-outcome_of_one (Ok a) c = unless_of_one (fault a.request c) a c
+-- it leaves one cluster and tells the same, whatever form is asked for
+pub record Shows (done : Form → Outcome) : Type 0 where
+  pub cluster : Cluster
+  pub level : Level
+  pub told : List Told
+  pub is : (form : Form) → done form ≡ told_outcome form cluster level told
+
+error_alone : (form : Form) (c : Cluster) (e : DirectiveError) → refused form c e ≡ told_outcome form c c.level (item (error e) ∷ [])
+error_alone forms.Lines c e = ap (λ (ls : List Line). with_output c (or_ok (ways.At c.level) ls)) (sym (append-nil (lines_of (ways.At c.level) (error e))))
+error_alone forms.Explained c e = ap (λ (ls : List Line). with_output c (or_ok (ways.Explained c.level) ls)) (sym (append-nil (lines_of (ways.Explained c.level) (error e))))
+error_alone forms.Rows c e = refl
+
+refused_shows : (c : Cluster) (e : DirectiveError) → Shows (λ (form : Form). refused form c e)
+refused_shows c e = record { cluster = c; level = c.level; told = item (error e) ∷ []; is = λ form. error_alone form c e }
+
+unless_shows : (e : Option DirectiveError) (a : Asked) (c : Cluster) → Shows (λ (form : Form). unless_refused form e a c)
+unless_shows (Some e) a c = refused_shows c e
+unless_shows None a c =
+    let t : Tells (λ (screen : Screen). effect a.request (scene c screen)) = effect_tells a.request c in
+    record { cluster = t.cluster; level = unwrap_or a.log_level c.level; told = t.told; is = λ form. ap ended (t.is (screen_of form a c)) }
+
+pub outcome_shows : (r : Result Asked DirectiveError) (c : Cluster) → Shows (λ (form : Form). outcome_of form r c)
+outcome_shows (Err e) c = refused_shows c e
+outcome_shows (Ok a) c = unless_shows (fault a.request c) a c
 
 -- what a directive prints, and its rows, are of the same items
 pub are_of_one : (c : Cluster) (d : PlainDirective) → AreOfOne (outcome c d).output (happened c d)
 unfolding outcome happened
-are_of_one c d = outcome_of_one (request d) c
-
--- ---- reasons
-
-refused_explains : (c : Cluster) (e : DirectiveError) → Explains (refused forms.Lines c e).output (refused forms.Explained c e).output
-refused_explains c e = record {
-  level = c.level;
-  told = item (error e) ∷ [];
-  printed_is = sym (ap (or_ok (ways.At c.level)) (append-nil (lines_of (ways.At c.level) (error e))));
-  explained_is = sym (ap (or_ok (ways.Explained c.level)) (append-nil (lines_of (ways.Explained c.level) (error e))));
-}
-
-unless_explains : (e : Option DirectiveError) (a : Asked) (c : Cluster) → Explains (unless_refused forms.Lines e a c).output (unless_refused forms.Explained e a c).output
-unless_explains (Some e) a c = refused_explains c e
-unless_explains None a c =
-    let t : Tells (λ (screen : Screen). effect a.request (scene c screen)) = effect_tells a.request c in record {
-      level = unwrap_or a.log_level c.level;
-      told = t.told;
-      printed_is = ap (λ (s : Scene). or_ok s.screen.way s.screen.lines) (t.is (screen_of forms.Lines a c));
-      explained_is = ap (λ (s : Scene). or_ok s.screen.way s.screen.lines) (t.is (screen_of forms.Explained a c));
+are_of_one c d =
+    let s : Shows (λ (form : Form). outcome_of form (request d) c) = outcome_shows (request d) c in record {
+      level = s.level;
+      items = flat_map items_of s.told;
+      printed_is = ap (λ (o : Outcome). o.output) (s.is forms.Lines) ∙ ap (or_ok (ways.At s.level)) (printed_alone s.level s.told);
+      kept_is = ap (λ (o : Outcome). o.output) (s.is forms.Rows) ∙ ap (or_ok ways.Rows) (kept_alone s.told);
     }
-
-outcome_explains : (r : Result Asked DirectiveError) (c : Cluster) → Explains (outcome_of forms.Lines r c).output (outcome_of forms.Explained r c).output
-outcome_explains (Err e) c = refused_explains c e
-outcome_explains (Ok a) c = unless_explains (fault a.request c) a c
 
 -- what a directive prints with reasons is of what it prints without
 pub explains : (c : Cluster) (d : PlainDirective) → Explains (outcome c d).output (explanation c d)
 unfolding outcome explanation
-explains c d = outcome_explains (request d) c
+explains c d =
+    let s : Shows (λ (form : Form). outcome_of form (request d) c) = outcome_shows (request d) c in record {
+      level = s.level;
+      told = s.told;
+      printed_is = ap (λ (o : Outcome). o.output) (s.is forms.Lines);
+      explained_is = ap (λ (o : Outcome). o.output) (s.is forms.Explained);
+    }
 
-unless_same : (e : Option DirectiveError) (a : Asked) (c : Cluster) → (unless_refused forms.Explained e a c).cluster ≡ (unless_refused forms.Lines e a c).cluster
-unless_same (Some e) a c = refl
-unless_same None a c =
-    let t : Tells (λ (screen : Screen). effect a.request (scene c screen)) = effect_tells a.request c in
-    ap (λ (s : Scene). s.cluster) (t.is (screen_of forms.Explained a c)) ∙ sym (ap (λ (s : Scene). s.cluster) (t.is (screen_of forms.Lines a c)))
-
-outcome_same : (r : Result Asked DirectiveError) (c : Cluster) → (outcome_of forms.Explained r c).cluster ≡ (outcome_of forms.Lines r c).cluster
-outcome_same (Err e) c = refl
-outcome_same (Ok a) c = unless_same (fault a.request c) a c
-
--- with reasons a directive leaves the same cluster
+-- and leaves the same cluster
 pub explained_same : (c : Cluster) (d : PlainDirective) → (outcome_of forms.Explained (request d) c).cluster ≡ (outcome c d).cluster
 unfolding outcome
-explained_same c d = outcome_same (request d) c
+explained_same c d =
+    let s : Shows (λ (form : Form). outcome_of form (request d) c) = outcome_shows (request d) c in
+    ap (λ (o : Outcome). o.cluster) (s.is forms.Explained) ∙ sym (ap (λ (o : Outcome). o.cluster) (s.is forms.Lines))

@@ -2,6 +2,7 @@
 use Rattle.std.proofs.Common.{◌≡◌, ℕ, ◌+◌, ◌-◌, ◌<◌, ◌≤◌, ◌==◌, not, cond, true, false, List, [], ◌∷◌, append_assoc, append-nil, length, drop, map, Option, Some, None, Ok, Err, refl, ap, sym, ◌∙◌, arith, inl, inr}
 use Rattle.std.specs.Prelude.{slice_get}
 use Rattle.std.specs.List.{flat_map}
+use Rattle.std.proofs.lemmas.List.{drop_more, drop_all}
 use Rattle.std.proofs.lemmas.Bool.Decides.{nat_tests}
 use Rattle.std.proofs.lemmas.Option.{slice_get_within, get_or_from_slice_get, slice_get_cases}
 use Rattle.rb_raftlog.specs.Log.{LogValue, last, entry_at, found, not_durable}
@@ -14,20 +15,19 @@ use Rattle.rb_texts.specs.Items as items
 use Rattle.rb_machine.specs.declared.screen.Screen.{Screen}
 use Rattle.rb_machine.specs.Entries.{entry_items}
 use Rattle.rb_machine.specs.Scenes.{lines_of, showing, showing_all}
-use Rattle.rb_cluster.proofs.ListLaws.{left_more, left_none}
 
 -- ---- items
 
 -- an item before others
-pub shown_first : (s : Screen) (x : PlainItem) (xs : List PlainItem) → showing_all (showing s x) xs ≡ showing_all s (x ∷ xs)
+shown_first : (s : Screen) (x : PlainItem) (xs : List PlainItem) → showing_all (showing s x) xs ≡ showing_all s (x ∷ xs)
 shown_first s x xs = ap (λ lines. record s { lines = lines }) (append_assoc s.lines (lines_of s.way x) (flat_map (lines_of s.way) xs))
 
 shown_none : (s : Screen) → showing_all s [] ≡ s
 shown_none s = ap (λ lines. record s { lines = lines }) (append-nil s.lines)
 
 -- the first of what is left
-pub left_some : {X : Type 0} → (xs : List X) (i : ℕ) (x : X) → slice_get xs i ≡ Some x → drop i xs ≡ x ∷ drop (i + 1) xs
-left_some xs i x h = left_more xs i x (slice_get_within xs i x h) ∙ ap (λ y. y ∷ drop (i + 1) xs) (get_or_from_slice_get xs i x x h)
+left_some : {X : Type 0} → (xs : List X) (i : ℕ) (x : X) → slice_get xs i ≡ Some x → drop i xs ≡ x ∷ drop (i + 1) xs
+left_some xs i x h = drop_more xs i x (slice_get_within xs i x h) ∙ ap (λ y. y ∷ drop (i + 1) xs) (get_or_from_slice_get xs i x x h)
 
 -- one item more is printed, and one less is left
 pub item_shown : {X : Type 0} → (item : X → PlainItem) (xs : List X) (i : ℕ) (x : X) (before after all : Screen) → slice_get xs i ≡ Some x
@@ -91,6 +91,12 @@ past_all : {X : Type 0} → (xs : List X) (i : ℕ) → slice_get xs i ≡ None 
 past_all xs i h = elim (slice_get_cases xs i).1 [ inl w ↦ absurd (let none : slice_get xs i ≡ None = h in let some : slice_get xs i ≡ Some w.0 = w.2 in cc) | inr w ↦ w.0 ]
 
 -- an entry more is printed, and one less is left
+pub entry_next : (item : ℕ → Entry → PlainItem) (es : List Entry) (k i : ℕ) (e : Entry) (before after all : Screen) → slice_get es k ≡ Some e
+    → after ≡ showing before (item i e) → showing_all before (entry_items item i (drop k es)) ≡ all → showing_all after (entry_items item (i + 1) (drop (k + 1) es)) ≡ all
+entry_next item es k i e before after all here put inv =
+    ap (λ (s : Screen). showing_all s (entry_items item (i + 1) (drop (k + 1) es))) put ∙ shown_first before (item i e) (entry_items item (i + 1) (drop (k + 1) es))
+    ∙ sym (ap (λ (l : List Entry). showing_all before (entry_items item i l)) (left_some es k e here)) ∙ inv
+
 pub entry_shown : (item : ℕ → Entry → PlainItem) (v : LogValue) (i : ℕ) (e : Entry) (before after all : Screen) → v.base < i → entry_at v i ≡ Ok e
     → after ≡ showing before (item i e) → showing_all before (entry_items item i (left_from v i)) ≡ all → showing_all after (entry_items item (i + 1) (left_from v (i + 1))) ≡ all
 unfolding left_from
@@ -98,16 +104,14 @@ entry_shown item v i e before after all h is put inv =
     let k : ℕ = i - v.base - 1 in
     let here : slice_get v.entries k ≡ Some e = found_is (slice_get v.entries k) e (sym (entry_past v i h) ∙ is) in
     let next : i + 1 - v.base - 1 ≡ k + 1 = omega arith in
-    let rest : List PlainItem = entry_items item (i + 1) (drop (k + 1) v.entries) in
-    ap (λ (n : ℕ). showing_all after (entry_items item (i + 1) (drop n v.entries))) next ∙ ap (λ (s : Screen). showing_all s rest) put
-    ∙ shown_first before (item i e) rest ∙ sym (ap (λ (l : List Entry). showing_all before (entry_items item i l)) (left_some v.entries k e here)) ∙ inv
+    ap (λ (n : ℕ). showing_all after (entry_items item (i + 1) (drop n v.entries))) next ∙ entry_next item v.entries k i e before after all here put inv
 
 pub entries_shown : (item : ℕ → Entry → PlainItem) (v : LogValue) (i : ℕ) (before all : Screen) → last v + 1 ≤ i
     → showing_all before (entry_items item i (left_from v i)) ≡ all → before ≡ all
 unfolding left_from
 entries_shown item v i before all h inv =
     let past : length v.entries ≤ i - v.base - 1 = omega arith in
-    sym (shown_none before) ∙ sym (ap (λ (l : List Entry). showing_all before (entry_items item i l)) (left_none v.entries (i - v.base - 1) past)) ∙ inv
+    sym (shown_none before) ∙ sym (ap (λ (l : List Entry). showing_all before (entry_items item i l)) (drop_all (i - v.base - 1) v.entries past)) ∙ inv
 
 -- there is an entry at each index past the base, up to the last
 pub entry_held : (v : LogValue) (i : ℕ) (f : LogFault) → v.base < i → i < last v + 1 → entry_at v i ≡ Err f → ⊥

@@ -55,7 +55,7 @@ pub(crate) fn add_nodes_fault<L: RaftLog>(
 }
 
 // Adds the ids of a list, ascending, each once.
-#[tactic(auto, using(crate::proofs::IdLaws::naming))]
+#[tactic(auto, using(crate::proofs::IdLaws::named_first))]
 fn push_ids(set: &mut Vec<u64>, ids: &IdList) -> Result<(), AllocError>
     ensures { OnOk result (set.new.items ≡ set.old.items ++ id_set ids.now) }
 {

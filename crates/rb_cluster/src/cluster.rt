@@ -8,7 +8,7 @@ use crate::meter::Meter;
 use crate::shared_message::SharedMessage;
 use crate::shared_node::SharedNode;
 use rb_level::Level;
-use rb_machine::Machine;
+use rb_machine::{Form, Machine};
 use rb_node::Node;
 use rb_raftlog::RaftLog;
 use rb_script::{DirectiveRef, Lines};
@@ -88,6 +88,7 @@ impl<L: RaftLog> Machine for Cluster<L> {
         })
     }
 
+    #[tactic(auto, unfolding(rb_machine::specs::Outcome::outcome))]
     fn run(
         self,
         directive: DirectiveRef<'_>,
@@ -95,7 +96,7 @@ impl<L: RaftLog> Machine for Cluster<L> {
     ) -> Result<(Cluster<L>, Lines), AllocError> {
         meter.raise();
         let mut cluster = self;
-        let output = cluster.carry_out(&directive)?;
+        let output = cluster.shown(Form::Lines, &directive)?;
         Ok((cluster, output))
     }
 

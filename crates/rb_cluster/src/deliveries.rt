@@ -31,12 +31,7 @@ fn show_dropped(screen: &mut Screen, messages: &[SharedMessage]) -> Result<(), A
 fn is_for_any(ids: &[u8], types: &Option<TypeSet>, message: &Message) -> bool
     ensures { result ≡ is_for_any ids.now types.now message.now }
 {
-    for id in ids {
-        if is_for(u64::from(*id), types, message) {
-            return true;
-        }
-    }
-    false
+    ids.iter().any(|id| is_for(u64::from(*id), types, message))
 }
 
 // Whether a pending message is to be delivered or dropped.
@@ -45,13 +40,10 @@ fn meets_any(asked: &DeliverMsgs, pending: &[SharedMessage]) -> bool
 {
     let nodes = asked.nodes.as_slice();
     let dropped = asked.drop.as_slice();
-    for shared in pending {
+    pending.iter().any(|shared| {
         let message = shared.message();
-        if is_for_any(nodes, &asked.types, message) || is_for_any(dropped, &asked.types, message) {
-            return true;
-        }
-    }
-    false
+        is_for_any(nodes, &asked.types, message) || is_for_any(dropped, &asked.types, message)
+    })
 }
 
 impl<L: RaftLog> Cluster<L> {

@@ -44,9 +44,8 @@ fn first_absent<'d, L: RaftLog>(nodes: &[SharedNode<L>], ids: &[u8]) -> Option<D
     ensures { result ≡ first_absent nodes.now ids.now }
 {
     for id in ids {
-        let fault = absent(nodes, u64::from(*id));
-        if fault.is_some() {
-            return fault;
+        if let Some(fault) = absent(nodes, u64::from(*id)) {
+            return Some(fault);
         }
     }
     None
@@ -197,8 +196,12 @@ impl<L: RaftLog> Cluster<L> {
         screen.or_ok()
     }
 
-    // Runs a directive, and gives what it shows.
-    fn shown(&mut self, form: Form, directive: &DirectiveRef<'_>) -> Result<Lines, AllocError>
+    /// Runs a directive, and gives what it shows.
+    pub(crate) fn shown(
+        &mut self,
+        form: Form,
+        directive: &DirectiveRef<'_>,
+    ) -> Result<Lines, AllocError>
         ensures cluster { OnOk result (self.new ≡ (outcome_of form (request (plain directive.now)) self.old).cluster) }
         ensures output { IfOk result (λ lines. lines ≡ (outcome_of form (request (plain directive.now)) self.old).output) }
     {
@@ -208,15 +211,6 @@ impl<L: RaftLog> Cluster<L> {
             Ok(asked) => self.carry_out_asked(form, asked),
             Err(error) => error_lines(self.alloc, way_of(form, self.level), error.copy()),
         }
-    }
-
-    /// Runs a directive, and gives what it prints.
-    #[tactic(auto, unfolding(rb_machine::specs::Outcome::outcome))]
-    pub(crate) fn carry_out(&mut self, directive: &DirectiveRef<'_>) -> Result<Lines, AllocError>
-        ensures cluster { OnOk result (self.new ≡ (outcome self.old (plain directive.now)).cluster) }
-        ensures output { IfOk result (λ lines. lines ≡ (outcome self.old (plain directive.now)).output) }
-    {
-        self.shown(Form::Lines, directive)
     }
 
     /// What a directive does, as rows of a page: a text an item, whatever the level is. It is done to a copy.

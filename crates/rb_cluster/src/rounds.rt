@@ -53,12 +53,7 @@ impl Marks {
 fn has_mail(pending: &[SharedMessage], id: u64) -> bool
     ensures { result ≡ has_mail pending.now id }
 {
-    for shared in pending {
-        if shared.message().to == id {
-            return true;
-        }
-    }
-    false
+    pending.iter().any(|shared| shared.message().to == id)
 }
 
 // Whether the node is named; each is where none is.

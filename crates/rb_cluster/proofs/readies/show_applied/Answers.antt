@@ -1,12 +1,16 @@
-use Rattle.std.proofs.Common.{◌≡◌, ◌+◌, slice_get, Some, ◌∙◌, ap, rules}
+use Rattle.std.proofs.Common.{◌≡◌, ◌+◌, ℕ, drop, slice_get, Some, ◌∙◌, ap, arith, rules}
 use Rattle.rb_node.specs.Readying.{applying}
 use Rattle.rb_texts.specs.Items as items
-use Rattle.rb_cluster.proofs.ReadyLaws.{entry_shown}
+use Rattle.rb_machine.specs.Entries.{entry_items}
+use Rattle.rb_machine.specs.Scenes.{showing_all}
+use Rattle.rb_cluster.proofs.ViewLaws.{entry_next}
 use Rattle.rb_cluster.proofs.readies.show_applied.Goals as goal
 
 pub loop-k-preserved : goal.loop-k-preserved
 loop-k-preserved g c =
-    let found : slice_get (applying c.args.node.now) c.loop-k.k ≡ Some c.apply.result.now = search rules in record {
-      way = ap (λ s. s.way) c.in_ok-show.ensures ∙ c.loop-k.invariant.way;
-      lines = ap (λ s. s.lines) (entry_shown items.apply c.loop-k.screen c.show.new.self (c.state.inside.applied + 1) c.loop-k.k (applying c.args.node.now) c.apply.result.now found c.in_ok-show.ensures) ∙ c.loop-k.invariant.lines;
-    }
+    let es = applying c.args.node.now in
+    let i = c.state.inside.applied + 1 + c.loop-k.k in
+    let found : slice_get (applying c.args.node.now) c.loop-k.k ≡ Some c.apply.result.now = search rules in
+    let next : c.state.inside.applied + 1 + (c.loop-k.k + 1) ≡ c.state.inside.applied + 1 + c.loop-k.k + 1 = omega arith in
+    ap (λ (n : ℕ). showing_all c.show.new.self (entry_items items.apply n (drop (c.loop-k.k + 1) es))) next
+    ∙ entry_next items.apply es c.loop-k.k i c.apply.result.now c.loop-k.screen c.show.new.self _ found c.in_ok-show.ensures c.loop-k.invariant
