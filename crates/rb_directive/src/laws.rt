@@ -19,6 +19,7 @@ ghost use Rattle.rb_directive.specs.Requests.{request, IsWithin};
 ghost use Rattle.rb_directive.specs.Whole.{first_word, name_of, AreApart};
 
 /// Each directive is found under its name, and so no two have the same.
+#[tactic(auto, using(crate::proofs::TableLaws::names_found))]
 pub fn names_are_apart()
     ensures { (name : Name) → option_map (λ (row : Row). row.name) (row_in directives (name_text name)) ≡ Some name }
 {}
@@ -30,11 +31,13 @@ pub fn options_are_those_of_the_table()
 {}
 
 /// A number in decimal digits is read as itself, where it is one that the argument takes.
+#[tactic(auto, using(crate::proofs::SpellingLaws::number_in))]
 pub fn numbers_are_read()
     ensures { (low high n : ℕ) → low ≤ n → n ≤ high → n < 10 ^ 10 → number_said low high (decimal n ∷ []) ≡ Some n }
 {}
 
 /// What a directive asks for is within its limits.
+#[tactic(auto, using(crate::proofs::BoundLaws::request_within))]
 pub fn requests_are_within()
     ensures { (d : PlainDirective) (a : Asked) → request d ≡ Ok a → IsWithin a.request }
 {}
@@ -46,6 +49,7 @@ pub fn names_say_what_is_asked_for()
 {}
 
 /// How many nodes an `add-nodes` asks for is its first word.
+#[tactic(auto, using(crate::proofs::CountLaws::request_counts))]
 pub fn counts_are_first_words()
     ensures { (d : PlainDirective) (a : Asked) (r : AddNodes) → request d ≡ Ok a → a.request ≡ requests.AddNodes r → number_of (first_word d.args) ≡ Some r.count }
 {}
