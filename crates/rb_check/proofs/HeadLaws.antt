@@ -2,8 +2,8 @@
 use Rattle.std.proofs.Common.{◌≡◌, ◌∙◌, ℕ, ◌+◌, ◌<◌, Bool, true, List, [], ◌∷◌, ◌++◌, length, drop, get_or, refl, ap, sym, append_assoc}
 use Rattle.std.specs.Prelude.{codes, if◌then◌else◌}
 use Rattle.std.proofs.lemmas.List.{drop_more}
-use Rattle.rb_script.specs.Directive.{PlainArgument, no_argument}
-use Rattle.rb_check.specs.Heads.{before_value, listed, values_text, argument_text, arguments_text}
+use Rattle.rb_script.specs.Directive.{PlainArgument}
+use Rattle.rb_check.specs.Heads.{before_value, listed, values_text, argument_text}
 
 -- one value more
 pub listed-step : (vs : List (List ℕ)) (i : ℕ) (b v : List ℕ) → i < length vs → b ≡ before_value i → v ≡ get_or vs i [] → listed i (drop i vs) ≡ (b ++ (v ++ [])) ++ listed (i + 1) (drop (i + 1) vs)
@@ -28,7 +28,3 @@ argument-with a key is has =
     ∙ ap (λ (k : List ℕ). codes " " ++ (k ++ (codes "=" ++ values_text a.values))) (sym is)
     ∙ ap (λ (l : List ℕ). codes " " ++ l) (sym (append_assoc key (codes "=") (values_text a.values)))
     ∙ sym (append_assoc (codes " ") (key ++ codes "=") (values_text a.values))
-
--- one argument more
-pub arguments-step : (xs : List PlainArgument) (i : ℕ) → i < length xs → arguments_text (drop i xs) ≡ argument_text (get_or xs i no_argument) ++ arguments_text (drop (i + 1) xs)
-arguments-step xs i lt = ap arguments_text (drop_more xs i no_argument lt)

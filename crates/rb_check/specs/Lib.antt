@@ -1,4 +1,6 @@
 pub mod Pieces
+pub mod Ends
+pub mod LineRanges
 pub mod Shown
 pub mod Subsequences
 pub mod Tables

@@ -4,12 +4,13 @@ use Rattle.std.specs.Prelude.{◌≡◌, ℕ, ◌+◌, ◌-◌, ◌==◌, nat_le
 use Rattle.std.specs.List.{flat_map}
 use Rattle.rb_script.specs.Lines.{Line}
 use Rattle.rb_check.specs.declared.colors.Colors.{Colors}
+use Rattle.rb_check.specs.declared.end.End.TheVariants.{Front, Back}
 use Rattle.rb_check.specs.declared.side.Side.{Side}
 use Rattle.rb_check.specs.declared.side.Side.TheVariants.{Both, Expected, Output}
 use Rattle.rb_check.specs.declared.why.Why.{Why}
 use Rattle.rb_check.specs.declared.why.Why.TheVariants as whys
 use Rattle.rb_check.specs.Shown.{line_shown}
-use Rattle.rb_check.specs.Diffs.{Stretch, between, common, common_end, middle}
+use Rattle.rb_check.specs.Diffs.{Stretch, common, middle, without_last, last}
 use Rattle.rb_check.specs.Folds.{fold_text}
 use Rattle.rb_check.specs.Headings.{heading_text}
 use Rattle.rb_check.specs.Hints.{hint_text}
@@ -64,31 +65,30 @@ told_paired side why at (line ∷ ls) (other ∷ others) = told_beside side why 
 abbrev pub told_changed : Colors → Side → List Line → ℕ → List Line → List Line → List ℕ
 told_changed colors side why at ls others = if is_paired colors (length ls) (length others) then told_paired side why at ls others else told_lines colors side why at ls
 
--- a stretch, whose same lines stand from one place of the output on, and those that came out from another on
-abbrev pub shown_stretch : Colors → List Line → ℕ → ℕ → List Line → List Line → List Line → List ℕ
-shown_stretch colors why at next same expected output = told_same colors why at same ++ (changed_text colors Expected expected output ++ told_changed colors Output why next output expected)
-
 -- where what follows a stretch begins
 abbrev pub behind_stretch : ℕ → Stretch → ℕ
 behind_stretch at s = at + length s.same + length s.output
 
 abbrev pub told_stretch : Colors → List Line → ℕ → Stretch → List ℕ
-told_stretch colors why at s = shown_stretch colors why at (at + length s.same) s.same s.expected s.output
+told_stretch colors why at s =
+    told_same colors why at s.same ++ (changed_text colors Expected s.expected s.output ++ told_changed colors Output why (at + length s.same) s.output s.expected)
 
 -- one after another
 abbrev pub told_text : Colors → List Line → ℕ → List Stretch → List ℕ
 told_text colors why at [] = []
 told_text colors why at (s ∷ ss) = told_stretch colors why at s ++ told_text colors why (behind_stretch at s) ss
 
--- what differs between the first n lines and the last m
+-- what differs between the first n lines and the last m of those behind them
 abbrev pub told_between : ℕ → ℕ → Colors → List Line → List Line → List Line → List ℕ
 told_between n m colors why es os =
-    told_same colors why 0 (between 0 n es)
-    ++ (told_text colors why n (middle (between n (length es - m) es) (between n (length os - m) os)) ++ told_same colors why (length os - m) (between (length es - m) (length es) es))
+    told_same colors why 0 (take n es)
+    ++ (told_text colors why n (middle (without_last m (drop n es)) (without_last m (drop n os))) ++ told_same colors why (n + (length (drop n os) - m)) (last m (drop n es)))
 
 -- of the expected lines, and the lines of the output
 unfoldable pub told_diff : Colors → List Line → List Line → List Line → List ℕ
-told_diff colors why es os = told_between (common es os) (common_end (common es os) es os) colors why es os
+told_diff colors why es os =
+    let n = common Front es os in
+    told_between n (common Back (drop n es) (drop n os)) colors why es os
 
 -- ---- a directive
 

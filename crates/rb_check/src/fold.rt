@@ -1,51 +1,40 @@
 //! Lines that are the same on both sides.
 
-ghost use Rattle.std.specs.Prelude.{◌≡◌, ◌-◌, ◌≤◌, IsOk, length};
+ghost use Rattle.std.specs.Prelude.{◌+◌, ◌^◌, ◌<◌, IsOk, length};
 ghost use Rattle.rb_script.specs.Writes.{Writes};
-ghost use Rattle.rb_check.specs.Diffs.{between};
+ghost use Rattle.rb_check.specs.LineRanges.{in_range};
 ghost use Rattle.rb_check.specs.Whys.{reasons_in, told_same};
 
 use crate::colors::Colors;
 use crate::line::put_told_lines;
+use crate::line_range::LineRange;
 use crate::piece::{Piece, noun, put_pieces};
 use crate::side::Side;
 use crate::why::Why;
-use rb_script::{Lines, Sink, WriteFault};
+use rb_script::{Sink, WriteFault};
 
 // How many lines are shown, of more that are the same, on either side of a fold; twice as many are shown without one.
 const KEPT: usize = 3;
 
-/// Writes the lines from one position up to another, which are those of the output from one place up to another, with their reasons. Of more
-/// than six the first three and the last three are shown, and between them how many there are.
+/// Writes the lines, which are those of the output from a place on, with their reasons. Of more than six the first three and the last three
+/// are shown, and between them how many there are.
 pub(crate) fn put_same<S: Sink>(
     sink: &mut S,
     colors: Colors,
-    lines: &Lines,
-    from: (usize, usize),
+    lines: LineRange<'_>,
     why: Why<'_>,
-    at: (usize, usize),
+    at: usize,
 ) -> Result<(), WriteFault>
-    requires begins { from.0 ≤ from.1 }
-    requires within { from.1 ≤ length lines.now }
-    requires begins_output { at.0 ≤ at.1 }
-    requires as_many { from.1 - from.0 ≡ at.1 - at.0 }
-    ensures wrote { Writes result (S.held sink.old) (S.held sink.new) (told_same colors (reasons_in why.entry) at.0 (between from.0 from.1 lines.now)) }
+    requires { at + length (in_range lines) < 2 ^ 64 }
+    ensures wrote { Writes result (S.held sink.old) (S.held sink.new) (told_same colors (reasons_in why.entry) at (in_range lines.entry)) }
     ensures all { S.takes_all sink.old → IsOk result × S.takes_all sink.new }
 {
-    let count = from.1 - from.0;
+    let count = lines.len();
     if count <= 2 * KEPT {
-        return put_told_lines(sink, colors, Side::Both, lines, from, why, at);
+        return put_told_lines(sink, colors, Side::Both, lines, why, at);
     }
     let folded = (count - 2 * KEPT) as u64;
-    put_told_lines(
-        sink,
-        colors,
-        Side::Both,
-        lines,
-        (from.0, from.0 + KEPT),
-        why,
-        (at.0, at.0 + KEPT),
-    )?;
+    put_told_lines(sink, colors, Side::Both, lines.front(KEPT), why, at)?;
     put_pieces(
         sink,
         &[
@@ -55,13 +44,6 @@ pub(crate) fn put_same<S: Sink>(
             Piece::Bytes(b"\n"),
         ],
     )?;
-    put_told_lines(
-        sink,
-        colors,
-        Side::Both,
-        lines,
-        (from.1 - KEPT, from.1),
-        why,
-        (at.1 - KEPT, at.1),
-    )
+    let last = count - KEPT;
+    put_told_lines(sink, colors, Side::Both, lines.behind(last), why, at + last)
 }

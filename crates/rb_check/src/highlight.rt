@@ -3,25 +3,21 @@
 //! Where as many lines came as were expected, each is compared with the one that it stands for. What is not in a common beginning or a
 //! common end is shown in reverse video. Without colours nothing is.
 
-ghost use Rattle.std.specs.Prelude.{◌≡◌, ◌+◌, ◌-◌, ◌<◌, ◌≤◌, IsOk, get_or, length};
+ghost use Rattle.std.specs.Prelude.{◌≡◌, ◌+◌, ◌^◌, ◌<◌, ◌≤◌, IsOk, get_or, length};
 ghost use Rattle.rb_script.specs.Writes.{Writes};
-ghost use Rattle.rb_check.specs.Diffs.{between};
-ghost use Rattle.rb_check.specs.Highlights.{read_from, same_len, parts_beside, highlighted_text, beside_text, is_paired};
+ghost use Rattle.rb_check.specs.Ends.{read_from};
+ghost use Rattle.rb_check.specs.LineRanges.{in_range};
+ghost use Rattle.rb_check.specs.Highlights.{same_len, parts_beside, highlighted_text, beside_text, is_paired};
 ghost use Rattle.rb_check.specs.Whys.{reasons_in, told_beside, told_paired, told_changed};
 
 use crate::colors::Colors;
+use crate::end::End;
 use crate::line::{end_mark, put_line, put_told_lines};
+use crate::line_range::LineRange;
 use crate::piece::{Piece, put_pieces};
 use crate::side::{Side, after, before};
 use crate::why::{Why, put_reason};
-use rb_script::{Lines, Sink, WriteFault};
-
-// From which end of a line its bytes are read.
-#[derive(Clone, Copy)]
-enum End {
-    Front,
-    Back,
-}
+use rb_script::{Sink, WriteFault};
 
 // The byte at an index that counts from this end.
 #[tactic(auto, using(crate::proofs::HighlightLaws::get_back))]
@@ -123,25 +119,22 @@ fn put_told_beside<S: Sink>(
     put_reason(sink, why, at)
 }
 
-// Writes the lines from one position up to another, each beside the one that it stands for, and with the reason below it.
+// Writes the lines, each beside the one that it stands for, and with the reason below it: they are those of the output from a place on.
 fn put_paired<S: Sink>(
     sink: &mut S,
     side: Side,
-    lines: &Lines,
-    from: (usize, usize),
-    others: &Lines,
-    beside: (usize, usize),
+    lines: LineRange<'_>,
+    others: LineRange<'_>,
     why: Why<'_>,
+    at: usize,
 ) -> Result<(), WriteFault>
-    requires within { from.1 ≤ length lines.now }
-    requires within_others { beside.1 ≤ length others.now }
-    requires as_many { from.1 - from.0 ≡ beside.1 - beside.0 }
-    ensures wrote { Writes result (S.held sink.old) (S.held sink.new) (told_paired side (reasons_in why.entry) from.0 (between from.0 from.1 lines.now) (between beside.0 beside.1 others.now)) }
+    requires as_many { length (in_range lines) ≡ length (in_range others) }
+    requires room { at + length (in_range lines) < 2 ^ 64 }
+    ensures wrote { Writes result (S.held sink.old) (S.held sink.new) (told_paired side (reasons_in why.entry) at (in_range lines.entry) (in_range others.entry)) }
     ensures all { S.takes_all sink.old → IsOk result × S.takes_all sink.new }
 {
-    for i in from.0..from.1 {
-        let other = others.line(beside.0 + (i - from.0));
-        put_told_beside(sink, side, lines.line(i), other, why, i)?;
+    for i in 0..lines.len() {
+        put_told_beside(sink, side, lines.line(i), others.line(i), why, at + i)?;
     }
     Ok(())
 }
@@ -155,26 +148,22 @@ fn is_paired(colors: Colors, count: usize, other_count: usize) -> bool
     }
 }
 
-/// Writes the lines from one position up to another, in whose place those of the other side stand, each with the reason below it.
+/// Writes the lines, in whose place those of the other side stand, each with the reason below it: they are those of the output from a place on.
 pub(crate) fn put_changed<S: Sink>(
     sink: &mut S,
     colors: Colors,
     side: Side,
-    lines: &Lines,
-    from: (usize, usize),
-    others: &Lines,
-    beside: (usize, usize),
+    lines: LineRange<'_>,
+    others: LineRange<'_>,
     why: Why<'_>,
+    at: usize,
 ) -> Result<(), WriteFault>
-    requires begins { from.0 ≤ from.1 }
-    requires within { from.1 ≤ length lines.now }
-    requires begins_others { beside.0 ≤ beside.1 }
-    requires within_others { beside.1 ≤ length others.now }
-    ensures wrote { Writes result (S.held sink.old) (S.held sink.new) (told_changed colors side (reasons_in why.entry) from.0 (between from.0 from.1 lines.now) (between beside.0 beside.1 others.now)) }
+    requires { at + length (in_range lines) < 2 ^ 64 }
+    ensures wrote { Writes result (S.held sink.old) (S.held sink.new) (told_changed colors side (reasons_in why.entry) at (in_range lines.entry) (in_range others.entry)) }
     ensures all { S.takes_all sink.old → IsOk result × S.takes_all sink.new }
 {
-    if is_paired(colors, from.1 - from.0, beside.1 - beside.0) {
-        return put_paired(sink, side, lines, from, others, beside, why);
+    if is_paired(colors, lines.len(), others.len()) {
+        return put_paired(sink, side, lines, others, why, at);
     }
-    put_told_lines(sink, colors, side, lines, from, why, from)
+    put_told_lines(sink, colors, side, lines, why, at)
 }

@@ -1,17 +1,17 @@
 //! A line as it is shown.
 
-ghost use Rattle.std.specs.Prelude.{◌≡◌, ◌==◌, ◌||◌, ◌≤◌, ◌-◌, IsOk, length};
-ghost use Rattle.rb_script.specs.Lines.{line_text};
+ghost use Rattle.std.specs.Prelude.{◌≡◌, ◌==◌, ◌||◌, ◌+◌, ◌^◌, ◌<◌, IsOk, length};
 ghost use Rattle.rb_script.specs.Writes.{Writes};
+ghost use Rattle.rb_check.specs.LineRanges.{in_range};
 ghost use Rattle.rb_check.specs.Shown.{dollar_sign, begins_fold, needs_mark, end_mark, line_shown};
-ghost use Rattle.rb_check.specs.Diffs.{on_side, between, diff_text};
 ghost use Rattle.rb_check.specs.Whys.{reasons_in, told_lines};
 
 use crate::colors::Colors;
+use crate::line_range::LineRange;
 use crate::piece::{Piece, put_pieces};
 use crate::side::{Side, after, before};
 use crate::why::{Why, put_told_line};
-use rb_script::{Lines, Sink, WriteFault, is_space};
+use rb_script::{Sink, WriteFault, is_space};
 
 // Whether the line could be what stands in the place of folded lines.
 fn begins_fold(line: &[u8]) -> bool
@@ -65,44 +65,21 @@ pub(crate) fn put_line<S: Sink>(
     )
 }
 
-/// Writes the lines from one position up to another, of one side.
-pub(crate) fn put_lines<S: Sink>(
-    sink: &mut S,
-    colors: Colors,
-    side: Side,
-    lines: &Lines,
-    start: usize,
-    stop: usize,
-) -> Result<(), WriteFault>
-    requires { stop ≤ length lines.now }
-    ensures wrote { Writes result (S.held sink.old) (S.held sink.new) (diff_text colors (on_side side (between start stop lines.now))) }
-    ensures all { S.takes_all sink.old → IsOk result × S.takes_all sink.new }
-{
-    for i in start..stop {
-        put_line(sink, colors, side, lines.line(i))?;
-    }
-    Ok(())
-}
-
-/// Writes the lines from one position up to another, of one side, each with the reason below it: they are the lines of the output from one
-/// place up to another.
+/// Writes the lines, of one side, each with the reason below it: they are those of the output from a place on.
 pub(crate) fn put_told_lines<S: Sink>(
     sink: &mut S,
     colors: Colors,
     side: Side,
-    lines: &Lines,
-    from: (usize, usize),
+    lines: LineRange<'_>,
     why: Why<'_>,
-    at: (usize, usize),
+    at: usize,
 ) -> Result<(), WriteFault>
-    requires within { from.1 ≤ length lines.now }
-    requires as_many { from.1 - from.0 ≡ at.1 - at.0 }
-    ensures wrote { Writes result (S.held sink.old) (S.held sink.new) (told_lines colors side (reasons_in why.entry) at.0 (between from.0 from.1 lines.now)) }
+    requires { at + length (in_range lines) < 2 ^ 64 }
+    ensures wrote { Writes result (S.held sink.old) (S.held sink.new) (told_lines colors side (reasons_in why.entry) at (in_range lines.entry)) }
     ensures all { S.takes_all sink.old → IsOk result × S.takes_all sink.new }
 {
-    for i in from.0..from.1 {
-        let place = at.0 + (i - from.0);
-        put_told_line(sink, colors, side, lines.line(i), why, place)?;
+    for i in 0..lines.len() {
+        put_told_line(sink, colors, side, lines.line(i), why, at + i)?;
     }
     Ok(())
 }

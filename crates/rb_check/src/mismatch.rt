@@ -11,7 +11,8 @@ use crate::colors::Colors;
 use crate::diff::put_told_diff;
 use crate::file_line::{FileLine, put_heading};
 use crate::hint::put_hint;
-use crate::line::put_lines;
+use crate::line::put_told_lines;
+use crate::line_range::LineRange;
 use crate::piece::{Piece, put_pieces};
 use crate::side::Side;
 use crate::table::Table;
@@ -83,7 +84,14 @@ pub fn put_directive<S: Sink>(
 {
     put_heading(sink, place, directive)?;
     sink.put(b"\n")?;
-    put_lines(sink, Colors::Off, Side::Both, output, 0, output.len())?;
+    put_told_lines(
+        sink,
+        Colors::Off,
+        Side::Both,
+        LineRange::whole(output),
+        Why::Untold,
+        0,
+    )?;
     put_hint(sink, hint)
 }
 

@@ -1,8 +1,9 @@
 -- Warnings, one line and one directive after another.
-use Rattle.std.proofs.Common.{◌≡◌, ◌∙◌, ℕ, zero, suc, ◌+◌, ◌-◌, ◌<◌, Bool, true, false, List, [], ◌∷◌, ◌++◌, drop, length, Some, None, refl, ap, sym, arith}
+use Rattle.std.proofs.Common.{◌≡◌, ◌∙◌, ℕ, zero, suc, ◌+◌, ◌-◌, ◌<◌, ◌≤◌, Bool, true, false, List, [], ◌∷◌, ◌++◌, drop, length, Some, None, refl, ap, sym, arith}
 use Rattle.std.specs.Prelude.{◌&&◌, ◌||◌, ◌==◌, if◌then◌else◌, slice_get, slice_index_or}
 use Rattle.std.specs.List.{list_all, list_any}
 use Rattle.std.specs.Str.{bytes_eq}
+use Rattle.std.proofs.lemmas.List.{drop_all}
 use Rattle.std.proofs.lemmas.List.Folds.{list_all-append}
 use Rattle.rb_script.specs.Lines.{Line}
 use Rattle.rb_script.specs.Marks.{is_lead, is_separator}
@@ -27,9 +28,8 @@ warnings_step ls heads bs os i line b o head block output =
     ∙ ap (λ (cs : List PlainBlock). all_warnings ls (line ∷ drop (i + 1) heads) cs (drop i os)) (drop-get bs i b block)
     ∙ ap (λ (outs : List (List Line)). all_warnings ls (line ∷ drop (i + 1) heads) (b ∷ drop (i + 1) bs) outs) (drop-get os i o output)
 
-pub warnings_done : (ls : List Line) (heads : List ℕ) (bs : List PlainBlock) (os : List (List Line)) → heads ≡ [] → all_warnings ls heads bs os ≡ []
-warnings_done ls [] bs os none = refl
-warnings_done ls (line ∷ heads) bs os none = absurd cc
+pub warnings_done : (ls : List Line) (heads : List ℕ) (bs : List PlainBlock) (os : List (List Line)) (i : ℕ) → length heads ≤ i → all_warnings ls (drop i heads) (drop i bs) (drop i os) ≡ []
+warnings_done ls heads bs os i past = ap (λ (ns : List ℕ). all_warnings ls ns (drop i bs) (drop i os)) (drop_all i heads past)
 
 -- one line more
 pub line_step : (takes : Bool) (output ls : List Line) (part : Part) (at left : ℕ) (line : Line) → 0 < left → line ≡ slice_index_or ls at []

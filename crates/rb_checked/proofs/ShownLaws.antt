@@ -14,7 +14,7 @@ use Rattle.rb_replay.proofs.DifferingLaws.{AreAtMost}
 use Rattle.rb_check.specs.Briefs.{brief_text}
 use Rattle.rb_text.proofs.SentLaws.{drop-get}
 use Rattle.rb_checked.specs.Checked.{brief_at, of_first, head_line, IsFirst}
-use Rattle.rb_checked.specs.Errors.{is_error, is_mark, marked, error_count}
+use Rattle.rb_checked.specs.Errors.{is_mark, marked, error_count}
 
 -- one output more
 pub count-step : (ls : List Line) (heads : List ℕ) (os : List (List Line)) (i line : ℕ) (o : List Line) → slice_get heads i ≡ Some line → slice_get os i ≡ Some o
@@ -23,13 +23,9 @@ count-step ls heads os i line o head output =
     ap (λ (ns : List ℕ). error_count ls ns (drop i os)) (drop-get heads i line head)
     ∙ ap (λ (outs : List (List Line)). error_count ls (line ∷ drop (i + 1) heads) outs) (drop-get os i o output)
 
-pub count-done : (ls : List Line) (heads : List ℕ) (os : List (List Line)) → heads ≡ [] → error_count ls heads os ≡ 0
-count-done ls [] os none = refl
-count-done ls (line ∷ heads) os none = absurd cc
-
--- whether any is an error, one output more
-pub any-step : (os : List (List Line)) (i : ℕ) (o : List Line) → slice_get os i ≡ Some o → list_any is_error (drop i os) ≡ (is_error o || list_any is_error (drop (i + 1) os))
-any-step os i o output = ap (λ (outs : List (List Line)). list_any is_error outs) (drop-get os i o output)
+-- whether the test holds of any, one element more
+pub any-step : {A : Type 0} (test : A → Bool) (xs : List A) (i : ℕ) (x : A) (t : Bool) → slice_get xs i ≡ Some x → test x ≡ t → list_any test (drop i xs) ≡ (t || list_any test (drop (i + 1) xs))
+any-step test xs i x t got is = ap (list_any test) (drop-get xs i x got) ∙ ap (λ (s : Bool). s || list_any test (drop (i + 1) xs)) is
 
 -- there is an output for each directive
 pub outputs_len : (s : PlainScript) → length (outputs s) ≡ length s.blocks

@@ -1,31 +1,26 @@
 -- Reasons of a script's outputs: where they stand, and what they add.
 use Rattle.std.proofs.Common.{◌≡◌, ◌∙◌, ℕ, ◌+◌, ◌-◌, ◌≤◌, Bool, true, false, cond, List, [], ◌∷◌, ◌++◌, length, drop, Option, Some, unwrap_or, Result, refl, ap, sym, subst, append_assoc, append-nil, arith}
-use Rattle.std.specs.Prelude.{IsErr, slice_get, slice_index_or}
-use Rattle.std.specs.Io.KnownBytes.{Appends}
+use Rattle.std.specs.Prelude.{slice_get, slice_index_or}
 use Rattle.std.proofs.lemmas.List.{drop_all}
 use Rattle.std.proofs.lemmas.Option.{slice_get_past, slice_get_within, get_or_from_slice_get}
-use Rattle.rb_script.specs.declared.sink.WriteFault.{WriteFault}
 use Rattle.rb_script.specs.Lines.{Line}
 use Rattle.rb_script.specs.Script.{PlainBlock, PlainScript}
 use Rattle.rb_script.specs.Edits.{block_at_place}
-use Rattle.rb_script.specs.Writes.{AppendsFront, Writes}
 use Rattle.rb_replay.specs.Run.{outputs}
 use Rattle.rb_replay.specs.Report.{same_lines, mismatches}
-use Rattle.rb_replay.proofs.RunLaws.{both}
 use Rattle.rb_check.specs.declared.colors.Colors.{Colors}
-use Rattle.rb_check.specs.Whys.{OnlyAdds}
-use Rattle.rb_text.proofs.SentLaws.{Sent, sent_along, sent_piece, sent_all, piece_exit, drop-get}
-use Rattle.rb_check.proofs.UntoldLaws.{either, untold-mismatch, untold-run}
-use Rattle.rb_check.proofs.AddedLaws.{as_it_is, both_add, either_adds, mismatch-adds, run-adds}
+use Rattle.rb_text.proofs.SentLaws.{drop-get}
+use Rattle.rb_check.proofs.AddedLaws.{Adds, as_it_is, both_add, either_adds, adds_where, mismatch-adds, run-adds}
 use Rattle.rb_checked.specs.declared.view.Shown.{Shown}
 use Rattle.rb_checked.specs.declared.view.Shown.TheVariants as shown
-use Rattle.rb_checked.specs.Checked.{head_of, hint_of, head_line, match_shown, mismatch_shown, directive_shown, all_shown, mismatch_at, brief_at, of_first, checked_text}
+use Rattle.rb_checked.specs.Checked.{head_of, hint_of, head_line, match_shown, mismatch_shown, all_shown, mismatch_at, brief_at, of_first, checked_text}
 use Rattle.rb_checked.specs.Whys.{is_reason, or_nothing, first_reason, reasons_below, why_at, told_differing, told_match, told_directive, all_told, told_at, told_text}
+use Rattle.rb_checked.proofs.EachLaws.{more, done}
 use Rattle.rb_checked.proofs.ShownLaws.{head_line-is}
 
 -- ---- one directive on
 
-told-step : (all : Bool) (colors : Colors) (ls : List Line) (path : List ℕ) (whys : List (List Line)) (heads : List ℕ) (bs : List PlainBlock) (os : List (List Line)) (i line : ℕ) (b : PlainBlock) (o w : List Line)
+pub told-step : (all : Bool) (colors : Colors) (ls : List Line) (path : List ℕ) (whys : List (List Line)) (heads : List ℕ) (bs : List PlainBlock) (os : List (List Line)) (i line : ℕ) (b : PlainBlock) (o w : List Line)
     → slice_get heads i ≡ Some line → slice_get bs i ≡ Some b → slice_get os i ≡ Some o → w ≡ why_at whys i
     → all_told all colors ls path whys i (drop i heads) (drop i bs) (drop i os) ≡ told_directive all colors ls path line b o w ++ all_told all colors ls path whys (i + 1) (drop (i + 1) heads) (drop (i + 1) bs) (drop (i + 1) os)
 told-step all colors ls path whys heads bs os i line b o w head block output why =
@@ -35,30 +30,14 @@ told-step all colors ls path whys heads bs os i line b o w head block output why
     ∙ ap (λ (outs : List (List Line)). all_told all colors ls path whys i (line ∷ drop (i + 1) heads) (b ∷ drop (i + 1) bs) outs) (drop-get os i o output)
     ∙ ap (λ (l : List Line). told_directive all colors ls path line b o l ++ rest) (sym why)
 
-none_left : (all : Bool) (colors : Colors) (ls : List Line) (path : List ℕ) (whys : List (List Line)) (i : ℕ) (heads : List ℕ) (bs : List PlainBlock) (os : List (List Line)) → bs ≡ [] → all_told all colors ls path whys i heads bs os ≡ []
-none_left all colors ls path whys i [] bs os none = refl
-none_left all colors ls path whys i (line ∷ heads) [] os none = refl
-none_left all colors ls path whys i (line ∷ heads) (b ∷ bs) os none = absurd cc
-
-pub told_sent : {old mid : Option (List ℕ)} {text : List ℕ} (new : Option (List ℕ)) (all : Bool) (colors : Colors) (ls : List Line) (path : List ℕ) (whys : List (List Line)) (heads : List ℕ) (bs : List PlainBlock) (os : List (List Line)) (i line : ℕ) (b : PlainBlock) (o w : List Line)
-    → slice_get heads i ≡ Some line → slice_get bs i ≡ Some b → slice_get os i ≡ Some o → w ≡ why_at whys i
-    → Sent old mid text (all_told all colors ls path whys i (drop i heads) (drop i bs) (drop i os)) → Appends mid new (told_directive all colors ls path line b o w)
-    → Sent old new text (all_told all colors ls path whys (i + 1) (drop (i + 1) heads) (drop (i + 1) bs) (drop (i + 1) os))
-told_sent new all colors ls path whys heads bs os i line b o w head block output why s wrote =
-    sent_piece new (told_directive all colors ls path line b o w) (all_told all colors ls path whys (i + 1) (drop (i + 1) heads) (drop (i + 1) bs) (drop (i + 1) os))
-    (sent_along (told-step all colors ls path whys heads bs os i line b o w head block output why) s) wrote
-
--- the write of one failed
-pub told_exit : {X : Type 0} {old mid : Option (List ℕ)} {text : List ℕ} (r : Result X WriteFault) (new : Option (List ℕ)) (all : Bool) (colors : Colors) (ls : List Line) (path : List ℕ) (whys : List (List Line)) (heads : List ℕ) (bs : List PlainBlock) (os : List (List Line)) (i line : ℕ) (b : PlainBlock) (o w : List Line)
-    → slice_get heads i ≡ Some line → slice_get bs i ≡ Some b → slice_get os i ≡ Some o → w ≡ why_at whys i → IsErr r
-    → Sent old mid text (all_told all colors ls path whys i (drop i heads) (drop i bs) (drop i os)) → AppendsFront mid new (told_directive all colors ls path line b o w) → Writes r old new text
-told_exit r new all colors ls path whys heads bs os i line b o w head block output why failed s wrote =
-    piece_exit r new (told_directive all colors ls path line b o w) (all_told all colors ls path whys (i + 1) (drop (i + 1) heads) (drop (i + 1) bs) (drop (i + 1) os)) failed
-    (sent_along (told-step all colors ls path whys heads bs os i line b o w head block output why) s) wrote
-
-pub told_all : {old new : Option (List ℕ)} {text : List ℕ} (all : Bool) (colors : Colors) (ls : List Line) (path : List ℕ) (whys : List (List Line)) (heads : List ℕ) (bs : List PlainBlock) (os : List (List Line)) (i : ℕ) → length bs ≤ i
-    → Sent old new text (all_told all colors ls path whys i (drop i heads) (drop i bs) (drop i os)) → Appends old new text
-told_all all colors ls path whys heads bs os i past s = sent_all (none_left all colors ls path whys i (drop i heads) (drop i bs) (drop i os) (drop_all i bs past)) s
+pub told-done : (all : Bool) (colors : Colors) (ls : List Line) (path : List ℕ) (whys : List (List Line)) (heads : List ℕ) (bs : List PlainBlock) (os : List (List Line)) (i : ℕ) → length bs ≤ i
+    → all_told all colors ls path whys i (drop i heads) (drop i bs) (drop i os) ≡ []
+told-done all colors ls path whys heads bs os i past = none_left all colors ls path whys i (drop i heads) (drop i bs) (drop i os) (drop_all i bs past)
+  where
+    none_left : (all : Bool) (colors : Colors) (ls : List Line) (path : List ℕ) (whys : List (List Line)) (i : ℕ) (heads : List ℕ) (bs : List PlainBlock) (os : List (List Line)) → bs ≡ [] → all_told all colors ls path whys i heads bs os ≡ []
+    none_left all colors ls path whys i [] bs os none = refl
+    none_left all colors ls path whys i (line ∷ heads) [] os none = refl
+    none_left all colors ls path whys i (line ∷ heads) (b ∷ bs) os none = absurd cc
 
 -- the mismatch at an index
 pub told-is : (colors : Colors) (path : List ℕ) (whys : List (List Line)) (heads : List ℕ) (s : PlainScript) (i line : ℕ) (b : PlainBlock) (o w : List Line)
@@ -74,71 +53,33 @@ told-is colors path whys heads s i line b o w head block output why =
     ∙ ap (λ (ls : List Line). told_differing colors path (head_line heads (i + 1)) (block_at_place s.blocks (i + 1)) (slice_index_or (outputs s) (i + 1 - 1) []) ls) why
     ∙ ap (λ (k : ℕ). told_differing colors path (head_line heads (i + 1)) (block_at_place s.blocks (i + 1)) (slice_index_or (outputs s) (i + 1 - 1) []) (why_at whys k)) on
 
--- ---- no reasons
+-- ---- what reasons add, and that none add nothing
 
-nothing_at : (i : ℕ) → why_at [] i ≡ []
-nothing_at i = ap (λ (o : Option (List Line)). unwrap_or o []) (slice_get_past [] i (omega arith))
+nothing_at : (whys : List (List Line)) (i : ℕ) → whys ≡ [] → why_at whys i ≡ []
+nothing_at whys i none = ap (λ (ws : List (List Line)). why_at ws i) none ∙ ap (λ (o : Option (List Line)). unwrap_or o []) (slice_get_past [] i (omega arith))
 
-untold-match : (all : Bool) (ls : List Line) (path : List ℕ) (line : ℕ) (b : PlainBlock) (output : List Line) → told_match all ls path line b output [] ≡ match_shown all ls path line b output
-untold-match true ls path line b output = untold-run path line (head_of b) output (hint_of b output)
-untold-match false ls path line b output = refl
-
-untold-differing : (colors : Colors) (path : List ℕ) (line : ℕ) (b : PlainBlock) (output : List Line) → told_differing colors path line b output [] ≡ mismatch_shown colors path line b output
-untold-differing colors path line b output = untold-mismatch colors path line (head_of b) b.expected output (hint_of b output)
-
-untold-directive : (all : Bool) (colors : Colors) (ls : List Line) (path : List ℕ) (line : ℕ) (b : PlainBlock) (output : List Line) → told_directive all colors ls path line b output [] ≡ directive_shown all colors ls path line b output
-untold-directive all colors ls path line b output =
-    either (same_lines b.expected output) (told_match all ls path line b output []) (told_differing colors path line b output []) (match_shown all ls path line b output) (mismatch_shown colors path line b output)
-    (untold-match all ls path line b output) (untold-differing colors path line b output)
-
-untold-all : (all : Bool) (colors : Colors) (ls : List Line) (path : List ℕ) (i : ℕ) (heads : List ℕ) (bs : List PlainBlock) (os : List (List Line)) → all_told all colors ls path [] i heads bs os ≡ all_shown all colors ls path heads bs os
-untold-all all colors ls path i [] bs os = refl
-untold-all all colors ls path i (line ∷ heads) [] os = refl
-untold-all all colors ls path i (line ∷ heads) (b ∷ bs) [] = refl
-untold-all all colors ls path i (line ∷ heads) (b ∷ bs) (o ∷ os) =
-    both (λ (x y : List ℕ). x ++ y) (ap (λ (w : List Line). told_directive all colors ls path line b o w) (nothing_at i) ∙ untold-directive all colors ls path line b o)
-    (untold-all all colors ls path (i + 1) heads bs os)
-
-untold-at : (colors : Colors) (path heads : List ℕ) (s : PlainScript) (k : ℕ) → told_at colors path [] heads s k ≡ mismatch_at colors path heads s k
-untold-at colors path heads s k =
-    let line = head_line heads k in
-    let b = block_at_place s.blocks k in
-    let o = slice_index_or (outputs s) (k - 1) [] in
-    ap (λ (w : List Line). told_differing colors path line b o w) (nothing_at (k - 1)) ∙ untold-differing colors path line b o
-
-untold-first : (colors : Colors) (path heads : List ℕ) (s : PlainScript) (ks : List ℕ) → of_first (told_at colors path [] heads s) ks ≡ of_first (mismatch_at colors path heads s) ks
-untold-first colors path heads s [] = refl
-untold-first colors path heads s (k ∷ ks) = untold-at colors path heads s k
-
-pub untold : (wanted : Shown) (colors : Colors) (ls : List Line) (path heads : List ℕ) (s : PlainScript) → told_text wanted colors ls path [] heads s ≡ checked_text wanted colors ls path heads s
-untold shown.Differing colors ls path heads s = untold-all false colors ls path 0 heads s.blocks (outputs s)
-untold shown.All colors ls path heads s = untold-all true colors ls path 0 heads s.blocks (outputs s)
-untold shown.First colors ls path heads s = untold-first colors path heads s (mismatches s)
-untold shown.Brief colors ls path heads s = refl
-
--- ---- what reasons add
-
-match-adds : (all : Bool) (ls : List Line) (path : List ℕ) (line : ℕ) (b : PlainBlock) (output why : List Line) → OnlyAdds (match_shown all ls path line b output) (told_match all ls path line b output why)
+match-adds : (all : Bool) (ls : List Line) (path : List ℕ) (line : ℕ) (b : PlainBlock) (output why : List Line) → Adds (why ≡ []) (match_shown all ls path line b output) (told_match all ls path line b output why)
 match-adds true ls path line b output why = run-adds path line (head_of b) output why (hint_of b output)
 match-adds false ls path line b output why = as_it_is (match_shown false ls path line b output)
 
-differing-adds : (colors : Colors) (path : List ℕ) (line : ℕ) (b : PlainBlock) (output why : List Line) → OnlyAdds (mismatch_shown colors path line b output) (told_differing colors path line b output why)
-differing-adds colors path line b output why = mismatch-adds colors path line (head_of b) b.expected output why (hint_of b output)
+differing-adds : (colors : Colors) (path : List ℕ) (line : ℕ) (b : PlainBlock) (output : List Line) (whys : List (List Line)) (i : ℕ)
+    → Adds (whys ≡ []) (mismatch_shown colors path line b output) (told_differing colors path line b output (why_at whys i))
+differing-adds colors path line b output whys i = adds_where (nothing_at whys i) (mismatch-adds colors path line (head_of b) b.expected output (why_at whys i) (hint_of b output))
 
 all-add : (all : Bool) (colors : Colors) (ls : List Line) (path : List ℕ) (whys : List (List Line)) (i : ℕ) (heads : List ℕ) (bs : List PlainBlock) (os : List (List Line))
-    → OnlyAdds (all_shown all colors ls path heads bs os) (all_told all colors ls path whys i heads bs os)
+    → Adds (whys ≡ []) (all_shown all colors ls path heads bs os) (all_told all colors ls path whys i heads bs os)
 all-add all colors ls path whys i [] bs os = as_it_is []
 all-add all colors ls path whys i (line ∷ heads) [] os = as_it_is []
 all-add all colors ls path whys i (line ∷ heads) (b ∷ bs) [] = as_it_is []
 all-add all colors ls path whys i (line ∷ heads) (b ∷ bs) (o ∷ os) =
-    both_add (either_adds (same_lines b.expected o) (match-adds all ls path line b o (why_at whys i)) (differing-adds colors path line b o (why_at whys i)))
+    both_add (either_adds (same_lines b.expected o) (adds_where (nothing_at whys i) (match-adds all ls path line b o (why_at whys i))) (differing-adds colors path line b o whys i))
     (all-add all colors ls path whys (i + 1) heads bs os)
 
-first-adds : (colors : Colors) (path : List ℕ) (whys : List (List Line)) (heads : List ℕ) (s : PlainScript) (ks : List ℕ) → OnlyAdds (of_first (mismatch_at colors path heads s) ks) (of_first (told_at colors path whys heads s) ks)
+first-adds : (colors : Colors) (path : List ℕ) (whys : List (List Line)) (heads : List ℕ) (s : PlainScript) (ks : List ℕ) → Adds (whys ≡ []) (of_first (mismatch_at colors path heads s) ks) (of_first (told_at colors path whys heads s) ks)
 first-adds colors path whys heads s [] = as_it_is []
-first-adds colors path whys heads s (k ∷ ks) = differing-adds colors path (head_line heads k) (block_at_place s.blocks k) (slice_index_or (outputs s) (k - 1) []) (why_at whys (k - 1))
+first-adds colors path whys heads s (k ∷ ks) = differing-adds colors path (head_line heads k) (block_at_place s.blocks k) (slice_index_or (outputs s) (k - 1) []) whys (k - 1)
 
-pub told-adds : (wanted : Shown) (colors : Colors) (ls : List Line) (path : List ℕ) (whys : List (List Line)) (heads : List ℕ) (s : PlainScript) → OnlyAdds (checked_text wanted colors ls path heads s) (told_text wanted colors ls path whys heads s)
+pub told-adds : (wanted : Shown) (colors : Colors) (ls : List Line) (path : List ℕ) (whys : List (List Line)) (heads : List ℕ) (s : PlainScript) → Adds (whys ≡ []) (checked_text wanted colors ls path heads s) (told_text wanted colors ls path whys heads s)
 told-adds shown.Differing colors ls path whys heads s = all-add false colors ls path whys 0 heads s.blocks (outputs s)
 told-adds shown.All colors ls path whys heads s = all-add true colors ls path whys 0 heads s.blocks (outputs s)
 told-adds shown.First colors ls path whys heads s = first-adds colors path whys heads s (mismatches s)
@@ -163,13 +104,11 @@ below-reason ls had at line got is =
 
 pub below-line : (ls had has : List Line) (at : ℕ) (line reason : Line) → slice_get ls at ≡ Some line → is_reason line ≡ false → reason ≡ first_reason (drop (at + 1) ls) → has ≡ had ++ reason ∷ []
     → has ++ reasons_below (drop (at + 1) ls) ≡ had ++ reasons_below (drop at ls)
-below-line ls had has at line reason got is first more =
+below-line ls had has at line reason got is first added =
     let rest = reasons_below (drop (at + 1) ls) in
-    ap (λ (l : List Line). l ++ rest) more
-    ∙ append_assoc had (reason ∷ []) rest
-    ∙ ap (λ (r : Line). had ++ (r ∷ rest)) first
-    ∙ ap (λ (l : List Line). had ++ l) (sym (below-step ls at line got ∙ ap (λ (t : Bool). cond t rest (first_reason (drop (at + 1) ls) ∷ rest)) is))
+    more had (reason ∷ []) rest (reasons_below (drop at ls)) has (had ++ reasons_below (drop at ls)) added
+    (below-step ls at line got ∙ ap (λ (t : Bool). cond t rest (first_reason (drop (at + 1) ls) ∷ rest)) is ∙ ap (λ (r : Line). r ∷ rest) (sym first)) refl
 
 -- all lines were looked at
 pub below-done : (ls has all : List Line) (at : ℕ) → length ls ≤ at → has ++ reasons_below (drop at ls) ≡ all → has ≡ all
-below-done ls has all at past so_far = sym (append-nil has) ∙ sym (ap (λ (l : List Line). has ++ reasons_below l) (drop_all at ls past)) ∙ so_far
+below-done ls has all at past so_far = done has (reasons_below (drop at ls)) all (ap reasons_below (drop_all at ls past)) so_far

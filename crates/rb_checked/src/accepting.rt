@@ -12,6 +12,7 @@ ghost use Rattle.rb_checked.specs.Accepting.{is_left, accepted_lines, accepted_o
 
 use crate::answers::{block_at, number_at, output_at};
 use crate::errors::{first_line, is_unexpected};
+use crate::layout::Layout;
 use crate::put::is_same;
 use crate::wanted::{Wanted, is_picked};
 use rb_check::{FileLine, put_left};
@@ -151,20 +152,21 @@ fn put_if_left<S: Sink>(
 pub(crate) fn put_all_left<M: Machine, S: Sink>(
     sink: &mut S,
     session: &Session<M>,
-    heads: &[usize],
-    text: &Lines,
+    layout: &Layout,
     path: &[u8],
     wanted: Wanted<'_>,
 ) -> Result<(), WriteFault>
-    requires { length heads.now ≡ length session.now.script.blocks }
-    ensures wrote { Writes result (S.held sink.old) (S.held sink.new) (all_left wanted.entry text.now path.now heads.now session.now.script.blocks (outputs session.now.script)) }
+    requires { length layout.now.heads.items ≡ length session.now.script.blocks }
+    ensures wrote { Writes result (S.held sink.old) (S.held sink.new) (all_left wanted.entry layout.now.text path.now layout.now.heads.items session.now.script.blocks (outputs session.now.script)) }
     ensures all { S.takes_all sink.old → IsOk result × S.takes_all sink.new }
 {
+    let heads = layout.heads.as_slice();
     for i in 0..session.len() {
         let block = block_at(session, i);
         let output = output_at(session, i);
         let line = number_at(heads, i);
-        put_if_left(sink, wanted, text, FileLine { path, line }, block, output)?;
+        let place = FileLine { path, line };
+        put_if_left(sink, wanted, &layout.text, place, block, output)?;
     }
     Ok(())
 }

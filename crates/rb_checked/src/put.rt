@@ -11,7 +11,7 @@ ghost use Rattle.rb_replay.specs.Run.{outputs};
 ghost use Rattle.rb_replay.specs.Report.{same_lines, mismatches};
 ghost use Rattle.rb_check.specs.Whys.{reasons_in};
 ghost use Rattle.rb_checked.specs.Checked.{of_first, brief_at, IsFirst};
-ghost use Rattle.rb_checked.specs.Whys.{told_match, told_differing, told_directive, all_told, told_at, told_text};
+ghost use Rattle.rb_checked.specs.Whys.{told_directive, all_told, told_at, told_text};
 ghost use Rattle.rb_checked.specs.Accepting.{all_left};
 ghost use Rattle.rb_checked.specs.Shows.{Shows, told_of, IsQuiet};
 
@@ -40,105 +40,71 @@ pub fn is_same(lines: &Lines, other: &Lines) -> bool
     lines.same(other)
 }
 
-// Writes a directive that expects its output: an error is named.
-fn put_match<S: Sink>(
-    sink: &mut S,
-    block: &Block,
-    output: &Lines,
-    text: &Lines,
-    place: FileLine<'_>,
-    all: bool,
-    why: Why<'_>,
-) -> Result<(), WriteFault>
-    ensures wrote { Writes result (S.held sink.old) (S.held sink.new) (told_match all text.now place.entry.path.now place.entry.line block.now output.now (reasons_in why.entry)) }
-    ensures all { S.takes_all sink.old → IsOk result × S.takes_all sink.new }
-{
-    if all {
-        let hint = hint_of(block, output);
-        return put_told_run(sink, place, &block.directive(), output, why, hint);
-    }
-    if !is_unexpected(text, place.line, output) {
-        return Ok(());
-    }
-    let hint = hint_of(block, output);
-    put_note(sink, place, &block.directive(), first_line(output), hint)
-}
-
-// Writes a directive that expects other lines.
-fn put_differing<S: Sink>(
-    sink: &mut S,
-    block: &Block,
-    output: &Lines,
-    place: FileLine<'_>,
-    why: Why<'_>,
-    colors: Colors,
-    table: &mut Table,
-) -> Result<(), WriteFault>
-    ensures wrote { Writes result (S.held sink.old) (S.held sink.new) (told_differing colors place.entry.path.now place.entry.line block.now output.now (reasons_in why.entry)) }
-    ensures all { S.takes_all sink.old → IsOk result × S.takes_all sink.new }
-{
-    let hint = hint_of(block, output);
-    let expected = block.expected();
-    put_told_mismatch(
-        sink,
-        place,
-        &block.directive(),
-        expected,
-        output,
-        why,
-        hint,
-        colors,
-        table,
-    )
-}
-
-// Writes one directive.
+// Writes what is shown of a directive: what differs, where it expects other lines. Else an error is named, and where all are shown the output is
+// too.
 fn put_shown<S: Sink>(
     sink: &mut S,
     block: &Block,
     output: &Lines,
     text: &Lines,
-    line: usize,
-    view: View<'_>,
+    place: FileLine<'_>,
+    colors: Colors,
     all: bool,
     why: Why<'_>,
     table: &mut Table,
 ) -> Result<(), WriteFault>
-    ensures wrote { Writes result (S.held sink.old) (S.held sink.new) (told_directive all view.entry.colors text.now view.entry.path.now line block.now output.now (reasons_in why.entry)) }
+    ensures wrote { Writes result (S.held sink.old) (S.held sink.new) (told_directive all colors text.now place.entry.path.now place.entry.line block.now output.now (reasons_in why.entry)) }
     ensures all { S.takes_all sink.old → IsOk result × S.takes_all sink.new }
 {
-    let path = view.path;
-    let place = FileLine { path, line };
-    if is_same(block.expected(), output) {
-        return put_match(sink, block, output, text, place, all, why);
+    let hint = hint_of(block, output);
+    let expected = block.expected();
+    if !is_same(expected, output) {
+        return put_told_mismatch(
+            sink,
+            place,
+            &block.directive(),
+            expected,
+            output,
+            why,
+            hint,
+            colors,
+            table,
+        );
     }
-    put_differing(sink, block, output, place, why, view.colors, table)
+    if all {
+        return put_told_run(sink, place, &block.directive(), output, why, hint);
+    }
+    if !is_unexpected(text, place.line, output) {
+        return Ok(());
+    }
+    put_note(sink, place, &block.directive(), first_line(output), hint)
 }
 
-// Writes what is shown of each directive, where a script's heads begin on these lines.
+// Writes what is shown of each directive.
 fn put_directives<M: Machine, S: Sink>(
     sink: &mut S,
     session: &Session<M>,
-    heads: &[usize],
-    text: &Lines,
+    layout: &Layout,
     view: View<'_>,
     all: bool,
     whys: &[Lines],
     table: &mut Table,
 ) -> Result<(), WriteFault>
-    requires { length heads.now ≡ length session.now.script.blocks }
-    ensures wrote { Writes result (S.held sink.old) (S.held sink.new) (all_told all view.entry.colors text.now view.entry.path.now whys.now 0 heads.now session.now.script.blocks (outputs session.now.script)) }
+    requires { length layout.now.heads.items ≡ length session.now.script.blocks }
+    ensures wrote { Writes result (S.held sink.old) (S.held sink.new) (all_told all view.entry.colors layout.now.text view.entry.path.now whys.now 0 layout.now.heads.items session.now.script.blocks (outputs session.now.script)) }
     ensures all { S.takes_all sink.old → IsOk result × S.takes_all sink.new }
 {
+    let heads = layout.heads.as_slice();
+    let path = view.path;
     for i in 0..session.len() {
-        let block = block_at(session, i);
+        let line = number_at(heads, i);
         put_shown(
             sink,
-            block,
+            block_at(session, i),
             output_at(session, i),
-            text,
-            number_at(heads, i),
-            view,
+            &layout.text,
+            FileLine { path, line },
+            view.colors,
             all,
             why_at(whys, i),
             table,
@@ -147,32 +113,34 @@ fn put_directives<M: Machine, S: Sink>(
     Ok(())
 }
 
-// Writes the mismatch at an index.
+// Writes the directive at an index as a mismatch.
 fn put_mismatch_at<M: Machine, S: Sink>(
     sink: &mut S,
     session: &Session<M>,
-    heads: &[usize],
+    layout: &Layout,
     view: View<'_>,
     whys: &[Lines],
     index: usize,
     table: &mut Table,
 ) -> Result<(), WriteFault>
-    requires count { length heads.now ≡ length session.now.script.blocks }
-    requires few { length session.now.script.blocks ≤ MAX_DIRECTIVES }
+    requires count { length layout.now.heads.items ≡ length session.now.script.blocks }
     requires within { index < length session.now.script.blocks }
-    ensures wrote { Writes result (S.held sink.old) (S.held sink.new) (told_at view.entry.colors view.entry.path.now whys.now heads.now session.now.script (index + 1)) }
+    ensures wrote { Writes result (S.held sink.old) (S.held sink.new) (told_at view.entry.colors view.entry.path.now whys.now layout.now.heads.items session.now.script (index + 1)) }
     ensures all { S.takes_all sink.old → IsOk result × S.takes_all sink.new }
 {
+    let _count = session.len();
     let block = block_at(session, index);
     let path = view.path;
-    let line = number_at(heads, index);
+    let line = number_at(layout.heads.as_slice(), index);
     let output = output_at(session, index);
-    put_differing(
+    put_told_mismatch(
         sink,
-        block,
-        output,
         FileLine { path, line },
+        &block.directive(),
+        block.expected(),
+        output,
         why_at(whys, index),
+        hint_of(block, output),
         view.colors,
         table,
     )
@@ -198,17 +166,17 @@ fn first_index<M: Machine>(session: &Session<M>) -> Option<usize>
 fn put_first<M: Machine, S: Sink>(
     sink: &mut S,
     session: &Session<M>,
-    heads: &[usize],
+    layout: &Layout,
     view: View<'_>,
     whys: &[Lines],
     table: &mut Table,
 ) -> Result<(), WriteFault>
-    requires { length heads.now ≡ length session.now.script.blocks }
-    ensures wrote { Writes result (S.held sink.old) (S.held sink.new) (of_first (told_at view.entry.colors view.entry.path.now whys.now heads.now session.now.script) (mismatches session.now.script)) }
+    requires { length layout.now.heads.items ≡ length session.now.script.blocks }
+    ensures wrote { Writes result (S.held sink.old) (S.held sink.new) (of_first (told_at view.entry.colors view.entry.path.now whys.now layout.now.heads.items session.now.script) (mismatches session.now.script)) }
     ensures all { S.takes_all sink.old → IsOk result × S.takes_all sink.new }
 {
     match first_index(session) {
-        Some(index) => put_mismatch_at(sink, session, heads, view, whys, index, table),
+        Some(index) => put_mismatch_at(sink, session, layout, view, whys, index, table),
         None => Ok(()),
     }
 }
@@ -217,11 +185,11 @@ fn put_first<M: Machine, S: Sink>(
 fn put_in_brief<M: Machine, S: Sink>(
     sink: &mut S,
     session: &Session<M>,
-    heads: &[usize],
+    layout: &Layout,
     path: &[u8],
 ) -> Result<(), WriteFault>
-    requires { length heads.now ≡ length session.now.script.blocks }
-    ensures wrote { Writes result (S.held sink.old) (S.held sink.new) (of_first (brief_at path.now heads.now session.now.script) (mismatches session.now.script)) }
+    requires { length layout.now.heads.items ≡ length session.now.script.blocks }
+    ensures wrote { Writes result (S.held sink.old) (S.held sink.new) (of_first (brief_at path.now layout.now.heads.items session.now.script) (mismatches session.now.script)) }
     ensures all { S.takes_all sink.old → IsOk result × S.takes_all sink.new }
 {
     match first_index(session) {
@@ -230,7 +198,7 @@ fn put_in_brief<M: Machine, S: Sink>(
             path,
             session.mismatches().len(),
             session.len(),
-            number_at(heads, index),
+            number_at(layout.heads.as_slice(), index),
         ),
         None => Ok(()),
     }
@@ -249,21 +217,11 @@ fn put_wanted<M: Machine, S: Sink>(
     ensures wrote { Writes result (S.held sink.old) (S.held sink.new) (told_text view.entry.shown view.entry.colors layout.now.text view.entry.path.now whys.now layout.now.heads.items session.now.script) }
     ensures all { S.takes_all sink.old → IsOk result × S.takes_all sink.new }
 {
-    let heads = layout.heads.as_slice();
     match view.shown {
-        Shown::Differing => put_directives(
-            sink,
-            session,
-            heads,
-            &layout.text,
-            view,
-            false,
-            whys,
-            table,
-        ),
-        Shown::All => put_directives(sink, session, heads, &layout.text, view, true, whys, table),
-        Shown::First => put_first(sink, session, heads, view, whys, table),
-        Shown::Brief => put_in_brief(sink, session, heads, view.path),
+        Shown::Differing => put_directives(sink, session, layout, view, false, whys, table),
+        Shown::All => put_directives(sink, session, layout, view, true, whys, table),
+        Shown::First => put_first(sink, session, layout, view, whys, table),
+        Shown::Brief => put_in_brief(sink, session, layout, view.path),
     }
 }
 
@@ -317,25 +275,6 @@ pub fn put_checked<M: Machine, S: Sink>(
     }
 }
 
-fn put_mismatch_in<M: Machine, S: Sink>(
-    sink: &mut S,
-    session: &Session<M>,
-    layout: &Layout,
-    view: View<'_>,
-    whys: &[Lines],
-    index: usize,
-    table: &mut Table,
-) -> Result<(), WriteFault>
-    requires count { length layout.now.heads.items ≡ length session.now.script.blocks }
-    requires within { index < length session.now.script.blocks }
-    ensures wrote { Writes result (S.held sink.old) (S.held sink.new) (told_at view.entry.colors view.entry.path.now whys.now layout.now.heads.items session.now.script (index + 1)) }
-    ensures all { S.takes_all sink.old → IsOk result × S.takes_all sink.new }
-{
-    let _count = session.len();
-    let heads = layout.heads.as_slice();
-    put_mismatch_at(sink, session, heads, view, whys, index, table)
-}
-
 /// Writes the directive at an index, which counts from 0, of the script of the bytes as a mismatch, with its reasons, where some are given: how
 /// much is shown of others changes nothing. On a failure of the writer what went out is a beginning of the text.
 pub fn put_one_mismatch<M: Machine, S: Sink>(
@@ -358,25 +297,10 @@ pub fn put_one_mismatch<M: Machine, S: Sink>(
     let Ok(mut table) = Table::new(alloc) else {
         return Err(ShowFault::OutOfMemory);
     };
-    match put_mismatch_in(sink, session, &layout, view, whys, index, &mut table) {
+    match put_mismatch_at(sink, session, &layout, view, whys, index, &mut table) {
         Ok(()) => Ok(()),
         Err(_) => Err(ShowFault::Writing),
     }
-}
-
-fn put_left_of<M: Machine, S: Sink>(
-    sink: &mut S,
-    session: &Session<M>,
-    layout: &Layout,
-    path: &[u8],
-    wanted: Wanted<'_>,
-) -> Result<(), WriteFault>
-    requires { length layout.now.heads.items ≡ length session.now.script.blocks }
-    ensures wrote { Writes result (S.held sink.old) (S.held sink.new) (all_left wanted.entry layout.now.text path.now layout.now.heads.items session.now.script.blocks (outputs session.now.script)) }
-    ensures all { S.takes_all sink.old → IsOk result × S.takes_all sink.new }
-{
-    let heads = layout.heads.as_slice();
-    put_all_left(sink, session, heads, &layout.text, path, wanted)
 }
 
 /// Writes which outputs of the script of the bytes are picked and not accepted. On a failure of the writer what went out is a beginning of the text.
@@ -395,7 +319,7 @@ pub fn put_left_errors<M: Machine, S: Sink>(
     let Ok(layout) = layout_of(alloc, bytes) else {
         return Err(ShowFault::OutOfMemory);
     };
-    match put_left_of(sink, session, &layout, path, wanted) {
+    match put_all_left(sink, session, &layout, path, wanted) {
         Ok(()) => Ok(()),
         Err(_) => Err(ShowFault::Writing),
     }

@@ -219,10 +219,10 @@ pub fn warnings<M: Machine>(
     ensures { (heads : List ℕ) → AreHeadLines 1 (lines bytes.now) session.now.script.blocks heads → IfOk result (λ found. found.items ≡ all_warnings (lines bytes.now) heads session.now.script.blocks (outputs session.now.script)) }
 {
     let layout = layout_of(alloc, bytes)?;
-    warnings_of(alloc, session, &layout)
+    all_warnings(alloc, session, &layout)
 }
 
-fn warnings_of<M: Machine>(
+fn all_warnings<M: Machine>(
     alloc: Global,
     session: &Session<M>,
     layout: &Layout,
@@ -231,23 +231,12 @@ fn warnings_of<M: Machine>(
     ensures { IfOk result (λ found. found.items ≡ all_warnings layout.now.text layout.now.heads.items session.now.script.blocks (outputs session.now.script)) }
 {
     let heads = layout.heads.as_slice();
-    all_warnings(alloc, session, heads, &layout.text)
-}
-
-fn all_warnings<M: Machine>(
-    alloc: Global,
-    session: &Session<M>,
-    heads: &[usize],
-    text: &Lines,
-) -> Result<Vec<Warning>, AllocError>
-    requires { length heads.now ≡ length session.now.script.blocks }
-    ensures { IfOk result (λ found. found.items ≡ all_warnings text.now heads.now session.now.script.blocks (outputs session.now.script)) }
-{
     let mut found = Vec::new(alloc);
     for i in 0..session.len() {
         let block = block_at(session, i);
         let output = output_at(session, i);
         let line = number_at(heads, i);
+        let text = &layout.text;
         let last = last_line(text, heads, i);
         push_block(alloc, &mut found, text, line, last, block, output)?;
     }

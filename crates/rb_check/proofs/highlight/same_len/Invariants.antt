@@ -1,7 +1,8 @@
 -- All bytes so far, from this end, are the same.
 use Rattle.std.proofs.Common.{◌≡◌, ◌+◌, drop, eqb}
 use Rattle.std.specs.List.{common_prefix_len}
-use Rattle.rb_check.specs.Highlights.{read_from, same_len}
+use Rattle.rb_check.specs.Ends.{read_from}
+use Rattle.rb_check.specs.Highlights.{same_len}
 use Rattle.rb_check.proofs.highlight.same_len.Given as goal
 
 abbrev pub invariant-loop-i : goal.invariant-loop-i

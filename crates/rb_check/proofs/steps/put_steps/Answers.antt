@@ -1,35 +1,26 @@
-use Rattle.std.proofs.Common.{ℕ, ◌+◌, Bool, List, drop, ap, sym, arith}
+use Rattle.std.proofs.Common.{ℕ, ◌+◌, ◌++◌, Bool, List, drop, ap, sym, arith, ◌∙◌}
 use Rattle.std.proofs.lemmas.List.{drop_all}
 use Rattle.rb_script.specs.Lines.{Line}
-use Rattle.rb_check.specs.Steps.{is_delivered}
+use Rattle.rb_text.proofs.SentLaws.{drop-get, sent_all}
 use Rattle.rb_check.specs.Whys.{reasons_in, told_step, told_steps}
-use Rattle.rb_text.proofs.SentLaws.{sent_piece, sent_along, sent_all, piece_exit}
-use Rattle.rb_check.proofs.StepLaws.{steps-step}
+use Rattle.rb_check.proofs.PutLaws.{next_sent, next_exit}
 use Rattle.rb_check.proofs.steps.put_steps.Goals as goal
 
 pub returns-in_err-put_told_step-clause-wrote : goal.returns-in_err-put_told_step-clause-wrote
 returns-in_err-put_told_step-clause-wrote g c =
     let i : ℕ = c.loop-i.i in
-    let d : Bool = c.loop-i.delivered in
-    let why = reasons_in c.args.why in
-    let ls = c.args.lines.now in
-    let line = c.line-line.result.now in
-    piece_exit c.from_residual.result (g.S.Sink.held c.put_told_step.new.sink) (told_step d why i line) (told_steps (is_delivered d line) why (i + 1) (drop (i + 1) ls))
-    c.from_residual.ensures.0 (sent_along (steps-step d why ls i line c.line-line.ensures) c.loop-i.invariant.sent) c.in_err-put_told_step.ensures.wrote
+    next_exit _ _ _ _ c.from_residual.ensures.0 c.loop-i.invariant.sent c.in_err-put_told_step.ensures.wrote
+    (ap (λ (l : List Line). told_steps c.loop-i.delivered (reasons_in c.args.why) i l) (drop-get c.args.lines.now i c.line-line.result.now c.line-line.ensures))
 
 pub loop-i-preserved : goal.loop-i-preserved
 loop-i-preserved g c =
     let i : ℕ = c.loop-i.i in
     let d : Bool = c.loop-i.delivered in
     let why = reasons_in c.args.why in
-    let ls = c.args.lines.now in
     let line = c.line-line.result.now in
-    record {
-      sent = sent_along (ap (λ (t : Bool). told_steps t why (i + 1) (drop (i + 1) ls)) (sym c.is_delivered-delivered.ensures))
-          (sent_piece (g.S.Sink.held c.put_told_step.new.sink) (told_step d why i line) (told_steps (is_delivered d line) why (i + 1) (drop (i + 1) ls))
-          (sent_along (steps-step d why ls i line c.line-line.ensures) c.loop-i.invariant.sent) c.in_ok-put_told_step.ensures.wrote);
-      takes = λ t. (c.in_ok-put_told_step.ensures.all (c.loop-i.invariant.takes t)).1;
-    }
+    let next = ap (λ (l : List Line). told_steps d why i l) (drop-get c.args.lines.now i line c.line-line.ensures)
+    ∙ ap (λ (t : Bool). told_step d why i line ++ told_steps t why (i + 1) (drop (i + 1) c.args.lines.now)) (sym c.is_delivered-delivered.ensures) in
+    record { sent = next_sent _ _ _ c.loop-i.invariant.sent c.in_ok-put_told_step.ensures.wrote next; takes = λ t. (c.in_ok-put_told_step.ensures.all (c.loop-i.invariant.takes t)).1 }
 
 pub returns-clause-wrote : goal.returns-clause-wrote
 returns-clause-wrote g c =

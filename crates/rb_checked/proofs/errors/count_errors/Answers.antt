@@ -1,9 +1,9 @@
-use Rattle.std.proofs.Common.{◌≡◌, ◌∙◌, ◌≤◌, Bool, drop, length, ap, arith}
+use Rattle.std.proofs.Common.{◌≡◌, ◌∙◌, ◌≤◌, ℕ, Bool, List, drop, length, ap, arith}
 use Rattle.std.specs.Prelude.{if◌then◌else◌}
 use Rattle.std.proofs.lemmas.List.{drop_all}
 use Rattle.rb_replay.specs.Run.{outputs}
-use Rattle.rb_checked.specs.Errors.{is_unexpected}
-use Rattle.rb_checked.proofs.ShownLaws.{count-step, count-done}
+use Rattle.rb_checked.specs.Errors.{is_unexpected, error_count}
+use Rattle.rb_checked.proofs.ShownLaws.{count-step}
 use Rattle.rb_checked.proofs.errors.count_errors.Goals as goal
 
 pub loop-i-preserved : goal.loop-i-preserved
@@ -23,5 +23,5 @@ pub returns : goal.returns
 returns g c =
     let os = outputs c.args.session.now.script in
     let past : length c.args.heads.now ≤ c.loop-i.i = omega (arith, c.loop-i-test.false, c.len-i-end.ensures.len, c.requires) in
-    let none = count-done c.args.text.now (drop c.loop-i.i c.args.heads.now) (drop c.loop-i.i os) (drop_all c.loop-i.i c.args.heads.now past) in
+    let none = ap (λ (ns : List ℕ). error_count c.args.text.now ns (drop c.loop-i.i os)) (drop_all c.loop-i.i c.args.heads.now past) in
     omega (arith, c.loop-i.invariant.sum, none)

@@ -1,5 +1,4 @@
-use Rattle.std.proofs.Common.{◌∙◌, ◌+◌, ◌≤◌, Bool, List, drop, length, ap, sym, arith}
-use Rattle.std.specs.Prelude.{◌||◌}
+use Rattle.std.proofs.Common.{◌∙◌, ◌≤◌, true, false, List, length, ap, sym, arith}
 use Rattle.std.specs.List.{list_any}
 use Rattle.std.proofs.lemmas.List.{drop_all}
 use Rattle.rb_script.specs.Lines.{Line}
@@ -11,17 +10,11 @@ use Rattle.rb_checked.proofs.errors.has_errors.Goals as goal
 
 pub returns-then-is_error : goal.returns-then-is_error
 returns-then-is_error g c =
-    let os = outputs c.args.session.now.script in
-    let o = c.output_at.result.now in
-    let next = any-step os c.loop-i.i o c.output_at.ensures in
-    sym (next ∙ ap (λ (t : Bool). t || list_any is_error (drop (c.loop-i.i + 1) os)) (sym c.is_error.ensures ∙ c.if-is_error.true)) ∙ c.loop-i.invariant
+    sym (any-step is_error (outputs c.args.session.now.script) c.loop-i.i c.output_at.result.now true c.output_at.ensures (sym c.is_error.ensures ∙ c.if-is_error.true)) ∙ c.loop-i.invariant
 
 pub loop-i-preserved : goal.loop-i-preserved
 loop-i-preserved g c =
-    let os = outputs c.args.session.now.script in
-    let o = c.output_at.result.now in
-    let next = any-step os c.loop-i.i o c.output_at.ensures in
-    sym (next ∙ ap (λ (t : Bool). t || list_any is_error (drop (c.loop-i.i + 1) os)) (sym c.is_error.ensures ∙ c.if-is_error.false)) ∙ c.loop-i.invariant
+    sym (any-step is_error (outputs c.args.session.now.script) c.loop-i.i c.output_at.result.now false c.output_at.ensures (sym c.is_error.ensures ∙ c.if-is_error.false)) ∙ c.loop-i.invariant
 
 pub returns : goal.returns
 returns g c =

@@ -6,8 +6,10 @@ use Rattle.rb_checked.specs.Whys.{all_told}
 use Rattle.rb_checked.proofs.put.put_directives.Given as goal
 
 abbrev pub invariant-loop-i : goal.invariant-loop-i
-invariant-loop-i g l = record {
-  sent : Sent (g.S.Sink.held l.initial.sink) (g.S.Sink.held l.sink) (all_told l.all l.view.colors l.text l.view.path.now l.whys 0 l.heads l.session.script.blocks (outputs l.session.script))
-      (all_told l.all l.view.colors l.text l.view.path.now l.whys l.i (drop l.i l.heads) (drop l.i l.session.script.blocks) (drop l.i (outputs l.session.script)));
-  takes : g.S.Sink.takes_all l.initial.sink → g.S.Sink.takes_all l.sink;
-}
+invariant-loop-i g l =
+    let told = all_told l.all l.view.colors l.layout.text l.view.path.now l.whys in
+    let s = l.session.script in
+    record {
+      sent : Sent (g.S.Sink.held l.initial.sink) (g.S.Sink.held l.sink) (told 0 l.layout.heads.items s.blocks (outputs s)) (told l.i (drop l.i l.layout.heads.items) (drop l.i s.blocks) (drop l.i (outputs s)));
+      takes : g.S.Sink.takes_all l.initial.sink → g.S.Sink.takes_all l.sink;
+    }

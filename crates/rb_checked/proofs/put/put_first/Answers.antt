@@ -1,7 +1,6 @@
-use Rattle.std.proofs.Common.{◌+◌}
 use Rattle.rb_replay.specs.Report.{mismatches}
+use Rattle.std.proofs.Common.{◌+◌}
 use Rattle.rb_text.proofs.SentLaws.{writes_along}
-use Rattle.rb_checked.specs.Checked.{of_first}
 use Rattle.rb_checked.specs.Whys.{told_at}
 use Rattle.rb_checked.proofs.ShownLaws.{of_first-is}
 use Rattle.rb_checked.proofs.put.put_first.Goals as goal
@@ -10,7 +9,4 @@ pub returns-in-Some-clause-wrote : goal.returns-in-Some-clause-wrote
 returns-in-Some-clause-wrote g c =
     let s = c.args.session.now.script in
     let v = c.args.view in
-    writes_along c.put_mismatch_at.result (g.S.Sink.held c.args.sink.now) (g.S.Sink.held c.put_mismatch_at.new.sink)
-    (told_at v.colors v.path.now c.args.whys.now c.args.heads.now s (c.in-Some.index + 1)) (of_first (told_at v.colors v.path.now c.args.whys.now c.args.heads.now s) (mismatches s))
-    (of_first-is (told_at v.colors v.path.now c.args.whys.now c.args.heads.now s) (c.in-Some.index + 1) (mismatches s) c.in-Some.ensures.some)
-    c.put_mismatch_at.ensures.wrote
+    writes_along _ _ _ _ _ (of_first-is (told_at v.colors v.path.now c.args.whys.now c.args.layout.now.heads.items s) (c.in-Some.index + 1) (mismatches s) c.in-Some.ensures.some) c.put_mismatch_at.ensures.wrote

@@ -6,5 +6,5 @@ use Rattle.rb_checked.proofs.warning.all_warnings.Given as goal
 
 abbrev pub invariant-loop-i : goal.invariant-loop-i
 invariant-loop-i g l =
-    l.found.items ++ all_warnings l.text (drop l.i l.heads) (drop l.i l.session.script.blocks) (drop l.i (outputs l.session.script))
-    ≡ all_warnings l.text l.heads l.session.script.blocks (outputs l.session.script)
+    l.found.items ++ all_warnings l.layout.text (drop l.i l.heads) (drop l.i l.session.script.blocks) (drop l.i (outputs l.session.script))
+    ≡ all_warnings l.layout.text l.heads l.session.script.blocks (outputs l.session.script)
