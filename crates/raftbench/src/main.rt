@@ -1,12 +1,17 @@
 //! The program: its arguments are read, and what they ask for is done, or it says why it isn't. The streams are the process's own.
 #![tactic(auto)]
 
-mod edge;
 mod editing;
 
-use rb_program::Terminals;
-use std::io::IsTerminal;
+use crate::editing::serve_editor;
+use rb_args::{Choice, Subcommand, chosen};
+use rb_check::{Status, status_code};
+use rb_program::{Misuse, Refusal, Terminals, carry_out, check_all};
+use std::io::{IsTerminal, Write};
 use std::process::ExitCode;
+use std::rt::{Env, Files};
+use std::time::Clock;
+use std::{env, io};
 
 fn main(rt: HostRuntime) -> ExitCode {
     let errors = rt.stderr();
@@ -15,5 +20,55 @@ fn main(rt: HostRuntime) -> ExitCode {
         output: rt.stdout().is_terminal(),
         errors: errors.is_terminal(),
     };
-    ExitCode::from(edge::status(&rt, errors, terminals))
+    ExitCode::from(status(&rt, errors, terminals))
+}
+
+fn status<R: Files + Input + Print + Eprint + Env + Clock + AllocGlobal, E: Write + Drop>(
+    rt: &R,
+    errors: E,
+    terminals: Terminals,
+) -> u8 {
+    match answered(rt, errors, terminals) {
+        Ok(status) => status,
+        Err(refusal) => status_code(refusal.tell(rt, terminals.errors)),
+    }
+}
+
+fn answered<R: Files + Input + Print + Env + Clock + AllocGlobal, E: Write + Drop>(
+    rt: &R,
+    errors: E,
+    terminals: Terminals,
+) -> Result<u8, Refusal> {
+    let choice = choose(rt)?;
+    match choice.subcommand {
+        Some(Subcommand::Lsp) => serve_editor(rt),
+        Some(Subcommand::Check) => {
+            let every = choice.every.as_deref();
+            coded(check_all(rt, &choice.check, every, errors, terminals))
+        }
+        Some(subcommand) => coded(carry_out(rt, subcommand, &choice)),
+        None => Err(Refusal::Usage(Misuse::NoCommand)),
+    }
+}
+
+fn coded(ended: Result<Status, Refusal>) -> Result<u8, Refusal> {
+    match ended {
+        Ok(status) => Ok(status_code(status)),
+        Err(refusal) => Err(refusal),
+    }
+}
+
+fn choose<R: Env + AllocGlobal>(rt: &R) -> Result<Choice, Refusal> {
+    let words = words(rt)?;
+    Ok(chosen(rt.alloc(), words.as_slice())?)
+}
+
+fn words<R: Env + AllocGlobal>(rt: &R) -> Result<Vec<String>, Refusal> {
+    match env::args(rt) {
+        Ok(args) => Ok(args.collect(rt.alloc())?),
+        Err(error) if error.kind() == io::ErrorKind::InvalidData => {
+            Err(Refusal::Usage(Misuse::NoText))
+        }
+        Err(error) => Err(Refusal::from(error)),
+    }
 }

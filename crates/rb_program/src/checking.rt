@@ -8,7 +8,6 @@ use crate::misuse::{Misuse, misuse_of_every, misused};
 use crate::refusal::Refusal;
 use crate::spacing::spacing;
 use crate::style::{Style, style_of};
-use crate::subcommands::Terminals;
 use crate::target::targets;
 use rb_args::CheckChoice;
 use rb_check::Status;
@@ -20,14 +19,27 @@ use std::io::Write;
 use std::rt::{Env, Files};
 use std::time::Clock;
 
+/// Which of the streams are terminals.
+#[derive(Clone, Copy)]
+pub struct Terminals {
+    pub input: bool,
+    pub output: bool,
+    pub errors: bool,
+}
+
 /// Checks scripts and folders of scripts.
-pub(crate) fn check_all<R: Files + Input + Print + Env + Clock + AllocGlobal, E: Write + Drop>(
+///
+/// # Errors
+///
+/// What is wrong with the arguments; or that no memory was found to begin with.
+pub fn check_all<R: Files + Input + Print + Env + Clock + AllocGlobal, E: Write + Drop>(
     rt: &R,
     choice: &CheckChoice,
     every: Option<&str>,
     errors: E,
     terminals: Terminals,
 ) -> Result<Status, Refusal>
+    // What is found to be wrong with the arguments is a refusal.
     ensures { IfOk result (λ status. status ≢ Status.BadUsage) }
 {
     let (color, style) = colors_and_style(rt.alloc(), choice, every, terminals)?;

@@ -1,9 +1,8 @@
-//! What is done for each subcommand.
+//! What is done for each subcommand but `check` and `lsp`.
 
-ghost use Rattle.std.specs.Prelude.{◌≡◌, ◌≢◌, IfOk};
+ghost use Rattle.std.specs.Prelude.{◌≡◌, IsErr};
 
 use crate::chart::chart;
-use crate::checking::check_all;
 use crate::directives::directives;
 use crate::job::run_job;
 use crate::look::look_at;
@@ -16,47 +15,23 @@ use rb_args::{Choice, Subcommand};
 use rb_bench::Mode;
 use rb_check::Status;
 use std::alloc::Global;
-use std::io::Write;
-use std::rt::{Env, Files};
-use std::time::Clock;
+use std::rt::Files;
 
-/// Which of the streams are terminals.
-#[derive(Clone, Copy)]
-pub struct Terminals {
-    pub input: bool,
-    pub output: bool,
-    pub errors: bool,
-}
-
-/// Does what the subcommand asks for, and gives how it ended. What `lsp` asks for is not done here.
+/// Does what the subcommand asks for, and gives how it ended. What `check` and `lsp` ask for is not done here.
 ///
 /// # Errors
 ///
-/// Why it was not done.
-pub fn carry_out<R: Files + Input + Print + Env + Clock + AllocGlobal, E: Write + Drop>(
+/// Why it was not done. What is wrong with `--every` is told with its text.
+pub fn carry_out<R: Files + Input + Print + AllocGlobal>(
     rt: &R,
     subcommand: Subcommand,
     choice: &Choice,
-    errors: E,
-    terminals: Terminals,
 ) -> Result<Status, Refusal>
-    // What is found to be wrong with the arguments of a check is a refusal.
-    ensures { subcommand ≡ Subcommand.Check → IfOk result (λ status. status ≢ Status.BadUsage) }
+    ensures { subcommand ≡ Subcommand.Check → IsErr result }
 {
-    let every = choice.every.as_deref();
-    match subcommand {
-        Subcommand::Check => check_all(rt, &choice.check, every, errors, terminals),
-        Subcommand::Directives => directives(rt, choice.name.as_deref()),
-        _ => with_file(rt, subcommand, choice),
+    if subcommand == Subcommand::Directives {
+        return directives(rt, choice.name.as_deref());
     }
-}
-
-// Does what is asked for with one file. What is wrong with `--every` is shown with its text.
-fn with_file<R: Files + Input + Print + AllocGlobal>(
-    rt: &R,
-    subcommand: Subcommand,
-    choice: &Choice,
-) -> Result<Status, Refusal> {
     match done_with_file(rt, subcommand, choice) {
         Ok(status) => Ok(status),
         Err(refusal) => Err(named(refusal, rt.alloc(), choice.every.as_deref())),
@@ -83,7 +58,9 @@ fn done_with_file<R: Files + Input + Print + AllocGlobal>(
     rt: &R,
     subcommand: Subcommand,
     choice: &Choice,
-) -> Result<Status, Refusal> {
+) -> Result<Status, Refusal>
+    ensures { subcommand ≡ Subcommand.Check → IsErr result }
+{
     let Some(file) = &choice.file else {
         return Err(Refusal::Usage(Misuse::NoFile));
     };
