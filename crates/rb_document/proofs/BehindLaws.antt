@@ -7,10 +7,8 @@ use Rattle.rb_document.specs.declared.position.Position.{Position}
 use Rattle.rb_document.specs.Places.{ends_line, feeds, is_end, next_position, position_of}
 use Rattle.rb_document.specs.Behind.{HasNoFeed, IsLineBehind}
 use Rattle.rb_document.proofs.PlaceLaws.{ends_none}
+use Rattle.rb_document.proofs.PlainLaws.{first}
 use Rattle.rb_document.proofs.PositionLaws.{position_next}
-
-abbrev first : ℕ → Position
-first line = record { line = line; character = 0 }
 
 -- k bytes from i on are of no line's end
 abbrev pub NoEnds : ℕ → ℕ → List ℕ → Type 0

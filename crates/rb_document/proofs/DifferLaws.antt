@@ -1,16 +1,13 @@
 -- What is the same at the beginnings and at the ends of two texts, and the places around what differs.
-use Rattle.std.proofs.Common.{◌≡◌, ℕ, zero, suc, ◌+◌, ◌-◌, ◌<◌, ◌≤◌, ◌==◌, Bool, true, false, List, [], ◌∷◌, ◌++◌, length, take, drop, reverse, get_or, refl, sym, ap, ◌∙◌, arith, length-drop, min, eq-eqb, inl, inr}
+use Rattle.std.proofs.Common.{◌≡◌, ℕ, zero, suc, ◌+◌, ◌-◌, ◌<◌, ◌≤◌, ◌==◌, true, false, List, [], ◌∷◌, ◌++◌, length, take, drop, reverse, get_or, refl, sym, ap, ◌∙◌, arith, length-drop, min, eq-eqb, inl, inr}
 use Rattle.std.proofs.lemmas.List.{length-reverse, take-append-drop, take_at, drop-drop, drop_all, drop_more, get_or-reverse, get_or-drop, reverse-append, reverse-reverse}
-use Rattle.std.proofs.lemmas.Bool.{cases_lt}
+use Rattle.std.proofs.lemmas.Bool.{cases_lt, ne_eqb}
 use Rattle.rb_document.specs.declared.position.Encoding.{Encoding}
 use Rattle.rb_document.specs.Places.{begins, is_place}
 use Rattle.rb_document.specs.Changes.{changed}
 use Rattle.rb_document.specs.Edits.{common, common_end, place_before, place_among, place_behind, front_of, stop_of, range_between, new_between}
+use Rattle.rb_document.proofs.PlaceLaws.{test_cases}
 use Rattle.rb_document.proofs.EditLaws.{Differ, edit_made, first_place, last_place}
-
-test_cases : {A : Type 0} (t : Bool) → (t ≡ true → A) → (t ≡ false → A) → A
-test_cases true same other = same refl
-test_cases false same other = other refl
 
 -- ---- the beginnings
 
@@ -49,14 +46,11 @@ common_more old new i in_old in_new same =
     ∙ ap (λ (l : List ℕ). common (get_or old i 0 ∷ drop (i + 1) old) l) (drop_more new i 0 in_new)
     ∙ one_same (get_or old i 0) (get_or new i 0) (drop (i + 1) old) (drop (i + 1) new) (eq-eqb (get_or old i 0) (get_or new i 0) same)
 
-apart : (a b : ℕ) → (a ≡ b → ⊥) → (a == b) ≡ false
-apart a b other = test_cases (a == b) (λ same. let is : a ≡ b = grind (arith, same) in absurd (other is)) (λ no. no)
-
 pub common_stop : (old new : List ℕ) (i : ℕ) → i < length old → i < length new → (get_or old i 0 ≡ get_or new i 0 → ⊥) → common (drop i old) (drop i new) ≡ 0
 common_stop old new i in_old in_new other =
     ap (λ (l : List ℕ). common l (drop i new)) (drop_more old i 0 in_old)
     ∙ ap (λ (l : List ℕ). common (get_or old i 0 ∷ drop (i + 1) old) l) (drop_more new i 0 in_new)
-    ∙ none_same (get_or old i 0) (get_or new i 0) (drop (i + 1) old) (drop (i + 1) new) (apart (get_or old i 0) (get_or new i 0) other)
+    ∙ none_same (get_or old i 0) (get_or new i 0) (drop (i + 1) old) (drop (i + 1) new) (ne_eqb (get_or old i 0) (get_or new i 0) other)
 
 no_old : (new : List ℕ) → common [] new ≡ 0
 unfolding common

@@ -1,17 +1,14 @@
 -- Lines and columns, a byte further.
-use Rattle.std.proofs.Common.{◌≡◌, ℕ, zero, suc, ◌+◌, ◌-◌, ◌<◌, ◌≤◌, Bool, true, false, ◌==◌, nat_lt, List, [], ◌∷◌, length, drop, get_or, cond, refl, sym, ap, ◌∙◌, arith, add-one, drop-cons}
+use Rattle.std.proofs.Common.{◌≡◌, ℕ, zero, suc, ◌+◌, ◌-◌, ◌<◌, ◌≤◌, Bool, true, false, ◌==◌, nat_lt, List, [], ◌∷◌, length, drop, get_or, cond, refl, sym, ap, ◌∙◌, arith}
 use Rattle.std.proofs.lemmas.Bool.{or_parts}
-use Rattle.std.proofs.lemmas.List.{drop_all, drop-drop}
+use Rattle.std.proofs.lemmas.List.{drop_all, drop_more, drop-drop}
 use Rattle.rb_document.specs.declared.position.Encoding.{Encoding}
 use Rattle.rb_document.specs.Places.{line_start, ends_line, is_end, column, units, offset_at}
 
-test_cases : {A : Type 0} (t : Bool) → (t ≡ true → A) → (t ≡ false → A) → A
+-- by a test
+pub test_cases : {A : Type 0} (t : Bool) → (t ≡ true → A) → (t ≡ false → A) → A
 test_cases true same other = same refl
 test_cases false same other = other refl
-
--- a byte, and those behind it
-parted : (i : ℕ) (bytes : List ℕ) → i < length bytes → drop i bytes ≡ get_or bytes i 0 ∷ drop (i + 1) bytes
-parted i bytes within = rw (add-one, drop-cons bytes i 0)
 
 pub first_line : (bytes : List ℕ) → line_start 0 bytes ≡ 0
 unfolding line_start
@@ -30,13 +27,13 @@ line_past n i bytes past = ap (line_start n) (drop_all i bytes past) ∙ no_line
 pub line_ended : (n m i : ℕ) (bytes : List ℕ) → i < length bytes → n ≡ suc m → ends_line (get_or bytes i 0) (drop (i + 1) bytes) ≡ true → line_start n (drop i bytes) ≡ 1 + line_start m (drop (i + 1) bytes)
 unfolding line_start
 line_ended n m i bytes within is ends =
-    ap (λ (k : ℕ). line_start k (drop i bytes)) is ∙ ap (line_start (suc m)) (parted i bytes within)
+    ap (λ (k : ℕ). line_start k (drop i bytes)) is ∙ ap (line_start (suc m)) (drop_more bytes i 0 within)
     ∙ ap (λ (t : Bool). suc (cond t (line_start m (drop (i + 1) bytes)) (line_start (suc m) (drop (i + 1) bytes)))) ends ∙ omega arith
 
 pub line_going : (n m i : ℕ) (bytes : List ℕ) → i < length bytes → n ≡ suc m → ends_line (get_or bytes i 0) (drop (i + 1) bytes) ≡ false → line_start n (drop i bytes) ≡ 1 + line_start n (drop (i + 1) bytes)
 unfolding line_start
 line_going n m i bytes within is ends =
-    ap (λ (k : ℕ). line_start k (drop i bytes)) is ∙ ap (line_start (suc m)) (parted i bytes within)
+    ap (λ (k : ℕ). line_start k (drop i bytes)) is ∙ ap (line_start (suc m)) (drop_more bytes i 0 within)
     ∙ ap (λ (t : Bool). suc (cond t (line_start m (drop (i + 1) bytes)) (line_start (suc m) (drop (i + 1) bytes)))) ends
     ∙ ap (λ (k : ℕ). suc (line_start k (drop (i + 1) bytes))) (sym is) ∙ omega arith
 
@@ -99,7 +96,7 @@ column_past e n i bytes past = ap (column e n) (drop_all i bytes past)
 column_at : (e : Encoding) (n i : ℕ) (bytes : List ℕ) → i < length bytes
     → column e n (drop i bytes) ≡ cond (is_end (get_or bytes i 0)) 0 (cond (nat_lt n (units e (get_or bytes i 0))) 0 (suc (column e (n - units e (get_or bytes i 0)) (drop (i + 1) bytes))))
 unfolding column
-column_at e n i bytes within = ap (column e n) (parted i bytes within)
+column_at e n i bytes within = ap (column e n) (drop_more bytes i 0 within)
 
 pub column_ended : (e : Encoding) (n i : ℕ) (bytes : List ℕ) → i < length bytes → is_end (get_or bytes i 0) ≡ true → column e n (drop i bytes) ≡ 0
 column_ended e n i bytes within ends = column_at e n i bytes within ∙ rw ends

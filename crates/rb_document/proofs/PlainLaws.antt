@@ -1,7 +1,7 @@
 -- Texts without CR: a line of a script is one of an editor there.
-use Rattle.std.proofs.Common.{◌≡◌, ◌∙◌, ℕ, zero, suc, ◌+◌, ◌-◌, ◌<◌, ◌≤◌, Bool, true, false, ◌==◌, List, [], ◌∷◌, length, drop, get_or, refl, sym, ap, inl, inr, arith, drop-cons}
+use Rattle.std.proofs.Common.{◌≡◌, ◌∙◌, ℕ, zero, suc, ◌+◌, ◌-◌, ◌<◌, ◌≤◌, true, false, ◌==◌, List, [], ◌∷◌, length, drop, get_or, refl, sym, ap, inl, inr, arith, drop-cons}
 use Rattle.std.specs.Prelude.{nat_lt, if◌then◌else◌}
-use Rattle.std.proofs.lemmas.Bool.{cases_Bool, ltb-true, ltb-false, le-ltb, ne_eqb}
+use Rattle.std.proofs.lemmas.Bool.{cases_Bool, false_from_ne_true, ltb-true, ltb-false, le-ltb, ne_eqb}
 use Rattle.std.proofs.lemmas.List.{drop_all}
 use Rattle.memchr.specs.Find.{NoneAfter, Nowhere, Passes, is_byte}
 use Rattle.rb_document.specs.declared.position.Encoding.{Encoding}
@@ -10,7 +10,7 @@ use Rattle.rb_document.specs.Places.{below, beside, position_of, units}
 use Rattle.rb_document.specs.Tables.{HasNoReturn, feed_count, feed_start, start_of}
 use Rattle.rb_document.specs.Behind.{HasNoFeed}
 
-abbrev first : ℕ → Position
+abbrev pub first : ℕ → Position
 first line = record { line = line; character = 0 }
 
 -- ---- a byte more
@@ -31,7 +31,7 @@ start_same : (n b : ℕ) (bytes : List ℕ) → (b == 10) ≡ false → feed_sta
 unfolding feed_start
 start_same n b bytes f = rw f refl
 
-start_first : (bytes : List ℕ) → feed_start 0 bytes ≡ 0
+pub start_first : (bytes : List ℕ) → feed_start 0 bytes ≡ 0
 unfolding feed_start
 start_first bytes = refl
 
@@ -145,15 +145,11 @@ last_behind text j within feed none =
 
 -- by a search from the end
 
-no_feed : (t : Bool) → (t ≡ true → ⊥) → t ≡ false
-no_feed true never = absurd (never refl)
-no_feed false never = refl
-
 pub from_last : (text : List ℕ) (j : ℕ) → NoneAfter (Passes (is_byte 10) text) 0 (length text) j → Passes (is_byte 10) text j → BeginsLast (j + 1) text
-from_last text j none feed = last_behind text j none.high feed (λ i past few. no_feed (get_or text i 0 == 10) (none.after i past few))
+from_last text j none feed = last_behind text j none.high feed (λ i past few. false_from_ne_true (get_or text i 0 == 10) (none.after i past few))
 
 pub from_none : (text : List ℕ) → Nowhere (Passes (is_byte 10) text) 0 (length text) → BeginsLast 0 text
-from_none text none = one_line text (λ i past few. no_feed (get_or text i 0 == 10) (none i past few))
+from_none text none = one_line text (λ i past few. false_from_ne_true (get_or text i 0 == 10) (none i past few))
 
 -- ---- counting
 

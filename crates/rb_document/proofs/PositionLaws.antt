@@ -1,6 +1,6 @@
 -- Positions and places.
 use Rattle.std.proofs.Common.{◌≡◌, ℕ, zero, suc, ◌+◌, ◌*◌, ◌<◌, ◌≤◌, Bool, true, false, ◌&&◌, ◌||◌, not, nat_lt, ◌==◌, List, [], ◌∷◌, length, drop, get_or, cond, refl, sym, ap, subst, ◌∙◌, arith, add-one}
-use Rattle.std.proofs.lemmas.Bool.{le-ltb}
+use Rattle.std.proofs.lemmas.Bool.{and_parts, le-ltb}
 use Rattle.std.proofs.lemmas.Bool.Decides.{nat_tests}
 use Rattle.rb_document.specs.declared.position.Encoding.{Encoding}
 use Rattle.rb_document.specs.declared.position.Encoding.TheVariants.{Utf8, Utf16}
@@ -75,13 +75,10 @@ below_offset : (e : Encoding) (b : ℕ) (bytes : List ℕ) (line character : ℕ
 unfolding line_start
 below_offset e b bytes line character ends = rw ends (omega arith)
 
-full_units : (u c : ℕ) → nat_lt (u + c) u ≡ false
-full_units u c = le-ltb (u + c) u (omega arith)
-
 beside_column : (e : Encoding) (b : ℕ) (bytes : List ℕ) (character : ℕ) → is_end b ≡ false → column e (units e b + character) (b ∷ bytes) ≡ suc (column e character bytes)
 unfolding column
 beside_column e b bytes character none =
-    rw (none, full_units (units e b) character) (ap (λ (c : ℕ). suc (column e c bytes)) (omega arith))
+    rw (none, le-ltb (units e b + character) (units e b) (omega arith)) (ap (λ (c : ℕ). suc (column e c bytes)) (omega arith))
 
 beside_offset : (e : Encoding) (b : ℕ) (bytes : List ℕ) (line character : ℕ) → ends_line b bytes ≡ false → (line ≡ 0 → is_end b ≡ false)
     → offset e (beside_at (units e b) line character) (b ∷ bytes) ≡ suc (offset_at e line character bytes)
@@ -108,10 +105,6 @@ first_column e (b ∷ bytes) begin = rw (some_units e b begin) (no_column (is_en
 
 first_offset : (e : Encoding) (bytes : List ℕ) → begins bytes ≡ true → offset_at e 0 0 bytes ≡ 0
 first_offset e bytes begin = rw (first_line bytes) (omega (arith, first_column e bytes begin))
-
-both_left : (a b : Bool) → (a && b) ≡ true → a ≡ true
-both_left true b h = refl
-both_left false b h = h
 
 -- CR before what isn't LF ends a line, and one before LF is no place's neighbour
 no_end_here : (feed return next begin : Bool) → (begin && not (return && next)) ≡ true → (feed || (return && not next)) ≡ false → (feed || return) ≡ false
@@ -142,7 +135,7 @@ place_further e b k bytes p false is guard back = beside_offset e b bytes p.line
 
 pub place_returns : (e : Encoding) (before k : ℕ) (bytes : List ℕ) → is_place_behind before k bytes ≡ true → offset e (position_of e k bytes) bytes ≡ k
 unfolding is_place_behind position_of
-place_returns e before zero bytes place = first_offset e bytes (both_left _ _ place)
+place_returns e before zero bytes place = first_offset e bytes (and_parts _ _ place).0
 place_returns e before (suc k) [] place = cc
 place_returns e before (suc k) (b ∷ bytes) place =
     place_further e b k bytes (position_of e k bytes) (ends_line b bytes) refl (no_end e k b bytes place) (place_returns e b k bytes place)

@@ -1,8 +1,8 @@
 -- Where the lines of a script begin, a byte further.
-use Rattle.std.proofs.Common.{◌≡◌, ◌⊎◌, inl, inr, ℕ, zero, suc, ◌+◌, ◌-◌, ◌<◌, ◌≤◌, true, false, ◌==◌, List, [], ◌∷◌, ◌++◌, length, drop, get_or, cond, refl, sym, ap, subst, ◌∙◌, arith, add-one, drop-cons, length-append}
+use Rattle.std.proofs.Common.{◌≡◌, inl, inr, ℕ, zero, suc, ◌+◌, ◌-◌, ◌<◌, ◌≤◌, true, false, ◌==◌, List, [], ◌∷◌, ◌++◌, length, drop, get_or, cond, refl, sym, ap, subst, ◌∙◌, arith, add-one, drop-cons, length-append}
 use Rattle.std.proofs.lemmas.List.{drop_all, get_or_append_left}
 use Rattle.std.proofs.Math.Nat.{eq-or-lt_of_le}
-use Rattle.std.proofs.lemmas.Bool.{cases_order}
+use Rattle.std.proofs.lemmas.Bool.{cases_lt}
 use Rattle.std.proofs.Math.ListN.{get_or-eq_default}
 use Rattle.std.proofs.Math.Seq.{get_or-append_seam}
 use Rattle.rb_document.specs.declared.position.Encoding.{Encoding}
@@ -10,15 +10,12 @@ use Rattle.rb_document.specs.declared.position.Position.{Position}
 use Rattle.rb_document.specs.Places.{START, position_of}
 use Rattle.rb_document.specs.Tables.{feed_start, start_of}
 use Rattle.rb_document.specs.Behind.{HasNoFeed, IsLineBehind}
+use Rattle.rb_document.proofs.PlainLaws.{start_first}
 
 feed_at : (n i : ℕ) (text : List ℕ) → i < length text
     → feed_start (suc n) (drop i text) ≡ suc (cond (get_or text i 0 == 10) (feed_start n (drop (suc i) text)) (feed_start (suc n) (drop (suc i) text)))
 unfolding feed_start
 feed_at n i text within = rw (drop-cons text i 0) refl
-
-feed_first : (bytes : List ℕ) → feed_start 0 bytes ≡ 0
-unfolding feed_start
-feed_first bytes = refl
 
 feed_past : (n i : ℕ) (text : List ℕ) → length text ≤ i → feed_start (suc n) (drop i text) ≡ 0
 unfolding feed_start
@@ -37,7 +34,7 @@ first_stands e text starts is =
       some = omega arith;
       given = λ n p below.
           let first : n ≡ 0 = omega arith in
-          rw (first, is, feed_first text) refl;
+          rw (first, is, start_first text) refl;
       left = λ n past.
           let further : n ≡ suc (n - length starts) = omega arith in
           ap (λ (k : ℕ). feed_start k text) further ∙ omega arith;
@@ -80,7 +77,7 @@ feed_ended n i text within ends =
     feed_at (suc n) i text within ∙ rw ends (omega (arith, same))
 
 feed_line : (i : ℕ) (text : List ℕ) → i < length text → (get_or text i 0 == 10) ≡ true → feed_start 1 (drop i text) ≡ 1
-feed_line i text within ends = feed_at 0 i text within ∙ rw ends (omega (arith, feed_first (drop (suc i) text)))
+feed_line i text within ends = feed_at 0 i text within ∙ rw ends (omega (arith, start_first (drop (suc i) text)))
 
 -- LF, behind which a line begins
 pub start_stands : (e : Encoding) (text : List ℕ) (i : ℕ) (starts more : List Position) (p : Position) → i < length text → (get_or text i 0 == 10) ≡ true
@@ -124,16 +121,10 @@ part_stands e text i next starts behind none s =
     let within : next - 1 < length text = omega (arith, behind.further, behind.within) in
     subst (λ (n : ℕ). StartsStand e text n starts) last (others_stand e text (next - 1) starts within none (up_to e text i next starts behind s))
 
-in_or_past : (n m : ℕ) → (n < m) ⊎ (m ≤ n)
-in_or_past n m = elim (cases_order n m) [
-  | inl same ↦ inr (omega arith)
-  | inr other ↦ elim other [ inl less ↦ inl less | inr more ↦ inr (omega arith) ]
-]
-
 -- at the end the table is whole
 pub all_stand : (e : Encoding) (text : List ℕ) (starts : List Position) (i : ℕ) (end : Position) → i ≡ length text → end ≡ position_of e i text
     → StartsStand e text i starts → (n : ℕ) → get_or starts n end ≡ start_of e n text
-all_stand e text starts i end last is s n = elim (in_or_past n (length starts)) [
+all_stand e text starts i end last is s n = elim (cases_lt n (length starts)) [
   | inl here ↦ s.given n end here
   | inr past ↦
       let whole : feed_start n text ≡ i = omega (arith, s.left n past, feed_past (n - length starts) i text (omega arith)) in
