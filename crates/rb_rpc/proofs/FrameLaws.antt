@@ -1,8 +1,9 @@
 -- What is framed is a message.
-use Rattle.std.proofs.Common.{◌≡◌, ℕ, ◌≤◌, Bool, true, false, IsTrue, ◌&&◌, List, [], ◌∷◌, ◌++◌, Some, length, get_or, reverse, codes, decimal, refl, ap, ◌∙◌, arith, rules, append_assoc, length-append}
+use Rattle.std.proofs.Common.{◌≡◌, ℕ, ◌≤◌, true, false, IsTrue, List, [], ◌∷◌, ◌++◌, Some, length, get_or, reverse, codes, decimal, refl, ap, ◌∙◌, arith, rules, append_assoc, length-append}
 use Rattle.std.specs.List.{list_all}
 use Rattle.std.specs.Char.{is_ascii_digit}
 use Rattle.std.specs.Str.Parse.{digits_value}
+use Rattle.std.proofs.lemmas.Bool.{and_parts}
 use Rattle.std.proofs.lemmas.Bool.Decides.{nat_tests}
 use Rattle.std.proofs.lemmas.List.Elements.{All-nil, All-cons, All-head}
 use Rattle.std.proofs.lemmas.Str.Parse.{IsNumeralModel, numerals_by_value}
@@ -16,14 +17,10 @@ use Rattle.rb_rpc.specs.Messages.{IsMessage, frame}
 own : IsNumeralModel (λ ds. list_all is_ascii_digit ds ≡ true) (digits_value 10)
 own = numerals_by_value _ (search rules)
 
-both : (a b : Bool) → (a && b) ≡ true → (a ≡ true) × (b ≡ true)
-both true b h = (refl, h)
-both false b h = cc
-
 all_digits : (ds : List ℕ) → list_all is_ascii_digit ds ≡ true → AllPass is_ascii_digit ds
 all_digits [] h = All-nil _
 all_digits (d ∷ ds) h =
-    let parts = both (is_ascii_digit d) (list_all is_ascii_digit ds) h in
+    let parts = and_parts (is_ascii_digit d) (list_all is_ascii_digit ds) h in
     All-cons (λ b. IsTrue (is_ascii_digit b)) d ds parts.0 (all_digits ds parts.1)
 
 digit_no_blank : (b : ℕ) → IsTrue (is_ascii_digit b) → is_ows b ≡ false
