@@ -2,15 +2,11 @@
 use Rattle.std.proofs.Common.{◌≡◌, ℕ, ◌+◌, ◌%◌, ◌/◌, ◌<◌, ◌≤◌, ◌*◌, Bool, true, false, List, [], ◌∷◌, ◌++◌, length, decimal, codes, refl, ap, arith}
 use Rattle.std.specs.Prelude.{not, ◌&&◌, ◌==◌, nat_le, nat_lt, if◌then◌else◌}
 use Rattle.std.specs.List.{flat_map, list_all}
-use Rattle.std.proofs.lemmas.Bool.{and_parts, le-leb, leb-true, ne_eqb, ltb-true}
+use Rattle.std.proofs.lemmas.Bool.{and_from, and_parts, le-leb, leb-true, ne_eqb, ltb-true}
 use Rattle.std.proofs.lemmas.List.{length-append}
 use Rattle.rb_page.specs.Escapes.{hex_digit, is_no_mark, is_inert, is_plain, numbered, escaped}
 use Rattle.rb_page.specs.Rows.{PlainCell, number, text, Row, cell_text, front_text, row_text, next_text, rows_text}
 use Rattle.rb_texts.proofs.KindLaws.{decimal_of, flat_of, joined_of}
-
--- two tests that pass, as one
-both : (a b : Bool) → a ≡ true → b ≡ true → (a && b) ≡ true
-both a b p q = cc
 
 -- ---- bytes
 
@@ -21,16 +17,16 @@ other b k differs = ap not (ne_eqb b k differs)
 -- a byte from 48 to 57 is inert, and so is one from 63 to 127
 figure : (b : ℕ) → 48 ≤ b → b ≤ 57 → is_inert b ≡ true
 figure b low high =
-    both (is_no_mark b) (nat_le b 127)
-    (both (not (b == 60) && not (b == 62)) (not (b == 38))
-    (both (not (b == 60)) (not (b == 62)) (other b 60 (λ e. omega (arith, e, high))) (other b 62 (λ e. omega (arith, e, high)))) (other b 38 (λ e. omega (arith, e, low))))
+    and_from (is_no_mark b) (nat_le b 127)
+    (and_from (not (b == 60) && not (b == 62)) (not (b == 38))
+    (and_from (not (b == 60)) (not (b == 62)) (other b 60 (λ e. omega (arith, e, high))) (other b 62 (λ e. omega (arith, e, high)))) (other b 38 (λ e. omega (arith, e, low))))
     (le-leb b 127 (omega (arith, high)))
 
 letter : (b : ℕ) → 63 ≤ b → b ≤ 127 → is_inert b ≡ true
 letter b low high =
-    both (is_no_mark b) (nat_le b 127)
-    (both (not (b == 60) && not (b == 62)) (not (b == 38))
-    (both (not (b == 60)) (not (b == 62)) (other b 60 (λ e. omega (arith, e, low))) (other b 62 (λ e. omega (arith, e, low)))) (other b 38 (λ e. omega (arith, e, low))))
+    and_from (is_no_mark b) (nat_le b 127)
+    (and_from (not (b == 60) && not (b == 62)) (not (b == 38))
+    (and_from (not (b == 60)) (not (b == 62)) (other b 60 (λ e. omega (arith, e, low))) (other b 62 (λ e. omega (arith, e, low)))) (other b 38 (λ e. omega (arith, e, low))))
     (le-leb b 127 high)
 
 -- so is a hexadecimal digit
@@ -48,14 +44,14 @@ plain_inert b h =
     let no_backslash = and_parts (nat_le 32 b && nat_le b 126 && not (b == 34)) (not (b == 92)) no_mark.0 in
     let no_quote = and_parts (nat_le 32 b && nat_le b 126) (not (b == 34)) no_backslash.0 in
     let within = and_parts (nat_le 32 b) (nat_le b 126) no_quote.0 in
-    both (is_no_mark b) (nat_le b 127) no_mark.1 (le-leb b 127 (omega (arith, leb-true b 126 within.1)))
+    and_from (is_no_mark b) (nat_le b 127) no_mark.1 (le-leb b 127 (omega (arith, leb-true b 126 within.1)))
 
 -- a byte as it stands between quotes is of inert bytes
 escaped_by : (t : Bool) (b : ℕ) → is_plain b ≡ t → list_all is_inert (if t then b ∷ [] else numbered b) ≡ true
-escaped_by true b h = both (is_inert b) true (plain_inert b h) refl
+escaped_by true b h = and_from (is_inert b) true (plain_inert b h) refl
 escaped_by false b h =
-    both (is_inert (hex_digit (b / 16 % 16))) _ (hex_inert (b / 16 % 16) (omega arith))
-    (both (is_inert (hex_digit (b % 16))) true (hex_inert (b % 16) (omega arith)) refl)
+    and_from (is_inert (hex_digit (b / 16 % 16))) _ (hex_inert (b / 16 % 16) (omega arith))
+    (and_from (is_inert (hex_digit (b % 16))) true (hex_inert (b % 16) (omega arith)) refl)
 
 escaped_inert : (b : ℕ) → list_all is_inert (escaped b) ≡ true
 escaped_inert b = escaped_by (is_plain b) b refl

@@ -1,5 +1,5 @@
 -- How long the text of rows is, and how many rows there are.
-use Rattle.std.proofs.Common.{◌≡◌, ℕ, ◌+◌, ◌*◌, ◌≤◌, List, [], ◌∷◌, ◌++◌, length, decimal, codes, refl, arith}
+use Rattle.std.proofs.Common.{◌≡◌, ◌+◌, ◌≤◌, List, [], ◌∷◌, ◌++◌, length, codes, refl, arith}
 use Rattle.std.specs.List.{flat_map, sum_by}
 use Rattle.std.proofs.lemmas.List.{length-append}
 use Rattle.std.proofs.lemmas.List.Sums.{sum_by-cons}
@@ -33,20 +33,4 @@ rows_short first rest = omega (arith, sum_by-cons row_size first rest, length-ap
 pub rows_counted : (item : PlainItem) → length (item_rows item) ≡ count_of item
 unfolding item_rows
 rows_counted items.nothing_else = refl
-rows_counted (items.ready id) = refl
-rows_counted (items.hard_state hard) = refl
-rows_counted (items.snapshot term index) = refl
-rows_counted (items.save index e) = refl
-rows_counted (items.apply index e) = refl
-rows_counted (items.send message) = refl
-rows_counted (items.nothing_ready id) = refl
-rows_counted (items.moved verb message) = refl
-rows_counted items.no_messages = refl
-rows_counted (items.stopped rounds) = refl
-rows_counted (items.raft_state node) = refl
-rows_counted (items.raft_log log) = refl
-rows_counted (items.entry index e unsaved) = refl
-rows_counted (items.config c) = refl
-rows_counted (items.progress id view) = refl
-rows_counted (items.event e) = refl
-rows_counted (items.error e) = refl
+rows_counted item = refl

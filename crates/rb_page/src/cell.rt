@@ -12,7 +12,7 @@ ghost use Rattle.rb_page.specs.Spans.{spans_text};
 
 use crate::names::transition_name;
 use crate::piece::{Piece, put_pieces};
-use crate::span::{Span, put_spans};
+use crate::span::{Span, put_parts};
 use rb_change::{Transition, Word};
 use rb_raftlog::Body;
 use rb_script::{Sink, WriteFault};
@@ -61,7 +61,7 @@ fn put_text<S: Sink>(sink: &mut S, spans: &[Span<'_>]) -> Result<(), WriteFault>
     ensures all { S.takes_all sink.old → IsOk result × S.takes_all sink.new }
 {
     sink.put(b",\"")?;
-    put_spans(sink, spans)?;
+    put_parts(sink, spans)?;
     sink.put(b"\"")
 }
 

@@ -3,7 +3,7 @@
 //! A text that is made of several values, as a configuration is, needs no memory of its own: its parts go out one after another, each as
 //! it stands between quotes.
 
-ghost use Rattle.std.specs.Prelude.{◌≡◌, ◌++◌, IsOk, codes, decimal};
+ghost use Rattle.std.specs.Prelude.{◌≡◌, ◌++◌, ℕ, List, IsOk, codes, decimal};
 ghost use Rattle.std.specs.List.{flat_map};
 ghost use Rattle.rb_script.specs.Writes.{Writes};
 ghost use Rattle.rb_texts.specs.Configs.{ids_text, part_text};
@@ -11,13 +11,12 @@ ghost use Rattle.rb_texts.specs.Entries.{letter, change_word};
 ghost use Rattle.rb_texts.specs.Quoted as quotes;
 ghost use Rattle.rb_page.specs.Commas.{comma_before};
 ghost use Rattle.rb_page.specs.Escapes.{escaped};
-ghost use Rattle.rb_page.specs.Spans.{span_text, spans_text};
+ghost use Rattle.rb_page.specs.Spans.{span_text};
 
 use crate::escape::{hex_digit, put_escaped};
 use itoa::Buffer;
 use rb_change::{Word, WordKind};
 use rb_script::{Sink, WriteFault};
-use rb_text::{WrittenPiece, put_pieces};
 
 /// A part of a text.
 #[derive(Clone, Copy)]
@@ -36,26 +35,38 @@ pub(crate) enum Span<'a> {
     Words(&'a [Word]),
 }
 
-/// Writes the parts, each as it stands between quotes.
-pub(crate) fn put_spans<S: Sink>(sink: &mut S, spans: &[Span<'_>]) -> Result<(), WriteFault>
-    ensures wrote { Writes result (S.held sink.old) (S.held sink.new) (flat_map escaped (spans_text spans.now)) }
-    ensures all { S.takes_all sink.old → IsOk result × S.takes_all sink.new }
-{
-    put_pieces(sink, spans)
+/// A part of a text, which has a text of its own.
+pub(crate) trait Part {
+    ghost text: { Self → List ℕ };
+
+    /// Writes the part, as it stands between quotes. On a failure a beginning of that went out.
+    fn put<S: Sink>(&self, sink: &mut S) -> Result<(), WriteFault>
+        ensures wrote { Writes result (S.held sink.old) (S.held sink.new) (flat_map escaped (text self.now)) }
+        ensures all { S.takes_all sink.old → IsOk result × S.takes_all sink.new };
 }
 
-// A part, as it stands between quotes.
-impl WrittenPiece for Span<'_> {
-    ghost text = { λ s. flat_map escaped (span_text s) };
+/// Writes the parts, each as it stands between quotes.
+pub(crate) fn put_parts<S: Sink, P: Part>(sink: &mut S, parts: &[P]) -> Result<(), WriteFault>
+    ensures wrote { Writes result (S.held sink.old) (S.held sink.new) (flat_map escaped (flat_map P.text parts.now)) }
+    ensures all { S.takes_all sink.old → IsOk result × S.takes_all sink.new }
+{
+    for part in parts {
+        part.put(sink)?;
+    }
+    Ok(())
+}
+
+impl Part for Span<'_> {
+    ghost text = { span_text };
 
     fn put<S: Sink>(&self, sink: &mut S) -> Result<(), WriteFault> {
         match *self {
             Span::Bytes(bytes) => put_escaped(sink, bytes),
             Span::Number(n) => put_digits(sink, n),
-            Span::Inside(bytes) => put_inside(sink, bytes),
+            Span::Inside(bytes) => put_parts(sink, bytes),
             Span::Ids(ids) => put_ids(sink, ids),
             Span::Part(name, ids) => put_part(sink, name, ids),
-            Span::Words(words) => put_words(sink, words),
+            Span::Words(words) => put_parts(sink, words),
         }
     }
 }
@@ -84,46 +95,28 @@ fn numbered(b: u8) -> [u8; 4]
     [b'\\', b'x', hex_digit(b / 16), hex_digit(b % 16)]
 }
 
-fn put_byte_inside<S: Sink>(sink: &mut S, b: u8) -> Result<(), WriteFault>
-    ensures wrote { Writes result (S.held sink.old) (S.held sink.new) (flat_map escaped (quotes.escaped b)) }
-    ensures all { S.takes_all sink.old → IsOk result × S.takes_all sink.new }
-{
-    if is_plain(b) {
-        put_escaped(sink, &[b])
-    } else {
-        put_escaped(sink, &numbered(b))
-    }
-}
+impl Part for u8 {
+    ghost text = { quotes.escaped };
 
-fn put_inside<S: Sink>(sink: &mut S, bytes: &[u8]) -> Result<(), WriteFault>
-    ensures wrote { Writes result (S.held sink.old) (S.held sink.new) (flat_map escaped (flat_map quotes.escaped bytes.now)) }
-    ensures all { S.takes_all sink.old → IsOk result × S.takes_all sink.new }
-{
-    for b in bytes {
-        put_byte_inside(sink, *b)?;
+    fn put<S: Sink>(&self, sink: &mut S) -> Result<(), WriteFault> {
+        if is_plain(*self) {
+            put_escaped(sink, &[*self])
+        } else {
+            put_escaped(sink, &numbered(*self))
+        }
     }
-    Ok(())
 }
 
 // ---- ids
 
-// Writes an id, after a comma.
-fn put_next_id<S: Sink>(sink: &mut S, id: u64) -> Result<(), WriteFault>
-    ensures wrote { Writes result (S.held sink.old) (S.held sink.new) (flat_map escaped (comma_before id)) }
-    ensures all { S.takes_all sink.old → IsOk result × S.takes_all sink.new }
-{
-    put_escaped(sink, b",")?;
-    put_digits(sink, id)
-}
+// An id, after a comma.
+impl Part for u64 {
+    ghost text = { comma_before };
 
-fn put_next_ids<S: Sink>(sink: &mut S, ids: &[u64]) -> Result<(), WriteFault>
-    ensures wrote { Writes result (S.held sink.old) (S.held sink.new) (flat_map escaped (flat_map comma_before ids.now)) }
-    ensures all { S.takes_all sink.old → IsOk result × S.takes_all sink.new }
-{
-    for id in ids {
-        put_next_id(sink, *id)?;
+    fn put<S: Sink>(&self, sink: &mut S) -> Result<(), WriteFault> {
+        put_escaped(sink, b",")?;
+        put_digits(sink, *self)
     }
-    Ok(())
 }
 
 fn put_ids<S: Sink>(sink: &mut S, ids: &[u64]) -> Result<(), WriteFault>
@@ -134,7 +127,7 @@ fn put_ids<S: Sink>(sink: &mut S, ids: &[u64]) -> Result<(), WriteFault>
         return Ok(());
     };
     put_digits(sink, *first)?;
-    put_next_ids(sink, rest)
+    put_parts(sink, rest)
 }
 
 fn put_part<S: Sink>(sink: &mut S, name: &[u8], ids: &[u64]) -> Result<(), WriteFault>
@@ -163,20 +156,11 @@ fn letter(kind: WordKind) -> &'static [u8]
     }
 }
 
-fn put_word<S: Sink>(sink: &mut S, word: &Word) -> Result<(), WriteFault>
-    ensures wrote { Writes result (S.held sink.old) (S.held sink.new) (flat_map escaped (change_word word.now)) }
-    ensures all { S.takes_all sink.old → IsOk result × S.takes_all sink.new }
-{
-    put_escaped(sink, letter(word.kind))?;
-    put_digits(sink, word.id)
-}
+impl Part for Word {
+    ghost text = { change_word };
 
-fn put_words<S: Sink>(sink: &mut S, words: &[Word]) -> Result<(), WriteFault>
-    ensures wrote { Writes result (S.held sink.old) (S.held sink.new) (flat_map escaped (flat_map change_word words.now)) }
-    ensures all { S.takes_all sink.old → IsOk result × S.takes_all sink.new }
-{
-    for word in words {
-        put_word(sink, word)?;
+    fn put<S: Sink>(&self, sink: &mut S) -> Result<(), WriteFault> {
+        put_escaped(sink, letter(self.kind))?;
+        put_digits(sink, self.id)
     }
-    Ok(())
 }
