@@ -1,11 +1,13 @@
 -- Commands with their lines, as they come in.
-use Rattle.std.proofs.Common.{◌≡◌, ℕ, zero, suc, ◌+◌, ◌<◌, ◌≤◌, Bool, true, false, ◌||◌, List, [], ◌∷◌, ◌++◌, Option, Some, None, Result, Ok, Err, refl, ap, sym, subst, ◌∙◌, length, take, append_assoc, append-nil, length-append, arith}
+use Rattle.std.proofs.Common.{◌≡◌, ℕ, zero, suc, ◌+◌, ◌<◌, ◌≤◌, true, false, ◌||◌, List, [], ◌∷◌, ◌++◌, Option, Some, None, Result, Ok, Err, refl, ap, sym, subst, ◌∙◌, length, take, append_assoc, append-nil, length-append, arith}
 use Rattle.std.specs.Prelude.{IfSome, IfOk}
 use Rattle.std.specs.List.{list_any}
 use Rattle.std.specs.Io.KnownBytes.{IsAtEnd}
 use Rattle.std.proofs.lemmas.Bool.Decides.{nat_tests}
+use Rattle.std.proofs.Math.Bool.{or-true}
 use Rattle.rb_script.specs.declared.limits.TheConstants.{MAX_LINE}
-use Rattle.rb_script.specs.Lines.{Line, lines, cut}
+use Rattle.rb_script.specs.Lines.{Line, lines}
+use Rattle.rb_script.proofs.LineLaws.{lines_nil}
 use Rattle.rb_bench.specs.declared.command.Command.{Command}
 use Rattle.rb_bench.specs.Commands.{command_of}
 use Rattle.rb_line.specs.declared.source.InputFault.{InputFault}
@@ -18,10 +20,6 @@ use Rattle.rb_bench.specs.Hearing.{IsGiven, HasTaken, Gathers, GathersOf, Hears,
 use Rattle.rb_bench.specs.Known.{IfKnown}
 
 -- ---- long lines
-
-pub lines_of_none : (bytes : List ℕ) → bytes ≡ [] → lines bytes ≡ []
-unfolding lines cut
-lines_of_none bytes e = ap lines e
 
 pub short_line : (line : Line) → length line ≤ MAX_LINE → is_long line ≡ false
 short_line line le = grind (arith, nat_tests)
@@ -38,17 +36,13 @@ short_push (l ∷ ls) line h k =
       | false ↦ λ e. short_push ls line e k
     ] h
 
-or_true : (t : Bool) → (t || true) ≡ true
-or_true true = refl
-or_true false = refl
-
 -- a long line among the first
 long_among : (ls : List Line) (line : Line) (rest : List Line) (count : ℕ) → length ls < count → is_long line ≡ true → list_any is_long (take count (ls ++ line ∷ rest)) ≡ true
 long_among [] line rest zero lt h = absurd (omega arith)
 long_among [] line rest (suc count) lt h = ap (λ t. t || list_any is_long (take count rest)) h
 long_among (l ∷ ls) line rest zero lt h = absurd (omega arith)
 long_among (l ∷ ls) line rest (suc count) lt h =
-    ap (λ t. is_long l || t) (long_among ls line rest count (omega arith) h) ∙ or_true (is_long l)
+    ap (λ t. is_long l || t) (long_among ls line rest count (omega arith) h) ∙ or-true (is_long l)
 
 -- ---- taking lines
 
@@ -96,7 +90,7 @@ gathers_cut None mid after count given command t lt h e = tt
 gathers_cut (Some bytes) None after count given command t lt h e = absurd t
 gathers_cut (Some bytes) (Some more) None count given command t lt h e = absurd cc
 gathers_cut (Some bytes) (Some more) (Some rest) count given command t lt h e =
-    let all : lines bytes ≡ t.ls = t.lines_are ∙ ap (λ (l : List Line). t.ls ++ l) (lines_of_none more h) ∙ append-nil t.ls in
+    let all : lines bytes ≡ t.ls = t.lines_are ∙ ap (λ (l : List Line). t.ls ++ l) (lines_nil more h) ∙ append-nil t.ls in
     (ap (list_any is_long) all ∙ t.short, omega (arith, ap length all, t.count_is))
 
 pub gathers_all : (before after : Option (List ℕ)) (count : ℕ) (given : GivenLines) (command : Command) → Takes before after count given → count ≡ given_count command → GathersOf before after command (heards.Command command given)
@@ -114,7 +108,7 @@ asked_next line ls = ap (list_any is_long) (take_next (given_count (command_of l
 
 asked_long : (line : Line) (ls all : List Line) → all ≡ line ∷ ls → list_any is_long (take (given_count (command_of line)) ls) ≡ true → HasLong all
 asked_long line ls all e h =
-    ap (λ (l : List Line). list_any is_long (asked l)) e ∙ asked_next line ls ∙ ap (λ t. is_long line || t) h ∙ or_true (is_long line)
+    ap (λ (l : List Line). list_any is_long (asked l)) e ∙ asked_next line ls ∙ ap (λ t. is_long line || t) h ∙ or-true (is_long line)
 
 pub cut_after : (line : Line) (ls all : List Line) → all ≡ line ∷ ls → is_long line ≡ false → list_any is_long ls ≡ false → length ls < given_count (command_of line) → IsCut all
 cut_after line ls all e short h lt = subst (λ (l : List Line). IsCut l) (sym e) (ap (λ t. t || list_any is_long ls) short ∙ h, omega arith)
@@ -149,7 +143,7 @@ hears_after before mid after (Ok heard) command held line l le c e h =
 pub hears_end : (before after : Option (List ℕ)) → IsAtEnd before → after ≡ Some [] → HearsOf before after heards.End
 hears_end None after h e = tt
 hears_end (Some bytes) None h e = absurd cc
-hears_end (Some bytes) (Some rest) h e = lines_of_none bytes h
+hears_end (Some bytes) (Some rest) h e = lines_nil bytes h
 
 first_asked : (ls : List Line) → IsFirstLong ls → HasLong ls
 first_asked [] h = absurd h

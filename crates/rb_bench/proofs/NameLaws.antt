@@ -1,5 +1,5 @@
 -- What is told of a fault tells which it is.
-use Rattle.std.proofs.Common.{◌≡◌, ◌∙◌, ℕ, List, Option, Some, None, Bool, true, false, refl, ap, sym}
+use Rattle.std.proofs.Common.{◌≡◌, ◌∙◌, ℕ, List, Option, refl, ap, sym}
 use Rattle.std.specs.Prelude.{codes, if◌then◌else◌}
 use Rattle.std.specs.Str.{bytes_eq}
 use Rattle.std.specs.Option.{unwrap_or}
@@ -25,14 +25,7 @@ script_named name line =
 
 named_script : (fault : ScriptFault) → script_named (script_name fault) (fault_line fault) ≡ fault
 named_script scripts.TooLong = refl
-named_script (scripts.LineTooLong line) = refl
-named_script (scripts.BadLine line) = refl
-named_script (scripts.NoSeparator line) = refl
-named_script (scripts.NotClosed line) = refl
-named_script scripts.TooManyDirectives = refl
-named_script scripts.NotOneBlock = refl
-named_script (scripts.TooManyArguments line) = refl
-named_script scripts.OutOfMemory = refl
+named_script fault = refl
 
 pub script_names : (fault other : ScriptFault) → script_name fault ≡ script_name other → fault_line fault ≡ fault_line other → fault ≡ other
 script_names fault other name line =
@@ -49,10 +42,7 @@ edit_named name =
 
 named_edit : (fault : EditFault) → edit_named (edit_name fault) ≡ fault
 named_edit edits.NoSuchPlace = refl
-named_edit edits.BadExpectation = refl
-named_edit edits.TooManyDirectives = refl
-named_edit edits.TooLong = refl
-named_edit edits.OutOfMemory = refl
+named_edit fault = refl
 
 pub edit_names : (fault other : EditFault) → edit_name fault ≡ edit_name other → fault ≡ other
 edit_names fault other name = sym (named_edit fault) ∙ ap edit_named name ∙ named_edit other

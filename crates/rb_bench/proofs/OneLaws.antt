@@ -99,17 +99,12 @@ given_answer h false false late early made answer after other next a b = block_a
 
 command_answer : (h : Holding) (c : Command) (given : List Line) (no_memory : Bool) (answer : List ℕ) (after : Holding) (other : List ℕ) (next : Holding) → AnswersCommand h c given no_memory answer after → AnswersCommand h c given no_memory other next
     → IsOne h answer after other next
-command_answer h commands.Blank given no_memory answer after other next a b = says_once h _ answer after other next a b
-command_answer h commands.Bad given no_memory answer after other next a b = says_once h _ answer after other next a b
 command_answer h (commands.Given purpose place count) given no_memory answer after other next a b =
     given_answer h (nat_lt MAX_SCRIPT (length (text_of given))) no_memory _ _ (edit_of purpose place given) answer after other next a b
 command_answer h (commands.Remove place) given no_memory answer after other next a b =
     made_answer h (edits.Remove place) (edited h.script (edits.Remove place) (outputs h.script)) no_memory answer after other next a b
 command_answer h commands.Accept given no_memory answer after other next a b = made_answer h edits.Accept (edited h.script edits.Accept (outputs h.script)) no_memory answer after other next a b
-command_answer h (commands.Show place) given no_memory answer after other next a b = says_once h _ answer after other next a b
-command_answer h commands.Report given no_memory answer after other next a b = says_once h _ answer after other next a b
-command_answer h commands.Script given no_memory answer after other next a b = says_once h _ answer after other next a b
-command_answer h commands.Rewrite given no_memory answer after other next a b = says_once h _ answer after other next a b
+command_answer h c given no_memory answer after other next a b = says_once h _ answer after other next a b
 
 -- ---- lines
 

@@ -3,15 +3,13 @@ use Rattle.std.proofs.Common.{◌≡◌, ℕ, List, Option, Result, Ok, Err, sub
 use Rattle.rb_replay.specs.Holding.{Holding}
 use Rattle.rb_check.specs.declared.status.Status.{Status}
 use Rattle.rb_bench.specs.declared.fault.BenchFault.{BenchFault}
-use Rattle.rb_bench.specs.declared.fault.BenchFault.TheVariants.{Spacing, Script, Io, OutOfMemory}
+use Rattle.rb_bench.specs.declared.fault.BenchFault.TheVariants.{Io}
 use Rattle.rb_bench.specs.Serves.{TalksOut, IsStarted, Serves, ServesOut}
 
 served : (all : Option (List ℕ)) (r : Result Status BenchFault) (script : List ℕ) (every : ℕ) (old new : Option (List ℕ)) → Serves all r script every old new → ServesOut all r script every old new
 served all (Ok status) script every old new s = s
 served all (Err Io) script every old new s = s
-served all (Err Spacing) script every old new s = tt
-served all (Err (Script fault)) script every old new s = tt
-served all (Err OutOfMemory) script every old new s = tt
+served all r script every old new s = tt
 
 -- where all is left to be read
 pub serves : (left all : Option (List ℕ)) (r : Result Status BenchFault) (script : List ℕ) (every : ℕ) (first : Holding) (old new : Option (List ℕ)) → left ≡ all → IsStarted script every first → TalksOut left r first old new → ServesOut all r script every old new

@@ -75,10 +75,8 @@ few_means purpose place count name ds cs false h e p c ne = record {
 }
 
 given_means : (purpose : Option Purpose) (place count : Option ℕ) (name ds cs : Line) → IfSome purpose (λ k. name ≡ purpose_name k) → number_of ds ≡ place → number_of cs ≡ count → given purpose place count ≢ Bad → Spells (given purpose place count) (name ∷ ds ∷ cs ∷ [])
-given_means None place count name ds cs e p c ne = absurd (ne refl)
-given_means (Some purpose) None count name ds cs e p c ne = absurd (ne refl)
-given_means (Some purpose) (Some place) None name ds cs e p c ne = absurd (ne refl)
 given_means (Some purpose) (Some place) (Some count) name ds cs e p c ne = few_means purpose place count name ds cs (nat_lt MAX_GIVEN count) refl e p c ne
+given_means purpose place count name ds cs e p c ne = absurd (ne refl)
 
 spelled_means : (ws : List Line) → spelled ws ≢ Bad → Spells (spelled ws) ws
 spelled_means [] ne = refl

@@ -1,8 +1,8 @@
 -- Reading that stops before the end of the input.
-use Rattle.std.proofs.Common.{◌≡◌, ◌<◌, ◌≤◌, ℕ, ◌⊎◌, inl, inr, false, List, [], ◌∷◌, ◌++◌, Option, Some, None, Result, Ok, Err, refl, ap, sym, subst, ◌∙◌, length, append_assoc, arith}
+use Rattle.std.proofs.Common.{◌≡◌, ◌<◌, ◌≤◌, ℕ, inl, inr, List, [], ◌∷◌, ◌++◌, Option, Some, None, Result, Ok, Err, refl, ap, sym, subst, ◌∙◌, length, append_assoc, arith}
 use Rattle.std.specs.Prelude.{IfOk, OnErr}
 use Rattle.std.specs.List.{list_any, flat_map}
-use Rattle.std.specs.Io.KnownBytes.{Appends, Consumes}
+use Rattle.std.specs.Io.KnownBytes.{Consumes}
 use Rattle.rb_script.specs.declared.limits.TheConstants.{MAX_LINE}
 use Rattle.rb_script.specs.Lines.{Line, lines, without_returns}
 use Rattle.rb_bench.specs.declared.command.Command.{Command}
@@ -21,12 +21,12 @@ use Rattle.rb_bench.specs.declared.hear.Heard.{Heard}
 use Rattle.rb_bench.specs.declared.hear.Heard.TheVariants as heards
 use Rattle.rb_check.specs.declared.status.Status.{Status}
 use Rattle.rb_bench.specs.declared.fault.BenchFault.{BenchFault}
-use Rattle.rb_bench.specs.Talk.{is_long, given_count, taken, IsCut}
+use Rattle.rb_bench.specs.Talk.{is_long, given_count, taken}
 use Rattle.rb_bench.specs.Hearing.{IsCommand}
 use Rattle.rb_bench.specs.Serves.{IsStarted}
-use Rattle.rb_bench.specs.Stopping.{AreTooFew, IsUnfinished, Came, IfCame, StopsBehind, TakesHeard, TakesTurn, AnswersWhole, AnswersCame, ServesCame}
+use Rattle.rb_bench.specs.Stopping.{AreTooFew, IsUnfinished, Came, IfCame, StopsBehind, TakesHeard, TakesTurn, AnswersCame, ServesCame}
 use Rattle.rb_bench.proofs.HearLaws.{Takes, cut_after, short_line}
-use Rattle.rb_bench.proofs.TurnLaws.{HasGone, Goes}
+use Rattle.rb_bench.proofs.TurnLaws.{HasGone}
 
 -- ---- bytes that came behind others
 
@@ -102,17 +102,12 @@ stops_after x y a b after command held line l le whole c e s =
     record { going = took.going; came = came_after (left_of x a) (left_of y b) after line took.bytes l le took.are_whole took.taken came }
 
 pub heard_then : (r : Result Heard InputFault) (x y z : LineReader) (a b c : Option (List ℕ)) → TakesWhole x y a b → IfOk r (λ heard. TakesHeard heard y z b c) → IfOk r (λ heard. TakesHeard heard x z a c)
-heard_then (Err fault) x y z a b c first h = tt
 heard_then (Ok (heards.Command command given)) x y z a b c first h = takes_then x y z a b c first h
-heard_then (Ok heards.End) x y z a b c first h = tt
-heard_then (Ok heards.LineTooLong) x y z a b c first h = tt
-heard_then (Ok heards.CutOff) x y z a b c first h = tt
+heard_then r x y z a b c first h = tt
 
 heard_command : (heard : Heard) (x y : LineReader) (a b : Option (List ℕ)) → IsCommand heard → TakesHeard heard x y a b → TakesWhole x y a b
 heard_command (heards.Command command given) x y a b is h = h
-heard_command heards.End x y a b is h = absurd is
-heard_command heards.LineTooLong x y a b is h = absurd is
-heard_command heards.CutOff x y a b is h = absurd is
+heard_command heard x y a b is h = absurd is
 
 -- ---- turns
 

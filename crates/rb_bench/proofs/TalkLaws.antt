@@ -59,16 +59,11 @@ given_step h given false true late early made answer after e a = early_step h gi
 given_step h given false false late early made answer after e a = block_step h given made answer after a
 
 command_step : (h : Holding) (c : Command) (given : List Line) (no_memory : Bool) (answer : List ℕ) (after : Holding) → AnswersCommand h c given no_memory answer after → IsStep h (edit_for c given) given no_memory answer after
-command_step h commands.Blank given no_memory answer after a = says_step h given no_memory _ answer after a
-command_step h commands.Bad given no_memory answer after a = says_step h given no_memory _ answer after a
 command_step h (commands.Given purpose place count) given no_memory answer after a =
     given_step h given (nat_lt MAX_SCRIPT (length (text_of given))) no_memory (edit_name OutOfMemory) (edit_name TooLong) (edit_of purpose place given) answer after refl a
 command_step h (commands.Remove place) given no_memory answer after a = edit_step h (edits.Remove place) given no_memory answer after a
 command_step h commands.Accept given no_memory answer after a = edit_step h edits.Accept given no_memory answer after a
-command_step h (commands.Show place) given no_memory answer after a = says_step h given no_memory _ answer after a
-command_step h commands.Report given no_memory answer after a = says_step h given no_memory _ answer after a
-command_step h commands.Script given no_memory answer after a = says_step h given no_memory _ answer after a
-command_step h commands.Rewrite given no_memory answer after a = says_step h given no_memory _ answer after a
+command_step h c given no_memory answer after a = says_step h given no_memory _ answer after a
 
 -- the edits that exchanges made lead to the last session
 abbrev pub Lead : Holding → List Exchange → Holding → Type 0

@@ -3,77 +3,83 @@
 ghost use Rattle.std.specs.Prelude.{IsOk, OnOk};
 ghost use Rattle.rb_script.specs.Writes.{Writes};
 ghost use Rattle.rb_replay.specs.Run.{output_at};
-ghost use Rattle.rb_bench.specs.Responses.{at_line, fault_text, refused, done, output_text, shown};
+ghost use Rattle.rb_bench.specs.Responses.{fault_text, refused, done, output_text, shown};
 ghost use Rattle.rb_bench.specs.Handed.{IsHandedOn};
 ghost use Rattle.rb_bench.specs.Replies.{reply_text};
 
 use crate::names::{edit_fault_name, script_fault_name};
 use crate::outlet::Outlet;
+use crate::piece::{Piece, put_pieces};
 use crate::reply::Reply;
 use crate::starting::BenchSession;
 use rb_check::fault_line;
 use rb_replay::Changed;
 use rb_script::{Lines, ScriptFault, Sink, WriteFault};
-use rb_text::put_number;
-
-// Writes at which line it is, where there is one.
-fn put_line_number<S: Sink>(sink: &mut S, line: Option<usize>) -> Result<(), WriteFault>
-    ensures wrote { Writes result (S.held sink.old) (S.held sink.new) (at_line line) }
-    ensures all { S.takes_all sink.old → IsOk result × S.takes_all sink.new }
-{
-    let Some(line) = line else {
-        return Ok(());
-    };
-    sink.put(b" at line ")?;
-    put_number(sink, line as u64)
-}
-
-// Writes the name of a fault, and its line.
-fn put_fault<S: Sink>(sink: &mut S, fault: ScriptFault) -> Result<(), WriteFault>
-    ensures wrote { Writes result (S.held sink.old) (S.held sink.new) (fault_text fault) }
-    ensures all { S.takes_all sink.old → IsOk result × S.takes_all sink.new }
-{
-    sink.put(script_fault_name(fault).as_bytes())?;
-    put_line_number(sink, fault_line(fault))
-}
 
 fn put_refused<S: Sink>(sink: &mut S, name: &[u8]) -> Result<(), WriteFault>
     ensures wrote { Writes result (S.held sink.old) (S.held sink.new) (refused name.now) }
     ensures all { S.takes_all sink.old → IsOk result × S.takes_all sink.new }
 {
-    sink.put(b"refused ")?;
-    sink.put(name)?;
-    sink.put(b"\n")
+    put_pieces(
+        sink,
+        &[
+            Piece::Bytes(b"refused "),
+            Piece::Bytes(name),
+            Piece::Bytes(b"\n"),
+        ],
+    )
 }
 
+// The name of a fault, and its line, if it has one.
 fn put_bad_block<S: Sink>(sink: &mut S, fault: ScriptFault) -> Result<(), WriteFault>
     ensures wrote { Writes result (S.held sink.old) (S.held sink.new) (refused (fault_text fault)) }
     ensures all { S.takes_all sink.old → IsOk result × S.takes_all sink.new }
 {
-    sink.put(b"refused ")?;
-    put_fault(sink, fault)?;
-    sink.put(b"\n")
+    let name = script_fault_name(fault).as_bytes();
+    match fault_line(fault) {
+        Some(line) => put_pieces(
+            sink,
+            &[
+                Piece::Bytes(b"refused "),
+                Piece::Bytes(name),
+                Piece::Bytes(b" at line "),
+                Piece::Number(line as u64),
+                Piece::Bytes(b"\n"),
+            ],
+        ),
+        None => put_refused(sink, name),
+    }
 }
 
 fn put_done<S: Sink>(sink: &mut S, changed: Changed) -> Result<(), WriteFault>
     ensures wrote { Writes result (S.held sink.old) (S.held sink.new) (done changed) }
     ensures all { S.takes_all sink.old → IsOk result × S.takes_all sink.new }
 {
-    sink.put(b"done executed=")?;
-    put_number(sink, changed.executed)?;
-    sink.put(b" mismatches=")?;
-    put_number(sink, changed.mismatches as u64)?;
-    sink.put(b"\n")
+    put_pieces(
+        sink,
+        &[
+            Piece::Bytes(b"done executed="),
+            Piece::Number(changed.executed),
+            Piece::Bytes(b" mismatches="),
+            Piece::Number(changed.mismatches as u64),
+            Piece::Bytes(b"\n"),
+        ],
+    )
 }
 
 fn put_output<S: Sink>(sink: &mut S, output: &Lines) -> Result<(), WriteFault>
     ensures wrote { Writes result (S.held sink.old) (S.held sink.new) (output_text output.now) }
     ensures all { S.takes_all sink.old → IsOk result × S.takes_all sink.new }
 {
-    sink.put(b"output ")?;
-    put_number(sink, output.len() as u64)?;
-    sink.put(b"\n")?;
-    sink.put(output.text())
+    put_pieces(
+        sink,
+        &[
+            Piece::Bytes(b"output "),
+            Piece::Number(output.len() as u64),
+            Piece::Bytes(b"\n"),
+            Piece::Bytes(output.text()),
+        ],
+    )
 }
 
 // The output at a place, or that there is none.
