@@ -5,9 +5,9 @@ use Rattle.serde_json.specs.Data.{Data}
 use Rattle.rb_rpc.specs.Params.{text_below}
 use Rattle.rb_server.specs.declared.client.Client.{Client}
 use Rattle.rb_server.specs.declared.method.Method.{Method}
-use Rattle.rb_server.specs.declared.method.Method.TheVariants.{Initialize, Shutdown, Exit, DidOpen, DidChange, DidClose, Asks, Unknown}
+use Rattle.rb_server.specs.declared.method.Method.TheVariants.{Exit}
 use Rattle.rb_server.specs.declared.phase.Phase.{Phase}
-use Rattle.rb_server.specs.declared.phase.Phase.TheVariants.{Fresh, Running, Stopped}
+use Rattle.rb_server.specs.declared.phase.Phase.TheVariants.{Running}
 use Rattle.rb_server.specs.Methods.{is_of_documents}
 use Rattle.rb_server.specs.Meanings.{Meaning}
 use Rattle.rb_server.specs.Notices.{Notice, notice_of, notice_text, with_uri}
@@ -28,10 +28,8 @@ taken_is true client method d uri = uri_is client method d uri
 taken_is false client method d uri = tt
 
 notice_is : (phase : Phase) (method : Method) (params : Option Data) → IsOf phase (notice_of phase method params)
-notice_is Fresh method params = tt
-notice_is (Running client) method None = tt
 notice_is (Running client) method (Some d) = taken_is (is_of_documents method) client method d (text_below (codes "textDocument") (codes "uri") d)
-notice_is Stopped method params = tt
+notice_is phase method params = tt
 
 one_is : (meaning : Meaning) (no_memory : Bool) (next : PlainServer) (notice : Option Notice) → IsOf next.phase notice → IsPublished meaning no_memory next notice (notice_text meaning no_memory notice next.documents)
 one_is meaning no_memory next None is = refl
@@ -49,11 +47,5 @@ after_is meaning no_memory server next method params e =
 
 pub diagnosed : (meaning : Meaning) (no_memory : Bool) (server next : PlainServer) (method : Method) (params : Option Data) → noticed_by server method params ≡ On next
     → IsPublished meaning no_memory next (notice_of server.phase method params) (published meaning no_memory server method params)
-diagnosed meaning no_memory server next Initialize params e = after_is meaning no_memory server next Initialize params e
-diagnosed meaning no_memory server next Shutdown params e = after_is meaning no_memory server next Shutdown params e
 diagnosed meaning no_memory server next Exit params e = absurd cc
-diagnosed meaning no_memory server next DidOpen params e = after_is meaning no_memory server next DidOpen params e
-diagnosed meaning no_memory server next DidChange params e = after_is meaning no_memory server next DidChange params e
-diagnosed meaning no_memory server next DidClose params e = after_is meaning no_memory server next DidClose params e
-diagnosed meaning no_memory server next (Asks question) params e = after_is meaning no_memory server next (Asks question) params e
-diagnosed meaning no_memory server next Unknown params e = after_is meaning no_memory server next Unknown params e
+diagnosed meaning no_memory server next method params e = after_is meaning no_memory server next method params e

@@ -1,36 +1,30 @@
 -- No answer has a float, so each has the text that its definition says.
 use Rattle.std.proofs.Common.{◌≡◌, ℕ, List, Bool, true, false, Option, Some, None, refl, sym, subst}
 use Rattle.std.specs.Prelude.{codes, if◌then◌else◌, ⊤}
-use Rattle.serde_json.specs.Data.{Data, null, boolean, number, string, array, object, unsigned, negative, float}
+use Rattle.serde_json.specs.Data.{Data, number, array, object, float}
 use Rattle.serde_json.specs.Written.{has_float}
 use Rattle.serde_json.specs.Find.{get}
 use Rattle.rb_document.specs.declared.position.Encoding.{Encoding}
 use Rattle.rb_document.specs.declared.position.Encoding.TheVariants.{Utf8, Utf16}
-use Rattle.rb_rpc.specs.Said.{Said, request, notification, response, invalid, said, is_id, has_version, is_response, text_at, with_id, with_method}
+use Rattle.rb_rpc.specs.Said.{Said, request, response, invalid, said, is_id, has_version, is_response, text_at, with_id, with_method}
 use Rattle.rb_server.specs.declared.client.Client.{Client}
 use Rattle.rb_server.specs.declared.phase.Phase.{Phase}
-use Rattle.rb_server.specs.declared.phase.Phase.TheVariants.{Fresh, Running, Stopped}
+use Rattle.rb_server.specs.declared.phase.Phase.TheVariants.{Fresh, Running}
 use Rattle.rb_server.specs.declared.method.Method.{Method}
-use Rattle.rb_server.specs.declared.method.Method.TheVariants.{Initialize, Shutdown, Exit, DidOpen, DidChange, DidClose, Asks, Unknown}
+use Rattle.rb_server.specs.declared.method.Method.TheVariants.{Initialize}
 use Rattle.rb_server.specs.Beginnings.{capabilities, client_of, completes, initialized, synchronizes}
 use Rattle.rb_server.specs.Replies.{answer_to, initialize_answer}
 
 id_is_plain : (d : Data) → is_id d ≡ true → has_float d ≡ false
-id_is_plain null is = refl
-id_is_plain (boolean b) is = refl
-id_is_plain (number (unsigned n)) is = refl
-id_is_plain (number (negative z)) is = refl
 id_is_plain (number (float x)) is = cc
-id_is_plain (string s) is = refl
 id_is_plain (array ds) is = cc
 id_is_plain (object ms) is = cc
+id_is_plain d is = refl
 
 -- the id that is answered has no float
 abbrev pub IsPlain : Said → Type 0
 IsPlain (request id method params) = has_float id ≡ false
-IsPlain (notification method params) = ⊤
-IsPlain response = ⊤
-IsPlain invalid = ⊤
+IsPlain what = ⊤
 
 chosen : (b : Bool) (id : Data) (method : List ℕ) (params : Option Data) → b ≡ is_id id → IsPlain (if b then request id method params else invalid)
 chosen true id method params is = id_is_plain id (sym is)
@@ -66,22 +60,8 @@ beginning_is_plain (Some client) id plain = rw (plain, initialized_is_plain clie
 
 pub answer_is_plain : (phase : Phase) (method : Method) (params : Option Data) (id : Data) → has_float id ≡ false → has_float (answer_to phase method params id) ≡ false
 answer_is_plain Fresh Initialize params id plain = beginning_is_plain (client_of params) id plain
-answer_is_plain Fresh Shutdown params id plain = rw plain
-answer_is_plain Fresh Exit params id plain = rw plain
-answer_is_plain Fresh DidOpen params id plain = rw plain
-answer_is_plain Fresh DidChange params id plain = rw plain
-answer_is_plain Fresh DidClose params id plain = rw plain
-answer_is_plain Fresh (Asks question) params id plain = rw plain
-answer_is_plain Fresh Unknown params id plain = rw plain
 answer_is_plain (Running client) Initialize params id plain = rw plain
-answer_is_plain (Running client) Shutdown params id plain = rw plain
-answer_is_plain (Running client) Exit params id plain = rw plain
-answer_is_plain (Running client) DidOpen params id plain = rw plain
-answer_is_plain (Running client) DidChange params id plain = rw plain
-answer_is_plain (Running client) DidClose params id plain = rw plain
-answer_is_plain (Running client) (Asks question) params id plain = rw plain
-answer_is_plain (Running client) Unknown params id plain = rw plain
-answer_is_plain Stopped method params id plain = rw plain
+answer_is_plain phase method params id plain = rw plain
 
 -- the id of a request
 pub id_is_plain_of : (d id : Data) (method : List ℕ) (params : Option Data) → request id method params ≡ said d → has_float id ≡ false

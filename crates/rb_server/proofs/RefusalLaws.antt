@@ -5,14 +5,14 @@ use Rattle.serde_json.specs.Data.{Data}
 use Rattle.rb_document.specs.declared.position.Encoding.{Encoding}
 use Rattle.rb_rpc.specs.Messages.{frame}
 use Rattle.rb_rpc.specs.Params.{number_below}
-use Rattle.rb_rpc.specs.Said.{Said, request, notification, response, invalid}
+use Rattle.rb_rpc.specs.Said.{Said, request, notification}
 use Rattle.rb_server.specs.declared.query.Query.{Query}
 use Rattle.rb_server.specs.declared.client.Client.{Client}
 use Rattle.rb_server.specs.declared.method.Question.{Question}
 use Rattle.rb_server.specs.declared.method.Method.{Method}
-use Rattle.rb_server.specs.declared.method.Method.TheVariants.{Initialize, Shutdown, Exit, DidOpen, DidChange, DidClose, Asks, Unknown}
+use Rattle.rb_server.specs.declared.method.Method.TheVariants.{Exit, Asks}
 use Rattle.rb_server.specs.declared.phase.Phase.{Phase}
-use Rattle.rb_server.specs.declared.phase.Phase.TheVariants.{Fresh, Running, Stopped}
+use Rattle.rb_server.specs.declared.phase.Phase.TheVariants.{Running}
 use Rattle.rb_server.specs.Methods.{method_of}
 use Rattle.rb_server.specs.Documents.{PlainDocument, text_of}
 use Rattle.rb_server.specs.Meanings.{Meaning}
@@ -35,14 +35,8 @@ notice_told meaning method params (Some n) ds = text_told meaning method params 
 
 notification_told : (meaning : Meaning) (server : PlainServer) (name : List ℕ) (method : Method) (params : Option Data)
     → (published meaning true server method params ≡ published meaning false server method params) ⊎ TellsRefusal (notification name params) (published meaning true server method params)
-notification_told meaning server name Initialize params = notice_told meaning name params (notice_of server.phase Initialize params) (with_notice server Initialize params).documents
-notification_told meaning server name Shutdown params = notice_told meaning name params (notice_of server.phase Shutdown params) (with_notice server Shutdown params).documents
 notification_told meaning server name Exit params = inl refl
-notification_told meaning server name DidOpen params = notice_told meaning name params (notice_of server.phase DidOpen params) (with_notice server DidOpen params).documents
-notification_told meaning server name DidChange params = notice_told meaning name params (notice_of server.phase DidChange params) (with_notice server DidChange params).documents
-notification_told meaning server name DidClose params = notice_told meaning name params (notice_of server.phase DidClose params) (with_notice server DidClose params).documents
-notification_told meaning server name (Asks question) params = notice_told meaning name params (notice_of server.phase (Asks question) params) (with_notice server (Asks question) params).documents
-notification_told meaning server name Unknown params = notice_told meaning name params (notice_of server.phase Unknown params) (with_notice server Unknown params).documents
+notification_told meaning server name method params = notice_told meaning name params (notice_of server.phase method params) (with_notice server method params).documents
 
 -- ---- of a request
 
@@ -56,9 +50,8 @@ answer_told meaning id method params encoding asked uri (Some text) = inr (of_re
 
 asked_told : (meaning : Meaning) (id : Data) (method : List ℕ) (params : Option Data) (encoding : Encoding) (ds : List PlainDocument) (uri : Option (List ℕ)) (asked : Option Query)
     → IsTold id method params (with_asked meaning true encoding ds id uri asked) (with_asked meaning false encoding ds id uri asked)
-asked_told meaning id method params encoding ds None asked = inl refl
-asked_told meaning id method params encoding ds (Some uri) None = inl refl
 asked_told meaning id method params encoding ds (Some uri) (Some asked) = answer_told meaning id method params encoding asked uri (text_of uri ds)
+asked_told meaning id method params encoding ds uri asked = inl refl
 
 question_told : (meaning : Meaning) (id : Data) (method : List ℕ) (encoding : Encoding) (ds : List PlainDocument) (question : Question) (params : Option Data)
     → IsTold id method params (question_body meaning true encoding ds question params id) (question_body meaning false encoding ds question params id)
@@ -67,20 +60,11 @@ question_told meaning id method encoding ds question (Some d) = asked_told meani
 
 body_told : (meaning : Meaning) (id : Data) (name : List ℕ) (ds : List PlainDocument) (phase : Phase) (method : Method) (params : Option Data)
     → IsTold id name params (body_in meaning true ds phase method params id) (body_in meaning false ds phase method params id)
-body_told meaning id name ds Fresh method params = inl refl
-body_told meaning id name ds (Running client) Initialize params = inl refl
-body_told meaning id name ds (Running client) Shutdown params = inl refl
-body_told meaning id name ds (Running client) Exit params = inl refl
-body_told meaning id name ds (Running client) DidOpen params = inl refl
-body_told meaning id name ds (Running client) DidChange params = inl refl
-body_told meaning id name ds (Running client) DidClose params = inl refl
 body_told meaning id name ds (Running client) (Asks question) params = question_told meaning id name client.encoding ds question params
-body_told meaning id name ds (Running client) Unknown params = inl refl
-body_told meaning id name ds Stopped method params = inl refl
+body_told meaning id name ds phase method params = inl refl
 
 pub refusal_told : (meaning : Meaning) (server : PlainServer) (what : Said) → (told_of meaning true server what ≡ told_of meaning false server what) ⊎ TellsRefusal what (told_of meaning true server what)
 unfolding sent
 refusal_told meaning server (request id method params) = body_told meaning id method server.documents server.phase (method_of method) params
 refusal_told meaning server (notification method params) = notification_told meaning server method (method_of method) params
-refusal_told meaning server response = inl refl
-refusal_told meaning server invalid = inl refl
+refusal_told meaning server what = inl refl

@@ -3,7 +3,6 @@ use Rattle.std.proofs.Common.{◌≡◌, List, ℕ, Bool, true, false, Option, S
 use Rattle.std.specs.Prelude.{codes, option_and_then}
 use Rattle.serde_json.specs.Data.{Data, null}
 use Rattle.rb_document.specs.declared.position.Encoding.{Encoding}
-use Rattle.rb_rpc.specs.Answers.{failure}
 use Rattle.rb_rpc.specs.declared.answer.ErrorCode.TheVariants.{InvalidRequest, MethodNotFound, InvalidParams, InternalError, ServerNotInitialized}
 use Rattle.rb_server.specs.declared.query.Query.{Query}
 use Rattle.rb_server.specs.declared.client.Client.{Client}
@@ -11,7 +10,7 @@ use Rattle.rb_server.specs.declared.phase.Phase.{Phase}
 use Rattle.rb_server.specs.declared.phase.Phase.TheVariants.{Fresh, Running, Stopped}
 use Rattle.rb_server.specs.declared.method.Question.{Question}
 use Rattle.rb_server.specs.declared.method.Method.{Method}
-use Rattle.rb_server.specs.declared.method.Method.TheVariants.{Initialize, Shutdown, Exit, DidOpen, DidChange, DidClose, Asks, Unknown}
+use Rattle.rb_server.specs.declared.method.Method.TheVariants.{Initialize, Shutdown, Asks}
 use Rattle.rb_server.specs.Beginnings.{client_of, initialized}
 use Rattle.rb_server.specs.Documents.{PlainDocument, text_of}
 use Rattle.rb_server.specs.Meanings.{Meaning}
@@ -44,40 +43,23 @@ text_answers meaning false server client question asked given uri id (Some text)
 asked_answers : (meaning : Meaning) (no_memory : Bool) (server : PlainServer) (client : Client) (question : Question) (given : Data) (id : Data) (uri : Option (List ℕ)) (asked : Option Query)
     → server.phase ≡ Running client → uri_of given ≡ uri → asked_of question given ≡ asked
     → Answers meaning server (Asks question) (Some given) id (with_asked meaning no_memory client.encoding server.documents id uri asked)
-asked_answers meaning no_memory server client question given id None asked running named asks = unfit_answers meaning server (Asks question) (Some given) id
-asked_answers meaning no_memory server client question given id (Some uri) None running named asks = unfit_answers meaning server (Asks question) (Some given) id
 asked_answers meaning no_memory server client question given id (Some uri) (Some asked) running named asks =
     text_answers meaning no_memory server client question asked given uri id (text_of uri server.documents) running named asks refl
+asked_answers meaning no_memory server client question given id uri asked running named asks = unfit_answers meaning server (Asks question) (Some given) id
 
 question_answers : (meaning : Meaning) (no_memory : Bool) (server : PlainServer) (client : Client) (question : Question) (params : Option Data) (id : Data) → server.phase ≡ Running client
     → Answers meaning server (Asks question) params id (question_body meaning no_memory client.encoding server.documents question params id)
 question_answers meaning no_memory server client question None id running = unfit_answers meaning server (Asks question) None id
 question_answers meaning no_memory server client question (Some d) id running = asked_answers meaning no_memory server client question d id (uri_of d) (asked_of question d) running refl refl
 
-too_early : (meaning : Meaning) (server : PlainServer) (method : Method) (params : Option Data) (id : Data) → Answers meaning server method params id (body_text (failure id ServerNotInitialized (codes "initialize comes first")))
-too_early meaning server method params id = refused id ServerNotInitialized (codes "initialize comes first")
-
-no_method : (meaning : Meaning) (server : PlainServer) (method : Method) (params : Option Data) (id : Data) → Answers meaning server method params id (body_text (failure id MethodNotFound (codes "there is no such method")))
-no_method meaning server method params id = refused id MethodNotFound (codes "there is no such method")
-
 body_has_id : (meaning : Meaning) (no_memory : Bool) (server : PlainServer) (phase : Phase) (method : Method) (params : Option Data) (id : Data) → server.phase ≡ phase
     → Answers meaning server method params id (body_in meaning no_memory server.documents phase method params id)
 body_has_id meaning no_memory server Fresh Initialize params id is = beginning_answers meaning server Initialize params (client_of params) id
-body_has_id meaning no_memory server Fresh Shutdown params id is = too_early meaning server Shutdown params id
-body_has_id meaning no_memory server Fresh Exit params id is = too_early meaning server Exit params id
-body_has_id meaning no_memory server Fresh DidOpen params id is = too_early meaning server DidOpen params id
-body_has_id meaning no_memory server Fresh DidChange params id is = too_early meaning server DidChange params id
-body_has_id meaning no_memory server Fresh DidClose params id is = too_early meaning server DidClose params id
-body_has_id meaning no_memory server Fresh (Asks question) params id is = too_early meaning server (Asks question) params id
-body_has_id meaning no_memory server Fresh Unknown params id is = too_early meaning server Unknown params id
+body_has_id meaning no_memory server Fresh method params id is = refused id ServerNotInitialized (codes "initialize comes first")
 body_has_id meaning no_memory server (Running client) Initialize params id is = refused id InvalidRequest (codes "initialize came before")
 body_has_id meaning no_memory server (Running client) Shutdown params id is = done id null
-body_has_id meaning no_memory server (Running client) Exit params id is = no_method meaning server Exit params id
-body_has_id meaning no_memory server (Running client) DidOpen params id is = no_method meaning server DidOpen params id
-body_has_id meaning no_memory server (Running client) DidChange params id is = no_method meaning server DidChange params id
-body_has_id meaning no_memory server (Running client) DidClose params id is = no_method meaning server DidClose params id
 body_has_id meaning no_memory server (Running client) (Asks question) params id is = question_answers meaning no_memory server client question params id is
-body_has_id meaning no_memory server (Running client) Unknown params id is = no_method meaning server Unknown params id
+body_has_id meaning no_memory server (Running client) method params id is = refused id MethodNotFound (codes "there is no such method")
 body_has_id meaning no_memory server Stopped method params id is = refused id InvalidRequest (codes "shutdown came before")
 
 pub answer_has_id : (meaning : Meaning) (no_memory : Bool) (server : PlainServer) (method : Method) (params : Option Data) (id : Data) → Answers meaning server method params id (answer_body meaning no_memory server method params id)
@@ -87,9 +69,8 @@ answer_has_id meaning no_memory server method params id = body_has_id meaning no
 
 same_asked : (meaning : Meaning) (no_memory : Bool) (encoding : Encoding) (ds es : List PlainDocument) (id : Data) (uri : Option (List ℕ)) (asked : Option Query)
     → option_and_then (λ (u : List ℕ). text_of u ds) uri ≡ option_and_then (λ (u : List ℕ). text_of u es) uri → with_asked meaning no_memory encoding ds id uri asked ≡ with_asked meaning no_memory encoding es id uri asked
-same_asked meaning no_memory encoding ds es id None asked same = refl
-same_asked meaning no_memory encoding ds es id (Some uri) None same = refl
 same_asked meaning no_memory encoding ds es id (Some uri) (Some asked) same = ap (of_text meaning no_memory encoding asked uri id) same
+same_asked meaning no_memory encoding ds es id uri asked same = refl
 
 same_question : (meaning : Meaning) (no_memory : Bool) (encoding : Encoding) (ds es : List PlainDocument) (question : Question) (params : Option Data) (id : Data)
     → named_text params ds ≡ named_text params es → question_body meaning no_memory encoding ds question params id ≡ question_body meaning no_memory encoding es question params id
@@ -98,16 +79,8 @@ same_question meaning no_memory encoding ds es question (Some d) id same = same_
 
 same_body : (meaning : Meaning) (no_memory : Bool) (ds es : List PlainDocument) (phase : Phase) (method : Method) (params : Option Data) (id : Data)
     → named_text params ds ≡ named_text params es → body_in meaning no_memory ds phase method params id ≡ body_in meaning no_memory es phase method params id
-same_body meaning no_memory ds es Fresh method params id same = refl
-same_body meaning no_memory ds es (Running client) Initialize params id same = refl
-same_body meaning no_memory ds es (Running client) Shutdown params id same = refl
-same_body meaning no_memory ds es (Running client) Exit params id same = refl
-same_body meaning no_memory ds es (Running client) DidOpen params id same = refl
-same_body meaning no_memory ds es (Running client) DidChange params id same = refl
-same_body meaning no_memory ds es (Running client) DidClose params id same = refl
 same_body meaning no_memory ds es (Running client) (Asks question) params id same = same_question meaning no_memory client.encoding ds es question params id same
-same_body meaning no_memory ds es (Running client) Unknown params id same = refl
-same_body meaning no_memory ds es Stopped method params id same = refl
+same_body meaning no_memory ds es phase method params id same = refl
 
 pub same_answer : (meaning : Meaning) (no_memory : Bool) (server other : PlainServer) (method : Method) (params : Option Data) (id : Data) → server.phase ≡ other.phase
     → named_text params server.documents ≡ named_text params other.documents → answer_body meaning no_memory server method params id ≡ answer_body meaning no_memory other method params id

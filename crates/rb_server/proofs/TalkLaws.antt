@@ -6,7 +6,7 @@ use Rattle.std.proofs.KnownBytes.{Appends-nil, Appends-trans}
 use Rattle.rb_script.specs.Writes.{AppendsFront}
 use Rattle.rb_rpc.specs.Messages.{HasNoMessage, NeverHasMessage}
 use Rattle.rb_rpc.specs.Reading.{LosesMessage}
-use Rattle.rb_rpc.specs.Said.{Said, request, notification, response, invalid}
+use Rattle.rb_rpc.specs.Said.{Said, request, notification}
 use Rattle.serde_json.specs.Data.{Data}
 use Rattle.rb_server.specs.declared.fault.ServeFault.{ServeFault}
 use Rattle.rb_server.specs.declared.phase.ExitStatus.{ExitStatus}
@@ -14,7 +14,7 @@ use Rattle.rb_server.specs.declared.phase.ExitStatus.TheVariants.{Closed, CutOff
 use Rattle.rb_server.specs.Meanings.{Meaning}
 use Rattle.rb_server.specs.Methods.{method_of}
 use Rattle.rb_server.specs.declared.method.Method.{Method}
-use Rattle.rb_server.specs.declared.method.Method.TheVariants.{Initialize, Shutdown, Exit, DidOpen, DidChange, DidClose, Asks, Unknown}
+use Rattle.rb_server.specs.declared.method.Method.TheVariants.{Exit}
 use Rattle.rb_server.specs.Replies.{PlainServer, Turned, On, Over, fresh, noticed_by, published}
 use Rattle.rb_server.specs.Talk.{Hears, told, goes, Begins, stands, goes_on, exits, closes, cuts_off, strays, nothing, answer, waits, comes}
 use Rattle.rb_server.specs.Serves.{Responds, StartsAnswer, StartsTelling, Tells, TurnsOut, TurnBreaks, Served, BreaksOff, turned_of}
@@ -69,21 +69,13 @@ says_nothing meaning server body held = record { text = []; may = nothing server
 -- where a message ends the server, what goes out doesn't depend on memory
 published_over : (meaning : Meaning) (no_memory : Bool) (server : PlainServer) (method : Method) (params : Option Data) (status : ExitStatus) → noticed_by server method params ≡ Over status
     → published meaning no_memory server method params ≡ published meaning false server method params
-published_over meaning no_memory server Initialize params status over = absurd cc
-published_over meaning no_memory server Shutdown params status over = absurd cc
 published_over meaning no_memory server Exit params status over = refl
-published_over meaning no_memory server DidOpen params status over = absurd cc
-published_over meaning no_memory server DidChange params status over = absurd cc
-published_over meaning no_memory server DidClose params status over = absurd cc
-published_over meaning no_memory server (Asks question) params status over = absurd cc
-published_over meaning no_memory server Unknown params status over = absurd cc
+published_over meaning no_memory server method params status over = absurd cc
 
 told_over : (meaning : Meaning) (no_memory : Bool) (server : PlainServer) (heard : Option Said) (status : ExitStatus) → goes server heard ≡ Over status → told meaning no_memory server heard ≡ told meaning false server heard
-told_over meaning no_memory server None status over = refl
 told_over meaning no_memory server (Some (request id method params)) status over = absurd cc
 told_over meaning no_memory server (Some (notification method params)) status over = published_over meaning no_memory server (method_of method) params status over
-told_over meaning no_memory server (Some response) status over = refl
-told_over meaning no_memory server (Some invalid) status over = refl
+told_over meaning no_memory server heard status over = refl
 
 takes_by : (meaning : Meaning) (server : PlainServer) (turned : Turned) (before left old new : Option (List ℕ)) (body : List ℕ) → LosesMessage before left body → Responds meaning server body turned old new
     → TurnsOut meaning server turned before left old new
