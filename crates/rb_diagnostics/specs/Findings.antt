@@ -11,6 +11,7 @@ use Rattle.rb_check.specs.declared.colors.Colors.TheVariants.{Off}
 use Rattle.rb_check.specs.Refusals.{sentence, fault_line}
 use Rattle.rb_check.specs.Diffs.{parts}
 use Rattle.rb_check.specs.Folds.{folded_text}
+use Rattle.rb_checked.specs.Checked.{of_each}
 use Rattle.rb_checked.specs.Errors.{first_line, is_error, is_unexpected}
 use Rattle.rb_diagnostics.specs.declared.diagnostic.Kind.TheVariants.{Mismatch, ErrorOutput, NoScript}
 use Rattle.rb_offers.specs.declared.block_lines.BlockLines.{BlockLines}
@@ -42,10 +43,7 @@ before (Some d) ds = d ∷ ds
 
 -- directives in order, with the lines of their heads and their outputs
 abbrev pub findings : List Line → List ℕ → List PlainBlock → List (List Line) → List PlainDiagnostic
-findings ls [] bs os = []
-findings ls (line ∷ heads) [] os = []
-findings ls (line ∷ heads) (b ∷ bs) [] = []
-findings ls (line ∷ heads) (b ∷ bs) (output ∷ os) = before (finding ls line b output) (findings ls heads bs os)
+findings ls heads bs os = of_each (λ line b output. before (finding ls line b output) []) heads bs os
 
 -- the place is the first of some
 abbrev pub stands_first : ℕ → List ℕ → Bool
