@@ -1,24 +1,21 @@
 -- Which bytes stand in what programs are told.
-use Rattle.std.proofs.Common.{◌≡◌, ◌∙◌, ℕ, ◌+◌, ◌/◌, ◌%◌, ◌<◌, ◌≤◌, Bool, true, false, List, [], ◌∷◌, ◌++◌, refl, ap, arith}
+use Rattle.std.proofs.Common.{◌≡◌, ◌∙◌, ℕ, ◌/◌, ◌%◌, ◌<◌, Bool, true, false, List, [], ◌∷◌, refl, arith}
 use Rattle.std.specs.Prelude.{◌==◌, ◌&&◌, not, nat_le, nat_lt}
 use Rattle.std.specs.List.{flat_map, list_all}
+use Rattle.std.proofs.lemmas.Bool.{and_from}
 use Rattle.std.proofs.lemmas.Grind.{common_steps}
 use Rattle.std.proofs.lemmas.List.Folds.{list_all-append}
-use Rattle.rb_json.specs.Escapes.{hex_digit, is_plain, numbered, escaped, ascii}
+use Rattle.rb_json.specs.Escapes.{hex_digit, is_plain, numbered, ascii}
 use Rattle.rb_formats.specs.Escapes.{in_message, in_property}
 
 cases : {A : Type 0} (t : Bool) → (t ≡ true → A) → (t ≡ false → A) → A
 cases true same other = same refl
 cases false same other = other refl
 
-both_true : (t u : Bool) → t ≡ true → u ≡ true → (t && u) ≡ true
-both_true true u h k = k
-both_true false u h k = absurd cc
-
 -- what holds of the bytes that stand for each byte holds of all
 pub all_along : (p : ℕ → Bool) (f : ℕ → List ℕ) (bytes : List ℕ) → ((b : ℕ) → list_all p (f b) ≡ true) → list_all p (flat_map f bytes) ≡ true
 all_along p f [] each = refl
-all_along p f (b ∷ bytes) each = list_all-append p (f b) (flat_map f bytes) ∙ both_true (list_all p (f b)) (list_all p (flat_map f bytes)) (each b) (all_along p f bytes each)
+all_along p f (b ∷ bytes) each = list_all-append p (f b) (flat_map f bytes) ∙ and_from (list_all p (f b)) (list_all p (flat_map f bytes)) (each b) (all_along p f bytes each)
 
 -- ---- ASCII
 
@@ -32,8 +29,8 @@ below : (n : ℕ) → n % 16 < 16
 below n = omega arith
 
 number_printable : (b : ℕ) → list_all is_printable (numbered b) ≡ true
-number_printable b = both_true (is_printable (hex_digit (b / 16 % 16))) (is_printable (hex_digit (b % 16)) && true) (digit_printable (b / 16 % 16) (below (b / 16)))
-    (both_true (is_printable (hex_digit (b % 16))) true (digit_printable (b % 16) (below b)) refl)
+number_printable b = and_from (is_printable (hex_digit (b / 16 % 16))) (is_printable (hex_digit (b % 16)) && true) (digit_printable (b / 16 % 16) (below (b / 16)))
+    (and_from (is_printable (hex_digit (b % 16))) true (digit_printable (b % 16) (below b)) refl)
 
 plain_printable : (b : ℕ) → nat_lt b 128 ≡ true → is_plain b ≡ true → list_all is_printable (b ∷ []) ≡ true
 plain_printable b small plain = grind (arith, common_steps)
@@ -56,15 +53,11 @@ is_in_value b = not (b == 10) && not (b == 13) && not (b == 58) && not (b == 44)
 
 line_true : (s t : Bool) → s ≡ false → t ≡ false → ((not s && not t) && true) ≡ true
 line_true false false h k = refl
-line_true true t h k = absurd cc
-line_true false true h k = absurd cc
+line_true s t h k = absurd cc
 
 value_true : (s t u v : Bool) → s ≡ false → t ≡ false → u ≡ false → v ≡ false → ((((not s && not t) && not u) && not v) && true) ≡ true
 value_true false false false false h k l m = refl
-value_true true t u v h k l m = absurd cc
-value_true false true u v h k l m = absurd cc
-value_true false false true v h k l m = absurd cc
-value_true false false false true h k l m = absurd cc
+value_true s t u v h k l m = absurd cc
 
 byte_in_line : (b : ℕ) → list_all is_in_line (in_message b) ≡ true
 byte_in_line b = cases (b == 37) (λ yes. rw yes refl)
