@@ -2,7 +2,7 @@
 use Rattle.std.proofs.Common.{◌≡◌, ℕ, ◌+◌, ◌%◌, ◌/◌, ◌<◌, ◌≤◌, Bool, true, false, List, [], ◌∷◌, ◌++◌, take, decimal, codes, refl, arith}
 use Rattle.std.specs.Prelude.{not, ◌&&◌, ◌==◌, nat_le, nat_lt, if◌then◌else◌}
 use Rattle.std.specs.List.{flat_map}
-use Rattle.std.proofs.lemmas.Bool.{le-leb}
+use Rattle.std.proofs.lemmas.Bool.{and_from, le-leb}
 use Rattle.std.proofs.lemmas.List.Folds.{list_all-append}
 use Rattle.rb_level.specs.declared.directive_error.DirectiveError.{DirectiveError}
 use Rattle.rb_level.specs.declared.directive_error.DirectiveError.TheVariants as errors
@@ -54,10 +54,6 @@ use Rattle.rb_texts.specs.Shapes.{is_one_line}
 use Rattle.rb_texts.specs.States.{role_text, node_text, hard_state_text, log_text, progress_state_text, under_way_text, mark_text, progress_text}
 use Rattle.rb_texts.proofs.KindLaws.{decimal_of, flat_of, joined_of}
 
--- two tests that pass, as one
-pub both : (a b : Bool) → a ≡ true → b ≡ true → (a && b) ≡ true
-both a b p q = cc
-
 -- the first of three tests that all pass
 first_of_three : (a b c : Bool) → (a && b && c) ≡ true → a ≡ true
 first_of_three true b c h = refl
@@ -65,7 +61,7 @@ first_of_three false b c h = h
 
 -- a byte from 32 to 126 is printable
 printable : (b : ℕ) → 32 ≤ b → b ≤ 126 → is_printable b ≡ true
-printable b low high = both (nat_le 32 b) (nat_le b 126) (le-leb 32 b low) (le-leb b 126 high)
+printable b low high = and_from (nat_le 32 b) (nat_le b 126) (le-leb 32 b low) (le-leb b 126 high)
 
 -- two texts in one line make one line
 pub joined : (a b : List ℕ) → is_one_line a ≡ true → is_one_line b ≡ true → is_one_line (a ++ b) ≡ true
@@ -97,8 +93,8 @@ hex_one_line false n lt = printable (n + 87) (omega arith) (omega arith)
 
 -- a byte between quotes, by the test whether it stands for itself
 escaped_one_line : (t : Bool) (b : ℕ) → (t ≡ true → is_printable b ≡ true) → is_one_line (if t then b ∷ [] else numbered b) ≡ true
-escaped_one_line true b h = both (is_printable b) true (h refl) refl
-escaped_one_line false b h = both _ _ (hex_one_line (nat_lt (b / 16 % 16) 10) (b / 16 % 16) (omega arith)) (both _ true (hex_one_line (nat_lt (b % 16) 10) (b % 16) (omega arith)) refl)
+escaped_one_line true b h = and_from (is_printable b) true (h refl) refl
+escaped_one_line false b h = and_from _ _ (hex_one_line (nat_lt (b / 16 % 16) 10) (b / 16 % 16) (omega arith)) (and_from _ true (hex_one_line (nat_lt (b % 16) 10) (b % 16) (omega arith)) refl)
 
 -- all bytes between quotes are in one line
 all_escaped_one_line : (bytes : List ℕ) → is_one_line (flat_map escaped bytes) ≡ true
@@ -139,9 +135,7 @@ shown_one_line false text h = refl
 -- a role is in one line
 pub role_one_line : (x : Role) → is_one_line (role_text x) ≡ true
 role_one_line roles.Follower = refl
-role_one_line roles.Precandidate = refl
-role_one_line roles.Candidate = refl
-role_one_line roles.Leader = refl
+role_one_line x = refl
 
 -- a node is in one line
 pub node_one_line : (n : PlainNodeLine) → is_one_line (node_text n) ≡ true
@@ -161,8 +155,7 @@ log_one_line l = simp (list_all-append, decimal_one_line)
 -- the state of a view is in one line
 pub progress_state_one_line : (x : ProgressState) → is_one_line (progress_state_text x) ≡ true
 progress_state_one_line states.Probe = refl
-progress_state_one_line states.Replicate = refl
-progress_state_one_line states.Snapshot = refl
+progress_state_one_line x = refl
 
 -- what it has in its state alone is
 under_way_one_line : (state : ProgressState) (waiting : Bool) (pending : ℕ) → is_one_line (under_way_text state waiting pending) ≡ true
@@ -187,15 +180,12 @@ place_one_line term index = simp (list_all-append, decimal_one_line)
 -- a transition is in one line
 transition_one_line : (x : Transition) → is_one_line (transition_text x) ≡ true
 transition_one_line transitions.Auto = refl
-transition_one_line transitions.Explicit = refl
-transition_one_line transitions.Implicit = refl
+transition_one_line x = refl
 
 -- so is a word's letter
 letter_one_line : (x : WordKind) → is_one_line (letter x) ≡ true
 letter_one_line words.Voter = refl
-letter_one_line words.Learner = refl
-letter_one_line words.Remove = refl
-letter_one_line words.Update = refl
+letter_one_line x = refl
 
 -- a word of a change is in one line
 change_word_one_line : (w : Word) → is_one_line (change_word w) ≡ true
@@ -255,67 +245,41 @@ message_one_line m = simp (list_all-append, decimal_one_line, type_one_line, ter
 -- how a message moves is in one line
 pub verb_one_line : (x : Verb) → is_one_line (verb_text x) ≡ true
 verb_one_line verbs.Deliver = refl
-verb_one_line verbs.Drop = refl
-verb_one_line verbs.Queue = refl
-verb_one_line verbs.NoRoomFor = refl
+verb_one_line x = refl
 
 -- a level is in one line
 level_one_line : (x : Level) → is_one_line (level_text x) ≡ true
 level_one_line levels.Debug = refl
-level_one_line levels.Info = refl
-level_one_line levels.Warn = refl
-level_one_line levels.Error = refl
-level_one_line levels.Fatal = refl
-level_one_line levels.None = refl
+level_one_line x = refl
 
 -- why a node can't campaign is in one line
 pub no_campaign_one_line : (x : WhyNoCampaign) → is_one_line (no_campaign_text x) ≡ true
 no_campaign_one_line no_campaign.Leader = refl
-no_campaign_one_line no_campaign.NotAVoter = refl
-no_campaign_one_line no_campaign.SnapshotPending = refl
-no_campaign_one_line no_campaign.ChangePending = refl
-no_campaign_one_line no_campaign.TermLimit = refl
+no_campaign_one_line x = refl
 
 -- why a change is replaced is in one line
 pub replaced_one_line : (x : WhyReplaced) → is_one_line (replaced_text x) ≡ true
 replaced_one_line replaced.Unapplied = refl
-replaced_one_line replaced.Joint = refl
-replaced_one_line replaced.NotJoint = refl
+replaced_one_line x = refl
 
 -- what votes come to is in one line
 pub votes_one_line : (x : VoteResult) → is_one_line (votes_text x) ≡ true
 votes_one_line votes.Won = refl
-votes_one_line votes.Lost = refl
-votes_one_line votes.Pending = refl
+votes_one_line x = refl
 
 -- the name of a fault is in one line
 pub fault_one_line : (x : ChangeFault) → is_one_line (fault_text x) ≡ true
 fault_one_line faults.AlreadyJoint = refl
-fault_one_line faults.NotJoint = refl
-fault_one_line faults.SimpleWhileJoint = refl
-fault_one_line faults.MoreThanOneVoter = refl
-fault_one_line faults.NoVoters = refl
-fault_one_line faults.OutOfMemory = refl
+fault_one_line x = refl
+
+-- what is said of what happened
+ruleset one_lines = (list_all-append, decimal_one_line, config_one_line, role_one_line, no_campaign_one_line, type_one_line, answer_one_line, votes_one_line, replaced_one_line, fault_one_line)
 
 -- what happened is in one line
 happening_one_line : (e : Event) → is_one_line (happening_text e) ≡ true
 unfolding happening_text
-happening_one_line (events.Started id term index config) = simp (list_all-append, decimal_one_line, config_one_line)
-happening_one_line (events.Became id role term) = simp (list_all-append, decimal_one_line, role_one_line)
-happening_one_line (events.CannotCampaign id why) = simp (list_all-append, decimal_one_line, no_campaign_one_line)
-happening_one_line (events.VoteCounted id type granted from result) =
-    simp (list_all-append, decimal_one_line, type_one_line, answer_one_line, votes_one_line)
-happening_one_line (events.Ignored id type from) = simp (list_all-append, decimal_one_line, type_one_line)
-happening_one_line (events.DroppedProposal id) = simp (list_all-append, decimal_one_line)
-happening_one_line (events.Conflict id index commit) = simp (list_all-append, decimal_one_line)
-happening_one_line (events.AppendsNothing id) = simp (list_all-append, decimal_one_line)
-happening_one_line (events.ReplacedChange id index why) = simp (list_all-append, decimal_one_line, replaced_one_line)
-happening_one_line (events.Switched id config) = simp (list_all-append, decimal_one_line, config_one_line)
-happening_one_line (events.RefusedChange id index fault) = simp (list_all-append, decimal_one_line, fault_one_line)
-happening_one_line (events.Restored id term index) = simp (list_all-append, decimal_one_line)
-happening_one_line (events.TransferStarts id to) = simp (list_all-append, decimal_one_line)
-happening_one_line (events.TransferEnds id to) = simp (list_all-append, decimal_one_line)
-happening_one_line (events.LostQuorum id) = simp (list_all-append, decimal_one_line)
+happening_one_line (events.Started id term index config) = simp one_lines
+happening_one_line e = simp one_lines
 
 -- an event is in one line
 pub event_one_line : (e : Event) → is_one_line (event_text e) ≡ true
@@ -330,9 +294,5 @@ error_one_line (errors.UnsupportedOption key) = quoted_one_line (take WORD_SHOWN
 error_one_line (errors.BadArgument word) = quoted_one_line (take WORD_SHOWN word)
 error_one_line (errors.MissingArgument name) = quoted_one_line (take WORD_SHOWN name)
 error_one_line (errors.NoSuchNode id) = decimal_one_line id
-error_one_line errors.TooManyNodes = refl
-error_one_line errors.IndexTooLow = refl
-error_one_line errors.AlreadyCompacted = refl
-error_one_line errors.IndexPastApplied = refl
 error_one_line (errors.BadChange word) = quoted_one_line (take WORD_SHOWN word)
-error_one_line errors.FirstVersionTakesOne = refl
+error_one_line e = refl

@@ -2,7 +2,7 @@
 use Rattle.std.proofs.Common.{◌≡◌, ℕ, Bool, true, false, List, [], ◌∷◌, ◌++◌, decimal, codes, refl, ap, sym, ◌∙◌, inl, inr}
 use Rattle.std.specs.Prelude.{not, ◌&&◌, ◌||◌, ◌==◌, if◌then◌else◌}
 use Rattle.std.specs.List.{list_all, list_any}
-use Rattle.std.proofs.lemmas.Bool.{cases_Bool, false≢true}
+use Rattle.std.proofs.lemmas.Bool.{and_from, cases_Bool, false≢true}
 use Rattle.std.proofs.Math.Bool.{or-true}
 use Rattle.std.proofs.lemmas.List.Folds.{list_any-append}
 use Rattle.std.proofs.lemmas.Slice.Eq.{bytes_eq-Decides}
@@ -25,7 +25,7 @@ use Rattle.rb_texts.specs.Messages.{message_text, verb_text}
 use Rattle.rb_texts.specs.Shapes.{is_one_line, is_solid}
 use Rattle.rb_texts.specs.States.{node_text, hard_state_text, log_text, progress_text}
 use Rattle.rb_texts.specs.Texts.{item_text, is_shown, line_of, unsaved_text}
-use Rattle.rb_texts.proofs.OneLineLaws.{both, joined, decimal_one_line, shown_one_line, place_one_line, config_one_line, entry_one_line, message_one_line, verb_one_line, node_one_line, hard_state_one_line, log_one_line, progress_one_line, event_one_line, error_one_line}
+use Rattle.rb_texts.proofs.OneLineLaws.{joined, decimal_one_line, shown_one_line, place_one_line, config_one_line, entry_one_line, message_one_line, verb_one_line, node_one_line, hard_state_one_line, log_one_line, progress_one_line, event_one_line, error_one_line}
 
 -- a byte that neither a blank line nor the line ---- has
 abbrev pub is_ink : ℕ → Bool
@@ -55,8 +55,8 @@ not_rule line h = elim (cases_Bool (is_rule line)) [
 -- a text in one line that has ink is solid
 solid : (line : List ℕ) → list_any is_ink line ≡ true → is_one_line line ≡ true → is_solid line ≡ true
 solid line ink one =
-    both (not (is_blank line) && not (is_rule line)) (is_one_line line)
-    (both (not (is_blank line)) (not (is_rule line)) (ap not (not_blank line ink)) (ap not (not_rule line ink))) one
+    and_from (not (is_blank line) && not (is_rule line)) (is_one_line line)
+    (and_from (not (is_blank line)) (not (is_rule line)) (ap not (not_blank line ink)) (ap not (not_rule line ink))) one
 
 -- ---- items
 
@@ -78,18 +78,12 @@ entry_ink index e = simp (list_any-append, or-true)
 -- a verb has letters
 verb_ink : (verb : Verb) (rest : List ℕ) → list_any is_ink (verb_text verb ++ rest) ≡ true
 verb_ink verbs.Deliver rest = refl
-verb_ink verbs.Drop rest = refl
-verb_ink verbs.Queue rest = refl
-verb_ink verbs.NoRoomFor rest = refl
+verb_ink verb rest = refl
 
 -- so has a level
 level_ink : (level : Level) (rest : List ℕ) → list_any is_ink (level_text level ++ rest) ≡ true
 level_ink levels.Debug rest = refl
-level_ink levels.Info rest = refl
-level_ink levels.Warn rest = refl
-level_ink levels.Error rest = refl
-level_ink levels.Fatal rest = refl
-level_ink levels.None rest = refl
+level_ink level rest = refl
 
 -- the level of an event is ink
 event_ink : (e : Event) → list_any is_ink (event_text e) ≡ true
@@ -100,16 +94,7 @@ event_ink e = level_ink (event_level e) (happening_text e)
 error_ink : (e : DirectiveError) → list_any is_ink (error_text e) ≡ true
 unfolding error_text
 error_ink (errors.UnknownDirective name) = refl
-error_ink (errors.UnsupportedOption key) = refl
-error_ink (errors.BadArgument word) = refl
-error_ink (errors.MissingArgument name) = refl
-error_ink (errors.NoSuchNode id) = refl
-error_ink errors.TooManyNodes = refl
-error_ink errors.IndexTooLow = refl
-error_ink errors.AlreadyCompacted = refl
-error_ink errors.IndexPastApplied = refl
-error_ink (errors.BadChange word) = refl
-error_ink errors.FirstVersionTakesOne = refl
+error_ink e = refl
 
 -- an entry of a log, with its mark, has ink and is in one line
 log_entry_ink : (index : ℕ) (e : Entry) (mark : List ℕ) → list_any is_ink (entry_text index e ++ mark) ≡ true
@@ -123,22 +108,14 @@ ink : (item : PlainItem) → list_any is_ink (item_text item) ≡ true
 unfolding item_text config_text hard_state_text log_text
 ink nothing_else = refl
 ink (ready id) = simp (list_any-append, or-true)
-ink (hard_state hard) = refl
-ink (snapshot term index) = refl
-ink (save index e) = refl
-ink (apply index e) = refl
-ink (send message) = refl
 ink (nothing_ready id) = simp (list_any-append, or-true)
 ink (moved verb message) = verb_ink verb (message_text message)
-ink no_messages = refl
-ink (stopped rounds) = refl
 ink (raft_state node) = node_ink node
-ink (raft_log log) = refl
 ink (entry index e unsaved) = log_entry_ink index e (unsaved_text unsaved)
-ink (config c) = refl
 ink (progress id view) = progress_ink id view
 ink (event e) = event_ink e
 ink (error e) = error_ink e
+ink item = refl
 
 -- and is in one line
 one_line : (item : PlainItem) → is_one_line (item_text item) ≡ true
@@ -170,4 +147,4 @@ is_solid-item_text item = solid (item_text item) (ink item) (one_line item)
 pub all_solid : (level : Level) (item : PlainItem) → list_all is_solid (line_of level item) ≡ true
 all_solid level item =
     elim (is_shown level item) as (λ b. list_all is_solid (if b then item_text item ∷ [] else []) ≡ true)
-    [ true ↦ both (is_solid (item_text item)) true (is_solid-item_text item) refl | false ↦ refl ]
+    [ true ↦ and_from (is_solid (item_text item)) true (is_solid-item_text item) refl | false ↦ refl ]
