@@ -3,6 +3,7 @@
 use Rattle.std.proofs.Common.{◌≡◌, ◌∙◌, ℕ, ◌+◌, ◌-◌, ◌<◌, Bool, true, false, List, [], ◌∷◌, ◌++◌, length, take, refl, ap, sym, subst, arith, append_assoc, length-append, inl, inr, ◌⊎◌}
 use Rattle.std.specs.Prelude.{◌&&◌, not, if◌then◌else◌}
 use Rattle.std.specs.List.{list_all}
+use Rattle.std.proofs.lemmas.Bool.{and_parts, not-true}
 use Rattle.std.proofs.lemmas.List.{append_cancel_right, take_at}
 use Rattle.rb_script.specs.Bytes.{space}
 use Rattle.rb_script.specs.Lines.{Line}
@@ -10,24 +11,14 @@ use Rattle.rb_script.specs.Joined.{body, joined}
 use Rattle.rb_script.specs.Marks.{continues, is_blank, is_lead, is_rule, is_separator, is_space, is_empty_or_comment, rule, without_front}
 use Rattle.rb_script.specs.Script.{PlainBlock}
 use Rattle.rb_script.specs.Reads.{IsContinued, ReadsPlain, ReadsDouble, ReadsBlock, ReadsSome, begins_lead, begins_rule, ends_or_rules, is_readable}
+use Rattle.rb_script.proofs.LinePartLaws.{joined_last, rule_passes}
+use Rattle.rb_document.proofs.PlaceLaws.{test_cases}
 use Rattle.rb_offers.specs.declared.part.Part.{Part}
 use Rattle.rb_offers.specs.declared.part.Part.TheVariants.{Lead, Head, Input, First, Plain, Double, Closing}
 use Rattle.rb_offers.specs.Above.{begins_head, behind_lines, kept, next}
 use Rattle.rb_offers.specs.BlockLines.{StandsIn}
 use Rattle.rb_offers.specs.Nodes.{added, ends_head, nodes_above, nodes_behind, with_more}
 use Rattle.rb_offers.proofs.BlockLaws.{regrouped}
-
-test_cases : {A : Type 0} (t : Bool) → (t ≡ true → A) → (t ≡ false → A) → A
-test_cases true same other = same refl
-test_cases false same other = other refl
-
-both : (t u : Bool) → (t && u) ≡ true → (t ≡ true) × (u ≡ true)
-both true u h = (refl, h)
-both false u h = absurd cc
-
-none : (t : Bool) → not t ≡ true → t ≡ false
-none true h = absurd cc
-none false h = refl
 
 -- ---- runs of lines
 
@@ -74,7 +65,7 @@ no_lines p head n = refl
 lead_lines : (n : ℕ) (ls : List Line) → list_all is_lead ls ≡ true → all_behind Lead [] n ls ≡ (Lead, [], n)
 lead_lines n [] all = no_lines Lead [] n
 lead_lines n (x ∷ xs) all =
-    let b = both (is_lead x) (list_all is_lead xs) all in
+    let b = and_parts (is_lead x) (list_all is_lead xs) all in
     let step : next Lead x ≡ Lead = rw b.0 refl in
     let ends : ends_head Lead x ≡ false = rw b.0 refl in
     one_line Lead Lead n x xs step refl ends ∙ lead_lines n xs b.1
@@ -98,10 +89,6 @@ next_line p head n x xs step ends more =
     let ended : ends_head p x ≡ false = ends ∙ ap not more in
     let still : nodes_behind p head x n ≡ n = ap (λ (t : Bool). if t then with_more n (added (head ++ x)) else n) ended in
     ap (λ (q : Part). all_behind q (kept q x head) (nodes_behind p head x n) xs) (step ∙ behind) ∙ ap (λ (m : ℕ). all_behind Head (kept Head x head) m xs) still
-
-joined_last : (x : Line) → continues x ≡ false → joined (x ∷ []) ≡ x
-unfolding joined
-joined_last x last = rw last refl
 
 joined_more : (head : List ℕ) (x : Line) (xs : List Line) → continues x ≡ true → kept Head x head ++ joined xs ≡ head ++ joined (x ∷ xs)
 unfolding joined
@@ -131,8 +118,8 @@ whole_head n (x ∷ xs) begin more =
 input_lines : (n : ℕ) (ls : List Line) → list_all (λ (line : Line). not (is_separator line)) ls ≡ true → all_behind Input [] n ls ≡ (Input, [], n)
 input_lines n [] all = no_lines Input [] n
 input_lines n (x ∷ xs) all =
-    let b = both (not (is_separator x)) (list_all (λ (line : Line). not (is_separator line)) xs) all in
-    let other = none (is_separator x) b.0 in
+    let b = and_parts (not (is_separator x)) (list_all (λ (line : Line). not (is_separator line)) xs) all in
+    let other = not-true (is_separator x) b.0 in
     let step : next Input x ≡ Input = rw other refl in
     one_line Input Input n x xs step refl refl ∙ input_lines n xs b.1
 
@@ -141,8 +128,8 @@ input_lines n (x ∷ xs) all =
 plain_lines : (n : ℕ) (ls : List Line) (blank : Line) → list_all (λ (line : Line). not (is_blank line)) ls ≡ true → is_blank blank ≡ true → all_behind Plain [] n (ls ++ blank ∷ []) ≡ (Lead, [], n)
 plain_lines n [] blank all is = let step : next Plain blank ≡ Lead = rw is refl in one_line Plain Lead n blank [] step refl refl ∙ no_lines Lead [] n
 plain_lines n (x ∷ xs) blank all is =
-    let b = both (not (is_blank x)) (list_all (λ (line : Line). not (is_blank line)) xs) all in
-    let some = none (is_blank x) b.0 in
+    let b = and_parts (not (is_blank x)) (list_all (λ (line : Line). not (is_blank line)) xs) all in
+    let some = not-true (is_blank x) b.0 in
     let step : next Plain x ≡ Plain = rw some refl in
     one_line Plain Plain n x (xs ++ blank ∷ []) step refl refl ∙ plain_lines n xs blank b.1 is
 
@@ -150,41 +137,37 @@ plain_form : (n : ℕ) (e rest : List Line) (blank : Line) → begins_rule (e ++
     → all_behind First [] n (e ++ blank ∷ []) ≡ (Lead, [], n)
 plain_form n [] rest blank first all is = let step : next First blank ≡ Lead = rw (first, is) refl in one_line First Lead n blank [] step refl refl ∙ no_lines Lead [] n
 plain_form n (x ∷ xs) rest blank first all is =
-    let b = both (not (is_blank x)) (list_all (λ (line : Line). not (is_blank line)) xs) all in
-    let some = none (is_blank x) b.0 in
+    let b = and_parts (not (is_blank x)) (list_all (λ (line : Line). not (is_blank line)) xs) all in
+    let some = not-true (is_blank x) b.0 in
     let step : next First x ≡ Plain = rw (first, some) refl in
     one_line First Plain n x (xs ++ blank ∷ []) step refl refl ∙ plain_lines n xs blank b.1 is
 
-rule_is : is_rule rule ≡ true
-unfolding is_rule
-rule_is = refl
-
 double_lines : (n : ℕ) (e more : List Line) → is_readable e ≡ true → all_behind Double [] n (e ++ rule ∷ rule ∷ more) ≡ all_behind Lead [] n more
 double_lines n [] more readable =
-    let opens : next Double rule ≡ Closing = rw rule_is refl in
-    let closes : next Closing rule ≡ Lead = rw rule_is refl in
+    let opens : next Double rule ≡ Closing = rw (rule_passes rule refl) refl in
+    let closes : next Closing rule ≡ Lead = rw (rule_passes rule refl) refl in
     one_line Double Closing n rule (rule ∷ more) opens refl refl ∙ one_line Closing Lead n rule more closes refl refl
 double_lines n (x ∷ []) more readable =
     test_cases (is_rule x)
     (λ last. let wrong : false ≡ true = rw last at readable in absurd cc)
     (λ other. let step : next Double x ≡ Double = rw other refl in one_line Double Double n x (rule ∷ rule ∷ more) step refl refl ∙ double_lines n [] more refl)
 double_lines n (x ∷ y ∷ ys) more readable =
-    let b = both (not (is_rule x && is_rule y)) (is_readable (y ∷ ys)) readable in
+    let b = and_parts (not (is_rule x && is_rule y)) (is_readable (y ∷ ys)) readable in
     test_cases (is_rule x)
     (λ opens. let other : is_rule y ≡ false = test_cases (is_rule y) (λ closes. let wrong : false ≡ true = rw (opens, closes) at b.0 in absurd cc) (λ no. no) in
     let first : next Double x ≡ Closing = rw opens refl in
     let second : next Closing y ≡ Double = rw other refl in
-    let left = both (not (is_rule y && ends_or_rules ys)) (is_readable ys) b.1 in
+    let left = and_parts (not (is_rule y && ends_or_rules ys)) (is_readable ys) b.1 in
     one_line Double Closing n x (y ∷ (ys ++ rule ∷ rule ∷ more)) first refl refl ∙ one_line Closing Double n y (ys ++ rule ∷ rule ∷ more) second refl refl ∙ double_lines n ys more left.1)
     (λ other. let step : next Double x ≡ Double = rw other refl in one_line Double Double n x (y ∷ (ys ++ rule ∷ rule ∷ more)) step refl refl ∙ double_lines n (y ∷ ys) more b.1)
 
 double_form : (n : ℕ) (e more : List Line) → is_readable e ≡ true → all_behind First [] n (rule ∷ (e ++ rule ∷ rule ∷ more)) ≡ all_behind Lead [] n more
-double_form n e more readable = let step : next First rule ≡ Double = rw rule_is refl in one_line First Double n rule (e ++ rule ∷ rule ∷ more) step refl refl ∙ double_lines n e more readable
+double_form n e more readable = let step : next First rule ≡ Double = rw (rule_passes rule refl) refl in one_line First Double n rule (e ++ rule ∷ rule ∷ more) step refl refl ∙ double_lines n e more readable
 
 blank_front : (line : Line) → is_blank line ≡ true → without_front line ≡ []
 unfolding without_front
 blank_front [] is = refl
-blank_front (b ∷ line) is = let p = both (is_space b) (list_all is_space line) is in rw p.0 (blank_front line p.1)
+blank_front (b ∷ line) is = let p = and_parts (is_space b) (list_all is_space line) is in rw p.0 (blank_front line p.1)
 
 blank_lead : (line : Line) → is_blank line ≡ true → is_lead line ≡ true
 unfolding is_lead

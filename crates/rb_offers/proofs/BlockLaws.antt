@@ -6,8 +6,7 @@ use Rattle.std.proofs.lemmas.List.{drop_all, drop_at, drop-drop, drop_more, take
 use Rattle.rb_script.specs.declared.fault.ScriptFault.{ScriptFault}
 use Rattle.rb_script.specs.declared.fault.ScriptFault.TheVariants.{OutOfMemory}
 use Rattle.rb_script.specs.Directive.{PlainDirective}
-use Rattle.rb_script.specs.Heads.{HeadThere, directive_of, head_at, with_inputs}
-use Rattle.rb_script.specs.Joined.{joined}
+use Rattle.rb_script.specs.Heads.{directive_of}
 use Rattle.rb_script.specs.Results.{Fails}
 use Rattle.rb_script.specs.Tokens.{SpannedDirective, plain}
 use Rattle.rb_script.specs.Lines.{Line, lines}
@@ -20,6 +19,7 @@ use Rattle.rb_script.specs.Reading.{read_of}
 use Rattle.rb_script.specs.HeadLines.{IsHeadLine, AreHeadLines}
 use Rattle.rb_script.proofs.RunLaws.{head_run}
 use Rattle.rb_script.proofs.BlockLaws.{cut_lead, block_complete}
+use Rattle.rb_script.proofs.GrammarLaws.{inputs_are}
 use Rattle.rb_script.proofs.ScriptLaws.{read_sound, read_complete}
 use Rattle.rb_text.proofs.SentLaws.{drop-get}
 use Rattle.rb_offers.proofs.HeadLaws.{heads_are}
@@ -128,13 +128,8 @@ pub end_within : (ls : List Line) (n : ℕ) (b : PlainBlock) → StandsIn ls n b
 unfolding block_lines
 end_within ls n b h = omega (arith, (stands ls n b h).ends)
 
-with_inputs_are : (ls : List Line) (head : HeadThere) → (with_inputs ls head).inputs ≡ ls
-with_inputs_are ls None = refl
-with_inputs_are ls (Some head) = refl
-
 pub block_inputs : (b : PlainBlock) (d : SpannedDirective) → plain d ≡ directive_of b → length d.inputs ≡ length b.input
-unfolding directive_of
-block_inputs b d is = ap (λ (x : PlainDirective). length x.inputs) is ∙ ap length (with_inputs_are b.input (head_at (joined b.head)))
+block_inputs b d is = ap (λ (x : PlainDirective). length x.inputs) is ∙ ap length (inputs_are b)
 
 -- what was counted
 pub lines_made : (ls : List Line) (n : ℕ) (b : PlainBlock) (body inputs expected marks : ℕ) → body ≡ behind_head ls (n - 1) → inputs ≡ length b.input → expected ≡ length b.expected → marks ≡ mark_lines ls (body + inputs + 1)

@@ -1,18 +1,12 @@
 -- The line in which a place stands, and the lines above it, one after another.
-use Rattle.std.proofs.Common.{◌≡◌, ◌∙◌, ℕ, zero, suc, ◌+◌, ◌-◌, ◌<◌, ◌≤◌, ◌==◌, Bool, true, false, List, length, drop, get_or, Some, refl, ap, arith, eq-eqb}
+use Rattle.std.proofs.Common.{◌≡◌, ◌∙◌, ℕ, zero, suc, ◌+◌, ◌-◌, ◌<◌, ◌≤◌, ◌==◌, true, false, List, length, drop, get_or, Some, refl, ap, arith, eq-eqb}
 use Rattle.std.specs.Prelude.{slice_get}
+use Rattle.std.proofs.lemmas.Bool.{ne_eqb}
 use Rattle.std.proofs.lemmas.List.{drop_all}
 use Rattle.rb_text.proofs.SentLaws.{drop-get}
 use Rattle.rb_script.specs.Lines.{Line}
 use Rattle.rb_offers.specs.declared.part.Part.{Part}
 use Rattle.rb_offers.specs.Above.{behind_lines, kept, line_begin, next}
-
-test_cases : {A : Type 0} (t : Bool) → (t ≡ true → A) → (t ≡ false → A) → A
-test_cases true same other = same refl
-test_cases false same other = other refl
-
-apart : (a b : ℕ) → (a ≡ b → ⊥) → (a == b) ≡ false
-apart a b other = test_cases (a == b) (λ same. let is : a ≡ b = grind (arith, same) in absurd (other is)) (λ no. no)
 
 pub begin_here : (k : ℕ) (text : List ℕ) → 0 < k → get_or text (k - 1) 0 ≡ 10 → line_begin k text ≡ k
 unfolding line_begin
@@ -28,7 +22,7 @@ begin_less zero text some other = absurd (omega (arith, some))
 begin_less (suc k) text some other =
     let same : suc k - 1 ≡ k = omega arith in
     let less : k ≡ suc k - 1 = omega arith in
-    let none : (get_or text k 0 == 10) ≡ false = apart (get_or text k 0) 10 (λ is. other (ap (λ (i : ℕ). get_or text i 0) same ∙ is)) in
+    let none : (get_or text k 0 == 10) ≡ false = ne_eqb (get_or text k 0) 10 (λ is. other (ap (λ (i : ℕ). get_or text i 0) same ∙ is)) in
     rw none (ap (λ (i : ℕ). line_begin i text) less)
 
 pub begin_none : (k : ℕ) (text : List ℕ) → k ≡ 0 → line_begin k text ≡ k

@@ -3,6 +3,7 @@ use Rattle.std.proofs.Common.{◌≡◌, ◌∙◌, ℕ, ◌+◌, ◌<◌, ◌�
 use Rattle.std.proofs.lemmas.List.{drop_all, drop_more, map-append}
 use Rattle.std.specs.Prelude.{codes, filter, if◌then◌else◌}
 use Rattle.std.specs.Str.{bytes_eq}
+use Rattle.rb_document.proofs.PlaceLaws.{test_cases}
 use Rattle.rb_directive.specs.declared.table.Row.{Row}
 use Rattle.rb_directive.specs.declared.table.OptionRow.{OptionRow}
 use Rattle.rb_directive.specs.Names.{argument_text, name_text}
@@ -12,10 +13,6 @@ use Rattle.rb_help.specs.Choices.{choices_of}
 use Rattle.rb_help.specs.Nearest.{keys_of}
 use Rattle.rb_offers.specs.Laws.{words}
 use Rattle.rb_offers.specs.Offers.{PlainOffer, begins_with, chosen, key_offer, keyed, line_of, named, options, takes, values}
-
-test_cases : {A : Type 0} (t : Bool) → (t ≡ true → A) → (t ≡ false → A) → A
-test_cases true same other = same refl
-test_cases false same other = other refl
 
 -- ---- a loop that keeps some
 

@@ -1,12 +1,9 @@
 -- The lines of a script stand in an editor's lines in their order.
-use Rattle.std.proofs.Common.{◌≡◌, ℕ, zero, suc, ◌≤◌, ◌==◌, Bool, true, false, List, [], ◌∷◌, refl, arith}
+use Rattle.std.proofs.Common.{◌≡◌, ℕ, zero, suc, ◌≤◌, ◌==◌, List, [], ◌∷◌, refl, arith}
 use Rattle.rb_document.specs.declared.position.Encoding.{Encoding}
 use Rattle.rb_document.specs.Places.{beside_at, ends_line, position_of, units}
 use Rattle.rb_document.specs.Tables.{feed_start, start_of}
-
-test_cases : {A : Type 0} (t : Bool) → (t ≡ true → A) → (t ≡ false → A) → A
-test_cases true same other = same refl
-test_cases false same other = other refl
+use Rattle.rb_document.proofs.PlaceLaws.{test_cases}
 
 beside_line : (n line character : ℕ) → (beside_at n line character).line ≡ line
 beside_line n zero character = refl
