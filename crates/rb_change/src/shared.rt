@@ -12,9 +12,15 @@ use std::marker::Model;
 use std::rc::RcSlice;
 
 /// A list, which its copies share. Contracts see the list.
-#[derive(Drop)]
 pub struct Shared<T> {
     items: RcSlice<T>,
+}
+
+// Written out, so that giving one back is a call wherever it is owned, and is proved here alone.
+impl<T: Drop> Drop for Shared<T> {
+    fn drop(self) {
+        let Shared { items: _ } = self;
+    }
 }
 
 impl<T> Model for Shared<T> {

@@ -11,9 +11,15 @@ use std::alloc::{AllocError, Global};
 use std::marker::Model;
 
 /// A set of ids. Up to eight of them stand in the value, and take no memory.
-#[derive(Drop)]
 pub struct IdSet {
     ids: SmallVec<u64, 8>,
+}
+
+// Written out, so that giving one back is a call wherever it is owned, and is proved here alone.
+impl Drop for IdSet {
+    fn drop(self) {
+        let IdSet { ids: _ } = self;
+    }
 }
 
 impl Model for IdSet {

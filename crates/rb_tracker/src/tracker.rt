@@ -24,10 +24,19 @@ use std::alloc::{AllocError, Global};
 use std::marker::Model;
 
 /// A configuration, and the views, ascending by id.
-#[derive(Drop)]
 pub struct Tracker {
     config: Config,
     views: IndexMap<u64, Progress>,
+}
+
+// Written out, so that giving one back is a call wherever it is owned, and is proved here alone.
+impl Drop for Tracker {
+    fn drop(self) {
+        let Tracker {
+            config: _,
+            views: _,
+        } = self;
+    }
 }
 
 impl Model for Tracker {

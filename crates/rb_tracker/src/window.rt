@@ -12,9 +12,15 @@ use std::alloc::{AllocError, Global};
 use std::marker::Model;
 
 /// The last index of each append in flight, in a ring.
-#[derive(Drop)]
 pub struct Window {
     ring: HeapCircularBuffer<u64>,
+}
+
+// Written out, so that giving one back is a call wherever it is owned, and is proved here alone.
+impl Drop for Window {
+    fn drop(self) {
+        let Window { ring: _ } = self;
+    }
 }
 
 impl Model for Window {
