@@ -1,33 +1,30 @@
 -- Lemmas on marks
 use Rattle.std.proofs.Common.{◌≡◌, ℕ, zero, suc, ◌+◌, ◌<◌, Bool, true, false, List, [], ◌∷◌, ◌++◌, length, take, drop, map, slice_get, Option, Some, None, refl, ap, ◌∙◌, add-one, arith, ◌==◌, if◌then◌else◌}
+use Rattle.std.specs.Option.{option_map}
 use Rattle.std.proofs.lemmas.List.{length-map}
+use Rattle.std.proofs.lemmas.Option.{slice_get-map}
 use Rattle.indexmap.specs.Layout.{set_value_at}
 use Rattle.rb_tracker.specs.Progresses.{PlainProgress, marked}
 use Rattle.std.specs.Map.{keys_of}
 use Rattle.rb_tracker.specs.Trackers.{PlainTracker, view_at, AreInOrder}
+use Rattle.rb_tracker.proofs.SetLaws.{if_both}
 use Rattle.rb_tracker.specs.Active.{unmarked_but, unmarked_with, unmarked_at, unmarked}
 
 -- the view of an entry at a place is the view at that place
 pub view_of_entry : (es : List (ℕ × PlainProgress)) (i : ℕ) (e : ℕ × PlainProgress) → slice_get es i ≡ Some e → view_at es i ≡ Some e.1
-view_of_entry [] i e h = cc
-view_of_entry (f ∷ es) zero e h = let same : f ≡ e = cc in ap (λ (p : ℕ × PlainProgress). Some p.1) same
-view_of_entry (f ∷ es) (suc i) e h = view_of_entry es i e h
+view_of_entry es i e h = slice_get-map (λ f. f.1) es i ∙ ap (option_map (λ f. f.1)) h
 
-first_step : (b : Bool) (e : ℕ × PlainProgress) (es : List (ℕ × PlainProgress)) → (if b then e ∷ es else (e.0, marked e.1 false) ∷ es) ≡ (if b then e else (e.0, marked e.1 false)) ∷ es
-first_step true e es = refl
-first_step false e es = refl
-
-later_if : (b : Bool) (f : ℕ × PlainProgress) (es new : List (ℕ × PlainProgress)) → (if b then f ∷ es else f ∷ new) ≡ f ∷ (if b then es else new)
-later_if true f es new = refl
-later_if false f es new = refl
+if_into : {X Y : Type 0} (f : X → Y) (b : Bool) (x y : X) → (if b then f x else f y) ≡ f (if b then x else y)
+if_into f true x y = refl
+if_into f false x y = refl
 
 later_step : (o : Option (ℕ × PlainProgress)) (f : ℕ × PlainProgress) (es : List (ℕ × PlainProgress)) (i own : ℕ) → unmarked_with o (f ∷ es) (suc i) own ≡ f ∷ unmarked_with o es i own
 later_step None f es i own = refl
-later_step (Some e) f es i own = later_if (e.0 == own) f es (set_value_at es i (marked e.1 false))
+later_step (Some e) f es i own = if_into (λ l. f ∷ l) (e.0 == own) es (set_value_at es i (marked e.1 false))
 
 unmark_suc : (own : ℕ) (es : List (ℕ × PlainProgress)) (i : ℕ) → i < length es → unmarked_at (map (unmarked_but own) (take i es) ++ drop i es) i own ≡ map (unmarked_but own) (take (suc i) es) ++ drop (suc i) es
 unmark_suc own [] i h = absurd (omega arith)
-unmark_suc own (e ∷ es) zero h = first_step (e.0 == own) e es
+unmark_suc own (e ∷ es) zero h = if_into (λ x. x ∷ es) (e.0 == own) e (e.0, marked e.1 false)
 unmark_suc own (e ∷ es) (suc i) h =
     let rest = map (unmarked_but own) (take i es) ++ drop i es in
     later_step (slice_get rest i) (unmarked_but own e) rest i own ∙ ap (λ l. unmarked_but own e ∷ l) (unmark_suc own es i (omega arith))
@@ -36,13 +33,12 @@ unmark_suc own (e ∷ es) (suc i) h =
 pub unmark_more : (own : ℕ) (es : List (ℕ × PlainProgress)) (i : ℕ) → i < length es → unmarked_at (map (unmarked_but own) (take i es) ++ drop i es) i own ≡ map (unmarked_but own) (take (i + 1) es) ++ drop (i + 1) es
 unmark_more own es i h = rw add-one (unmark_suc own es i h)
 
-unmark_key : (b : Bool) (e : ℕ × PlainProgress) → (if b then e else (e.0, marked e.1 false)).0 ≡ e.0
-unmark_key true e = refl
-unmark_key false e = refl
+same_key : (own : ℕ) (e : ℕ × PlainProgress) → (unmarked_but own e).0 ≡ e.0
+same_key own e = if_both (λ (x : ℕ × PlainProgress). x.0 ≡ e.0) (e.0 == own) e (e.0, marked e.1 false) (λ _. refl) (λ _. refl)
 
 keys_unmarked : (own : ℕ) (es : List (ℕ × PlainProgress)) → keys_of (map (unmarked_but own) es) ≡ keys_of es
 keys_unmarked own [] = refl
-keys_unmarked own (e ∷ es) = rw (keys_unmarked own es, unmark_key (e.0 == own) e) refl
+keys_unmarked own (e ∷ es) = rw (keys_unmarked own es, same_key own e) refl
 
 pub unmarked_in_order : (t : PlainTracker) (own : ℕ) → AreInOrder t.views → AreInOrder (unmarked t own).views
 unfolding unmarked

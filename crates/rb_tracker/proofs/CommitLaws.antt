@@ -5,29 +5,43 @@ use Rattle.std.proofs.Math.Seq.{take-length}
 use Rattle.std.specs.List.{count_by, refill}
 use Rattle.std.specs.List.Sorted.{IsPermutation, IsNonDecreasing}
 use Rattle.std.specs.Map.{lookup}
-use Rattle.std.proofs.lemmas.Bool.{cases_lt}
+use Rattle.std.proofs.lemmas.Bool.{cases_lt, and_parts, le-leb, leb-true}
 use Rattle.std.proofs.lemmas.Bool.Decides.{nat_tests}
 use Rattle.std.proofs.lemmas.List.Sorted.{sum_by-IsPermutation, All-permutation, length_permutation}
-use Rattle.std.proofs.lemmas.List.Sums.{count_by-le-length, sum_by-cons}
+use Rattle.std.proofs.lemmas.List.Sums.{count_by-le-length}
 use Rattle.std.proofs.lemmas.List.Elements.{All-map}
 use Rattle.rb_tracker.specs.Quorum.{most}
 use Rattle.rb_tracker.specs.Progresses.{PlainProgress}
 use Rattle.rb_tracker.specs.Trackers.{PlainTracker}
 use Rattle.rb_tracker.proofs.SetLaws.{if_both}
+use Rattle.rb_tracker.proofs.CountLaws.{count-cons, count_all, count_none, count_map}
+use Rattle.rb_tracker.proofs.QuorumLaws.{and_true}
 use Rattle.rb_tracker.specs.Commits.{commit_of, greatest, highest, match_in, match_of, holds, is_held, IsMostHeld}
 
--- where exactly the numbers up to n pass, n is the greatest
-greatest_step : (b : Bool) (top n g : ℕ) → b ≡ nat_le (suc top) n → n ≤ suc top → (n ≤ top → g ≡ n) → (if b then suc top else g) ≡ n
-greatest_step true top n g e h k = grind (arith, nat_tests)
-greatest_step false top n g e h k = grind (arith, nat_tests)
-
-greatest_is : (top n : ℕ) (passes : ℕ → Bool) → ((k : ℕ) → passes k ≡ nat_le k n) → n ≤ top → greatest top passes ≡ n
+-- what a search downward finds passes, where 0 does
+greatest_passes : (top : ℕ) (p : ℕ → Bool) → p 0 ≡ true → p (greatest top p) ≡ true
 unfolding greatest
-greatest_is zero n passes exactly h = omega arith
-greatest_is (suc top) n passes exactly h = greatest_step (passes (suc top)) top n (greatest top passes) (exactly (suc top)) h (greatest_is top n passes exactly)
+greatest_passes zero p low = low
+greatest_passes (suc n) p low = if_both (λ k. p k ≡ true) (p (suc n)) (suc n) (greatest n p) (λ h. h) (λ _. greatest_passes n p low)
 
-pub count-cons : (p : ℕ → Bool) (x : ℕ) (xs : List ℕ) → count_by p (x ∷ xs) ≡ cond (p x) 1 0 + count_by p xs
-count-cons p x xs = sum_by-cons (λ y. cond (p y) 1 0) x xs
+below_top : (k n : ℕ) (p : ℕ → Bool) → k ≤ suc n → p k ≡ true → p (suc n) ≡ false → k ≤ n
+below_top k n p h passes fails = grind (arith, nat_tests)
+
+-- and nothing up to the top that passes is greater
+greatest_bounds : (top k : ℕ) (p : ℕ → Bool) → k ≤ top → p k ≡ true → k ≤ greatest top p
+unfolding greatest
+greatest_bounds zero k p h passes = h
+greatest_bounds (suc n) k p h passes =
+    if_both (λ g. k ≤ g) (p (suc n)) (suc n) (greatest n p) (λ _. h)
+    (λ fails. greatest_bounds n k p (below_top k n p h passes fails) passes)
+
+-- where exactly the numbers up to n pass, n is the greatest
+greatest_is : (top n : ℕ) (passes : ℕ → Bool) → ((k : ℕ) → passes k ≡ nat_le k n) → n ≤ top → greatest top passes ≡ n
+greatest_is top n passes exactly h =
+    let low = greatest_passes top passes (exactly 0 ∙ le-leb 0 n (omega arith)) in
+    let high = greatest_bounds top n passes h (exactly n ∙ le-leb n n (omega arith)) in
+    let within : greatest top passes ≤ n = leb-true (greatest top passes) n (sym (exactly (greatest top passes)) ∙ low) in
+    omega arith
 
 rises_on : (y : ℕ) (ys : List ℕ) → IsNonDecreasing (y ∷ ys) → IsNonDecreasing ys
 rises_on y ys up = λ i j d le within. up (suc i) (suc j) d (omega arith) (omega arith)
@@ -68,10 +82,6 @@ unfolding highest
 match_within [] id = omega arith
 match_within (e ∷ es) id = lookup_step (nat_eq id e.0) e.1 (lookup (nat_eq id) es) (highest es) (match_within es id)
 
-count_map : (f : ℕ → ℕ) (p : ℕ → Bool) (xs : List ℕ) → count_by p (map f xs) ≡ count_by (λ x. p (f x)) xs
-count_map f p [] = refl
-count_map f p (x ∷ xs) = sum_by-cons (λ y. cond (p y) 1 0) (f x) (map f xs) ∙ ap (λ n. cond (p (f x)) 1 0 + n) (count_map f p xs) ∙ sym (sum_by-cons (λ y. cond (p (f y)) 1 0) x xs)
-
 most_iff : (len count j k v : ℕ) → 0 < len → j ≡ (len - 1) / 2 → (k ≤ v → len ≤ count + j) → (v < k → count + j < len) → (len == 0 || nat_lt len (2 * count)) ≡ nat_le k v
 most_iff len count j k v some is above below =
     let low : 2 * j ≤ len - 1 = omega arith in
@@ -99,10 +109,6 @@ refill_whole xs ws same =
     let none : drop (length ws) xs ≡ [] = drop_all _ xs (omega arith) in
     rw (none, append-nil, ← same) (take-length ws)
 
-and_true : (a b : Bool) → a ≡ b → (a && true) ≡ b
-and_true true b h = h
-and_true false b h = h
-
 module _ (t : PlainTracker) (n : ℕ) where
   commit_is : (length t.config.incoming == 0 && length t.config.outgoing == 0) ≡ false → ((k : ℕ) → is_held t k ≡ nat_le k n) → n ≤ highest t.views → n ≡ commit_of t
   unfolding commit_of
@@ -112,7 +118,7 @@ module _ (t : PlainTracker) (n : ℕ) where
   commit_of_outgoing none some is = commit_is (rw (none, some) refl) (λ k. rw none (is.decides k)) is.within
 
   pub commit_of_incoming : (length t.config.incoming == 0) ≡ false → (length t.config.outgoing == 0) ≡ true → IsMostHeld t.views t.config.incoming n → n ≡ commit_of t
-  commit_of_incoming some none is = commit_is (rw some refl) (λ k. rw none (and_true _ (nat_le k n) (is.decides k))) is.within
+  commit_of_incoming some none is = commit_is (rw some refl) (λ k. rw (none, and_true) (is.decides k)) is.within
 
 le_min : (k a b : ℕ) → (nat_le k a && nat_le k b) ≡ nat_le k (min a b)
 le_min k a b = grind (arith, nat_tests)
@@ -125,33 +131,8 @@ pub commit_of_none : (t : PlainTracker) → (length t.config.incoming == 0) ≡ 
 unfolding commit_of
 commit_of_none t none none' = rw (none, none') refl
 
--- what a search downward finds passes, where 0 does
-greatest_passes : (top : ℕ) (p : ℕ → Bool) → p 0 ≡ true → p (greatest top p) ≡ true
-unfolding greatest
-greatest_passes zero p low = low
-greatest_passes (suc n) p low = if_both (λ k. p k ≡ true) (p (suc n)) (suc n) (greatest n p) (λ h. h) (λ _. greatest_passes n p low)
-
-below_top : (k n : ℕ) (p : ℕ → Bool) → k ≤ suc n → p k ≡ true → p (suc n) ≡ false → k ≤ n
-below_top k n p h passes fails =
-    elim (cases_lt n k) [
-      | inl past ↦ let top : k ≡ suc n = omega arith in let there : p (suc n) ≡ true = rw (← top) passes in cc
-      | inr within ↦ within
-    ]
-
--- and nothing up to the top that passes is greater
-greatest_bounds : (top k : ℕ) (p : ℕ → Bool) → k ≤ top → p k ≡ true → k ≤ greatest top p
-unfolding greatest
-greatest_bounds zero k p h passes = h
-greatest_bounds (suc n) k p h passes =
-    if_both (λ g. k ≤ g) (p (suc n)) (suc n) (greatest n p) (λ _. h)
-    (λ fails. greatest_bounds n k p (below_top k n p h passes fails) passes)
-
 nobody : (a b : ℕ) → 0 < a → (a == 0 && b == 0) ≡ true → ⊥
 nobody a b some h = grind (arith, nat_tests)
-
-count_holders : (views : List (ℕ × PlainProgress)) (n : ℕ) (xs : List ℕ) → ((id : ℕ) → holds views n id ≡ true) → count_by (λ id. holds views n id) xs ≡ length xs
-count_holders views n [] all = refl
-count_holders views n (x ∷ xs) all = rw (count-cons (λ id. holds views n id) x xs, all x, count_holders views n xs all) (omega arith)
 
 most_of_all : (len count : ℕ) → count ≡ len → (len == 0 || nat_lt len (2 * count)) ≡ true
 most_of_all len count h = grind (arith, nat_tests)
@@ -163,33 +144,25 @@ holds_first views id = grind (arith, nat_tests)
 held_first : (t : PlainTracker) → is_held t 0 ≡ true
 held_first t =
     rw (
-      most_of_all (length t.config.incoming) (count_by (λ id. holds t.views 0 id) t.config.incoming) (count_holders t.views 0 t.config.incoming (holds_first t.views)),
-      most_of_all (length t.config.outgoing) (count_by (λ id. holds t.views 0 id) t.config.outgoing) (count_holders t.views 0 t.config.outgoing (holds_first t.views)),
+      most_of_all (length t.config.incoming) (count_by (λ id. holds t.views 0 id) t.config.incoming) (count_all _ t.config.incoming (holds_first t.views)),
+      most_of_all (length t.config.outgoing) (count_by (λ id. holds t.views 0 id) t.config.outgoing) (count_all _ t.config.outgoing (holds_first t.views)),
     )
     refl
 
 holds_past : (n m : ℕ) → m < n → nat_le n m ≡ false
 holds_past n m h = grind (arith, nat_tests)
 
-count_past : (views : List (ℕ × PlainProgress)) (n : ℕ) (xs : List ℕ) → highest views < n → count_by (λ id. holds views n id) xs ≡ 0
-count_past views n [] h = refl
-count_past views n (x ∷ xs) h =
-    let within = match_within views x in
-    rw (count-cons (λ id. holds views n id) x xs, holds_past n (match_of views x) (omega arith), count_past views n xs h) refl
-
 most_of_none : (len count : ℕ) → 0 < len → count ≡ 0 → (len == 0 || nat_lt len (2 * count)) ≡ true → ⊥
 most_of_none len count some none h = grind (arith, nat_tests)
-
-first_of : (a b : Bool) → (a && b) ≡ true → a ≡ true
-first_of true b h = refl
-first_of false b h = cc
 
 within_highest : (t : PlainTracker) (n : ℕ) → 0 < length t.config.incoming → is_held t n ≡ true → n ≤ highest t.views
 within_highest t n some held =
     let voters = t.config.incoming in
     let having : ℕ → Bool = λ id. holds t.views n id in
     elim (cases_lt (highest t.views) n) [
-      | inl past ↦ absurd (most_of_none (length voters) (count_by having voters) some (count_past t.views n voters past) (first_of (most voters having) (most t.config.outgoing having) held))
+      | inl past ↦
+          let none = count_none having voters (λ id. holds_past n (match_of t.views id) (let low = match_within t.views id in omega arith)) in
+          absurd (most_of_none (length voters) (count_by having voters) some none (and_parts (most voters having) (most t.config.outgoing having) held).0)
       | inr within ↦ within
     ]
 

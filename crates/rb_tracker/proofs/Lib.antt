@@ -1,6 +1,7 @@
 pub mod SetLaws
 pub mod WindowLaws
 pub mod ViewLaws
+pub mod CountLaws
 pub mod CommitLaws
 pub mod ActiveLaws
 pub mod QuorumLaws

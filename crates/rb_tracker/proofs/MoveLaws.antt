@@ -1,7 +1,7 @@
 -- What words do to members, and what further answers do to votes
 use Rattle.std.proofs.Common.{◌≡◌, ◌↔◌, ◌⊎◌, inl, inr, ℕ, ◌+◌, ◌*◌, ◌<◌, ◌≤◌, Bool, true, false, not, ◌&&◌, ◌||◌, cond, List, [], ◌∷◌, length, refl, ap, sym, subst, ◌∙◌, arith, if◌then◌else◌, nat_lt, ◌==◌, Result, Ok}
-use Rattle.std.specs.List.{count_by}
-use Rattle.std.proofs.lemmas.Bool.{ne_eqb, cases_Bool, or_cases, or_left, or_right, false≢true}
+use Rattle.std.proofs.lemmas.Bool.{ne_eqb, cases_Bool, and_parts, and_from, or_parts, or_left, or_right, not-true, false_from_ne_true, true_from_ne_false, false≢true}
+use Rattle.std.proofs.lemmas.Bool.Decides.{Decides-or}
 use Rattle.rb_tracker.specs.Sets.{has, with_id, without, union}
 use Rattle.rb_tracker.specs.Configs.{voters}
 use Rattle.rb_tracker.specs.Quorum.{most, both}
@@ -15,11 +15,9 @@ use Rattle.rb_tracker.specs.declared.votes.VoteResult.TheVariants.{Won, Lost, Pe
 use Rattle.rb_change.specs.declared.change.Word.{Word}
 use Rattle.rb_change.specs.declared.change.WordKind.{WordKind}
 use Rattle.rb_change.specs.declared.change.WordKind.TheVariants as kind
-use Rattle.rb_tracker.proofs.SetLaws.{if_both, self_id, same_id, not_true}
-use Rattle.rb_tracker.proofs.CommitLaws.{count-cons}
-use Rattle.rb_tracker.proofs.QuorumLaws.{and_left, and_right}
-use Rattle.rb_tracker.proofs.ChangeLaws.{has_with_id, has_without, has_union, or_neither, enter_ok, simple_ok, leave_ok, done_outgoing}
-use Rattle.rb_tracker.proofs.VoteLaws.{more_step, most_more', both_true, won_is, is_won_won, lost_is, won_is_open, both_more, answer_grants_more, answered_once}
+use Rattle.rb_tracker.proofs.SetLaws.{if_both, self_id, same_id}
+use Rattle.rb_tracker.proofs.ChangeLaws.{has_with_id, has_without, has_union, enter_ok, simple_ok, leave_ok, done_keeps}
+use Rattle.rb_tracker.proofs.VoteLaws.{most_more, is_won_won, lost_is, won_is_open, both_more, answer_grants_more, answered_once}
 
 -- ---- one id, and another
 
@@ -62,14 +60,8 @@ removed_moves c id = record {
 -- who learns already is to learn neither now nor later, and votes nowhere
 learner_is : (c : Config) (id : ℕ) → IsConfig c → has c.learners id ≡ true → Moves c c id false (not (has c.outgoing id)) (has c.outgoing id)
 learner_is c id is learns =
-    let none = or_neither (has c.incoming id) (has c.outgoing id) (is.apart id learns) in
-    let waits : has c.next id ≡ false =
-    elim (cases_Bool (has c.next id)) as (λ _. has c.next id ≡ false) [
-      | inl waits ↦
-          let out : has c.outgoing id ≡ true = and_left (has c.outgoing id) (not (has c.incoming id)) (is.staged id waits) in
-          absurd (false≢true (sym none.1 ∙ out))
-      | inr never ↦ never
-    ] in
+    let none = or_parts (has c.incoming id) (has c.outgoing id) (is.apart id learns) in
+    let waits : has c.next id ≡ false = grind (arith, is.staged id, none.1) in
     record {
       voting = none.0;
       learning = learns ∙ sym (ap not none.1);
@@ -106,25 +98,13 @@ learner_moves c id is =
 
 -- ---- entering and leaving
 
-word_auto : (k : WordKind) (c : Config) (id : ℕ) → (done_by k c id).auto ≡ c.auto
-word_auto kind.Voter c id = refl
-word_auto kind.Learner c id =
-    let P : Config → Type 0 = λ d. d.auto ≡ c.auto in
-    if_both P (has c.learners id) c (as_learner c id) (λ _. refl) (λ _. if_both P (has c.outgoing id) _ _ (λ _. refl) (λ _. refl))
-word_auto kind.Remove c id = refl
-word_auto kind.Update c id = refl
-
-done_auto : (c : Config) (ws : List Word) → (done c ws).auto ≡ c.auto
-done_auto c [] = refl
-done_auto c (w ∷ ws) = done_auto (done_by w.kind c w.id) ws ∙ word_auto w.kind c w.id
-
 pub entered_auto : (c d : Config) (auto : Bool) (ws : List Word) → enter_joint c auto ws ≡ Ok d → d.auto ≡ auto
-entered_auto c d auto ws e = sym (ap (λ (x : Config). x.auto) (enter_ok c d auto ws e).is) ∙ done_auto (entering c auto) ws
+entered_auto c d auto ws e = sym (ap (λ (x : Config). x.auto) (enter_ok c d auto ws e).is) ∙ (done_keeps (entering c auto) ws).1
 
 pub simple_halves : (c d : Config) (ws : List Word) → simple c ws ≡ Ok d → (d.outgoing ≡ c.outgoing) × (d.auto ≡ c.auto)
 simple_halves c d ws e =
     let is = (simple_ok c d ws e).is in
-    (sym (ap (λ (x : Config). x.outgoing) is) ∙ done_outgoing c ws, sym (ap (λ (x : Config). x.auto) is) ∙ done_auto c ws)
+    (sym (ap (λ (x : Config). x.outgoing) is) ∙ (done_keeps c ws).0, sym (ap (λ (x : Config). x.auto) is) ∙ (done_keeps c ws).1)
 
 pub leaving_is : (c d : Config) → leave_joint c ≡ Ok d → IsLeft c d
 leaving_is c d e =
@@ -132,14 +112,7 @@ leaving_is c d e =
       alone = refl;
       nobody_waits = refl;
       not_auto = refl;
-      learns = λ id. (
-        λ h. or_cases (has c.learners id) (has c.next id) (sym (has_union c.learners c.next id) ∙ h),
-        λ h. has_union c.learners c.next id ∙
-            (elim h as (λ _. (has c.learners id || has c.next id) ≡ true) [
-              | inl learns ↦ or_left (has c.learners id) (has c.next id) learns
-              | inr waits ↦ or_right (has c.learners id) (has c.next id) waits
-            ]),
-      );
+      learns = λ id. rw (has_union c.learners c.next id) (Decides-or (has c.learners id) (has c.next id) (λ h. h, λ h. h) (λ h. h, λ h. h));
     })
 
 -- ---- votes that are lost
@@ -160,11 +133,8 @@ refusals_stay v id granted y =
 closed_stays : (c : Config) (v : Votes) (id : ℕ) (granted : Bool) → is_open c v ≡ false → is_open c (answered v id granted) ≡ false
 closed_stays c v id granted closed =
     let w = answered v id granted in
-    elim (cases_Bool (is_open c w)) as (λ _. is_open c w ≡ false) [
-      | inl opened ↦
-          absurd (false≢true (sym closed ∙ both_more c (λ y. not (has w.refused y)) (λ y. not (has v.refused y)) (refusals_stay v id granted) opened))
-      | inr never ↦ never
-    ]
+    false_from_ne_true (is_open c w)
+    (λ opened. false≢true (sym closed ∙ both_more c (λ y. not (has w.refused y)) (λ y. not (has v.refused y)) (refusals_stay v id granted) opened))
 
 -- of nobody who both granted and refused, a vote that isn't open is lost
 closed_is_lost : (c : Config) (v : Votes) → IsOnce v → is_open c v ≡ false → vote_result c v ≡ Lost
@@ -183,21 +153,6 @@ pub lost_stays : (c : Config) (v : Votes) (answers : List (ℕ × Bool)) → IsO
 lost_stays c v answers once lost = closed_on c v answers once (lost_is c v lost)
 
 -- ---- votes that aren't lost
-
-also : (b h : Bool) → h ≡ true → (if b then true else h) ≡ true
-also true h e = refl
-also false h e = e
-
--- what passes a test that allows more, of these ids, counts for more
-count_more_in : (p q : ℕ → Bool) (xs : List ℕ) → ((id : ℕ) → has xs id ≡ true → p id ≡ true → q id ≡ true) → count_by p xs ≤ count_by q xs
-count_more_in p q [] more = omega arith
-count_more_in p q (x ∷ xs) more =
-    rw (count-cons p x xs, count-cons q x xs)
-    (more_step (p x) (q x) _ _ (more x (ap (λ b. if b then true else has xs x) (self_id x)))
-    (count_more_in p q xs (λ id in_rest. more id (also (x == id) (has xs id) in_rest))))
-
-most_more_in : (p q : ℕ → Bool) (xs : List ℕ) → ((id : ℕ) → has xs id ≡ true → p id ≡ true → q id ≡ true) → most xs p ≡ true → most xs q ≡ true
-most_more_in p q xs more h = most_more' (length xs) (count_by p xs) (count_by q xs) (count_more_in p q xs more) h
 
 -- grants of some ids take no grant back, and make none refuse
 grants_stay : (v : Votes) (answers : List (ℕ × Bool)) (y : ℕ) → has v.granted y ≡ true → has (answered_all v answers).granted y ≡ true
@@ -233,11 +188,7 @@ all_grant v (z ∷ zs) y h free =
     ]
 
 not_lost_is : (c : Config) (v : Votes) → IsOnce v → (vote_result c v ≡ Lost → ⊥) → is_open c v ≡ true
-not_lost_is c v once alive =
-    elim (cases_Bool (is_open c v)) as (λ _. is_open c v ≡ true) [
-      | inl still ↦ still
-      | inr closed ↦ absurd (alive (closed_is_lost c v once closed))
-    ]
+not_lost_is c v once alive = true_from_ne_false (is_open c v) (λ closed. alive (closed_is_lost c v once closed))
 
 -- where all voters that may still grant do, a vote that isn't lost is won
 pub winnable : (c : Config) (v : Votes) → IsOnce v → (vote_result c v ≡ Lost → ⊥) → vote_result c (answered_all v (grants_of (voters c))) ≡ Won
@@ -247,8 +198,9 @@ winnable c v once alive =
     let q : ℕ → Bool = λ id. has w.granted id in
     let opened : both c p ≡ true = not_lost_is c v once alive in
     let counts : (id : ℕ) → has (voters c) id ≡ true → p id ≡ true → q id ≡ true =
-    λ id votes free. all_grant v (voters c) id votes (not_true (has v.refused id) free) in
+    λ id votes free. all_grant v (voters c) id votes (not-true (has v.refused id) free) in
+    let halves = and_parts (most c.incoming p) (most c.outgoing p) opened in
     is_won_won c w
-    (both_true (most c.incoming q) (most c.outgoing q)
-    (most_more_in p q c.incoming (λ id votes. counts id (has_union c.outgoing c.incoming id ∙ or_right (has c.outgoing id) (has c.incoming id) votes)) (and_left (most c.incoming p) (most c.outgoing p) opened))
-    (most_more_in p q c.outgoing (λ id votes. counts id (has_union c.outgoing c.incoming id ∙ or_left (has c.outgoing id) (has c.incoming id) votes)) (and_right (most c.incoming p) (most c.outgoing p) opened)))
+    (and_from (most c.incoming q) (most c.outgoing q)
+    (most_more p q c.incoming (λ id votes. counts id (has_union c.outgoing c.incoming id ∙ or_right (has c.outgoing id) (has c.incoming id) votes)) halves.0)
+    (most_more p q c.outgoing (λ id votes. counts id (has_union c.outgoing c.incoming id ∙ or_left (has c.outgoing id) (has c.incoming id) votes)) halves.1))

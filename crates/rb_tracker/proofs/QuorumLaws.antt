@@ -1,25 +1,14 @@
 -- Lemmas on majorities: two counts that are together more than there is meet
 use Rattle.std.proofs.Common.{◌≡◌, ℕ, suc, ◌+◌, ◌*◌, ◌<◌, ◌≤◌, Bool, true, false, not, ◌&&◌, ◌||◌, cond, List, [], ◌∷◌, length, refl, ap, sym, ◌∙◌, arith, if◌then◌else◌, nat_lt, ◌==◌}
 use Rattle.std.specs.List.{count_by}
+use Rattle.std.proofs.lemmas.Bool.{and_parts, or_left}
 use Rattle.std.proofs.lemmas.Bool.Decides.{nat_tests}
 use Rattle.rb_tracker.specs.Sets.{has, IsAscending}
 use Rattle.rb_tracker.specs.Quorum.{most, IsMajority, IsQuorum, Share, ShareVoter}
 use Rattle.rb_tracker.specs.Changes.{differing}
 use Rattle.rb_tracker.specs.declared.config.Config.{Config}
-use Rattle.rb_tracker.proofs.CommitLaws.{count-cons}
-use Rattle.rb_tracker.proofs.SetLaws.{has_below, self_id, same_id}
-
-pub and_left : (a b : Bool) → (a && b) ≡ true → a ≡ true
-and_left true b h = refl
-and_left false b h = cc
-
-pub and_right : (a b : Bool) → (a && b) ≡ true → b ≡ true
-and_right true b h = h
-and_right false b h = cc
-
-pub or_left : (a b : Bool) → a ≡ true → (a || b) ≡ true
-or_left true b h = refl
-or_left false b h = cc
+use Rattle.rb_tracker.proofs.CountLaws.{count-cons, count_same, count_all, count_none}
+use Rattle.rb_tracker.proofs.SetLaws.{also, has_here, has_below}
 
 -- an id of a list that passes three tests
 pub record Found (p q r : ℕ → Bool) (xs : List ℕ) : Type 0 where
@@ -29,27 +18,15 @@ pub record Found (p q r : ℕ → Bool) (xs : List ℕ) : Type 0 where
   pub second : q id ≡ true
   pub third : r id ≡ true
 
-has_later : (b h : Bool) → h ≡ true → (if b then true else h) ≡ true
-has_later true h e = refl
-has_later false h e = e
-
-has_here : (x : ℕ) (xs : List ℕ) → has (x ∷ xs) x ≡ true
-has_here x xs = rw (self_id x) refl
-
 found_later : (p q r : ℕ → Bool) (x : ℕ) (xs : List ℕ) → Found p q r xs → Found p q r (x ∷ xs)
-found_later p q r x xs f = record { id = f.id; inside = has_later (x == f.id) (has xs f.id) f.inside; first = f.first; second = f.second; third = f.third }
+found_later p q r x xs f = record { id = f.id; inside = also (x == f.id) (has xs f.id) f.inside; first = f.first; second = f.second; third = f.third }
 
 meet_step : (p q r : ℕ → Bool) (x : ℕ) (xs : List ℕ) (a b c : Bool) → p x ≡ a → q x ≡ b → r x ≡ c
     → (count_by r xs < count_by (λ y. p y && r y) xs + count_by (λ y. q y && r y) xs → Found p q r xs)
     → cond c 1 0 + count_by r xs < (cond (a && c) 1 0 + count_by (λ y. p y && r y) xs) + (cond (b && c) 1 0 + count_by (λ y. q y && r y) xs) → Found p q r (x ∷ xs)
 meet_step p q r x xs true true true ha hb hc rest h = record { id = x; inside = has_here x xs; first = ha; second = hb; third = hc }
-meet_step p q r x xs true true false ha hb hc rest h = found_later p q r x xs (rest (omega arith))
-meet_step p q r x xs true false true ha hb hc rest h = found_later p q r x xs (rest (omega arith))
-meet_step p q r x xs true false false ha hb hc rest h = found_later p q r x xs (rest (omega arith))
-meet_step p q r x xs false true true ha hb hc rest h = found_later p q r x xs (rest (omega arith))
-meet_step p q r x xs false true false ha hb hc rest h = found_later p q r x xs (rest (omega arith))
-meet_step p q r x xs false false true ha hb hc rest h = found_later p q r x xs (rest (omega arith))
-meet_step p q r x xs false false false ha hb hc rest h = found_later p q r x xs (rest (omega arith))
+meet_step p q r x xs false true c ha hb hc rest h = found_later p q r x xs (rest (omega arith))
+meet_step p q r x xs a b c ha hb hc rest h = found_later p q r x xs (rest (omega arith))
 
 -- among those that pass a test, two counts that are together more than there are meet
 meet : (p q r : ℕ → Bool) (xs : List ℕ) → count_by r xs < count_by (λ y. p y && r y) xs + count_by (λ y. q y && r y) xs → Found p q r xs
@@ -58,19 +35,7 @@ meet p q r (x ∷ xs) h =
     meet_step p q r x xs (p x) (q x) (r x) refl refl refl (meet p q r xs)
     (rw (← count-cons r x xs, ← count-cons (λ y. p y && r y) x xs, ← count-cons (λ y. q y && r y) x xs) h)
 
-pub count_same : (p q : ℕ → Bool) (xs : List ℕ) → ((x : ℕ) → p x ≡ q x) → count_by p xs ≡ count_by q xs
-count_same p q [] same = refl
-count_same p q (x ∷ xs) same = rw (count-cons p x xs, count-cons q x xs, same x, count_same p q xs same) refl
-
-count_all : (xs : List ℕ) → count_by (λ _. true) xs ≡ length xs
-count_all [] = refl
-count_all (x ∷ xs) = let step = count-cons (λ _. true) x xs in let rest = count_all xs in omega arith
-
-count_none : (p : ℕ → Bool) (xs : List ℕ) → ((x : ℕ) → p x ≡ false) → count_by p xs ≡ 0
-count_none p [] none = refl
-count_none p (x ∷ xs) none = rw (count-cons p x xs, none x, count_none p xs none) refl
-
-and_true : (a : Bool) → (a && true) ≡ a
+pub and_true : (a : Bool) → (a && true) ≡ a
 and_true true = refl
 and_true false = refl
 
@@ -86,7 +51,7 @@ pub majorities_meet : (voters : List ℕ) (p q : ℕ → Bool) → IsMajority vo
 majorities_meet voters p q first second =
     let a = majority_more (length voters) (count_by p voters) first.some first.decides in
     let b = majority_more (length voters) (count_by q voters) second.some second.decides in
-    let all = count_all voters in
+    let all = count_all (λ _. true) voters (λ _. refl) in
     let ps = count_same (λ y. p y && true) p voters (λ y. and_true (p y)) in
     let qs = count_same (λ y. q y && true) q voters (λ y. and_true (q y)) in
     meet p q (λ _. true) voters (omega arith)
@@ -100,21 +65,18 @@ incoming_shares c p q r f = record { id = f.id; votes = or_left (has c.incoming 
 
 -- a quorum is a majority of the incoming voters
 pub incoming_majority : (c : Config) (p : ℕ → Bool) → IsQuorum c p → IsMajority c.incoming p
-incoming_majority c p is = record { some = is.some; decides = and_left (most c.incoming p) (most c.outgoing p) is.decides }
+incoming_majority c p is = record { some = is.some; decides = (and_parts (most c.incoming p) (most c.outgoing p) is.decides).0 }
 
 -- and, while there are outgoing ones, of those
 pub outgoing_majority : (c : Config) (p : ℕ → Bool) → 0 < length c.outgoing → IsQuorum c p → IsMajority c.outgoing p
-outgoing_majority c p some is = record { some = some; decides = and_right (most c.incoming p) (most c.outgoing p) is.decides }
+outgoing_majority c p some is = record { some = some; decides = (and_parts (most c.incoming p) (most c.outgoing p) is.decides).1 }
 
 pub quorums_meet : (c : Config) (p q : ℕ → Bool) → IsQuorum c p → IsQuorum c q → ShareVoter c p q
 quorums_meet c p q first second =
     incoming_shares c p q (λ _. true) (majorities_meet c.incoming p q (incoming_majority c p first) (incoming_majority c q second))
 
 within_step : (a b : Bool) (n m k : ℕ) → n ≤ m + k → cond a 1 0 + n ≤ (cond (a && b) 1 0 + m) + (cond (not b) 1 0 + k)
-within_step true true n m k h = omega arith
-within_step true false n m k h = omega arith
-within_step false true n m k h = omega arith
-within_step false false n m k h = omega arith
+within_step a b n m k h = grind arith
 
 -- what passes one test passes another with it, or fails that
 count_within : (p r : ℕ → Bool) (xs : List ℕ) → count_by p xs ≤ count_by (λ y. p y && r y) xs + count_by (λ y. not (r y)) xs
@@ -124,36 +86,23 @@ count_within p r (x ∷ xs) =
     (within_step (p x) (r x) _ _ _ (count_within p r xs))
 
 split_step : (b : Bool) (n m k : ℕ) → n ≡ m + k → suc n ≡ (cond b 1 0 + m) + (cond (not b) 1 0 + k)
-split_step true n m k h = omega arith
-split_step false n m k h = omega arith
+split_step b n m k h = grind arith
 
 count_split : (r : ℕ → Bool) (xs : List ℕ) → length xs ≡ count_by r xs + count_by (λ y. not (r y)) xs
 count_split r [] = refl
 count_split r (x ∷ xs) = rw (count-cons r x xs, count-cons (λ y. not (r y)) x xs) (split_step (r x) _ _ _ (count_split r xs))
 
 -- one id more in a set counts once in another
-add_same : (p : ℕ → Bool) (x y : ℕ) (xs ys : List ℕ) (d : ℕ) → x ≡ y → has xs x ≡ false → has ys y ≡ false → (e : (x == y) ≡ true)
+add_step : (p : ℕ → Bool) (x y : ℕ) (xs ys : List ℕ) (d : ℕ) → has xs x ≡ false → has ys y ≡ false
     → cond (p y && (if x == y then true else has xs y)) 1 0 + (cond (p x && has ys x) 1 0 + d) ≡ cond (p x && (if y == x then true else has ys x)) 1 0 + (cond (p y && has xs y) 1 0 + d)
-add_same p x y xs ys d same none none' e = rw (← same, none, self_id x) (let here : has ys x ≡ false = rw same none' in rw (here, and_false (p x), and_true (p x)) (omega arith))
-
-add_apart : (p : ℕ → Bool) (x y : ℕ) (xs ys : List ℕ) (d : ℕ) → (x == y) ≡ false → (y == x) ≡ false
-    → cond (p y && (if x == y then true else has xs y)) 1 0 + (cond (p x && has ys x) 1 0 + d) ≡ cond (p x && (if y == x then true else has ys x)) 1 0 + (cond (p y && has xs y) 1 0 + d)
-add_apart p x y xs ys d e e' = rw (e, e') (omega arith)
-
-apart_flip : (x y : ℕ) → (x == y) ≡ false → (y == x) ≡ false
-apart_flip x y h = grind (arith, nat_tests)
-
-add_case : (b : Bool) (p : ℕ → Bool) (x y : ℕ) (xs ys : List ℕ) (d : ℕ) → (x == y) ≡ b → has xs x ≡ false → has ys y ≡ false
-    → cond (p y && (if x == y then true else has xs y)) 1 0 + (cond (p x && has ys x) 1 0 + d) ≡ cond (p x && (if y == x then true else has ys x)) 1 0 + (cond (p y && has xs y) 1 0 + d)
-add_case true p x y xs ys d e none none' = add_same p x y xs ys d (same_id x y e) none none' e
-add_case false p x y xs ys d e none none' = add_apart p x y xs ys d e (apart_flip x y e)
+add_step p x y xs ys d none none' = grind (arith, nat_tests)
 
 add_first : (p : ℕ → Bool) (x : ℕ) (xs ys : List ℕ) → has xs x ≡ false → IsAscending ys
     → count_by (λ y. p y && (if x == y then true else has xs y)) ys ≡ cond (p x && has ys x) 1 0 + count_by (λ y. p y && has xs y) ys
 add_first p x xs [] none up = rw (and_false (p x)) refl
 add_first p x xs (y ∷ ys) none up =
     rw (count-cons (λ y. p y && (if x == y then true else has xs y)) y ys, count-cons (λ y. p y && has xs y) y ys, add_first p x xs ys none up.1)
-    (add_case (x == y) p x y xs ys (count_by (λ y. p y && has xs y) ys) refl none (has_below ys y up.0))
+    (add_step p x y xs ys (count_by (λ y. p y && has xs y) ys) none (has_below ys y up.0))
 
 -- what two sets have in common counts the same in both
 pub count_common : (p : ℕ → Bool) (xs ys : List ℕ) → IsAscending xs → IsAscending ys → count_by (λ x. p x && has ys x) xs ≡ count_by (λ y. p y && has xs y) ys

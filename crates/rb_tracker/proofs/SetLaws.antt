@@ -1,6 +1,7 @@
 -- Lemmas on sets of ids, as ascending lists
-use Rattle.std.proofs.Common.{◌≡◌, ℕ, suc, ◌+◌, ◌<◌, Bool, true, false, not, List, [], ◌∷◌, ◌++◌, length, filter, refl, ap, sym, ◌∙◌, arith, add-one, append_assoc, if◌then◌else◌, nat_lt, ◌==◌}
-use Rattle.std.specs.List.{insert, remove}
+use Rattle.std.proofs.Common.{◌≡◌, ℕ, suc, ◌+◌, ◌<◌, Bool, true, false, not, cond, List, [], ◌∷◌, ◌++◌, filter, refl, ap, sym, subst, ◌∙◌, arith, add-one, append_assoc, if◌then◌else◌, nat_lt, ◌==◌}
+use Rattle.std.specs.List.{insert}
+use Rattle.std.specs.List.Retain.{RetainsInTurn}
 use Rattle.std.proofs.lemmas.List.{append-nil}
 use Rattle.std.proofs.lemmas.Bool.Decides.{nat_tests}
 use Rattle.rb_tracker.specs.Sets.{has, with_id, without, rank, union, set_of, AreAbove, IsAscending}
@@ -27,6 +28,14 @@ apart_ids x y h = grind (arith, nat_tests)
 
 apart_ids' : (x y : ℕ) → x < y → (x == y) ≡ false
 apart_ids' x y h = grind (arith, nat_tests)
+
+-- who is among some is among more
+pub also : (b h : Bool) → h ≡ true → (if b then true else h) ≡ true
+also true h e = refl
+also false h e = e
+
+pub has_here : (x : ℕ) (xs : List ℕ) → has (x ∷ xs) x ≡ true
+has_here x xs = rw (self_id x) refl
 
 -- what is above a number is above a lower one
 pub above_lower : (low high : ℕ) (xs : List ℕ) → low < high → AreAbove high xs → AreAbove low xs
@@ -68,28 +77,20 @@ pub has_below : (xs : List ℕ) (id : ℕ) → AreAbove id xs → has xs id ≡ 
 has_below [] id above = refl
 has_below (x ∷ xs) id above = rw (apart_ids id x above.0) (has_below xs id above.1)
 
-without_below : (xs : List ℕ) (id : ℕ) → AreAbove id xs → without xs id ≡ xs
-without_below [] id above = refl
-without_below (x ∷ xs) id above = rw (apart_ids id x above.0) (ap (λ l. x ∷ l) (without_below xs id above.1))
-
 rank_step : (b : Bool) (x id : ℕ) (xs : List ℕ) → nat_lt x id ≡ b → has xs id ≡ false → insert xs (rank xs id) id ≡ with_id xs id → (x == id) ≡ false → insert (x ∷ xs) (if b then rank xs id + 1 else 0) id ≡ (if b then x ∷ with_id xs id else (if x == id then x ∷ xs else id ∷ x ∷ xs))
 rank_step true x id xs e none step apart = rw add-one (ap (λ l. x ∷ l) step)
 rank_step false x id xs e none step apart = rw apart refl
 
-tail_lacks : (b r : Bool) → (if b then true else r) ≡ false → r ≡ false
-tail_lacks true r h = cc
-tail_lacks false r h = h
-
-head_lacks : (b r : Bool) → (if b then true else r) ≡ false → b ≡ false
-head_lacks true r h = cc
-head_lacks false r h = refl
+lacks : (b r : Bool) → (if b then true else r) ≡ false → (b ≡ false) × (r ≡ false)
+lacks true r h = cc
+lacks false r h = (refl, h)
 
 -- an id that isn't there is put in at its rank
 pub insert_is_with_id : (xs : List ℕ) (id : ℕ) → has xs id ≡ false → insert xs (rank xs id) id ≡ with_id xs id
 insert_is_with_id [] id h = refl
 insert_is_with_id (x ∷ xs) id h =
-    let none = tail_lacks (x == id) (has xs id) h in
-    rank_step (nat_lt x id) x id xs refl none (insert_is_with_id xs id none) (head_lacks (x == id) (has xs id) h)
+    let none = lacks (x == id) (has xs id) h in
+    rank_step (nat_lt x id) x id xs refl none.1 (insert_is_with_id xs id none.1) none.0
 
 -- an id that is there is put in no second time
 pub with_id_again : (xs : List ℕ) (id : ℕ) → IsAscending xs → has xs id ≡ true → with_id xs id ≡ xs
@@ -105,46 +106,14 @@ pub not_false : (b : Bool) → not b ≡ false → b ≡ true
 not_false true h = refl
 not_false false h = cc
 
-pub not_true : (b : Bool) → not b ≡ true → b ≡ false
-not_true true h = cc
-not_true false h = refl
-
--- an id that is neither the first nor above it isn't in an ascending list
-not_above : (x id : ℕ) (xs : List ℕ) → nat_lt x id ≡ false → AreAbove x xs → has (x ∷ xs) id ≡ true → not (x == id) ≡ true → ⊥
-not_above x id xs upper above h apart' =
-    let apart = not_true (x == id) apart' in
-    let none = has_below xs id (above_lower id x xs (above_id x id upper apart) above) in
-    let there = rw apart at h in
-    cc
-
-remove_step : (b : Bool) (x id : ℕ) (xs : List ℕ) → nat_lt x id ≡ b → AreAbove x xs → has (x ∷ xs) id ≡ true → (has xs id ≡ true → remove xs (rank xs id) ≡ without xs id) → remove (x ∷ xs) (if b then rank xs id + 1 else 0) ≡ without (x ∷ xs) id
-remove_step true x id xs e above h step =
-    let apart = apart_ids' x id (below_id x id e) in
-    rw (apart, add-one) (ap (λ l. x ∷ l) (step (rw apart at h)))
-remove_step false x id xs e above h step =
-    if_both (λ l. xs ≡ l) (not (x == id)) (x ∷ without xs id) (without xs id)
-    (λ apart. absurd (not_above x id xs e above h apart))
-    (λ same. let is = same_id x id (not_false (x == id) same) in sym (rw (← is) (without_below xs x above)))
-
--- what stands at the rank of an id that is there is the id
-pub remove_is_without : (xs : List ℕ) (id : ℕ) → IsAscending xs → has xs id ≡ true → remove xs (rank xs id) ≡ without xs id
-remove_is_without [] id up h = cc
-remove_is_without (x ∷ xs) id up h = remove_step (nat_lt x id) x id xs refl up.0 h (remove_is_without xs id up.1)
-
-inside_step : (b : Bool) (x id : ℕ) (xs : List ℕ) → nat_lt x id ≡ b → has (x ∷ xs) id ≡ true → (has xs id ≡ true → rank xs id < length xs) → (if b then rank xs id + 1 else 0) < suc (length xs)
-inside_step true x id xs e h step = let apart = apart_ids' x id (below_id x id e) in let lt : rank xs id < length xs = step (rw apart at h) in omega arith
-inside_step false x id xs e h step = omega arith
-
-pub rank_inside : (xs : List ℕ) (id : ℕ) → IsAscending xs → has xs id ≡ true → rank xs id < length xs
-rank_inside [] id up h = cc
-rank_inside (x ∷ xs) id up h = inside_step (nat_lt x id) x id xs refl h (rank_inside xs id up.1)
-
--- where the id isn't there all stays
-pub without_absent : (xs : List ℕ) (id : ℕ) → has xs id ≡ false → without xs id ≡ xs
-without_absent [] id h = refl
-without_absent (x ∷ xs) id h =
-    let apart = head_lacks (x == id) (has xs id) h in
-    rw apart (ap (λ l. x ∷ l) (without_absent xs id (tail_lacks (x == id) (has xs id) h)))
+-- where a test changes neither itself nor what it is asked of, what passes it stays
+pub kept_is_filter : {X F : Type 0} (R : F → X → Bool → F → X → Type 0) (test : X → Bool) (f : F)
+    → ((x : X) (b : Bool) (g : F) (y : X) → R f x b g y → (b ≡ test x) × (g ≡ f) × (y ≡ x)) → (xs ys : List X) → RetainsInTurn R f xs ys → ys ≡ filter test xs
+kept_is_filter R test f says [] ys h = h
+kept_is_filter R test f says (x ∷ xs) ys h =
+    let said = says x h.0 h.1 h.2 h.3 in
+    let rest = kept_is_filter R test f says xs h.4 (subst (λ g. RetainsInTurn R g xs h.4) said.1 h.5) in
+    h.6 ∙ (λ i. cond (said.0 i) (said.2 i ∷ rest i) (rest i))
 
 above_middle : (low x : ℕ) (xs ys : List ℕ) → AreAbove low (xs ++ x ∷ ys) → low < x
 above_middle low x [] ys above = above.0

@@ -1,10 +1,12 @@
 -- Lemmas on views by id
-use Rattle.std.proofs.Common.{◌≡◌, ◌≤◌, ◌<◌, is_some, nat_lt, length, take, drop, arith, ℕ, zero, suc, ◌+◌, Bool, true, false, cond, List, [], ◌∷◌, ◌++◌, slice_get, Option, Some, None, refl, ap, sym, ◌∙◌, add-one, nat_eq, ◌==◌, if◌then◌else◌}
-use Rattle.std.specs.List.{IsDistinct, AllByRecursion, insert}
+use Rattle.std.proofs.Common.{◌≡◌, ◌≤◌, ◌<◌, is_some, nat_lt, length, take, drop, ℕ, zero, suc, ◌+◌, Bool, true, false, cond, List, [], ◌∷◌, ◌++◌, slice_get, Option, Some, None, refl, ap, ◌∙◌, add-one, nat_eq, ◌==◌, if◌then◌else◌}
+use Rattle.std.specs.List.{insert}
 use Rattle.std.specs.Map.{keys_of, lookup, remove_entry}
+use Rattle.std.specs.Option.{option_map}
 use Rattle.std.specs.Cmp.{nat_eq_equiv}
-use Rattle.std.proofs.lemmas.Map.Keys.{IsDistinct-head, IsDistinct-tail}
-use Rattle.std.proofs.lemmas.Bool.Decides.{nat_tests}
+use Rattle.std.proofs.lemmas.Bool.{lt-ltb, le-ltb}
+use Rattle.std.proofs.lemmas.List.{map-append, take-map, drop-map, drop_more}
+use Rattle.std.proofs.lemmas.Option.{slice_get-map, slice_get_within, get_or_from_slice_get}
 use Rattle.indexmap.specs.IndexMap.{insert_entry, move_index}
 use Rattle.indexmap.specs.Layout.{set_value_at}
 use Rattle.indexmap.proofs.MoveLemmas.{push_moved}
@@ -14,33 +16,15 @@ use Rattle.rb_tracker.specs.Trackers.{PlainTracker, has_view, with_new, AreInOrd
 use Rattle.rb_tracker.proofs.SetLaws.{if_both, insert_is_with_id, ascending_with_id}
 use Rattle.rb_tracker.proofs.WindowLaws.{take_more_some}
 
--- a key apart from all keys is apart from the one at a place
-apart_at : (k : ℕ) (es : List (ℕ × PlainProgress)) (i : ℕ) (e : ℕ × PlainProgress) → AllByRecursion (λ y. nat_eq k y ≡ false) (keys_of es) → slice_get es i ≡ Some e → nat_eq k e.0 ≡ false
-apart_at k [] i e apart at = cc
-apart_at k (f ∷ es) zero e apart at = let same : f ≡ e = cc in ap (λ (p : ℕ × PlainProgress). nat_eq k p.0) (sym same) ∙ apart.0
-apart_at k (f ∷ es) (suc i) e apart at = apart_at k es i e apart.1 at
-
--- where keys are distinct, that of a place isn't among those before it
-pub lookup_before : (es : List (ℕ × PlainProgress)) (i : ℕ) (e : ℕ × PlainProgress) → IsDistinct nat_eq (keys_of es) → slice_get es i ≡ Some e → lookup (nat_eq e.0) (take i es) ≡ None
-lookup_before [] i e distinct at = cc
-lookup_before (f ∷ es) zero e distinct at = refl
-lookup_before (f ∷ es) (suc i) e distinct at =
-    let apart = nat_eq_equiv.symm e.0 f.0 ∙ apart_at f.0 es i e (IsDistinct-head nat_eq f.0 (keys_of es) distinct) at in
-    rw apart (lookup_before es i e (IsDistinct-tail nat_eq f.0 (keys_of es) distinct) at)
-
-insert_step : (b : Bool) (e : ℕ × PlainProgress) (es : List (ℕ × PlainProgress)) (k : ℕ) (v : PlainProgress) (rest : Option PlainProgress) → cond b (Some e.1) rest ≡ None → insert_entry nat_eq es k v ≡ es ++ (k, v) ∷ [] → (if b then (e.0, v) ∷ es else e ∷ insert_entry nat_eq es k v) ≡ e ∷ (es ++ (k, v) ∷ [])
-insert_step true e es k v rest none more = cc
-insert_step false e es k v rest none more = ap (λ l. e ∷ l) more
-
-tail_absent : (b : Bool) (x : PlainProgress) (rest : Option PlainProgress) → cond b (Some x) rest ≡ None → rest ≡ None
-tail_absent true x rest h = cc
-tail_absent false x rest h = h
+insert_step : (b : Bool) (e : ℕ × PlainProgress) (es new : List (ℕ × PlainProgress)) (k : ℕ) (v : PlainProgress) (rest : Option PlainProgress)
+    → cond b (Some e.1) rest ≡ None → (rest ≡ None → new ≡ es ++ (k, v) ∷ []) → (if b then (e.0, v) ∷ es else e ∷ new) ≡ e ∷ (es ++ (k, v) ∷ [])
+insert_step true e es new k v rest none more = cc
+insert_step false e es new k v rest none more = ap (λ l. e ∷ l) (more none)
 
 -- a new key goes last
 pub insert_new : (es : List (ℕ × PlainProgress)) (k : ℕ) (v : PlainProgress) → lookup (nat_eq k) es ≡ None → insert_entry nat_eq es k v ≡ es ++ (k, v) ∷ []
 insert_new [] k v none = refl
-insert_new (e ∷ es) k v none =
-    insert_step (nat_eq k e.0) e es k v (lookup (nat_eq k) es) none (insert_new es k v (tail_absent (nat_eq k e.0) e.1 (lookup (nat_eq k) es) none))
+insert_new (e ∷ es) k v none = insert_step (nat_eq k e.0) e es _ k v (lookup (nat_eq k) es) none (insert_new es k v)
 
 none_of : {X : Type 0} (o : Option X) → is_some o ≡ false → o ≡ None
 none_of None h = refl
@@ -52,9 +36,7 @@ put_new es k v i absent within = rw (insert_new es k v (none_of _ absent)) (push
 
 -- the key at a place
 pub key_at : (es : List (ℕ × PlainProgress)) (i : ℕ) (e : ℕ × PlainProgress) → slice_get es i ≡ Some e → slice_get (keys_of es) i ≡ Some e.0
-key_at [] i e h = cc
-key_at (f ∷ es) zero e h = let same : f ≡ e = cc in ap (λ (p : ℕ × PlainProgress). Some p.0) same
-key_at (f ∷ es) (suc i) e h = key_at es i e h
+key_at es i e h = slice_get-map (λ f. f.0) es i ∙ ap (option_map (λ f. f.0)) h
 
 union_push : (xs ys : List ℕ) (y : ℕ) → union xs (ys ++ y ∷ []) ≡ with_id (union xs ys) y
 union_push xs [] y = refl
@@ -64,23 +46,15 @@ union_push xs (z ∷ zs) y = union_push (with_id xs z) zs y
 pub ids_more : (es : List (ℕ × PlainProgress)) (i : ℕ) (e : ℕ × PlainProgress) → slice_get es i ≡ Some e → union [] (take (i + 1) (keys_of es)) ≡ with_id (union [] (take i (keys_of es))) e.0
 ids_more es i e h = rw (take_more_some (keys_of es) i e.0 (key_at es i e h)) (union_push [] (take i (keys_of es)) e.0)
 
-rank_suc : (xs : List ℕ) (i id x : ℕ) → slice_get xs i ≡ Some x → rank (drop i xs) id ≡ (if nat_lt x id then rank (drop (suc i) xs) id + 1 else 0)
-rank_suc [] i id x h = cc
-rank_suc (y ∷ ys) zero id x h = let same : y ≡ x = cc in ap (λ z. if nat_lt z id then rank ys id + 1 else 0) same
-rank_suc (y ∷ ys) (suc i) id x h = rank_suc ys i id x h
-
-rank_if : (a b p q : ℕ) → p ≡ (if nat_lt a b then q + 1 else 0) → a < b → p ≡ q + 1
-rank_if a b p q e h = grind (arith, nat_tests)
-
-rank_else : (a b p q : ℕ) → p ≡ (if nat_lt a b then q + 1 else 0) → b ≤ a → p ≡ 0
-rank_else a b p q e h = grind (arith, nat_tests)
+drop_more_some : (xs : List ℕ) (i x : ℕ) → slice_get xs i ≡ Some x → drop i xs ≡ x ∷ drop (i + 1) xs
+drop_more_some xs i x h = drop_more xs i x (slice_get_within xs i x h) ∙ ap (λ y. y ∷ drop (i + 1) xs) (get_or_from_slice_get xs i x x h)
 
 -- an id stands past the views of lower ids
 pub rank_past : (es : List (ℕ × PlainProgress)) (i id : ℕ) (e : ℕ × PlainProgress) → slice_get es i ≡ Some e → e.0 < id → rank (drop i (keys_of es)) id ≡ rank (drop (i + 1) (keys_of es)) id + 1
-rank_past es i id e h lower = let next : i + 1 ≡ suc i = omega arith in rw next (rank_if e.0 id _ _ (rank_suc (keys_of es) i id e.0 (key_at es i e h)) lower)
+rank_past es i id e h lower = rw (drop_more_some (keys_of es) i e.0 (key_at es i e h), lt-ltb e.0 id lower) refl
 
 pub rank_here : (es : List (ℕ × PlainProgress)) (i id : ℕ) (e : ℕ × PlainProgress) → slice_get es i ≡ Some e → id ≤ e.0 → rank (drop i (keys_of es)) id ≡ 0
-rank_here es i id e h higher = rank_else e.0 id _ _ (rank_suc (keys_of es) i id e.0 (key_at es i e h)) higher
+rank_here es i id e h higher = rw (drop_more_some (keys_of es) i e.0 (key_at es i e h), le-ltb e.0 id higher) refl
 
 -- the order of the views
 
@@ -96,17 +70,12 @@ has_no_key (e ∷ es) k h =
     let apart : (e.0 == k) ≡ false = nat_eq_equiv.symm e.0 k ∙ lacks.0 in
     rw apart (has_no_key es k lacks.1)
 
-put_step : (b : Bool) (e : ℕ × PlainProgress) (es : List (ℕ × PlainProgress)) (k r : ℕ) (v : PlainProgress) → keys_of (insert es r (k, v)) ≡ insert (keys_of es) r k → keys_of (insert (e ∷ es) (if b then r + 1 else 0) (k, v)) ≡ insert (e.0 ∷ keys_of es) (if b then r + 1 else 0) k
-put_step true e es k r v rest = rw add-one (ap (λ l. e.0 ∷ l) rest)
-put_step false e es k r v rest = refl
-
-keys_put : (es : List (ℕ × PlainProgress)) (k : ℕ) (v : PlainProgress) → keys_of (insert es (rank (keys_of es) k) (k, v)) ≡ insert (keys_of es) (rank (keys_of es) k) k
-keys_put [] k v = refl
-keys_put (e ∷ es) k v = put_step (nat_lt e.0 k) e es k (rank (keys_of es) k) v (keys_put es k v)
+keys_put : (es : List (ℕ × PlainProgress)) (k r : ℕ) (v : PlainProgress) → keys_of (insert es r (k, v)) ≡ insert (keys_of es) r k
+keys_put es k r v = simp (map-append, take-map, drop-map)
 
 pub put_in_order : (t : PlainTracker) (id : ℕ) (view : PlainProgress) → AreInOrder t.views → has_view t.views id ≡ false → AreInOrder (with_new t id view).views
 put_in_order t id view up none =
-    rw (keys_put t.views id view, insert_is_with_id (keys_of t.views) id (has_no_key t.views id none)) (ascending_with_id (keys_of t.views) id up)
+    rw (keys_put t.views id (rank (keys_of t.views) id) view, insert_is_with_id (keys_of t.views) id (has_no_key t.views id none)) (ascending_with_id (keys_of t.views) id up)
 
 above_removed : (k low : ℕ) (es : List (ℕ × PlainProgress)) → AreAbove low (keys_of es) → AreAbove low (keys_of (remove_entry (nat_eq k) es))
 above_removed k low [] above = tt

@@ -1,6 +1,9 @@
 -- Lemmas on windows, and on the views that have them
-use Rattle.std.proofs.Common.{◌≡◌, ℕ, zero, suc, ◌+◌, ◌<◌, ◌≤◌, ◌^◌, Bool, true, List, [], ◌∷◌, ◌++◌, take, filter, slice_get, Some, refl, ap, sym, arith, add-one, nat_lt}
+use Rattle.std.proofs.Common.{◌≡◌, ℕ, zero, suc, ◌+◌, ◌<◌, ◌≤◌, ◌^◌, ◌-◌, Bool, true, List, [], ◌∷◌, ◌++◌, length, take, filter, slice_get, Some, refl, ap, sym, ◌∙◌, arith, nat_lt, length-append}
 use Rattle.std.proofs.lemmas.Bool.Decides.{nat_tests}
+use Rattle.std.proofs.lemmas.List.{take_more}
+use Rattle.std.proofs.lemmas.Option.{slice_get_within, get_or_from_slice_get}
+use Rattle.circular_buffer.specs.Buffer.{keep_last}
 use Rattle.rb_tracker.specs.Sets.{AreAbove, AreBelow, IsAscending}
 use Rattle.rb_tracker.specs.Windows.{PlainWindow, freed}
 use Rattle.rb_tracker.specs.Progresses.{IsProgress}
@@ -47,48 +50,37 @@ rest_stays (x ∷ xs) index first at h up =
 pub freed_rest : (w : PlainWindow) (index first : ℕ) → slice_get w.in_flight 0 ≡ Some first → index < first → IsAscending w.in_flight → w ≡ freed w index
 freed_rest w index first at h up = sym (ap (λ (l : List ℕ). record w { in_flight = l }) (rest_stays w.in_flight index first at h up))
 
-above_at : (xs : List ℕ) (i low x : ℕ) → AreAbove low xs → slice_get xs i ≡ Some x → low < x
-above_at [] i low x above at = cc
-above_at (y ∷ ys) zero low x above at = let same : y ≡ x = cc in rw (← same) above.0
-above_at (y ∷ ys) (suc i) low x above at = above_at ys i low x above.1 at
-
--- those before a place of an ascending list are below what stands there
-pub below_at : (xs : List ℕ) (i x : ℕ) → IsAscending xs → slice_get xs i ≡ Some x → AreBelow x (take i xs)
-below_at [] i x up at = cc
-below_at (y ∷ ys) zero x up at = tt
-below_at (y ∷ ys) (suc i) x up at = (above_at ys i y x up.0 at, below_at ys i x up.1 at)
-
-take_one_more : {X : Type 0} (xs : List X) (i : ℕ) (x : X) → slice_get xs i ≡ Some x → take (suc i) xs ≡ take i xs ++ x ∷ []
-take_one_more [] i x h = cc
-take_one_more (y ∷ ys) zero x h = cc
-take_one_more (y ∷ ys) (suc i) x h = ap (λ l. y ∷ l) (take_one_more ys i x h)
+-- two parts that fit are put in whole
+pub parts_fit : (xs ys : List ℕ) (n : ℕ) → length (xs ++ ys) ≤ n → keep_last n (keep_last n xs ++ ys) ≡ xs ++ ys
+parts_fit xs ys n fits =
+    let first : length xs - n ≡ 0 = omega (arith, length-append xs ys) in
+    let all : length (xs ++ ys) - n ≡ 0 = omega arith in
+    rw (first, all) refl
 
 -- one more item
 pub take_more_some : {X : Type 0} (xs : List X) (i : ℕ) (x : X) → slice_get xs i ≡ Some x → take (i + 1) xs ≡ take i xs ++ x ∷ []
-take_more_some xs i x h = rw add-one (take_one_more xs i x h)
+take_more_some xs i x h =
+    take_more xs i x (slice_get_within xs i x h) ∙ ap (λ y. take i xs ++ y ∷ []) (get_or_from_slice_get xs i x x h)
 
 -- where a view replicates, what is in flight is below what is sent next
 pub in_flight_below : (state : ProgressState) (matched next last : ℕ) (xs : List ℕ) → IsProgress state matched next xs → state ≡ Replicate → next ≤ last → AreBelow last xs
-in_flight_below Probe matched next last xs is same h = cc
 in_flight_below Replicate matched next last xs is same h = below_higher next last xs h is.in_use
-in_flight_below Snapshot matched next last xs is same h = cc
+in_flight_below _ matched next last xs is same h = cc
 
 -- one more append in flight
 pub sent_stays : (state : ProgressState) (matched next last : ℕ) (xs : List ℕ) → IsProgress state matched next xs → state ≡ Replicate → next ≤ last → last + 1 < 2 ^ 41 → IsProgress state matched (last + 1) (xs ++ last ∷ [])
-sent_stays Probe matched next last xs is same h fits = cc
 sent_stays Replicate matched next last xs is same h fits = record {
   matched_fits = is.matched_fits;
   next_fits = fits;
   in_use = below_push (last + 1) last xs (omega arith) (below_higher next (last + 1) xs (omega arith) is.in_use);
 }
-sent_stays Snapshot matched next last xs is same h fits = cc
+sent_stays _ matched next last xs is same h fits = cc
 
 -- fewer appends in flight, and more to send next
 pub freed_stays : (state : ProgressState) (matched next newer later index : ℕ) (xs : List ℕ) → IsProgress state matched next xs → newer + 1 < 2 ^ 41 → later < 2 ^ 41 → next ≤ later → IsProgress state newer later (filter (λ i. nat_lt index i) xs)
-freed_stays Probe matched next newer later index xs is fits fits' h = record { matched_fits = fits; next_fits = fits'; in_use = ap (filter (λ i. nat_lt index i)) is.in_use }
 freed_stays Replicate matched next newer later index xs is fits fits' h = record {
   matched_fits = fits;
   next_fits = fits';
   in_use = below_filter (λ i. nat_lt index i) later xs (below_higher next later xs h is.in_use);
 }
-freed_stays Snapshot matched next newer later index xs is fits fits' h = record { matched_fits = fits; next_fits = fits'; in_use = ap (filter (λ i. nat_lt index i)) is.in_use }
+freed_stays _ matched next newer later index xs is fits fits' h = record { matched_fits = fits; next_fits = fits'; in_use = ap (filter (λ i. nat_lt index i)) is.in_use }

@@ -12,7 +12,7 @@ use rb_change::ConfState;
 use std::alloc::{AllocError, Global};
 
 /// Who votes, who learns, and who learns once a joint configuration is left. Each set stands in a small vector of its own, ascending.
-#[derive(Drop)]
+#[derive(Clone, Drop)]
 pub struct Config {
     /// The voters.
     pub incoming: IdSet,
@@ -109,13 +109,7 @@ impl Config {
     pub fn try_copy(&self) -> Result<Config, AllocError>
         ensures { IfOk result (λ copy. copy ≡ self.now) }
     {
-        Ok(Config {
-            incoming: self.incoming.try_copy()?,
-            outgoing: self.outgoing.try_copy()?,
-            learners: self.learners.try_copy()?,
-            next: self.next.try_copy()?,
-            auto: self.auto,
-        })
+        self.clone()
     }
 
     /// Whether both are the same configuration. It takes no memory.

@@ -109,11 +109,7 @@ impl IdSet {
     pub fn remove(&mut self, id: u64)
         ensures { self.new ≡ without self.old id }
     {
-        if !self.contains(id) {
-            return;
-        }
-        let at = self.rank(id);
-        self.ids.remove(at);
+        self.ids.retain(|x| *x != id);
     }
 
     /// Puts an id in, in its place. For want of memory nothing changes.
@@ -159,5 +155,13 @@ impl IdSet {
         ensures { IsTrue result ↔ (self.now ≡ other.now) }
     {
         self.ids.as_slice() == other.ids.as_slice()
+    }
+}
+
+impl Clone for IdSet {
+    ghost is_clone = { λ set copy. copy ≡ set };
+
+    fn clone(&self) -> Result<IdSet, AllocError> {
+        self.try_copy()
     }
 }

@@ -24,7 +24,7 @@ pub enum ProgressState {
 }
 
 /// A leader's view of a member's log.
-#[derive(Drop)]
+#[derive(Clone, Drop)]
 pub struct Progress {
     state: ProgressState,
     matched: u64,
@@ -290,15 +290,7 @@ impl Progress {
     pub fn try_copy(&self) -> Result<Progress, AllocError>
         ensures { IfOk result (λ copy. copy ≡ self.now) }
     {
-        Ok(Progress {
-            state: self.state,
-            matched: self.matched,
-            next: self.next,
-            waiting: self.waiting,
-            pending: self.pending,
-            active: self.active,
-            window: self.window.try_copy()?,
-        })
+        self.clone()
     }
 
     /// Whether both are the same view. It takes no memory.

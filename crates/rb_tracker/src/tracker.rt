@@ -24,6 +24,7 @@ use std::alloc::{AllocError, Global};
 use std::marker::Model;
 
 /// A configuration, and the views, ascending by id.
+#[derive(Clone)]
 pub struct Tracker {
     config: Config,
     views: IndexMap<u64, Progress>,
@@ -180,26 +181,11 @@ impl Tracker {
         votes.result(self.config())
     }
 
-    #[tactic(auto, using(crate::proofs::WindowLaws::take_more_some, crate::proofs::ViewLaws::lookup_before))]
-    fn copy_views(&self) -> Result<IndexMap<u64, Progress>, AllocError>
-        ensures { IfOk result (λ views. views.entries ≡ self.now.views) }
-    {
-        let mut views = IndexMap::with_capacity(*self.views.allocator(), self.views.len())?;
-        for i in 0..self.views.len() {
-            let (id, view) = self.view(i);
-            add_copy(&mut views, id, view)?;
-        }
-        Ok(views)
-    }
-
+    #[tactic(auto, using(std::proofs::lemmas::Map::Entries::entries_from_clone))]
     pub fn try_copy(&self) -> Result<Tracker, AllocError>
         ensures { IfOk result (λ copy. copy ≡ self.now) }
     {
-        let views = self.copy_views()?;
-        Ok(Tracker {
-            config: self.config.try_copy()?,
-            views,
-        })
+        self.clone()
     }
 
     /// Whether both are the same configuration and the same views. It takes no memory.
@@ -219,14 +205,4 @@ impl Tracker {
         }
         true
     }
-}
-
-// Puts a copy of a view at the end.
-#[tactic(auto, using(crate::proofs::ViewLaws::insert_new))]
-fn add_copy(views: &mut IndexMap<u64, Progress>, id: u64, view: &Progress) -> Result<(), AllocError>
-    requires { get nat_eq views.old id ≡ None }
-    ensures { OnOk result (views.new.entries ≡ views.old.entries ++ (id, view.now) ∷ []) }
-{
-    views.insert(id, view.try_copy()?)?;
-    Ok(())
 }

@@ -23,7 +23,7 @@ pub enum VoteResult {
 }
 
 /// Who granted a vote, and who refused.
-#[derive(Drop)]
+#[derive(Clone, Drop)]
 pub struct Votes {
     pub granted: IdSet,
     pub refused: IdSet,
@@ -118,10 +118,7 @@ impl Votes {
     pub fn try_copy(&self) -> Result<Votes, AllocError>
         ensures { IfOk result (λ copy. copy ≡ self.now) }
     {
-        Ok(Votes {
-            granted: self.granted.try_copy()?,
-            refused: self.refused.try_copy()?,
-        })
+        self.clone()
     }
 
     /// Whether both are the same votes. It takes no memory.

@@ -114,14 +114,18 @@ impl Window {
         }
     }
 
+    #[tactic(auto, using(crate::proofs::WindowLaws::parts_fit))]
     pub fn try_copy(&self) -> Result<Window, AllocError>
         ensures { IfOk result (λ copy. copy ≡ self.now) }
     {
-        let mut copy = Window::new(*self.ring.allocator(), self.capacity())?;
-        for place in 0..self.len() {
-            copy.push(self.index_at(place));
-        }
-        Ok(copy)
+        let mut ring = HeapCircularBuffer::with_capacity(
+            *self.ring.allocator(),
+            self.ring.capacity(),
+        )?;
+        let (front, back) = self.ring.as_slices();
+        ring.extend_from_slice(front);
+        ring.extend_from_slice(back);
+        Ok(Window { ring })
     }
 
     /// Whether both have the same appends in flight, and room for as many. It takes no memory.
@@ -137,5 +141,13 @@ impl Window {
             }
         }
         true
+    }
+}
+
+impl Clone for Window {
+    ghost is_clone = { λ window copy. copy ≡ window };
+
+    fn clone(&self) -> Result<Window, AllocError> {
+        self.try_copy()
     }
 }
