@@ -12,7 +12,6 @@ mod install;
 mod kind;
 mod limits;
 mod message;
-mod messages;
 mod outbox;
 mod role;
 

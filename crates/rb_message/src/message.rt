@@ -3,6 +3,7 @@
 ghost use Rattle.std.specs.Prelude.{◌≡◌, ◌↔◌, IsTrue, IfOk};
 
 use crate::kind::MessageKind;
+use rb_raftlog::TryCopy;
 use std::alloc::AllocError;
 
 /// A message from one node to another.
@@ -34,5 +35,11 @@ impl Message {
             && self.from == other.from
             && self.term == other.term
             && self.kind.same(&other.kind)
+    }
+}
+
+impl TryCopy for Message {
+    fn try_copy(&self) -> Result<Message, AllocError> {
+        Message::try_copy(self)
     }
 }

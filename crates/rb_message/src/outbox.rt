@@ -10,9 +10,8 @@ ghost use Rattle.rb_message.specs.Paged.{IsPaged};
 
 use crate::limits::{MAX_PAGES, PAGE};
 use crate::message::Message;
-use crate::messages::{copies_of, push_copies, same_messages};
 use rb_change::Shared;
-use rb_raftlog::{Pages, limits_are};
+use rb_raftlog::{Pages, copies_of, limits_are, push_copies};
 use std::alloc::{AllocError, Global};
 use std::marker::Model;
 use std::mem;
@@ -37,6 +36,21 @@ impl Model for Outbox {
     ghost view = { λ m. joined m.pages ++ m.tail.items };
 
     ghost invariant = { λ m. IsPaged m.pages m.tail.items };
+}
+
+// Whether both are the same messages in the same order. Lists of different lengths are told apart at once.
+fn same_messages(messages: &[Message], others: &[Message]) -> bool
+    ensures { IsTrue result ↔ (messages.now ≡ others.now) }
+{
+    if messages.len() != others.len() {
+        return false;
+    }
+    for i in 0..messages.len() {
+        if !messages[i].same(&others[i]) {
+            return false;
+        }
+    }
+    true
 }
 
 // Whether the two are the same pages. Their numbers are looked at first.

@@ -1,85 +1,54 @@
 -- Laws of appending.
-use Rattle.std.proofs.Common.{◌≡◌, ℕ, zero, suc, ◌+◌, ◌-◌, ◌<◌, ◌≤◌, true, false, List, [], ◌∷◌, length, take, drop, Option, Some, None, Result, Ok, refl, ap, sym, ◌∙◌, arith, ltb, length-append, length-drop, inl, inr}
-use Rattle.std.proofs.lemmas.Bool.{lt-ltb, le-ltb, cond-true, cond-false, cases_Bool, cases_lt}
+use Rattle.std.proofs.Common.{◌≡◌, ℕ, ◌+◌, ◌-◌, ◌<◌, ◌≤◌, Bool, true, false, not, if◌then◌else◌, List, [], ◌∷◌, length, take, drop, Option, Some, None, Result, Ok, refl, ap, sym, ◌∙◌, arith, ltb, length-append, length-drop, inl, inr}
+use Rattle.std.proofs.lemmas.Bool.{lt-ltb, le-ltb, cond-true, cond-false, cases_Bool, cases_lt, not-false}
 use Rattle.std.proofs.lemmas.List.{length-take-le}
+use Rattle.std.proofs.lemmas.Option.{slice_get_within}
 use Rattle.std.specs.List.{slice_get}
 use Rattle.rb_raftlog.specs.declared.entry.Entry.{Entry}
 use Rattle.rb_raftlog.specs.declared.limits.TheConstants.{MAX_INDEX}
 use Rattle.rb_raftlog.specs.declared.raft_log.LogFault.{LogFault}
 use Rattle.rb_raftlog.specs.Log.{LogValue, IsLog, last, term_at, term_of, entry_at, found, is_term, first_new, replaced, appended}
-use Rattle.rb_raftlog.proofs.TermLaws.{term_below, term_base, term_past, entry_below, entry_past, by_index, slice_get_front, slice_get_back, slice_get_drop, is_term_is, is_term_from, held_in}
+use Rattle.rb_raftlog.proofs.TermLaws.{term_past, entry_past, IsSameUpTo, same_term, same_entry, slice_get_front, slice_get_back, slice_get_drop, is_term_is, is_term_from, held_in}
+use Rattle.rb_raftlog.proofs.SearchLaws.{first_that, Finds, finds, finds_none, finds_nothing}
 
 -- ---- the first that is new
 
--- one step
-new_held : (v : LogValue) (i : ℕ) (e : Entry) (es : List Entry) → is_term (term_at v i) e.term ≡ true → first_new v i (e ∷ es) ≡ first_new v (i + 1) es
-new_held v i e es h = cond-true (is_term (term_at v i) e.term) (first_new v (i + 1) es) (Some i) h
+-- whether an entry is not held at an index with its term
+abbrev is_new : LogValue → ℕ → Entry → Bool
+is_new v i e = not (is_term (term_at v i) e.term)
 
-new_here : (v : LogValue) (i : ℕ) (e : Entry) (es : List Entry) → is_term (term_at v i) e.term ≡ false → first_new v i (e ∷ es) ≡ Some i
-new_here v i e es h = cond-false (is_term (term_at v i) e.term) (first_new v (i + 1) es) (Some i) h
+first_new_is : (v : LogValue) (es : List Entry) (i : ℕ) → first_new v i es ≡ first_that (is_new v) i es
+first_new_is v [] i = refl
+first_new_is v (e ∷ es) i =
+    let rest = first_that (is_new v) (i + 1) es in
+    rw (first_new_is v es (i + 1))
+    (elim (is_term (term_at v i) e.term) as (λ b. (if b then rest else Some i) ≡ (if not b then Some i else rest)) [ true ↦ refl | false ↦ refl ])
 
-pub some_is : (a b : ℕ) → Some a ≡ Some b → a ≡ b
-some_is a b e = cc
+held_as : (v : LogValue) (i : ℕ) (e : Entry) → is_new v i e ≡ false → term_at v i ≡ Ok e.term
+held_as v i e h = is_term_is (term_at v i) e.term (not-false (is_term (term_at v i) e.term) h)
+
+new_finds : (v : LogValue) (es : List Entry) (i c : ℕ) → first_new v i es ≡ Some c → Finds (is_new v) i es c
+new_finds v es i c e = finds (is_new v) es i c (sym (first_new_is v es i) ∙ e)
 
 -- it is one of these, and those before it are held
 pub new_within : (v : LogValue) (es : List Entry) (i c : ℕ) → first_new v i es ≡ Some c → (i ≤ c) × (c < i + length es)
-new_within v [] i c e = cc
-new_within v (x ∷ es) i c e =
-    elim (cases_Bool (is_term (term_at v i) x.term)) as (λ _. (i ≤ c) × (c < i + length (x ∷ es))) [
-      | inl holds ↦
-          let later : (i + 1 ≤ c) × (c < i + 1 + length es) = new_within v es (i + 1) c (sym (new_held v i x es holds) ∙ e) in
-          (omega arith, omega arith)
-      | inr fails ↦
-          let here : i ≡ c = some_is i c (sym (new_here v i x es fails) ∙ e) in
-          (omega arith, omega arith)
-    ]
+new_within v es i c e =
+    let found = new_finds v es i c e in
+    (omega (arith, found.at), omega (arith, found.at, slice_get_within es found.place found.entry found.is_entry))
 
 -- those before the first new one are held with their terms
 pub held_before : (v : LogValue) (es : List Entry) (i c k : ℕ) (x : Entry) → first_new v i es ≡ Some c → i + k < c → slice_get es k ≡ Some x → term_at v (i + k) ≡ Ok x.term
-held_before v [] i c k x e low at = cc
-held_before v (y ∷ es) i c zero x e low at =
-    elim (cases_Bool (is_term (term_at v i) y.term)) as (λ _. term_at v (i + zero) ≡ Ok x.term) [
-      | inl holds ↦
-          let same : y ≡ x = cc in
-          let index : i + zero ≡ i = omega arith in
-          ap (term_at v) index ∙ is_term_is (term_at v i) y.term holds ∙ ap (λ (z : Entry). Ok z.term) same
-      | inr fails ↦ let here : i ≡ c = some_is i c (sym (new_here v i y es fails) ∙ e) in absurd (omega (arith, low))
-    ]
-held_before v (y ∷ es) i c (suc k) x e low at =
-    elim (cases_Bool (is_term (term_at v i) y.term)) as (λ _. term_at v (i + suc k) ≡ Ok x.term) [
-      | inl holds ↦
-          let index : i + suc k ≡ i + 1 + k = omega arith in
-          ap (term_at v) index ∙ held_before v es (i + 1) c k x (sym (new_held v i y es holds) ∙ e) (omega (arith, low)) at
-      | inr fails ↦ let here : i ≡ c = some_is i c (sym (new_here v i y es fails) ∙ e) in absurd (omega (arith, low))
-    ]
+held_before v es i c k x e low at =
+    let found = new_finds v es i c e in
+    held_as v (i + k) x (found.none k x (omega (arith, found.at, low)) at)
 
 -- where none is new, all are held
-pub held_all : (v : LogValue) (es : List Entry) (i k : ℕ) (x : Entry) → first_new v i es ≡ None → slice_get es k ≡ Some x → term_at v (i + k) ≡ Ok x.term
-held_all v [] i k x e at = cc
-held_all v (y ∷ es) i zero x e at =
-    elim (cases_Bool (is_term (term_at v i) y.term)) as (λ _. term_at v (i + zero) ≡ Ok x.term) [
-      | inl holds ↦
-          let same : y ≡ x = cc in
-          let index : i + zero ≡ i = omega arith in
-          ap (term_at v) index ∙ is_term_is (term_at v i) y.term holds ∙ ap (λ (z : Entry). Ok z.term) same
-      | inr fails ↦ let here : Some i ≡ None = sym (new_here v i y es fails) ∙ e in cc
-    ]
-held_all v (y ∷ es) i (suc k) x e at =
-    elim (cases_Bool (is_term (term_at v i) y.term)) as (λ _. term_at v (i + suc k) ≡ Ok x.term) [
-      | inl holds ↦
-          let index : i + suc k ≡ i + 1 + k = omega arith in
-          ap (term_at v) index ∙ held_all v es (i + 1) k x (sym (new_held v i y es holds) ∙ e) at
-      | inr fails ↦ let here : Some i ≡ None = sym (new_here v i y es fails) ∙ e in cc
-    ]
+held_all : (v : LogValue) (es : List Entry) (i k : ℕ) (x : Entry) → first_new v i es ≡ None → slice_get es k ≡ Some x → term_at v (i + k) ≡ Ok x.term
+held_all v es i k x e at = held_as v (i + k) x (finds_none (is_new v) es i k x (sym (first_new_is v es i) ∙ e) at)
 
 -- and the other way round
-pub none_new : (v : LogValue) (es : List Entry) (i : ℕ) → ((k : ℕ) (x : Entry) → slice_get es k ≡ Some x → term_at v (i + k) ≡ Ok x.term) → first_new v i es ≡ None
-none_new v [] i h = refl
-none_new v (y ∷ es) i h =
-    let index : i + zero ≡ i = omega arith in
-    let holds : is_term (term_at v i) y.term ≡ true = is_term_from (term_at v i) y.term (sym (ap (term_at v) index) ∙ h zero y refl) in
-    new_held v i y es holds
-    ∙ none_new v es (i + 1) (λ k x at. (let next : i + 1 + k ≡ i + suc k = omega arith in ap (term_at v) next ∙ h (suc k) x at))
+none_new : (v : LogValue) (es : List Entry) (i : ℕ) → ((k : ℕ) (x : Entry) → slice_get es k ≡ Some x → term_at v (i + k) ≡ Ok x.term) → first_new v i es ≡ None
+none_new v es i h = first_new_is v es i ∙ finds_nothing (is_new v) es i (λ k x at. ap not (is_term_from (term_at v (i + k)) x.term (h k x at)))
 
 -- up to just before it there are entries
 pub new_after_last : (v : LogValue) (es : List Entry) (i c : ℕ) → i ≤ last v + 1 → first_new v i es ≡ Some c → c ≤ last v + 1
@@ -88,8 +57,8 @@ new_after_last v (x ∷ es) i c low e =
     elim (cases_Bool (is_term (term_at v i) x.term)) as (λ _. c ≤ last v + 1) [
       | inl holds ↦
           let here : (v.base ≤ i) × (i ≤ last v) = held_in v i x.term (is_term_is (term_at v i) x.term holds) in
-          new_after_last v es (i + 1) c (omega arith) (sym (new_held v i x es holds) ∙ e)
-      | inr fails ↦ let same : i ≡ c = some_is i c (sym (new_here v i x es fails) ∙ e) in omega arith
+          new_after_last v es (i + 1) c (omega arith) (rw holds at e)
+      | inr fails ↦ let found : Some i ≡ Some c = rw fails at e in let same : i ≡ c = cc in omega arith
     ]
 
 -- ---- what is put in place
@@ -97,27 +66,19 @@ new_after_last v (x ∷ es) i c low e =
 abbrev pub put : LogValue → ℕ → List Entry → ℕ → LogValue
 put v prev es c = replaced v prev es (Some c)
 
+-- where entries are put there is what was there before, up to the first of them
+put_below : (v : LogValue) (prev c : ℕ) (es : List Entry) → c ≤ last v + 1 → IsSameUpTo v (put v prev es c) (c - 1)
+put_below v prev c es high = record {
+  base = refl;
+  base_term = refl;
+  entries = λ k low. slice_get_front v.entries (drop (c - 1 - prev) es) (c - 1 - v.base) k (omega (arith, low)) (omega arith);
+}
+
 pub put_term_below : (v : LogValue) (prev c i : ℕ) (es : List Entry) → i < c → c ≤ last v + 1 → term_at (put v prev es c) i ≡ term_at v i
-put_term_below v prev c i es low high =
-    let P : ℕ → Type 0 = λ j. j < c → term_at (put v prev es c) j ≡ term_at v j in
-    by_index v.base P
-    (λ j under at. term_below (put v prev es c) j under ∙ sym (term_below v j under))
-    (λ at. term_base (put v prev es c) ∙ sym (term_base v))
-    (λ k at. term_past (put v prev es c) k
-    ∙ ap (λ (o : Option Entry). term_of o) (slice_get_front v.entries (drop (c - 1 - prev) es) (c - 1 - v.base) k (omega (arith, at)) (omega arith))
-    ∙ sym (term_past v k))
-    i low
+put_term_below v prev c i es low high = same_term v (put v prev es c) (c - 1) i (put_below v prev c es high) (omega arith)
 
 pub put_entry_below : (v : LogValue) (prev c i : ℕ) (es : List Entry) → i < c → c ≤ last v + 1 → entry_at (put v prev es c) i ≡ entry_at v i
-put_entry_below v prev c i es low high =
-    let P : ℕ → Type 0 = λ j. j < c → entry_at (put v prev es c) j ≡ entry_at v j in
-    by_index v.base P
-    (λ j under at. entry_below (put v prev es c) j (omega (arith, under)) ∙ sym (entry_below v j (omega (arith, under))))
-    (λ at. entry_below (put v prev es c) v.base (omega arith) ∙ sym (entry_below v v.base (omega arith)))
-    (λ k at. entry_past (put v prev es c) k
-    ∙ ap (λ (o : Option Entry). found o) (slice_get_front v.entries (drop (c - 1 - prev) es) (c - 1 - v.base) k (omega (arith, at)) (omega arith))
-    ∙ sym (entry_past v k))
-    i low
+put_entry_below v prev c i es low high = same_entry v (put v prev es c) (c - 1) i (put_below v prev c es high) (omega arith)
 
 -- how many there are
 pub put_size : (v : LogValue) (prev c : ℕ) (es : List Entry) → c ≤ last v + 1 → length (put v prev es c).entries ≡ c - 1 - v.base + (length es - (c - 1 - prev))
@@ -209,7 +170,9 @@ committed-entry v prev term commit i es low =
 pub before-new : (v : LogValue) (prev term commit c i : ℕ) (es : List Entry) → first_new v (prev + 1) es ≡ Some c → i < c → entry_at (appended v prev term es commit) i ≡ entry_at v i
 before-new v prev term commit c i es new low =
     by_append v prev term commit es (λ w. entry_at w i ≡ entry_at v i) refl
-    (λ d over holds e. (let same : c ≡ d = some_is c d (sym new ∙ e) in let there = in_place v prev term d es holds e in put_entry_below v prev d i es (omega (arith, same)) there.2))
+    (λ d over holds e. (let both : Some c ≡ Some d = sym new ∙ e in
+    let same : c ≡ d = cc in
+    let there = in_place v prev term d es holds e in put_entry_below v prev d i es (omega (arith, same)) there.2))
 
 pub none-new : (v : LogValue) (prev term commit : ℕ) (es : List Entry) → first_new v (prev + 1) es ≡ None → appended v prev term es commit ≡ v
 none-new v prev term commit es none =

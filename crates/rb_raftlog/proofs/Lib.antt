@@ -5,7 +5,9 @@ pub mod ListLaws
 pub mod LogLaws
 pub mod MatchLaws
 pub mod PageLaws
+pub mod PartLaws
 pub mod PlaceLaws
+pub mod SearchLaws
 pub mod SumLaws
 pub mod TermLaws
 pub mod VoteLaws

@@ -238,33 +238,25 @@ pub cut_view : {X : Type 0} (skip n : ℕ) (l : List X) → drop skip (take (ski
 cut_view {X} skip n l = drop-take skip n l
 
 -- where n items are dropped, the pages before their end go
-front_in : {X : Type 0} (ps : Sheets X) (v : List X) (skip n : ℕ) → drop skip (joined ps) ≡ v → skip ≤ length (joined ps) → n ≤ length v → skip + n ≤ length (joined ps)
-front_in {X} ps v skip n e s h = omega (arith, ap length e, length-drop skip (joined ps))
-
 pub front_page : {X : Type 0} (ps : Sheets X) (v : List X) (skip n : ℕ) → IsPacked ps → drop skip (joined ps) ≡ v → skip ≤ length (joined ps) → n ≤ length v → (skip + n) / PAGE ≤ length ps
-front_page {X} ps v skip n packed e s h = omega (arith, front_in ps v skip n e s h, enough ps packed)
+front_page {X} ps v skip n packed e s h = omega (arith, ap length e, length-drop skip (joined ps), enough ps packed)
 
-pub front_packed : {X : Type 0} (ps qs : Sheets X) (v : List X) (skip n : ℕ) → IsPacked ps → drop skip (joined ps) ≡ v → skip ≤ length (joined ps) → n ≤ length v → qs ≡ drop ((skip + n) / PAGE) ps → IsPacked qs
-front_packed {X} ps qs v skip n packed e s h is =
-    let low : skip + n ≤ length (joined ps) = front_in ps v skip n e s h in
-    let P : Sheets X → Type 0 = λ l. IsPacked l in
-    subst P (sym is) (packed_drop ps ((skip + n) / PAGE) packed (front_page ps v skip n packed e s h) (omega arith))
-
-pub front_size : {X : Type 0} (ps qs : Sheets X) (v : List X) (skip len n : ℕ) → IsPacked ps → drop skip (joined ps) ≡ v → skip + len ≡ length (joined ps) → n ≤ length v → qs ≡ drop ((skip + n) / PAGE) ps → (skip + n) % PAGE + (len - n) ≡ length (joined qs)
-front_size {X} ps qs v skip len n packed e all h is =
-    let low : skip + n ≤ length (joined ps) = front_in ps v skip n e (omega arith) h in
+pub front_is_dropped : {X : Type 0} (ps qs : Sheets X) (v : List X) (skip len n : ℕ) → IsPacked ps → drop skip (joined ps) ≡ v → skip + len ≡ length (joined ps)
+    → n ≤ length v → qs ≡ drop ((skip + n) / PAGE) ps
+    → IsPacked qs × ((skip + n) % PAGE + (len - n) ≡ length (joined qs)) × (drop ((skip + n) % PAGE) (joined qs) ≡ drop n v)
+front_is_dropped {X} ps qs v skip len n packed e all h is =
     let at : ℕ = (skip + n) / PAGE in
+    let low : skip + n ≤ length (joined ps) = omega (arith, ap length e, length-drop skip (joined ps)) in
     let whole : length (joined ps) ≡ length (joined (take at ps)) + length (joined (drop at ps)) =
     ap length (joined_split ps at) ∙ length-append (joined (take at ps)) (joined (drop at ps)) in
     let same : length (joined qs) ≡ length (joined (drop at ps)) = ap size is in
-    omega (arith, before ps at packed (omega arith))
-
-pub front_view : {X : Type 0} (ps qs : Sheets X) (v : List X) (skip n : ℕ) → IsPacked ps → drop skip (joined ps) ≡ v → skip ≤ length (joined ps) → n ≤ length v → qs ≡ drop ((skip + n) / PAGE) ps → drop ((skip + n) % PAGE) (joined qs) ≡ drop n v
-front_view {X} ps qs v skip n packed e s h is =
-    let low : skip + n ≤ length (joined ps) = front_in ps v skip n e s h in
-    ap (λ (l : Sheets X). drop ((skip + n) % PAGE) (joined l)) is
-    ∙ sym (dropped_in ps ((skip + n) / PAGE) ((skip + n) % PAGE) packed (omega arith))
-    ∙ ap (λ (m : ℕ). drop m (joined ps)) (parts (skip + n)) ∙ sym (drop-drop n skip (joined ps)) ∙ ap (drop n) e
+    let P : Sheets X → Type 0 = λ l. IsPacked l in (
+      subst P (sym is) (packed_drop ps at packed (front_page ps v skip n packed e (omega arith) h) (omega arith)),
+      omega (arith, before ps at packed (omega arith)),
+      ap (λ (l : Sheets X). drop ((skip + n) % PAGE) (joined l)) is
+          ∙ sym (dropped_in ps at ((skip + n) % PAGE) packed (omega arith))
+          ∙ ap (λ (m : ℕ). drop m (joined ps)) (parts (skip + n)) ∙ sym (drop-drop n skip (joined ps)) ∙ ap (drop n) e,
+    )
 
 pub same_at : {X : Type 0} {xs ys : List X} (k : ℕ) (d : X) → xs ≡ ys → get_or xs k d ≡ get_or ys k d
 same_at {X} k d e = ap (λ (l : List X). get_or l k d) e

@@ -1,15 +1,15 @@
 -- Laws of the places at which entries stand, and of what is durable.
-use Rattle.std.proofs.Common.{◌≡◌, ℕ, zero, suc, ◌+◌, ◌-◌, ◌<◌, ◌≤◌, List, [], ◌∷◌, ◌++◌, length, take, drop, min, Option, Some, None, Result, Ok, Err, refl, ap, sym, ◌∙◌, arith, leb, ltb, length-append, length-drop, inl, inr}
-use Rattle.std.proofs.lemmas.Bool.{le-leb, lt-leb, lt-ltb, le-ltb, cond-true, cond-false, cases_lt}
+use Rattle.std.proofs.Common.{◌≡◌, ℕ, ◌+◌, ◌-◌, ◌<◌, ◌≤◌, List, [], ◌∷◌, length, take, drop, min, Option, Some, None, Result, Ok, refl, ap, sym, ◌∙◌, arith, length-drop}
+use Rattle.std.proofs.lemmas.Bool.Decides.{nat_tests}
 use Rattle.std.proofs.lemmas.List.{length-take}
+use Rattle.std.proofs.lemmas.Option.{slice_get_within}
 use Rattle.std.specs.List.{slice_get}
 use Rattle.rb_raftlog.specs.declared.entry.Entry.{Entry}
 use Rattle.rb_raftlog.specs.declared.raft_log.LogFault.{LogFault}
-use Rattle.rb_raftlog.specs.declared.raft_log.LogFault.TheVariants.{Compacted, Unavailable}
 use Rattle.rb_raftlog.specs.declared.snapshot.Snapshot.{Snapshot}
-use Rattle.rb_raftlog.specs.Log.{LogValue, last, term_at, term_of, entry_at, found, first_new, appended, own, compacted, restored, entries_after, entries_from, between, not_durable}
-use Rattle.rb_raftlog.proofs.TermLaws.{is_term_from, term_base, term_below, term_past, entry_below, entry_past, by_index, slice_get_back, slice_get_drop, slice_get_in}
-use Rattle.rb_raftlog.proofs.AppendLaws.{put, put_size, put_entry_below, in_place, appended_new, by_append}
+use Rattle.rb_raftlog.specs.Log.{LogValue, last, term_at, entry_at, found, first_new, appended, own, compacted, restored, entries_after, entries_from, between, not_durable}
+use Rattle.rb_raftlog.proofs.TermLaws.{is_term_from, term_base, entry_past, IsSameUpTo, same_term, same_entry, slice_get_left, slice_get_taken, slice_get_back, slice_get_drop}
+use Rattle.rb_raftlog.proofs.AppendLaws.{put_size, put_entry_below, in_place, appended_new, by_append}
 
 -- ---- an append
 
@@ -33,34 +33,20 @@ durable-entries v prev term commit i es =
 
 -- ---- an entry of one's own
 
-pub slice_get_left : {X : Type 0} → (xs ys : List X) (k : ℕ) → k < length xs → slice_get (xs ++ ys) k ≡ slice_get xs k
-slice_get_left {X} [] ys k low = absurd (omega (arith, low))
-slice_get_left {X} (x ∷ xs) ys zero low = refl
-slice_get_left {X} (x ∷ xs) ys (suc k) low = slice_get_left xs ys k (omega (arith, low))
-
 pub own-last : (v : LogValue) (e : Entry) → entry_at (own v e) (last v + 1) ≡ Ok e
 own-last v e =
     let index : last v + 1 ≡ v.base + 1 + (length v.entries + 0) = omega arith in
     ap (entry_at (own v e)) index ∙ entry_past (own v e) (length v.entries + 0)
     ∙ ap (λ (o : Option Entry). found o) (slice_get_back v.entries (e ∷ []) (length v.entries) 0 refl)
 
+own_same : (v : LogValue) (e : Entry) → IsSameUpTo v (own v e) (last v)
+own_same v e = record { base = refl; base_term = refl; entries = λ k low. slice_get_left v.entries (e ∷ []) k (omega (arith, low)) }
+
 pub own-held : (v : LogValue) (e : Entry) (i : ℕ) → i ≤ last v → entry_at (own v e) i ≡ entry_at v i
-own-held v e i low =
-    let P : ℕ → Type 0 = λ j. j ≤ last v → entry_at (own v e) j ≡ entry_at v j in
-    by_index v.base P
-    (λ j under at. entry_below (own v e) j (omega (arith, under)) ∙ sym (entry_below v j (omega (arith, under))))
-    (λ at. entry_below (own v e) v.base (omega arith) ∙ sym (entry_below v v.base (omega arith)))
-    (λ k at. entry_past (own v e) k ∙ ap (λ (o : Option Entry). found o) (slice_get_left v.entries (e ∷ []) k (omega (arith, at))) ∙ sym (entry_past v k))
-    i low
+own-held v e i low = same_entry v (own v e) (last v) i (own_same v e) low
 
 pub own-term_held : (v : LogValue) (e : Entry) (i : ℕ) → i ≤ last v → term_at (own v e) i ≡ term_at v i
-own-term_held v e i low =
-    let P : ℕ → Type 0 = λ j. j ≤ last v → term_at (own v e) j ≡ term_at v j in
-    by_index v.base P
-    (λ j under at. term_below (own v e) j under ∙ sym (term_below v j under))
-    (λ at. term_base (own v e) ∙ sym (term_base v))
-    (λ k at. term_past (own v e) k ∙ ap (λ (o : Option Entry). term_of o) (slice_get_left v.entries (e ∷ []) k (omega (arith, at))) ∙ sym (term_past v k))
-    i low
+own-term_held v e i low = same_term v (own v e) (last v) i (own_same v e) low
 
 -- ---- compacting and snapshots
 
@@ -79,21 +65,7 @@ ok_is r x y e f = cc
 
 -- what entries_from has
 from_is : (v : LogValue) (from : ℕ) (es : List Entry) → entries_from v from ≡ Ok es → (v.base < from) × (from ≤ last v + 1) × (es ≡ entries_after v (from - 1))
-from_is v from es e =
-    elim (cases_lt v.base from) as (λ _. (v.base < from) × (from ≤ last v + 1) × (es ≡ entries_after v (from - 1))) [
-      | inr low ↦ let no : Err Compacted ≡ Ok es = sym (cond-true (leb from v.base) _ _ (le-leb from v.base low)) ∙ e in cc
-      | inl above ↦
-          elim (cases_lt (last v + 1) from) as (λ _. (v.base < from) × (from ≤ last v + 1) × (es ≡ entries_after v (from - 1))) [
-            | inl past ↦
-                let no : Err Unavailable ≡ Ok es =
-                sym (cond-false (leb from v.base) _ _ (lt-leb from v.base above) ∙ cond-true (ltb (last v + 1) from) _ _ (lt-ltb (last v + 1) from past)) ∙ e in
-                cc
-            | inr within ↦
-                let is : entries_from v from ≡ Ok (entries_after v (from - 1)) =
-                cond-false (leb from v.base) _ _ (lt-leb from v.base above) ∙ cond-false (ltb (last v + 1) from) _ _ (le-ltb (last v + 1) from within) in
-                (above, within, ok_is (entries_from v from) es (entries_after v (from - 1)) e is)
-          ]
-    ]
+from_is v from es e = grind (arith, nat_tests)
 
 -- the entry at a place behind an index that is not below the base
 entry_after : (v : LogValue) (i k : ℕ) → v.base ≤ i → entry_at v (i + 1 + k) ≡ found (slice_get v.entries (i - v.base + k))
@@ -101,9 +73,9 @@ entry_after v i k above =
     let index : i + 1 + k ≡ v.base + 1 + (i - v.base + k) = omega arith in
     ap (entry_at v) index ∙ entry_past v (i - v.base + k)
 
-found_is : (o : Option Entry) (e : Entry) → found o ≡ Ok e → o ≡ Some e
+pub found_is : (o : Option Entry) (e : Entry) → found o ≡ Ok e → o ≡ Some e
 found_is None e h = cc
-found_is (Some x) e h = ap (λ (y : Entry). Some y) (ok_is (found (Some x)) x e refl h)
+found_is (Some x) e h = cc
 
 pub from-entries : (v : LogValue) (from k : ℕ) (es : List Entry) (e : Entry) → entries_from v from ≡ Ok es → slice_get es k ≡ Some e → entry_at v (from + k) ≡ Ok e
 from-entries v from k es e h at =
@@ -118,17 +90,11 @@ from-all v from es h =
     let size : length es ≡ length v.entries - (from - 1 - v.base) = ap length is.2 ∙ length-drop (from - 1 - v.base) v.entries in
     omega (arith, is.0, is.1, size)
 
-slice_get_taken : {X : Type 0} → (xs : List X) (n k : ℕ) → k < n → slice_get (take n xs) k ≡ slice_get xs k
-slice_get_taken {X} xs zero k low = absurd (omega (arith, low))
-slice_get_taken {X} [] (suc n) k low = refl
-slice_get_taken {X} (x ∷ xs) (suc n) zero low = refl
-slice_get_taken {X} (x ∷ xs) (suc n) (suc k) low = slice_get_taken xs n k (omega (arith, low))
-
 pub between-entries : (v : LogValue) (after upto k : ℕ) (e : Entry) → v.base ≤ after → slice_get (between v after upto) k ≡ Some e → (entry_at v (after + 1 + k) ≡ Ok e) × (after + 1 + k ≤ upto)
 between-entries v after upto k e above at =
     let n : ℕ = upto - v.base in
     let there : slice_get (take n v.entries) (after - v.base + k) ≡ Some e = sym (slice_get_drop (take n v.entries) (after - v.base) k) ∙ at in
-    let low : after - v.base + k < length (take n v.entries) = slice_get_in (take n v.entries) (after - v.base + k) e there in
+    let low : after - v.base + k < length (take n v.entries) = slice_get_within (take n v.entries) (after - v.base + k) e there in
     let size : length (take n v.entries) ≡ min n (length v.entries) = length-take n v.entries in
     let within : after - v.base + k < n = omega (arith, low, size) in
     (entry_after v after k above ∙ ap (λ (o : Option Entry). found o) (sym (slice_get_taken v.entries n (after - v.base + k) within) ∙ there), omega (arith, within))

@@ -1,8 +1,10 @@
 -- Laws of what is held at an index.
-use Rattle.std.proofs.Common.{◌≡◌, ℕ, zero, suc, ◌+◌, ◌-◌, ◌<◌, ◌≤◌, true, List, [], ◌∷◌, ◌++◌, length, take, drop, Some, Result, Ok, Err, refl, ap, sym, ◌∙◌, arith, eqb, ltb, leb, inl, inr}
+use Rattle.std.proofs.Common.{◌≡◌, ℕ, zero, suc, ◌+◌, ◌-◌, ◌<◌, ◌≤◌, true, List, [], ◌∷◌, ◌++◌, length, take, drop, Result, Ok, Err, refl, ap, sym, ◌∙◌, arith, eqb, ltb, leb, inl, inr}
 use Rattle.std.proofs.lemmas.Bool.{le-ltb, lt-ltb, lt-leb, le-leb, ne_eqb, eq-eqb, eqb-true, cond-true, cond-false, cases_order, false≢true}
+use Rattle.std.proofs.lemmas.Bool.Decides.{nat_tests}
+use Rattle.std.proofs.lemmas.List.{length-take-le}
+use Rattle.std.proofs.lemmas.Option.{slice_get_cases}
 use Rattle.std.specs.List.{slice_get}
-use Rattle.rb_raftlog.specs.declared.entry.Entry.{Entry}
 use Rattle.rb_raftlog.specs.declared.raft_log.LogFault.{LogFault}
 use Rattle.rb_raftlog.specs.declared.raft_log.LogFault.TheVariants.{Compacted}
 use Rattle.rb_raftlog.specs.Log.{LogValue, last, term_at, term_of, entry_at, found, is_term}
@@ -43,11 +45,19 @@ by_index base P below at past i =
 
 -- ---- places of lists
 
+pub slice_get_left : {X : Type 0} → (xs ys : List X) (k : ℕ) → k < length xs → slice_get (xs ++ ys) k ≡ slice_get xs k
+slice_get_left {X} [] ys k low = absurd (omega (arith, low))
+slice_get_left {X} (x ∷ xs) ys zero low = refl
+slice_get_left {X} (x ∷ xs) ys (suc k) low = slice_get_left xs ys k (omega (arith, low))
+
+pub slice_get_taken : {X : Type 0} → (xs : List X) (n k : ℕ) → k < n → slice_get (take n xs) k ≡ slice_get xs k
+slice_get_taken {X} xs zero k low = absurd (omega (arith, low))
+slice_get_taken {X} [] (suc n) k low = refl
+slice_get_taken {X} (x ∷ xs) (suc n) zero low = refl
+slice_get_taken {X} (x ∷ xs) (suc n) (suc k) low = slice_get_taken xs n k (omega (arith, low))
+
 pub slice_get_front : {X : Type 0} → (xs ys : List X) (n k : ℕ) → k < n → n ≤ length xs → slice_get (take n xs ++ ys) k ≡ slice_get xs k
-slice_get_front {X} [] ys n k low high = absurd (omega (arith, low, high))
-slice_get_front {X} (x ∷ xs) ys zero k low high = absurd (omega (arith, low))
-slice_get_front {X} (x ∷ xs) ys (suc n) zero low high = refl
-slice_get_front {X} (x ∷ xs) ys (suc n) (suc k) low high = slice_get_front xs ys n k (omega (arith, low)) (omega (arith, high))
+slice_get_front {X} xs ys n k low high = slice_get_left (take n xs) ys k (omega (arith, low, length-take-le n xs high)) ∙ slice_get_taken xs n k low
 
 pub slice_get_back : {X : Type 0} → (xs ys : List X) (n k : ℕ) → length xs ≡ n → slice_get (xs ++ ys) (n + k) ≡ slice_get ys k
 slice_get_back {X} [] ys n k e = ap (λ (m : ℕ). slice_get ys m) (omega (arith, e))
@@ -63,10 +73,18 @@ slice_get_drop {X} (x ∷ xs) (suc n) k =
     let next : suc n + k ≡ suc (n + k) = omega arith in
     slice_get_drop xs n k ∙ sym (ap (λ (m : ℕ). slice_get (x ∷ xs) m) next)
 
-pub slice_get_in : {X : Type 0} → (xs : List X) (k : ℕ) (x : X) → slice_get xs k ≡ Some x → k < length xs
-slice_get_in {X} [] k x e = cc
-slice_get_in {X} (y ∷ xs) zero x e = omega arith
-slice_get_in {X} (y ∷ xs) (suc k) x e = omega (arith, slice_get_in xs k x e)
+-- ---- logs that have the same, up to an index
+
+pub record IsSameUpTo (v w : LogValue) (n : ℕ) : Type 0 where
+  pub base : w.base ≡ v.base
+  pub base_term : w.base_term ≡ v.base_term
+  pub entries : (k : ℕ) → v.base + 1 + k ≤ n → slice_get w.entries k ≡ slice_get v.entries k
+
+pub same_term : (v w : LogValue) (n i : ℕ) → IsSameUpTo v w n → i ≤ n → term_at w i ≡ term_at v i
+same_term v w n i same low = grind (arith, nat_tests, same.entries (i - v.base - 1))
+
+pub same_entry : (v w : LogValue) (n i : ℕ) → IsSameUpTo v w n → i ≤ n → entry_at w i ≡ entry_at v i
+same_entry v w n i same low = grind (arith, nat_tests, same.entries (i - v.base - 1))
 
 -- ---- terms
 
@@ -77,22 +95,6 @@ is_term_is (Err f) t h = absurd (false≢true h)
 pub is_term_from : (r : Result ℕ LogFault) (t : ℕ) → r ≡ Ok t → is_term r t ≡ true
 is_term_from r t e = ap (λ (x : Result ℕ LogFault). is_term x t) e ∙ eq-eqb t t refl
 
-term_of_in : (es : List Entry) (k t : ℕ) → term_of (slice_get es k) ≡ Ok t → k < length es
-term_of_in [] k t e = cc
-term_of_in (x ∷ es) zero t e = omega arith
-term_of_in (x ∷ es) (suc k) t e = omega (arith, term_of_in es k t e)
-
 -- where there is a term, the index is from the base to the last
 pub held_in : (v : LogValue) (i t : ℕ) → term_at v i ≡ Ok t → (v.base ≤ i) × (i ≤ last v)
-held_in v i t e =
-    elim (cases_order i v.base) as (λ _. (v.base ≤ i) × (i ≤ last v)) [
-      | inl same ↦ (omega arith, omega arith)
-      | inr apart ↦
-          elim apart as (λ _. (v.base ≤ i) × (i ≤ last v)) [
-            | inl low ↦ let no : Err Compacted ≡ Ok t = sym (term_below v i low) ∙ e in cc
-            | inr high ↦
-                let at : v.base + 1 + (i - v.base - 1) ≡ i = omega arith in
-                let there : term_of (slice_get v.entries (i - v.base - 1)) ≡ Ok t = sym (term_past v (i - v.base - 1)) ∙ ap (term_at v) at ∙ e in
-                (omega arith, omega (arith, term_of_in v.entries (i - v.base - 1) t there))
-          ]
-    ]
+held_in v i t e = grind (arith, nat_tests, slice_get_cases v.entries (i - v.base - 1))

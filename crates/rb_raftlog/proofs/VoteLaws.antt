@@ -1,6 +1,7 @@
 -- Laws of hints, votes, compacting and what stays durable.
 use Rattle.std.proofs.Common.{◌≡◌, ℕ, zero, suc, ◌+◌, ◌-◌, ◌<◌, ◌≤◌, Bool, true, false, ◌||◌, ◌&&◌, [], ◌∷◌, ◌++◌, length, drop, min, Option, Result, Ok, Err, refl, ap, sym, ◌∙◌, arith, ltb, leb, eqb, ◌⊎◌, inl, inr, length-append, length-drop}
-use Rattle.std.proofs.lemmas.Bool.{lt-ltb, le-ltb, le-leb, leb-true, ltb-true, eqb-true, eq-eqb, cond-true, cond-false, cases_Bool, cases_lt, cases_order, or_cases, or_left, or_right, and_parts, and_from, false≢true}
+use Rattle.std.proofs.lemmas.Bool.{le-ltb, cond-true, cond-false, cases_Bool, cases_lt, false≢true}
+use Rattle.std.proofs.lemmas.Bool.Decides.{nat_tests}
 use Rattle.rb_raftlog.specs.declared.entry.Entry.{Entry}
 use Rattle.rb_raftlog.specs.declared.limits.TheConstants.{MAX_INDEX}
 use Rattle.rb_raftlog.specs.declared.raft_log.LogFault.{LogFault}
@@ -14,48 +15,16 @@ abbrev pub newer : ℕ → ℕ → ℕ → ℕ → Bool
 newer t i u j = ltb t u || (eqb u t && leb i j)
 
 pub newer_is : (t i u j : ℕ) → newer t i u j ≡ true → (t < u) ⊎ ((u ≡ t) × (i ≤ j))
-newer_is t i u j h =
-    elim (or_cases (ltb t u) (eqb u t && leb i j) h) as (λ _. (t < u) ⊎ ((u ≡ t) × (i ≤ j))) [
-      | inl above ↦ inl (ltb-true t u above)
-      | inr level ↦ let both = and_parts (eqb u t) (leb i j) level in inr (eqb-true u t both.0, leb-true i j both.1)
-    ]
+newer_is t i u j h = grind (arith, nat_tests)
 
 pub newer_from : (t i u j : ℕ) → (t < u) ⊎ ((u ≡ t) × (i ≤ j)) → newer t i u j ≡ true
-newer_from t i u j h =
-    elim h as (λ _. newer t i u j ≡ true) [
-      | inl above ↦ or_left (ltb t u) (eqb u t && leb i j) (lt-ltb t u above)
-      | inr level ↦ or_right (ltb t u) (eqb u t && leb i j) (and_from (eqb u t) (leb i j) (eq-eqb u t level.0) (le-leb i j level.1))
-    ]
+newer_from t i u j h = grind (arith, nat_tests)
 
 newer_total : (t i u j : ℕ) → (newer t i u j ≡ true) ⊎ (newer u j t i ≡ true)
-newer_total t i u j =
-    elim (cases_order t u) as (λ _. (newer t i u j ≡ true) ⊎ (newer u j t i ≡ true)) [
-      | inl level ↦
-          elim (cases_lt i j) as (λ _. (newer t i u j ≡ true) ⊎ (newer u j t i ≡ true)) [
-            | inl before ↦ inl (newer_from t i u j (inr (sym level, omega arith)))
-            | inr after ↦ inr (newer_from u j t i (inr (level, after)))
-          ]
-      | inr apart ↦
-          elim apart as (λ _. (newer t i u j ≡ true) ⊎ (newer u j t i ≡ true)) [
-            | inl above ↦ inl (newer_from t i u j (inl above))
-            | inr below ↦ inr (newer_from u j t i (inl below))
-          ]
-    ]
+newer_total t i u j = grind (arith, nat_tests)
 
 newer_on : (t i u j w k : ℕ) → newer t i u j ≡ true → newer u j w k ≡ true → newer t i w k ≡ true
-newer_on t i u j w k g h =
-    elim (newer_is t i u j g) as (λ _. newer t i w k ≡ true) [
-      | inl above ↦
-          elim (newer_is u j w k h) as (λ _. newer t i w k ≡ true) [
-            | inl more ↦ newer_from t i w k (inl (omega arith))
-            | inr level ↦ newer_from t i w k (inl (omega (arith, level.0)))
-          ]
-      | inr same ↦
-          elim (newer_is u j w k h) as (λ _. newer t i w k ≡ true) [
-            | inl more ↦ newer_from t i w k (inl (omega (arith, same.0)))
-            | inr level ↦ newer_from t i w k (inr (level.0 ∙ same.0, omega (arith, same.1, level.1)))
-          ]
-    ]
+newer_on t i u j w k g h = grind (arith, nat_tests)
 
 pub up_to_date-total : (v w : LogValue) → (log_is_up_to_date v w ≡ true) ⊎ (log_is_up_to_date w v ≡ true)
 up_to_date-total v w = newer_total (last_term v) (last v) (last_term w) (last w)
@@ -67,11 +36,7 @@ up_to_date-on u v w g h = newer_on (last_term u) (last u) (last_term v) (last v)
 
 -- one index more
 held_up : (v : LogValue) (i j t h : ℕ) → i ≤ j → (h ≡ 0) ⊎ ((v.base ≤ h) × (h ≤ i) × (is_term_up_to (term_at v h) t ≡ true)) → (h ≡ 0) ⊎ ((v.base ≤ h) × (h ≤ j) × (is_term_up_to (term_at v h) t ≡ true))
-held_up v i j t h low held =
-    elim held as (λ _. (h ≡ 0) ⊎ ((v.base ≤ h) × (h ≤ j) × (is_term_up_to (term_at v h) t ≡ true))) [
-      | inl none ↦ inl none
-      | inr there ↦ inr (there.0, omega (arith, there.1), there.2)
-    ]
+held_up v i j t h low held = grind arith
 
 up_to_in : (v : LogValue) (r : Result ℕ LogFault) (j t : ℕ) → term_at v j ≡ r → is_term_up_to r t ≡ true → j ≤ last v
 up_to_in v (Ok held) j t e h = (held_in v j held e).1

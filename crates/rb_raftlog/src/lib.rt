@@ -43,7 +43,7 @@ pub use raft_log::{Appended, CompactFault, LogFault, RaftLog};
 pub use snapshot::Snapshot;
 pub use split_store::SplitStore;
 pub use store::Store;
-pub use try_copy::TryCopy;
+pub use try_copy::{TryCopy, copies_of, push_copies};
 
 /// A log whose entries are one list.
 pub type PlainLog = Log<PlainStore>;

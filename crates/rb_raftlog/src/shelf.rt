@@ -6,7 +6,7 @@
 
 ghost use Rattle.std.specs.Prelude.{◌≡◌, ◌≤◌, ◌++◌, ◌∷◌, [], length, take, drop, IfOk, OnOk, OnErr};
 
-use crate::try_copy::{TryCopy, push_copies};
+use crate::try_copy::{TryCopy, copies_of};
 use std::alloc::{AllocError, Global};
 use std::marker::Model;
 use std::rc::Rc;
@@ -27,15 +27,6 @@ impl<T> Model for Shelf<T> {
     ghost view = { λ s. drop s.skip s.items.value.items };
 
     ghost invariant = { λ s. s.skip ≤ length s.items.value.items };
-}
-
-/// Copies of the items, with room for one more.
-fn copies_of<T: TryCopy>(alloc: Global, items: &[T]) -> Result<Vec<T>, AllocError>
-    ensures { IfOk result (λ copies. copies.items ≡ items.now) }
-{
-    let mut copies = Vec::with_capacity(alloc, items.len().saturating_add(1))?;
-    push_copies(&mut copies, items)?;
-    Ok(copies)
 }
 
 /// Drops the first k items.

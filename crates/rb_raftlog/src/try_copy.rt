@@ -7,7 +7,7 @@ ghost use Rattle.std.specs.Prelude.{◌≡◌, ◌++◌, ◌+◌, ◌≤◌, len
 
 use crate::entry::Entry;
 use rb_change::Shared;
-use std::alloc::AllocError;
+use std::alloc::{AllocError, Global};
 
 /// What can be copied.
 pub trait TryCopy: Drop {
@@ -29,7 +29,7 @@ impl<T: Drop> TryCopy for Shared<T> {
 }
 
 /// Appends a copy of each item.
-pub(crate) fn push_copies<T: TryCopy>(copies: &mut Vec<T>, items: &[T]) -> Result<(), AllocError>
+pub fn push_copies<T: TryCopy>(copies: &mut Vec<T>, items: &[T]) -> Result<(), AllocError>
     ensures ok { OnOk result (copies.new.items ≡ copies.old.items ++ items.now) }
     ensures kept { length copies.old.items ≤ length copies.new.items }
     ensures within { length copies.new.items ≤ length copies.old.items + length items.now }
@@ -38,4 +38,17 @@ pub(crate) fn push_copies<T: TryCopy>(copies: &mut Vec<T>, items: &[T]) -> Resul
         copies.push(item.try_copy()?)?;
     }
     Ok(())
+}
+
+/// Copies of the items. Where there are some there is room for one more: who takes copies often puts an item behind them, and the room
+/// would double then.
+pub fn copies_of<T: TryCopy>(alloc: Global, items: &[T]) -> Result<Vec<T>, AllocError>
+    ensures { IfOk result (λ copies. copies.items ≡ items.now) }
+{
+    if items.is_empty() {
+        return Ok(Vec::new(alloc));
+    }
+    let mut copies = Vec::with_capacity(alloc, items.len().saturating_add(1))?;
+    push_copies(&mut copies, items)?;
+    Ok(copies)
 }
