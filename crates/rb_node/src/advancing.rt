@@ -24,7 +24,7 @@ struct Outgoing {
 }
 
 // Copies of the committed entries that aren't applied: a pointer each.
-#[tactic(auto, using(crate::proofs::Between::between_sizes, crate::proofs::Between::take_more_some))]
+#[tactic(auto, using(crate::proofs::Between::between_sizes, rb_tracker::proofs::WindowLaws::take_more_some))]
 fn applying_copies<L: RaftLog>(state: &State<L>) -> Result<Vec<Entry>, AllocError>
     ensures entries { IfOk result (λ copies. copies.items ≡ applying state.now) }
     ensures within { IfOk result (λ copies. state.now.applied + length copies.items ≤ MAX_INDEX) }

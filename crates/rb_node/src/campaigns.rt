@@ -7,7 +7,7 @@ ghost use Rattle.std.specs.Prelude.{◌≡◌, ◌<◌, OnOk, true};
 ghost use Rattle.rb_message.specs.declared.kind.MessageKind.TheVariants.{Vote, PreVote, VoteResponse, PreVoteResponse};
 ghost use Rattle.rb_raftlog.specs.declared.limits.TheConstants.{MAX_TERM};
 ghost use Rattle.rb_node.specs.Node.{turn};
-ghost use Rattle.rb_node.specs.Campaigns.{why_no_campaign, asked_one, asked_for_votes, asked_for_pre_votes, stood, pre_vote_started, campaigned, campaigned_after_pre_vote};
+ghost use Rattle.rb_node.specs.Campaigns.{why_no_campaign, asked_one, asked, asked_for_votes, asked_for_pre_votes, stood, pre_vote_started, campaigned, campaigned_after_pre_vote};
 
 use crate::limits::ELECTION_TICKS;
 use crate::state::State;
@@ -55,27 +55,33 @@ impl<L: RaftLog> State<L> {
         }
     }
 
+    // Asks each of these voters the same.
+    fn ask(
+        &mut self,
+        ids: &[u64],
+        term: u64,
+        question: &MessageKind,
+        answer: &MessageKind,
+    ) -> Result<(), AllocError>
+        ensures { OnOk result (self.new ≡ asked self.old ids.now term question.now answer.now) }
+    {
+        for id in ids {
+            self.ask_one(*id, term, question.clone()?, answer.clone()?)?;
+        }
+        Ok(())
+    }
+
     fn ask_for_votes(&mut self, transfer: bool) -> Result<(), AllocError>
         ensures { OnOk result (self.new ≡ asked_for_votes self.old transfer) }
     {
         let voters = self.tracker.config().voters()?;
-        let term = self.term;
-        let last_index = self.log.last_index();
-        let last_term = self.log.last_term();
-        for id in voters.as_slice() {
-            let question = MessageKind::Vote {
-                last_term,
-                last_index,
-                transfer,
-            };
-            self.ask_one(
-                *id,
-                term,
-                question,
-                MessageKind::VoteResponse { granted: true },
-            )?;
-        }
-        Ok(())
+        let question = MessageKind::Vote {
+            last_term: self.log.last_term(),
+            last_index: self.log.last_index(),
+            transfer,
+        };
+        let answer = MessageKind::VoteResponse { granted: true };
+        self.ask(voters.as_slice(), self.term, &question, &answer)
     }
 
     fn ask_for_pre_votes(&mut self) -> Result<(), AllocError>
@@ -83,22 +89,12 @@ impl<L: RaftLog> State<L> {
         ensures { OnOk result (self.new ≡ asked_for_pre_votes self.old) }
     {
         let voters = self.tracker.config().voters()?;
-        let term = self.term + 1;
-        let last_index = self.log.last_index();
-        let last_term = self.log.last_term();
-        for id in voters.as_slice() {
-            let question = MessageKind::PreVote {
-                last_term,
-                last_index,
-            };
-            self.ask_one(
-                *id,
-                term,
-                question,
-                MessageKind::PreVoteResponse { granted: true },
-            )?;
-        }
-        Ok(())
+        let question = MessageKind::PreVote {
+            last_term: self.log.last_term(),
+            last_index: self.log.last_index(),
+        };
+        let answer = MessageKind::PreVoteResponse { granted: true };
+        self.ask(voters.as_slice(), self.term + 1, &question, &answer)
     }
 
     // Stands for the next term.

@@ -4,87 +4,33 @@ ghost use Rattle.std.specs.Prelude.{◌≡◌, ◌↔◌, IsTrue, IfOk};
 ghost use Rattle.rb_node.specs.Comparing.{HaveSameRole, HaveSameIndexes, HaveSameCounters, HaveSameLengths, HaveSameNumbers, HaveSameLists};
 
 use super::State;
-use rb_message::Outbox;
-use rb_raftlog::{Content, RaftLog};
-use rb_tracker::{Tracker, Votes};
+use rb_raftlog::RaftLog;
 use std::alloc::AllocError;
 
-// What is sent, and what waits.
-#[derive(Drop)]
-struct Outgoing {
-    sent: Outbox,
-    waiting: Outbox,
-}
-
-// What it holds.
-#[derive(Drop)]
-struct Held<L: RaftLog> {
-    log: L,
-    content: Content,
-}
-
-// Who decides with it, and how.
-#[derive(Drop)]
-struct Ballots {
-    votes: Votes,
-    tracker: Tracker,
-}
-
 impl<L: RaftLog> State<L> {
-    fn copy_outgoing(&self) -> Result<Outgoing, AllocError>
-        ensures { IfOk result (λ outgoing. outgoing ≡ record { sent = self.now.sent; waiting = self.now.waiting }) }
-    {
-        Ok(Outgoing {
-            sent: self.sent.try_copy()?,
-            waiting: self.waiting.try_copy()?,
-        })
-    }
-
-    fn copy_held(&self) -> Result<Held<L>, AllocError>
-        ensures log { IfOk result (λ held. L.plain held.log ≡ self.now.log) }
-        ensures content { IfOk result (λ held. held.content ≡ self.now.content) }
-    {
-        Ok(Held {
-            log: self.log.try_copy()?,
-            content: self.content.try_copy()?,
-        })
-    }
-
-    fn copy_ballots(&self) -> Result<Ballots, AllocError>
-        ensures { IfOk result (λ ballots. ballots ≡ record { tracker = self.now.tracker; votes = self.now.votes }) }
-    {
-        Ok(Ballots {
-            votes: self.votes.try_copy()?,
-            tracker: self.tracker.try_copy()?,
-        })
-    }
-
     /// The same state once more. It costs pointers, and a view of each member where it leads.
     pub(crate) fn try_copy(&self) -> Result<State<L>, AllocError>
         ensures { IfOk result (λ copy. copy ≡ self.now) }
     {
-        let outgoing = self.copy_outgoing()?;
-        let held = self.copy_held()?;
-        let ballots = self.copy_ballots()?;
         Ok(State {
             id: self.id,
             term: self.term,
             vote: self.vote,
             lead: self.lead,
             role: self.role,
-            log: held.log,
+            log: self.log.try_copy()?,
             commit: self.commit,
             applied: self.applied,
-            content: held.content,
-            tracker: ballots.tracker,
-            votes: ballots.votes,
+            content: self.content.try_copy()?,
+            tracker: self.tracker.try_copy()?,
+            votes: self.votes.try_copy()?,
             clock: self.clock,
             transferee: self.transferee,
             pending_change: self.pending_change,
             saved: self.saved,
             restored: self.restored,
-            sent: outgoing.sent,
-            waiting: outgoing.waiting,
+            sent: self.sent.try_copy()?,
+            waiting: self.waiting.try_copy()?,
             options: self.options,
             alloc: self.alloc,
         })

@@ -1,7 +1,0 @@
-use Rattle.std.proofs.Common.{◌≡◌, drop, true}
-use Rattle.rb_node.specs.Campaigns.{asked, asked_for_votes}
-use Rattle.rb_message.specs.declared.kind.MessageKind.TheVariants.{Vote, VoteResponse}
-use Rattle.rb_node.proofs.state.State.ask_for_votes.Given as goal
-
-abbrev pub invariant-loop-id : goal.invariant-loop-id
-invariant-loop-id g l = asked_for_votes l.initial.self l.transfer ≡ asked l.self (drop l.id-index l.id-items) l.term (Vote l.last_term l.last_index l.transfer) (VoteResponse true)
