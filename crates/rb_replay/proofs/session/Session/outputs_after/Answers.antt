@@ -32,11 +32,9 @@ with_part-requires g c =
     let ch = change_by c.args.self.now c.args.new.now c.args.splice in
     let fresh : IsFresh c.args.self.now = subst IsFresh c.self.view_is c.self.invariant in
     let held : c.self.inside.outputs ≡ outputs c.args.self.now.script = ap (λ (h : Holding). h.outputs) c.self.view_is ∙ fresh.answered in
-    let at = (goal.at.with_part-requires g c).After-deref in
     record {
       from = let le = start-le ch in omega (arith, le, run.from_is, c.requires.change.old_from, c.requires.change.old_within, ap length held, length-outputs c.args.self.now.script);
       to = let le = old_stop-within ch c.args.run.now.met c.requires.change run.is_first in omega (arith, le, c.requires.old_stop, ap length held, length-outputs c.args.self.now.script);
-      few = omega (arith, ap length (together g at), length-outputs c.args.new.now, c.requires.few);
     }
 
 pub returns : goal.returns
