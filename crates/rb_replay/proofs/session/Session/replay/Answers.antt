@@ -1,10 +1,11 @@
-use Rattle.std.proofs.Common.{◌≡◌, ap, sym, ◌∙◌, take, drop, ◌++◌, List, map, refl}
+use Rattle.std.proofs.Common.{◌≡◌, ◌-◌, ap, sym, ◌∙◌, take, drop, ◌++◌, List, map, refl, arith}
 use Rattle.rb_machine.specs.Cluster.{Cluster}
 use Rattle.rb_replay.specs.Run.{state}
 use Rattle.rb_replay.specs.Holding.{Holding, IsFresh}
-use Rattle.rb_replay.specs.Reuse.{change_by}
+use Rattle.rb_replay.specs.Reuse.{change_by, start, stop, IsCost}
 use Rattle.rb_replay.specs.Splices.{IsReady}
-use Rattle.rb_replay.proofs.ReadyLaws.{start-first}
+use Rattle.rb_replay.proofs.ReadyLaws.{start-first, on_err_always}
+use Rattle.rb_replay.proofs.ReuseLaws.{cost-one}
 use Rattle.rb_replay.proofs.NearLaws.{points-kept}
 use Rattle.rb_replay.proofs.RunningLaws.{same-length}
 use Rattle.rb_replay.proofs.FreshLaws.{joined-map}
@@ -56,3 +57,12 @@ returns-clause-reuse g c =
       cost = record { meeting = ready.meeting; is_first = ready.is_first; is_cost = rw (ready.at_is, ready.from_is) refl };
       are_points = rw (c.take_over.ensures.points, ready.spacing_is, ready.points_are) refl;
     }
+
+pub returns-in_err-make_room-clause-refused : goal.returns-in_err-make_room-clause-refused
+returns-in_err-make_room-clause-refused g c =
+    let change = change_by c.args.self.now c.args.new c.args.splice in
+    let ready : IsReady g.M.Machine.meaning (change_by c.args.self.now c.args.new c.args.splice) c.args.self.now.kept c.in_ok-ready.ready = c.in_ok-ready.ensures.ready in
+    let own : IsCost change (stop change ready.meeting - start change) = record { meeting = ready.meeting; is_first = ready.is_first; is_cost = refl } in
+    on_err_always c.from_residual-in_err-make_room.result (λ n cost.
+    let same = cost-one change (stop change ready.meeting - start change) n own cost in
+    omega (arith, same, c.in_ok-ready.ensures.counted, ready.from_is, ready.at_is))
