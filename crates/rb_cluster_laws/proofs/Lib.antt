@@ -4,8 +4,7 @@ pub mod LinkedLogs
 pub mod Holding
 pub mod Electing
 pub mod Making
-pub mod LeaderHolds
-pub mod StepHolds
+pub mod MoveHolds
 pub mod CallHolds
 pub mod NetworkLaws
 pub mod SafetyLaws

@@ -1,19 +1,21 @@
 -- A log that is linked stays so, whatever is done to it
-use Rattle.std.proofs.Common.{◌≡◌, ℕ, ◌+◌, ◌-◌, ◌<◌, ◌≤◌, List, [], length, Option, Some, Result, Ok, Err, sym, ap, subst, ◌∙◌, arith, inl, inr}
+use Rattle.std.proofs.Common.{◌≡◌, ℕ, ◌+◌, ◌-◌, ◌<◌, ◌≤◌, List, [], length, get_or, Option, Some, Result, Ok, Err, sym, ap, subst, ◌∙◌, arith, inl, inr}
+use Rattle.std.specs.Prelude.{All}
 use Rattle.std.specs.List.{slice_get}
-use Rattle.std.specs.Result.{result_unwrap_or}
 use Rattle.std.proofs.lemmas.Bool.{cases_lt}
-use Rattle.std.proofs.lemmas.Option.{slice_get_within}
+use Rattle.std.proofs.lemmas.List.Elements.{All-contains}
+use Rattle.std.proofs.lemmas.Option.{slice_get_within, slice_get-get_or, get_or_from_slice_get}
 use Rattle.rb_raftlog.specs.declared.entry.Entry.{Entry}
 use Rattle.rb_raftlog.specs.declared.raft_log.LogFault.{LogFault}
-use Rattle.rb_raftlog.specs.Log.{LogValue, last, term_at, term_of, entry_at, found, first_new, entries_after, appended, own, compacted}
-use Rattle.rb_raftlog.proofs.TermLaws.{term_base, term_past, entry_past, slice_get_drop, is_term_is, held_in}
+use Rattle.rb_raftlog.specs.Laws.{AreOfLog}
+use Rattle.rb_raftlog.specs.Log.{LogValue, last, term_at, term_of, entry_at, found, first_new, appended, own, compacted}
+use Rattle.rb_raftlog.proofs.TermLaws.{term_base, term_past, entry_past, is_term_is, held_in}
 use Rattle.rb_raftlog.proofs.AppendLaws.{put, put_size, put_term_below, put_entry_below, put_term, put_entry, held_before, in_place, by_append}
 use Rattle.rb_raftlog.proofs.PlaceLaws.{ok_is, own-last, own-held, own-term_held}
 use Rattle.rb_raftlog.proofs.VoteLaws.{compacted-term, compacted-entry}
-use Rattle.rb_node.specs.Sends.{term_or_0}
 use Rattle.rb_node_laws.proofs.Turns.{own_size}
-use Rattle.rb_cluster_laws.proofs.Links.{Link, HasLink, IsLinked, entry_there, held_term, past_base}
+use Rattle.rb_cluster_laws.specs.Honesty.{IsPlain}
+use Rattle.rb_cluster_laws.proofs.Links.{Link, HasLink, IsLinked, entry_there, held_term, held_entry, past_base}
 use Rattle.rb_cluster_laws.proofs.ListLaws.{some_at}
 
 -- the entries of an append, as a log that begins at the entry before them
@@ -33,40 +35,43 @@ entry_term v i e at = let x = entry_there v i e at in ap (term_at v) x.1 ∙ ter
 pub entry_within : (v : LogValue) (i : ℕ) (e : Entry) → entry_at v i ≡ Ok e → i ≤ last v
 entry_within v i e at = (held_in v i e.term (entry_term v i e at)).1
 
--- ---- the rest of a log, as an append has it
+-- ---- a part of a log, as an append has it
 
-rest_entry : (v : LogValue) (p i : ℕ) (e : Entry) → v.base ≤ p → entry_at (log_from p (term_or_0 v p) (entries_after v p)) i ≡ Ok e → entry_at v i ≡ Ok e
-rest_entry v p i e above at =
-    let x = entry_there (log_from p (term_or_0 v p) (entries_after v p)) i e at in
-    let there : i ≡ v.base + 1 + (p - v.base + x.0) = omega (arith, x.1, above) in
-    ap (entry_at v) there ∙ entry_past v (p - v.base + x.0) ∙ ap (λ (o : Option Entry). found o) (sym (slice_get_drop v.entries (p - v.base) x.0) ∙ x.2)
+pub part_plain : (v : LogValue) (prev : ℕ) (es : List Entry) → AreOfLog v prev es → All IsPlain v.entries → All IsPlain es
+part_plain v prev es among plain k d low =
+    let e = get_or es k d in
+    let x = entry_there v (prev + 1 + k) e (among k e (slice_get-get_or es k d low)) in
+    All-contains IsPlain v.entries e plain (x.0, slice_get_within v.entries x.0 e x.2, get_or_from_slice_get v.entries x.0 e e x.2)
 
-named_term : (v : LogValue) (p term : ℕ) → term_at v p ≡ Ok term → term_or_0 v p ≡ term
-named_term v p term e = ap (λ (r : Result ℕ LogFault). result_unwrap_or r 0) e
+part_entry : (v : LogValue) (p term i : ℕ) (es : List Entry) (e : Entry) → AreOfLog v p es → entry_at (log_from p term es) i ≡ Ok e → entry_at v i ≡ Ok e
+part_entry v p term i es e among at =
+    let x = entry_there (log_from p term es) i e at in
+    ap (entry_at v) x.1 ∙ among x.0 e x.2
 
-rest_term : (v : LogValue) (p i t : ℕ) → v.base ≤ p → p ≤ i → p ≤ last v → term_at (log_from p (term_or_0 v p) (entries_after v p)) i ≡ Ok t → term_at v i ≡ Ok t
-rest_term v p i t above over within is =
-    let w = log_from p (term_or_0 v p) (entries_after v p) in
+part_term : (v : LogValue) (p term i t : ℕ) (es : List Entry) → v.base ≤ p → p ≤ last v → ((x : ℕ) → term_at v p ≡ Ok x → term ≡ x) → AreOfLog v p es → p ≤ i
+    → term_at (log_from p term es) i ≡ Ok t → term_at v i ≡ Ok t
+part_term v p term i t es above within first among over is =
+    let w = log_from p term es in
     elim (cases_lt p i) as (λ _. term_at v i ≡ Ok t) [
       | inr low ↦
           let same : i ≡ p = omega (arith, low, over) in
           let b = held_term v p above within in
-          let first : term_or_0 v p ≡ t = ok_is (term_at w p) (term_or_0 v p) t (term_base w) (sym (ap (term_at w) same) ∙ is) in
-          ap (term_at v) same ∙ b.1 ∙ ap (λ (n : ℕ). Ok n) (sym (named_term v p b.0 b.1) ∙ first)
+          let here : term ≡ t = ok_is (term_at w p) term t (term_base w) (sym (ap (term_at w) same) ∙ is) in
+          ap (term_at v) same ∙ b.1 ∙ ap (λ (n : ℕ). Ok n) (sym (first b.0 b.1) ∙ here)
       | inl past ↦
-          let m : ℕ = i - p - 1 in
-          let index : i ≡ p + 1 + m = omega (arith, past) in
-          let there : i ≡ v.base + 1 + (p - v.base + m) = omega (arith, past, above) in
-          ap (term_at v) there ∙ term_past v (p - v.base + m) ∙ ap (λ (o : Option Entry). term_of o) (sym (slice_get_drop v.entries (p - v.base) m))
-          ∙ sym (term_past w m) ∙ sym (ap (term_at w) index) ∙ is
+          let j : ℕ = i - 1 in
+          let index : i ≡ j + 1 = omega (arith, past) in
+          let x = held_entry w j t (omega (arith, past)) (sym (ap (term_at w) index) ∙ is) in
+          ap (term_at v) index ∙ entry_term v (j + 1) x.0 (part_entry v p term (j + 1) es x.0 among x.1) ∙ ap (λ (n : ℕ). Ok n) x.2
     ]
 
-pub rest_linked : (ls : List Link) (v : LogValue) (p : ℕ) → v.base ≤ p → IsLinked ls v → IsLinked ls (log_from p (term_or_0 v p) (entries_after v p))
-rest_linked ls v p above linked = λ i e t at is.
-    (let past = past_base (log_from p (term_or_0 v p) (entries_after v p)) (i + 1) e at in
-    let there = rest_entry v p (i + 1) e above at in
+pub part_linked : (ls : List Link) (v : LogValue) (p term : ℕ) (es : List Entry) → v.base ≤ p → ((x : ℕ) → term_at v p ≡ Ok x → term ≡ x) → AreOfLog v p es
+    → IsLinked ls v → IsLinked ls (log_from p term es)
+part_linked ls v p term es above first among linked = λ i e t at is.
+    (let past = past_base (log_from p term es) (i + 1) e at in
+    let there = part_entry v p term (i + 1) es e among at in
     let within = entry_within v (i + 1) e there in
-    linked i e t there (rest_term v p i t above (omega (arith, past)) (omega (arith, past, within)) is))
+    linked i e t there (part_term v p term i t es above (omega (arith, past, within)) first among (omega (arith, past)) is))
 
 -- ---- an append
 

@@ -23,7 +23,7 @@ use Rattle.rb_cluster_laws.proofs.ListLaws.{set_here, set_elsewhere, each_set}
 use Rattle.rb_cluster_laws.proofs.Holding.{Setting, World, IsElected, AreOnce, IsOwn, IsChainBy, IsChain, IsIn, Holds, essence, world_of, IsSaid, still_elected, still_holds, still_in}
 use Rattle.rb_cluster_laws.proofs.Electing.{one_elected}
 use Rattle.rb_cluster_laws.proofs.Making.{still_chains}
-use Rattle.rb_cluster_laws.proofs.CallHolds.{IsSafe, called_holds}
+use Rattle.rb_cluster_laws.proofs.CallHolds.{IsSafe, said_gives, called_holds}
 
 -- ---- what holds
 
@@ -81,14 +81,7 @@ safe_call g s place (Step m) n sane good honest genuine =
     elim honest as (λ _. IsSafe w (Step m) n) [
       | inl said ↦ (
         (All-contains (Keeps g.config) s.said m sane.fine said.0, chain),
-        λ yes. record {
-          answer = m;
-          among = Contains-append_left s.said [] m said.0;
-          gives = (yes, subst (λ (x : ℕ). 0 < x) (sym said.1) w.some);
-          by = refl;
-          of_term = refl;
-          for_it = said.1;
-        },
+        said_gives w m (Contains-append_left s.said [] m said.0) said.1,
       )
       | inr foreign ↦ ((foreign.1, chain), λ yes. absurd (foreign.0 yes))
     ]
@@ -119,7 +112,7 @@ call_ends g said links place c told n once good safe =
     let w : World = world_of g (said ++ out) links place in
     let more : IsSaid said (said ++ out) = λ m among. Contains-append_left said out m among in
     let start : Holds w n = still_holds g said (said ++ out) links links place n more (λ strict. still_in g said (said ++ out) (place + 1) links (essence n) more once (good.linked strict)) good.holds in
-    let h : Holds w (after c t).node = called_holds {w = w} c t safe start in
+    let h : Holds w (after c t).node = called_holds {w = w} c t safe good.sound start in
     record {
       now = h.linking.links;
       since = h.linking.since;

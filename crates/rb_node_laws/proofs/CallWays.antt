@@ -1,6 +1,9 @@
 -- Each call, as a way of moves: entries that take effect, ticks, what is ready, and the calls themselves
-use Rattle.std.proofs.Common.{[], ◌≡◌, true, refl, false, ap, Result, Ok, if◌then◌else◌, Err, List, ℕ, ◌≤◌, ◌∙◌, arith, nat_lt, ◌+◌, length, ◌∷◌, Bool, ◌&&◌, ◌==◌, nat_le, min, ◌⊎◌, eqb-true, inl, inr, ◌-◌, max, Option, None, Some}
+use Rattle.std.proofs.Common.{[], ◌≡◌, true, refl, false, ap, Result, Ok, if◌then◌else◌, Err, List, ℕ, ◌≤◌, ◌∙◌, arith, nat_lt, ◌+◌, length, ◌∷◌, Bool, ◌&&◌, ◌==◌, nat_le, min, ◌⊎◌, eqb-true, inl, inr, ◌-◌, max, Option, None, Some, sym, subst}
+use Rattle.std.specs.Prelude.{All, Contains}
 use Rattle.std.proofs.lemmas.Bool.{ltb-true, and_parts, false≢true}
+use Rattle.std.proofs.lemmas.List.Elements.{All-head, All-tail, All-take, All-drop, All-weaker, All-contains_itself}
+use Rattle.rb_raftlog.specs.Bodies.{is_change}
 use Rattle.rb_raftlog.specs.Log.{LogValue, is_term, term_at, last, compact_fault}
 use Rattle.rb_raftlog.specs.declared.entry.Body.{Body}
 use Rattle.rb_raftlog.specs.declared.entry.Body.TheVariants.{Payload, Change}
@@ -42,7 +45,7 @@ use Rattle.rb_node_laws.specs.Sound.{IsSound}
 use Rattle.rb_node_laws.proofs.Goes.{Core, core, Ways}
 use Rattle.rb_node_laws.proofs.LeaderLaws.{with_views_same, strangers_same}
 use Rattle.rb_node_laws.proofs.LeaderWays.{nothing_done, transfer_ended_way, telling_path, appended_change_way, all_told_way}
-use Rattle.rb_node_laws.proofs.Moves.{Path, TellMove, with_members, Onward, Goes_on, ChangeMove, in_config, following, Resigns, Shows, Revises, Configures, Unchanged, Idle, Whole, Commits, Allows, over, StepMove, CallMove, wider_path, CallSteps, One, Fills, CallChanges, StepTells, Applies, Way, Sent, Then, Unmarks, Gives_up, whole, Saves, Viewed, Compacts}
+use Rattle.rb_node_laws.proofs.Moves.{Path, TellMove, ChangesNothing, with_members, Onward, Goes_on, ChangeMove, in_config, following, Resigns, Shows, Revises, Configures, Unchanged, Idle, Whole, Commits, Allows, over, StepMove, CallMove, wider_path, CallSteps, One, Fills, CallChanges, StepTells, Applies, Way, Sent, Then, Unmarks, Gives_up, whole, Saves, Viewed, Compacts}
 use Rattle.rb_node_laws.proofs.ProgressLaws.{unreachable_matched, sound_unreachable}
 use Rattle.rb_node_laws.proofs.Saying.{different}
 use Rattle.rb_node_laws.proofs.StepWays.{campaigned_way, stepped_way}
@@ -143,9 +146,12 @@ changed_leaves {t} {u} c = leaves_then t.node c.to u.node (change_leaves c.first
 stepping : {sound : Type 0} {w : Ways} {t u : Turn} → Path (StepMove w) t u → Path (CallMove sound w) t u
 stepping x = wider_path (λ a b m. CallSteps m) x
 
-pub body_way : {sound : Type 0} {w : Ways} (body : Body) (t : Turn) → Path (CallMove sound w) t (body_applied body t)
-body_way (Payload bytes) t = Goes_on t (One (Fills t.node bytes))
-body_way (Change transition words) t = (let c = change_way t transition words in Onward (Goes_on t (One (CallChanges c.first))) (stepping (telling_path c.next)))
+pub body_way : {sound : Type 0} {w : Ways} (body : Body) (t : Turn) → (All ChangesNothing t.node.log.entries → is_change body ≡ false)
+    → Path (CallMove sound w) t (body_applied body t)
+body_way (Payload bytes) t plain = Goes_on t (One (Fills t.node bytes))
+body_way (Change transition words) t plain =
+    (let c = change_way t transition words in
+    Onward (Goes_on t (One (CallChanges c.first (λ all. false≢true (sym (plain all)))))) (stepping (telling_path c.next)))
 
 -- an entry brings applied to its index, and leaves the log
 pub record Brought (t u : Turn) (i : ℕ) : Type 0 where
@@ -171,9 +177,10 @@ one_brought t i e =
 
 -- the entries that were committed and durable take effect
 all_way : {sound : Type 0} {w : Ways} (t : Turn) (i : ℕ) (es : List Entry)
-    → (sound → (t.node.applied ≤ i) × (i + length es ≤ t.node.commit) × (i + length es ≤ t.node.log.durable)) → Path (CallMove sound w) t (applied_all t i es)
-all_way t i [] known = Goes_on t (One (CallSteps (StepTells (Idle t.node t.node refl))))
-all_way {sound} {w} t i (e ∷ es) known =
+    → (sound → (t.node.applied ≤ i) × (i + length es ≤ t.node.commit) × (i + length es ≤ t.node.log.durable))
+    → (All ChangesNothing t.node.log.entries → All ChangesNothing es) → Path (CallMove sound w) t (applied_all t i es)
+all_way t i [] known plain = Goes_on t (One (CallSteps (StepTells (Idle t.node t.node refl))))
+all_way {sound} {w} t i (e ∷ es) known plain =
     let u : Turn = applied_one t (i + 1) e in
     let b = one_brought t (i + 1) e in
     let at = b.applied in
@@ -183,12 +190,14 @@ all_way {sound} {w} t i (e ∷ es) known =
     let rises : Path (CallMove sound w) t (with_node t x) =
     Goes_on t (One (Applies t.node (i + 1) (λ s.
     (let k = known s in let low = k.0 in let far = k.1 in let safe = k.2 in (omega (arith, low), omega (arith, far), omega (arith, safe)))))) in
-    Onward rises (Onward (body_way e.body (with_node t x))
-    (all_way u (i + 1) es (λ s. (let k = known s in let far = k.1 in let safe = k.2 in (omega (arith, at), omega (arith, far, up), omega (arith, safe, durable))))))
+    Onward rises (Onward (body_way e.body (with_node t x) (λ all. All-head ChangesNothing e es (plain all)))
+    (all_way u (i + 1) es (λ s. (let k = known s in let far = k.1 in let safe = k.2 in (omega (arith, at), omega (arith, far, up), omega (arith, safe, durable))))
+    (λ all. All-tail ChangesNothing e es (plain (subst (λ (v : LogValue). All ChangesNothing v.entries) b.log all)))))
 
-leads_first : (a b c d e : Bool) → (a && b && c && d && e) ≡ true → a ≡ true
-leads_first true b c d e h = refl
-leads_first false b c d e h = absurd (false≢true h)
+first_two : (a b c d e : Bool) → (a && b && c && d && e) ≡ true → (a ≡ true) × (b ≡ true)
+first_two true true c d e h = (refl, refl)
+first_two true false c d e h = absurd (false≢true h)
+first_two false b c d e h = absurd (false≢true h)
 
 pub left_way : {w : Ways} (t : Turn) → Path (StepMove w) t (joint_left t)
 unfolding joint_left
@@ -196,8 +205,8 @@ left_way {w} t =
     let n = t.node in
     if_both (Path (StepMove w) t) (leaves_joint n) _ _
     (λ can. (let c = n.tracker.config in
-    let leads = leader_of n.role (leads_first (is_leader n.role) (is_joint c) c.auto (n.transferee == 0) (nat_le n.pending_change n.applied) can) in
-    Onward (appended_change_way t (Change Auto []) leads) (all_told_way (appended_change t (Change Auto [])))))
+    let both = first_two (is_leader n.role) (is_joint c) c.auto (n.transferee == 0) (nat_le n.pending_change n.applied) can in
+    Onward (appended_change_way t (Change Auto []) (leader_of n.role both.0) (inr (inr both.1))) (all_told_way (appended_change t (Change Auto [])))))
     (λ _. telling_path (nothing_done t))
 
 -- ---- ticks
@@ -206,7 +215,7 @@ beat_way : (n : PlainNode) (id : ℕ) → Way TellMove n (beat_to n id)
 beat_way n id =
     if_both (Way TellMove n) (id == n.id) _ _ (λ _. One (Idle n n refl))
     (λ no. One (Sent n (message n.id id n.term (kind.Heartbeat (min (match_of n.tracker.views id) n.commit)))
-    (λ _. (refl, (refl, different id n.id no, omega arith, omega arith)))))
+    tt (λ _. (refl, (refl, different id n.id no, omega arith, omega arith)))))
 
 beat_each_way : (n : PlainNode) (ids : List ℕ) → Way TellMove n (beat_each n ids)
 beat_each_way n [] = One (Idle n n refl)
@@ -272,18 +281,20 @@ OwnTells id t [] term from i = ⊥
 OwnTells id t (m ∷ ms) term from i =
     ((m.to ≡ id) × (term ≡ t.node.term) × (from ≡ m.from) × IsAccepted t.node m i) ⊎ OwnTells id (if m.to == id then stepped t m else t) ms term from i
 
-pub own_way : {w : Ways} (id : ℕ) (t : Turn) (ms : List Message) → ((v n : ℕ) → OwnGrants id t ms v n → w.given v n) → ((n : ℕ) → OwnElects id t ms n → w.elected n)
+pub own_way : {w : Ways} (id : ℕ) (t : Turn) (ms : List Message) → All (λ (m : Message). m.to ≡ id → w.came m) ms
+    → ((v n : ℕ) → OwnGrants id t ms v n → w.given v n) → ((n : ℕ) → OwnElects id t ms n → w.elected n)
     → ((term from i : ℕ) → OwnTells id t ms term from i → w.matched term from i) → Path (StepMove w) t (own_stepped id t ms)
-own_way id t [] grant elect accept = telling_path (nothing_done t)
-own_way {w} id t (m ∷ ms) grant elect accept =
+own_way id t [] came grant elect accept = telling_path (nothing_done t)
+own_way {w} id t (m ∷ ms) came grant elect accept =
+    let P : Message → Type 0 = λ x. x.to ≡ id → w.came x in
     let next : Turn = if m.to == id then stepped t m else t in
     Onward
     (if_both (Path (StepMove w) t) (m.to == id) (stepped t m) t
     (λ own. (let to = eqb-true m.to id own in
-    stepped_way t m (λ g. grant m.from m.term (inl (to, refl, refl, g))) (λ e. elect t.node.term (inl (to, refl, e)))
+    stepped_way t m (All-head P m ms came to) (λ g. grant m.from m.term (inl (to, refl, refl, g))) (λ e. elect t.node.term (inl (to, refl, e)))
     (λ i a. accept t.node.term m.from i (inl (to, refl, refl, a)))))
     (λ _. telling_path (nothing_done t)))
-    (own_way id next ms (λ v n g. grant v n (inr g)) (λ n e. elect n (inr e)) (λ term from i a. accept term from i (inr a)))
+    (own_way id next ms (All-tail P m ms came) (λ v n g. grant v n (inr g)) (λ n e. elect n (inr e)) (λ term from i a. accept term from i (inr a)))
 
 -- what is committed and isn't applied is held
 pub ready_within : (n : PlainNode) → IsSound n → (n.applied + length (applying n) ≤ n.commit) × (n.applied + length (applying n) ≤ last n.log)
@@ -294,28 +305,41 @@ ready_within n o =
     let held = o.is_held in
     (omega (arith, sizes, base, known, held), omega (arith, sizes, base, known, held))
 
--- the votes, elections and answers of the call alone
+-- the votes, elections, answers and messages of the call alone
 abbrev pub Accepted : Call → Turn → ℕ → ℕ → ℕ → Type 0
 Accepted (Step m) t term from i = (term ≡ t.node.term) × (from ≡ m.from) × IsAccepted t.node m i
 Accepted Advance t term from i = OwnTells t.node.id (own_turn t) t.node.waiting term from i
 Accepted _ t term from i = ⊥
 
+abbrev pub Comes : Call → Turn → Message → Type 0
+Comes (Step m) t x = x ≡ m
+Comes (Propose body) t x = x ≡ message t.node.id t.node.id 0 (kind.Proposal body)
+Comes (Transfer to) t x = x ≡ message t.node.id t.node.id 0 (kind.TransferLeader to)
+Comes Advance t x = Contains t.node.waiting x × (x.to ≡ t.node.id)
+Comes _ t x = ⊥
+
 abbrev pub ways : Call → Turn → Ways
-ways c t = record { given = Granted c t; elected = Elected c t; matched = Accepted c t }
+ways c t = record { given = Granted c t; elected = Elected c t; matched = Accepted c t; came = Comes c t }
 
 -- from what is saved to the turn in which the node takes its own answers in
 pub ready_way : {sound : Type 0} {w : Ways} (t : Turn) → (sound → IsSound t.node) → Path (CallMove sound w) (with_node t (saved t.node)) (own_turn t)
 ready_way t known =
     let n = t.node in
     let u : Turn = with_node t (saved n) in
-    Onward (all_way u n.applied (applying n) (λ s. (let within = ready_within n (known s) in (omega arith, within.0, within.1))))
+    Onward (all_way u n.applied (applying n) (λ s. (let within = ready_within n (known s) in (omega arith, within.0, within.1)))
+    (λ all. All-drop ChangesNothing (n.applied - n.log.base) _ (All-take ChangesNothing (n.commit - n.log.base) n.log.entries all)))
     (stepping (left_way (applied_all u n.applied (applying n))))
+
+own_come : (t : Turn) → All (λ (m : Message). m.to ≡ t.node.id → Comes Advance t m) t.node.waiting
+own_come t =
+    let ms = t.node.waiting in
+    All-weaker (Contains ms) (λ (m : Message). m.to ≡ t.node.id → Comes Advance t m) (λ m among to. (among, to)) ms (All-contains_itself ms)
 
 advanced_way : {sound : Type 0} (t : Turn) → (sound → IsSound t.node) → Path (CallMove sound (ways Advance t)) t (advanced t)
 unfolding advanced
 advanced_way t known =
     Onward (Goes_on t (One (Saves t.node known)))
-    (Onward (ready_way t known) (stepping (own_way t.node.id (own_turn t) t.node.waiting (λ v n g. g) (λ n e. e) (λ term from i a. a))))
+    (Onward (ready_way t known) (stepping (own_way t.node.id (own_turn t) t.node.waiting (own_come t) (λ v n g. g) (λ n e. e) (λ term from i a. a))))
 
 -- ---- every call
 
@@ -342,13 +366,13 @@ compacted_way (Some fault) n i is = One (CallSteps (StepTells (Idle n n refl)))
 compacted_way None n i is = One (Compacts n i is)
 
 pub called_way : {sound : Type 0} (c : Call) (t : Turn) → (sound → IsSound t.node) → Path (CallMove sound (ways c t)) t (after c t)
-called_way (Step m) t known = stepping (stepped_way t m (λ g. (refl, refl, g)) (λ e. (refl, e)) (λ i a. (refl, refl, a)))
+called_way (Step m) t known = stepping (stepped_way t m refl (λ g. (refl, refl, g)) (λ e. (refl, e)) (λ i a. (refl, refl, a)))
 called_way Campaign t known = stepping (campaigned_way t false)
 called_way (Propose body) t known =
-    stepping (stepped_way t (message t.node.id t.node.id 0 (kind.Proposal body))
+    stepping (stepped_way t (message t.node.id t.node.id 0 (kind.Proposal body)) refl
     (λ g. (let no = g.asks in cc)) (λ e. (let no = e.answers in cc)) (λ i a. (let no = a.says in cc)))
 called_way (Transfer to) t known =
-    stepping (stepped_way t (message t.node.id t.node.id 0 (kind.TransferLeader to))
+    stepping (stepped_way t (message t.node.id t.node.id 0 (kind.TransferLeader to)) refl
     (λ g. (let no = g.asks in cc)) (λ e. (let no = e.answers in cc)) (λ i a. (let no = a.says in cc)))
 called_way Tick t known = ticked_way t.node.role t
 called_way Advance t known = advanced_way t known

@@ -87,7 +87,7 @@ telling_lasts (Viewed n at view new is same sound) =
     lasts_still n (viewed n at new) refl
     (view_holds n.tracker at new (λ id. (let e = same_match n.tracker.views at view new id is same in omega (arith, e))))
 telling_lasts (Commits n can) = record { moves = inr (commit_is_held n.tracker); holds_on = λ i held. held }
-telling_lasts (Sent n m says) = lasts_still n (with_sent n m) refl (λ i held. held)
+telling_lasts (Sent n m own says) = lasts_still n (with_sent n m) refl (λ i held. held)
 
 lasting : Allows TellMove Lasts
 lasting = record { nothing = λ n. lasts_still n n refl (λ i held. held); chain = lasts_then; each = λ a b m. telling_lasts m }
@@ -106,10 +106,10 @@ step_leads (StepTells m) leads same = (ap (λ (r : Rest). r.role) (tells_rest m)
 step_leads (Follows n term lead up past) leads same = (let later = past leads in absurd (omega (arith, later, same)))
 step_leads (Asks n may) leads same = absurd ((may_campaign n may).follows leads)
 step_leads (Stands n may) leads same = absurd ((may_campaign n may).follows leads)
-step_leads (Leads n stands won) leads same = absurd (no_leader_stands n.role stands leads)
-step_leads (Takes n from append is) leads same = absurd (no_leader n.role is leads)
+step_leads (Leads n stands elected won) leads same = absurd (no_leader_stands n.role stands leads)
+step_leads (Takes n from append is came) leads same = absurd (no_leader n.role is leads)
 step_leads (Learns n i is up held) leads same = absurd (no_leader n.role is leads)
-step_leads (Restores n s is past) leads same = absurd (no_leader n.role is leads)
+step_leads (Restores n s is past came) leads same = absurd (no_leader n.role is leads)
 step_leads (Acks n at from i view role_is here is up said) leads same =
     (leads, lasts_still n (viewed n at (acked view i)) refl (view_holds n.tracker at (acked view i) (acked_more n at from i view here is up)))
 step_leads _ leads same = (leads, record { moves = inl refl; holds_on = λ i held. held })
@@ -130,7 +130,7 @@ leading_on = record {
 
 pub stepped_commits : (t : Turn) (m : Message) → IsSound t.node → t.node.role ≡ role.Leader → (stepped t m).node.term ≡ t.node.term
     → CommitHolds t.node.commit (stepped t m).node
-stepped_commits t m sound leads same = ((over leading_on (stepped_way t m (λ _. tt) (λ _. tt) (λ _ _. tt))).holds sound leads same).1.moves
+stepped_commits t m sound leads same = ((over leading_on (stepped_way t m tt (λ _. tt) (λ _. tt) (λ _ _. tt))).holds sound leads same).1.moves
 
 -- ---- a change that takes effect
 
@@ -147,13 +147,13 @@ change_commits t transition words =
 
 step_commit : {w : Ways} {a b : PlainNode} → StepMove w a b → a.role ≡ role.Leader → CommitHolds a.commit b
 step_commit (StepTells m) leads = (telling_lasts m).moves
-step_commit (Leads n stands won) leads = absurd (no_leader_stands n.role stands leads)
+step_commit (Leads n stands elected won) leads = absurd (no_leader_stands n.role stands leads)
 step_commit (Learns n i is up held) leads = absurd (no_leader n.role is leads)
-step_commit (Restores n s is past) leads = absurd (no_leader n.role is leads)
+step_commit (Restores n s is past came) leads = absurd (no_leader n.role is leads)
 step_commit _ leads = inl refl
 
 call_commit : {sound : Type 0} {w : Ways} {a b : PlainNode} → CallMove sound w a b → a.role ≡ role.Leader → CommitHolds a.commit b
-call_commit (CallChanges m) leads = inl (change_commit m)
+call_commit (CallChanges m has) leads = inl (change_commit m)
 call_commit (CallSteps m) leads = step_commit m leads
 call_commit _ leads = inl refl
 

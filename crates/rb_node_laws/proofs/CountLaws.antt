@@ -137,7 +137,7 @@ durable_after a b ms g are =
     All-weaker (IsDurableAnswer a) (IsDurableAnswer b) (λ m is. kept_answer a b a.log.durable b.log.durable m g (λ grown. grown.written) is) ms are
 
 own_goes : (id : ℕ) (t : Turn) (ms : List Message) → IsSound t.node → Goes anyone (core t.node) (core (own_stepped id t ms).node)
-own_goes id t ms s = (over (steps_keep {w = anyone}) (own_way id t ms (λ _ _ _. tt) (λ _ _. tt) (λ _ _ _ _. tt))).goes s
+own_goes id t ms s = (over (steps_keep {w = anyone}) (own_way id t ms (λ _ _ _ _. tt) (λ _ _ _. tt) (λ _ _. tt) (λ _ _ _ _. tt))).goes s
 
 -- what one of them says is durable as long as the node leads on
 own_durable : (id : ℕ) (t : Turn) (ms : List Message) (term from i : ℕ) → IsSound t.node → All (IsDurableAnswer t.node) ms → OwnTells id t ms term from i

@@ -2,6 +2,7 @@
 use Rattle.std.proofs.Common.{◌≡◌, ℕ, ◌<◌, ◌≤◌, ◌⊎◌, true, refl, sym, subst, ◌∙◌, ap, arith, inl, inr, Result, List}
 use Rattle.rb_raftlog.specs.declared.raft_log.LogFault.{LogFault}
 use Rattle.rb_raftlog.specs.Log.{LogValue, last, entry_at, term_at, is_term}
+use Rattle.rb_message.specs.declared.message.Message.{Message}
 use Rattle.rb_message.specs.declared.role.Role.{Role}
 use Rattle.rb_message.specs.declared.role.Role.TheVariants as role
 use Rattle.rb_node.specs.Node.{PlainNode}
@@ -21,11 +22,13 @@ pub record Core : Type 0 where
 abbrev pub core : PlainNode → Core
 core n = record { id = n.id; term = n.term; vote = n.vote; role = n.role; log = n.log; commit = n.commit; applied = n.applied; content = n.content }
 
--- to whom a vote may be given in which term, in which term an election may be won, and in which term who may say that it holds what
+-- to whom a vote may be given in which term, in which term an election may be won, in which term who may say that it holds what, and which
+-- messages may come
 pub record Ways : Type 1 where
   pub given : ℕ → ℕ → Type 0
   pub elected : ℕ → Type 0
   pub matched : ℕ → ℕ → ℕ → Type 0
+  pub came : Message → Type 0
 
 abbrev pub Voted : Ways → Core → Core → Type 0
 Voted w old new =
@@ -175,9 +178,9 @@ goes_then a b c p q = record {
 pub and_then : {w : Ways} {a b c : Core} → Keeps w a b → Keeps w b c → Keeps w a c
 and_then {w} {a} {b} {c} p q = record { goes = λ o. (let first = p.goes o in goes_then a b c first (q.goes first.ordered)) }
 
--- whoever may be given a vote or win
+-- whoever may be given a vote or win, and whatever may come
 abbrev pub anyone : Ways
-anyone = record { given = λ _ _. Unit {0}; elected = λ _. Unit {0}; matched = λ _ _ _. Unit {0} }
+anyone = record { given = λ _ _. Unit {0}; elected = λ _. Unit {0}; matched = λ _ _ _. Unit {0}; came = λ _. Unit {0} }
 
 pub anyhow : {w : Ways} {a b : Core} → Keeps w a b → Keeps anyone a b
 anyhow {w} {a} {b} p = record {

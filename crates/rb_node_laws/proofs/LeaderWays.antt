@@ -7,9 +7,11 @@ use Rattle.rb_raftlog.specs.declared.entry.Body.TheVariants.{Payload, Change}
 use Rattle.rb_raftlog.specs.declared.entry.Entry.{Entry}
 use Rattle.rb_tracker.proofs.SetLaws.{if_both}
 use Rattle.rb_tracker.specs.Active.{with_mark, marked_at}
+use Rattle.rb_tracker.specs.Ballots.{vote_result}
 use Rattle.rb_tracker.specs.Commits.{match_of}
 use Rattle.rb_tracker.specs.Progresses.{PlainProgress, marked, is_news, is_probing, acked, paused, freed_through, refused, believes, resumed}
 use Rattle.rb_tracker.specs.Trackers.{view_at, place}
+use Rattle.rb_tracker.specs.declared.votes.VoteResult.TheVariants as vote
 use Rattle.rb_message.specs.declared.event.Event.TheVariants.{Became, ReplacedChange, TransferStarts, TransferEnds}
 use Rattle.rb_message.specs.declared.event.WhyReplaced.{WhyReplaced}
 use Rattle.rb_message.specs.declared.kind.MessageKind.TheVariants as kind
@@ -25,7 +27,7 @@ use Rattle.rb_node.specs.declared.sends.Mode.TheVariants as mode
 use Rattle.rb_node_laws.proofs.Goes.{Ways}
 use Rattle.rb_node_laws.proofs.LeaderLaws.{leading_leads}
 use Rattle.rb_node_laws.proofs.MatchViewLaws.{of, place_here, heard_place}
-use Rattle.rb_node_laws.proofs.Moves.{Way, TellMove, StepMove, wider, StepTells, Path, wider_path, Goes_on, One, Idle, Then, Appends, Waits, Shows, Onward, Leads, Viewed, Sent, over_way, Acks}
+use Rattle.rb_node_laws.proofs.Moves.{Way, TellMove, StepMove, Puts, wider, StepTells, Path, wider_path, Goes_on, One, Idle, Then, Appends, Waits, Shows, Onward, Leads, Viewed, Sent, over_way, Acks}
 use Rattle.rb_node_laws.proofs.ProgressLaws.{sound_marked, acked_matched, freed_matched, sound_freed, refused_matched, sound_refused, sound_resumed}
 use Rattle.rb_node_laws.proofs.TellWays.{told_all_way, commit_or_sent_way, Rest, keeps_rest, keeps_match, sends_way}
 use Rattle.rb_node_laws.proofs.Turns.{own_size}
@@ -43,32 +45,33 @@ nothing_done t = Goes_on t (One (Idle t.node t.node refl))
 
 -- ---- entries of its own, and the lead
 
-own_way : {w : Ways} (n : PlainNode) (body : Body) → n.role ≡ role.Leader → Way (StepMove w) n (with_own n body)
-own_way n body leads =
+own_way : {w : Ways} (n : PlainNode) (body : Body) → n.role ≡ role.Leader → Puts w n body → Way (StepMove w) n (with_own n body)
+own_way n body leads puts =
     let e : Entry = record { term = n.term; body = body } in
     let x : PlainNode = record n { log = own n.log e } in
-    Then {b = x} (One (Appends n body leads)) (One (Waits x (message n.id n.id n.term (kind.AppendResponse (last n.log + 1)))
+    Then {b = x} (One (Appends n body leads puts)) (One (Waits x (message n.id n.id n.term (kind.AppendResponse (last n.log + 1)))
     (λ _. (refl, (refl, omega (arith, own_size n.log e), λ stands. (let never : role.Leader ≡ role.Candidate = sym leads ∙ stands in cc))))))
 
-pub appended_way : {w : Ways} (t : Turn) (body : Body) → t.node.role ≡ role.Leader → Path (StepMove w) t (appended t body)
-appended_way {w} t body leads = if_both (Path (StepMove w) t) (is_log_full t.node) _ _ (λ _. Shows t _) (λ _. Goes_on t (own_way t.node body leads))
+pub appended_way : {w : Ways} (t : Turn) (body : Body) → t.node.role ≡ role.Leader → Puts w t.node body → Path (StepMove w) t (appended t body)
+appended_way {w} t body leads puts = if_both (Path (StepMove w) t) (is_log_full t.node) _ _ (λ _. Shows t _) (λ _. Goes_on t (own_way t.node body leads puts))
 
-pub appended_change_way : {w : Ways} (t : Turn) (body : Body) → t.node.role ≡ role.Leader → Path (StepMove w) t (appended_change t body)
-appended_change_way {w} t body leads =
+pub appended_change_way : {w : Ways} (t : Turn) (body : Body) → t.node.role ≡ role.Leader → Puts w t.node body → Path (StepMove w) t (appended_change t body)
+appended_change_way {w} t body leads puts =
     let x : PlainNode = with_own t.node body in
     if_both (Path (StepMove w) t) (is_log_full t.node) _ _ (λ _. Shows t _)
-    (λ _. Goes_on t (Then (own_way t.node body leads) (One (StepTells (Idle x (record x { pending_change = last t.node.log + 1 }) refl)))))
+    (λ _. Goes_on t (Then (own_way t.node body leads puts) (One (StepTells (Idle x (record x { pending_change = last t.node.log + 1 }) refl)))))
 
 pub all_told_way : {w : Ways} (t : Turn) → Path (StepMove w) t (all_told t)
 all_told_way t = Goes_on t (telling (told_all_way t.node))
 
-pub led_way : {w : Ways} (t : Turn) → t.node.role ≡ role.Candidate → w.elected t.node.term → Path (StepMove w) t (led t)
+pub led_way : {w : Ways} (t : Turn) → t.node.role ≡ role.Candidate → w.elected t.node.term → vote_result t.node.tracker.config t.node.votes ≡ vote.Won
+    → Path (StepMove w) t (led t)
 unfolding led
-led_way t stands won =
+led_way t stands elected won =
     let v : Turn = with_node t (leading t.node) in
     let u : Turn = told v (Became t.node.id role.Leader t.node.term) in
-    Onward (Goes_on t (One (Leads t.node stands won))) (Onward (Shows v _)
-    (Onward (appended_way u (Payload []) (leading_leads t.node)) (all_told_way (appended u (Payload [])))))
+    Onward (Goes_on t (One (Leads t.node stands elected won))) (Onward (Shows v _)
+    (Onward (appended_way u (Payload []) (leading_leads t.node) (inl refl)) (all_told_way (appended u (Payload [])))))
 
 -- ---- an append that was accepted
 
@@ -84,7 +87,7 @@ handed_way : (n : PlainNode) (to i : ℕ) → n.role ≡ role.Leader → of n to
 handed_way n to i leads holds =
     if_both (Way TellMove n) (to == n.transferee && i == last n.log) _ _
     (λ both. (let parts = and_parts (to == n.transferee) (i == last n.log) both in
-    One (Sent n (message n.id to n.term kind.TimeoutNow) (λ _. (refl, (refl, leads, eqb-true to n.transferee parts.0, holds ∙ eqb-true i (last n.log) parts.1))))))
+    One (Sent n (message n.id to n.term kind.TimeoutNow) tt (λ _. (refl, (refl, leads, eqb-true to n.transferee parts.0, holds ∙ eqb-true i (last n.log) parts.1))))))
     (λ _. One (Idle n n refl))
 
 -- news is no less than what is known
@@ -181,19 +184,21 @@ beat_answered_way t m = beat_at_way (place t.node.tracker.views m.from) t m
 
 -- ---- proposals, and handing the lead over
 
-change_put_way : {w : Ways} (o : Option WhyReplaced) (t : Turn) (body : Body) → t.node.role ≡ role.Leader → Path (StepMove w) t (change_put o t body)
-change_put_way None t body leads = appended_change_way t body leads
-change_put_way (Some reason) t body leads = Onward (Shows t _) (appended_way (told t (ReplacedChange t.node.id (last t.node.log + 1) reason)) (Payload []) leads)
+change_put_way : {w : Ways} (o : Option WhyReplaced) (t : Turn) (body : Body) → t.node.role ≡ role.Leader → Puts w t.node body → Path (StepMove w) t (change_put o t body)
+change_put_way None t body leads puts = appended_change_way t body leads puts
+change_put_way (Some reason) t body leads puts =
+    Onward (Shows t _) (appended_way (told t (ReplacedChange t.node.id (last t.node.log + 1) reason)) (Payload []) leads (inl refl))
 
-put_in_way : {w : Ways} (body : Body) (t : Turn) → t.node.role ≡ role.Leader → Path (StepMove w) t (put_in body t)
-put_in_way (Payload bytes) t leads = appended_way t (Payload bytes) leads
-put_in_way {w} (Change transition words) t leads =
-    if_both (Path (StepMove w) t) (is_log_full t.node) _ _ (λ _. Shows t _) (λ _. change_put_way (why_replaced t.node (length words)) t (Change transition words) leads)
+put_in_way : {w : Ways} (body : Body) (t : Turn) → t.node.role ≡ role.Leader → Puts w t.node body → Path (StepMove w) t (put_in body t)
+put_in_way (Payload bytes) t leads puts = appended_way t (Payload bytes) leads puts
+put_in_way {w} (Change transition words) t leads puts =
+    if_both (Path (StepMove w) t) (is_log_full t.node) _ _ (λ _. Shows t _)
+    (λ _. change_put_way (why_replaced t.node (length words)) t (Change transition words) leads puts)
 
-pub proposed_way : {w : Ways} (t : Turn) (body : Body) → t.node.role ≡ role.Leader → Path (StepMove w) t (proposed t body)
+pub proposed_way : {w : Ways} (t : Turn) (body : Body) → t.node.role ≡ role.Leader → Puts w t.node body → Path (StepMove w) t (proposed t body)
 unfolding proposed
-proposed_way {w} t body leads =
-    if_both (Path (StepMove w) t) (takes_none t.node) _ _ (λ _. Shows t _) (λ _. Onward (put_in_way body t leads) (all_told_way (put_in body t)))
+proposed_way {w} t body leads puts =
+    if_both (Path (StepMove w) t) (takes_none t.node) _ _ (λ _. Shows t _) (λ _. Onward (put_in_way body t leads puts) (all_told_way (put_in body t)))
 
 older_way : (t : Turn) → Path TellMove t (older_ended t)
 older_way t = if_both (Path TellMove t) (t.node.transferee == 0) _ _ (λ _. nothing_done t) (λ _. Shows t _)
@@ -204,7 +209,7 @@ older_node t = if_both (λ (u : Turn). u.node ≡ t.node) (t.node.transferee == 
 urged_way : (n : PlainNode) (target : ℕ) → n.role ≡ role.Leader → target ≡ n.transferee → Way TellMove n (urged n target)
 urged_way n target leads is =
     if_both (Way TellMove n) (match_of n.tracker.views target == last n.log) _ _
-    (λ holds. One (Sent n (message n.id target n.term kind.TimeoutNow) (λ _. (refl, (refl, leads, is, eqb-true (match_of n.tracker.views target) (last n.log) holds)))))
+    (λ holds. One (Sent n (message n.id target n.term kind.TimeoutNow) tt (λ _. (refl, (refl, leads, is, eqb-true (match_of n.tracker.views target) (last n.log) holds)))))
     (λ _. sends_way n target mode.Tell)
 
 started_way : (t : Turn) (target : ℕ) → t.node.role ≡ role.Leader → Path TellMove t (transfer_started t target)

@@ -20,7 +20,7 @@ use Rattle.rb_node_laws.specs.Matches.{IsAccepted, RestsOn}
 use Rattle.rb_node_laws.specs.Sound.{HasViewsOfMembers, IsSound}
 use Rattle.rb_node_laws.proofs.CallWays.{with_members_same, ways, called_way}
 use Rattle.rb_node_laws.proofs.ChoiceLaws.{may_campaign}
-use Rattle.rb_node_laws.proofs.Goes.{Ways, core, Core}
+use Rattle.rb_node_laws.proofs.Goes.{Ways, anyone, core, Core}
 use Rattle.rb_node_laws.proofs.LeaderLaws.{leading_same, leading_leads, strangers_same}
 use Rattle.rb_node_laws.proofs.MatchViewLaws.{of, with_views_at_most, place_set, strangers_less, unmarked_match}
 use Rattle.rb_node_laws.proofs.MemberMoveLaws.{call_members}
@@ -57,16 +57,16 @@ step_bounded id low term bound (Follows n later lead up past) p = inl (omega ari
 step_bounded {w} id low term bound (Asks n may) p =
     not_leading w id low term bound (rest (core n)) (rest (core (precandidate n))) (of n id) (may_campaign n may).follows p
 step_bounded id low term bound (Stands n may) p = inl (omega arith)
-step_bounded {w} id low term bound (Leads n stands won) p =
+step_bounded {w} id low term bound (Leads n stands elected won) p =
     (let e = leading_same n in
     elim (with_views_at_most (in_lead n) (members n.tracker.config) (not n.options.check_quorum) id) as (λ _. IsBounded w id low term bound (leading n)) [
       | inl less ↦ inl (omega (arith, less))
       | inr own ↦ (let durable : (leading n).log.durable ≡ n.log.durable = ap (λ (c : Core). c.log.durable) e in let far = own.1 in
           inr (leading_leads n, inr (inl (own.0 ∙ sym (ap (λ (c : Core). c.id) e), omega (arith, far, durable)))))
     ])
-step_bounded {w} id low term bound (Takes n from append is) p =
+step_bounded {w} id low term bound (Takes n from append is came) p =
     not_leading w id low term bound (rest (core n)) (rest (core (with_appended n from append))) (of n id) (no_leader n.role is) p
-step_bounded {w} id low term bound (Restores n s is past) p =
+step_bounded {w} id low term bound (Restores n s is past came) p =
     not_leading w id low term bound (rest (core n)) (rest (core (restored_to n s))) (of n id) (no_leader n.role is) p
 step_bounded {w} id low term bound (Acks n at from i view leads here is up said) p =
     elim (place_set n.tracker.views at from id (acked view i) here) as (λ _. IsBounded w id low term bound (viewed n at (acked view i))) [
@@ -80,7 +80,7 @@ step_bounded id low term bound _ p = p
 
 -- by the answer that it is
 abbrev AnswerOf : Turn → Message → Ways
-AnswerOf t m = record { given = λ _ _. Unit {0}; elected = λ _. Unit {0}; matched = λ _ from i. (from ≡ m.from) × IsAccepted t.node m i }
+AnswerOf t m = record anyone { matched = λ _ from i. (from ≡ m.from) × IsAccepted t.node m i }
 
 pub accepted_less : (n : PlainNode) (m : Message) (i j : ℕ) → j ≤ i → IsAccepted n m i → IsAccepted n m j
 accepted_less n m i j less is =
@@ -93,7 +93,7 @@ stepped_rests t m id =
     let x = (stepped t m).node in
     let bounds : Allows (StepMove (AnswerOf t m)) (λ a b. IsBounded (AnswerOf t m) id (of n id) 0 0 a → IsBounded (AnswerOf t m) id (of n id) 0 0 b) =
     record { nothing = λ _ p. p; chain = λ a b c p q r. q (p r); each = λ a b s p. step_bounded id (of n id) 0 0 s p } in
-    elim (over bounds (stepped_way t m (λ _. tt) (λ _. tt) (λ i is. (refl, is))) (inl (omega arith))) as (λ _. RestsOn n m x id) [
+    elim (over bounds (stepped_way t m tt (λ _. tt) (λ _. tt) (λ i is. (refl, is))) (inl (omega arith))) as (λ _. RestsOn n m x id) [
       | inl less ↦ inl less
       | inr leads ↦ elim leads.1 as (λ _. RestsOn n m x id) [
         | inl first ↦ (let none = first.1 in inl (omega (arith, none)))
@@ -163,7 +163,7 @@ looked_match n id = unmarked_match n.id n.tracker.views id
 
 call_bounded : {sound : Type 0} {w : Ways} (id low term bound : ℕ) → sound → {a b : PlainNode} → CallMove sound w a b → HasViewsOfMembers a
     → IsBounded w id low term bound a → IsBounded w id low term bound b
-call_bounded {w = w} id low term bound s (CallChanges m) h p = change_bounded w id low term bound m h p
+call_bounded {w = w} id low term bound s (CallChanges m has) h p = change_bounded w id low term bound m h p
 call_bounded id low term bound s (CallSteps m) h p = step_bounded id low term bound m p
 call_bounded {w = w} id low term bound s (Unmarks n) h p = subst (Bounded w id low term bound (rest (core n))) (sym (looked_match n id)) p
 call_bounded id low term bound s (Gives_up n) h p = inl (omega arith)

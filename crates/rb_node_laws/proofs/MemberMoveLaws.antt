@@ -68,8 +68,8 @@ step_members (Follows n term lead up past) is = nobody role.Follower n.tracker.c
 step_members (Asks n may) is =
     in_any_config n.role role.Precandidate n.tracker.config n.tracker.config (keys_of n.tracker.views) (may_campaign n may).follows no_precandidate is
 step_members (Stands n may) is = nobody role.Candidate n.tracker.config no_candidate
-step_members (Leads n stands won) is = leading_members n
-step_members (Restores n s follows past) is =
+step_members (Leads n stands elected won) is = leading_members n
+step_members (Restores n s follows past came) is =
     (let never : n.role ≡ role.Leader → ⊥ = λ leads. no_follower (sym follows ∙ leads) in
     in_any_config n.role n.role n.tracker.config (config_of s.config) (keys_of n.tracker.views) never never is)
 step_members (Acks n at from i view leads here at_place up said) is = written n at (acked view i) is
@@ -98,7 +98,7 @@ unfolding unmarked
 unmarked_members n is = subst (AreOfMembers n.role n.tracker.config) (sym (ids_unmarked n.id n.tracker.views)) is
 
 pub call_members : {sound : Type 0} {w : Ways} {a b : PlainNode} → CallMove sound w a b → HasViewsOfMembers a → HasViewsOfMembers b
-call_members (CallChanges m) is = change_members m is
+call_members (CallChanges m has) is = change_members m is
 call_members (CallSteps m) is = step_members m is
 call_members (Unmarks n) is = unmarked_members n is
 call_members (Gives_up n) is = nobody role.Follower n.tracker.config no_follower

@@ -79,7 +79,7 @@ commit_moves n i can =
     committed (core n) i (omega (arith, up)) (λ _. held.1) (λ _. inr parts.1)
 
 -- what isn't refused lies past the base and at most at what may go
-compact_within : (v : LogValue) (i upto : ℕ) → compact_fault v i upto ≡ None → (v.base < i) × (i ≤ upto)
+pub compact_within : (v : LogValue) (i upto : ℕ) → compact_fault v i upto ≡ None → (v.base < i) × (i ≤ upto)
 compact_within v i upto =
     let P : Option CompactFault → Type 0 = λ o. o ≡ None → (v.base < i) × (i ≤ upto) in
     if_both P (nat_le i v.base) _ _ (λ _ e. cc)
@@ -111,12 +111,12 @@ step_keeps (StepTells m) = telling_keeps m
 step_keeps (Follows n term lead up past) = follows n term lead up
 step_keeps (Asks n may) = becomes_precandidate n
 step_keeps (Stands n may) = becomes_candidate n
-step_keeps (Leads n stands won) = becomes_leader n stands won
+step_keeps (Leads n stands elected won) = becomes_leader n stands elected
 step_keeps (Votes_for n m last_term last_index gives given) = gives_vote n m last_term last_index (λ _. given) gives
-step_keeps (Appends n body leads) = with_entry (core n) (record { term = n.term; body = body })
-step_keeps (Takes n from append is) = with_append (core n) append.prev append.prev_term append.entries (no_leader n.role is)
+step_keeps (Appends n body leads puts) = with_entry (core n) (record { term = n.term; body = body })
+step_keeps (Takes n from append is came) = with_append (core n) append.prev append.prev_term append.entries (no_leader n.role is)
 step_keeps (Learns n i is up held) = committed (core n) i up held (λ leads. absurd (no_leader n.role is leads))
-step_keeps (Restores n s is past) = with_snapshot (core n) s past (no_leader n.role is)
+step_keeps (Restores n s is past came) = with_snapshot (core n) s past (no_leader n.role is)
 step_keeps _ = same refl
 
 pub change_keeps : {w : Ways} {a b : PlainNode} → ChangeMove a b → Keeps w (core a) (core b)
@@ -125,7 +125,7 @@ change_keeps (Revises n c leads) = same (with_members_same (in_config n c))
 change_keeps _ = same refl
 
 pub call_keeps : {sound : Type 0} {w : Ways} → sound → {a b : PlainNode} → CallMove sound w a b → Keeps w (core a) (core b)
-call_keeps s (CallChanges m) = change_keeps m
+call_keeps s (CallChanges m has) = change_keeps m
 call_keeps s (CallSteps m) = step_keeps m
 call_keeps s (Applies n i known) = (let k = known s in applied_to (core n) i k.0 k.1 k.2)
 call_keeps s (Fills n bytes) = filled (core n) (n.content ++ bytes)

@@ -2,20 +2,26 @@
 --
 -- A law over calls is a relation between a node before and a node after. Where it allows each move, nothing at all, and one after another, it
 -- holds of each way of moves; and each call goes such a way (TellWays, LeaderWays, StepWays, CallWays). So a law's proof is about moves alone.
-use Rattle.std.proofs.Common.{[], ◌≡◌, ℕ, Some, true, ◌≤◌, ◌<◌, None, false, Bool, List, ◌++◌, min, ◌∙◌, ap, append_assoc, sym, append-nil, ◌∷◌, refl}
+use Rattle.std.proofs.Common.{[], ◌≡◌, ℕ, Some, true, ◌≤◌, ◌<◌, None, false, Bool, List, ◌++◌, min, ◌⊎◌, ◌∙◌, ap, append_assoc, sym, append-nil, ◌∷◌, refl}
+use Rattle.std.specs.Prelude.{All}
+use Rattle.rb_raftlog.specs.Bodies.{is_change}
 use Rattle.rb_raftlog.specs.Log.{own, last, compact_fault, compacted, term_at}
 use Rattle.rb_raftlog.specs.declared.entry.Body.{Body}
+use Rattle.rb_raftlog.specs.declared.entry.Entry.{Entry}
 use Rattle.rb_raftlog.specs.declared.snapshot.Snapshot.{Snapshot}
 use Rattle.rb_tracker.specs.Active.{unmarked}
-use Rattle.rb_tracker.specs.Ballots.{answered}
+use Rattle.rb_tracker.specs.Ballots.{answered, vote_result}
 use Rattle.rb_tracker.specs.Commits.{commit_of}
-use Rattle.rb_tracker.specs.Configs.{members}
+use Rattle.rb_tracker.specs.Configs.{members, is_joint}
 use Rattle.rb_tracker.specs.Progresses.{PlainProgress, acked}
 use Rattle.rb_tracker.specs.Trackers.{PlainTracker, view_at, configured, ids_of, place}
 use Rattle.rb_tracker.specs.declared.config.Config.{Config}
 use Rattle.rb_tracker.specs.declared.votes.Votes.{Votes}
+use Rattle.rb_tracker.specs.declared.votes.VoteResult.TheVariants as vote
 use Rattle.rb_message.specs.Appends.{PlainAppend}
 use Rattle.rb_message.specs.declared.event.Event.{Event}
+use Rattle.rb_message.specs.declared.kind.MessageKind.{MessageKind}
+use Rattle.rb_message.specs.declared.kind.MessageKind.TheVariants as kind
 use Rattle.rb_message.specs.declared.message.Message.{Message}
 use Rattle.rb_message.specs.declared.role.Role.TheVariants as role
 use Rattle.rb_node.specs.Campaigns.{why_no_campaign, precandidate, candidate}
@@ -46,10 +52,15 @@ whole n = record { core = core n; tracker = n.tracker; votes = n.votes; words = 
 
 -- ---- what a leader tells, and its commit
 
+-- a proposal is passed on alone
+abbrev pub IsNoProposal : MessageKind → Type 0
+IsNoProposal (kind.Proposal body) = ⊥
+IsNoProposal _ = Unit {0}
+
 pub data TellMove : PlainNode → PlainNode → Type 0 where
   -- nothing that a law looks at
   Idle : (a b : PlainNode) → whole b ≡ whole a → TellMove a b
-  Sent : (n : PlainNode) (m : Message) → (IsSound n → Sends n m) → TellMove n (with_sent n m)
+  Sent : (n : PlainNode) (m : Message) → IsNoProposal m.kind → (IsSound n → Sends n m) → TellMove n (with_sent n m)
   -- a view is written, which matches what it did
   Viewed : (n : PlainNode) (at : ℕ) (view new : PlainProgress) → view_at n.tracker.views at ≡ Some view → new.matched ≡ view.matched
       → (IsSound n → IsSoundView view → IsSoundView new) → TellMove n (viewed n at new)
@@ -77,30 +88,50 @@ pub data ChangeMove : PlainNode → PlainNode → Type 0 where
 
 -- ---- a message, or a campaign
 
+-- a message of a kind came
+pub record Came (w : Ways) (k : MessageKind) : Type 0 where
+  pub message : Message
+  pub comes : w.came message
+  pub is : message.kind ≡ k
+
+-- what a leader appends is no change, or is proposed, or leaves a joint configuration
+abbrev pub Puts : Ways → PlainNode → Body → Type 0
+Puts w n body = (is_change body ≡ false) ⊎ (Came w (kind.Proposal body) ⊎ (is_joint n.tracker.config ≡ true))
+
 pub data StepMove (w : Ways) : PlainNode → PlainNode → Type 0 where
   StepTells : {a b : PlainNode} → TellMove a b → StepMove w a b
+  -- what came is passed on to the leader
+  Passes : (n : PlainNode) (m : Message) → Came w m.kind → (IsSound n → Sends n m) → StepMove w n (with_sent n m)
   Waits : (n : PlainNode) (m : Message) → (IsSound n → Answers n m) → StepMove w n (with_waiting n m)
   Follows : (n : PlainNode) (term lead : ℕ) → n.term ≤ term → (n.role ≡ role.Leader → n.term < term) → StepMove w n (following n term lead)
   Asks : (n : PlainNode) → why_no_campaign n ≡ None → StepMove w n (precandidate n)
   Stands : (n : PlainNode) → why_no_campaign n ≡ None → StepMove w n (candidate n)
-  Leads : (n : PlainNode) → n.role ≡ role.Candidate → w.elected n.term → StepMove w n (leading n)
+  Leads : (n : PlainNode) → n.role ≡ role.Candidate → w.elected n.term → vote_result n.tracker.config n.votes ≡ vote.Won → StepMove w n (leading n)
   Votes_for : (n : PlainNode) (m : Message) (last_term last_index : ℕ) → grants n m last_term last_index false ≡ true → w.given m.from n.term
       → StepMove w n (voted_for n m.from)
-  Counts : (n : PlainNode) (from : ℕ) (granted : Bool) → StepMove w n (record n { votes = answered n.votes from granted })
+  Counts : (n : PlainNode) (m : Message) (granted : Bool) → w.came m
+      → (n.role ≡ role.Candidate → (m.kind ≡ kind.VoteResponse granted) × (m.term ≡ n.term)) → StepMove w n (record n { votes = answered n.votes m.from granted })
   -- an entry of its own
-  Appends : (n : PlainNode) (body : Body) → n.role ≡ role.Leader → StepMove w n (record n { log = own n.log (record { term = n.term; body = body }) })
+  Appends : (n : PlainNode) (body : Body) → n.role ≡ role.Leader → Puts w n body
+      → StepMove w n (record n { log = own n.log (record { term = n.term; body = body }) })
   -- a leader's entries, commit and snapshot
-  Takes : (n : PlainNode) (from : ℕ) (append : PlainAppend) → n.role ≡ role.Follower → StepMove w n (with_appended n from append)
+  Takes : (n : PlainNode) (from : ℕ) (append : PlainAppend) → n.role ≡ role.Follower → Came w (kind.Append append) → StepMove w n (with_appended n from append)
   Learns : (n : PlainNode) (i : ℕ) → n.role ≡ role.Follower → n.commit ≤ i → (IsSound n → i ≤ last n.log) → StepMove w n (record n { commit = i })
-  Restores : (n : PlainNode) (s : Snapshot) → n.role ≡ role.Follower → n.commit < s.index → StepMove w n (restored_to n s)
+  Restores : (n : PlainNode) (s : Snapshot) → n.role ≡ role.Follower → n.commit < s.index → Came w (kind.Snapshot s) → StepMove w n (restored_to n s)
   -- a member's answer
   Acks : (n : PlainNode) (at from i : ℕ) (view : PlainProgress) → n.role ≡ role.Leader → place n.tracker.views from ≡ Some at → view_at n.tracker.views at ≡ Some view
       → view.matched ≤ i → w.matched n.term from i → StepMove w n (viewed n at (acked view i))
 
 -- ---- whatever is called; some is known only where the node was sound at first
 
+abbrev pub ChangesNothing : Entry → Type 0
+ChangesNothing e = is_change e.body ≡ false
+
+abbrev pub HasChange : PlainNode → Type 0
+HasChange n = All ChangesNothing n.log.entries → ⊥
+
 pub data CallMove (sound : Type 0) (w : Ways) : PlainNode → PlainNode → Type 0 where
-  CallChanges : {a b : PlainNode} → ChangeMove a b → CallMove sound w a b
+  CallChanges : {a b : PlainNode} → ChangeMove a b → HasChange a → CallMove sound w a b
   CallSteps : {a b : PlainNode} → StepMove w a b → CallMove sound w a b
   Applies : (n : PlainNode) (i : ℕ) → (sound → (n.applied ≤ i) × (i ≤ n.commit) × (i ≤ n.log.durable)) → CallMove sound w n (record n { applied = i })
   Fills : (n : PlainNode) (bytes : List ℕ) → CallMove sound w n (record n { content = n.content ++ bytes })

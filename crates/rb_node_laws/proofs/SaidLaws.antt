@@ -15,7 +15,7 @@ use Rattle.rb_node_laws.specs.Words.{Sends, Answers}
 use Rattle.rb_node_laws.proofs.CallLaws.{Carried, over_call, over_calls}
 use Rattle.rb_node_laws.proofs.Goes.{Keeps, anyone, core, Ways, anyhow, self}
 use Rattle.rb_node_laws.proofs.MoveLaws.{step_keeps, change_keeps, call_keeps}
-use Rattle.rb_node_laws.proofs.Moves.{StepMove, StepTells, Sent, Idle, Whole, Waits, Leads, ChangeMove, Revises, in_config, with_members, CallMove, CallChanges, CallSteps, Saves}
+use Rattle.rb_node_laws.proofs.Moves.{StepMove, StepTells, Sent, Passes, Idle, Whole, Waits, Leads, ChangeMove, Revises, in_config, with_members, CallMove, CallChanges, CallSteps, Saves}
 use Rattle.rb_node_laws.proofs.Saying.{words, with_sent, with_waiting}
 
 pub record Says (R : PlainNode → PlainNode → Type 0) : Type 0 where
@@ -39,11 +39,12 @@ strangers_words n (id ∷ ids) =
     strangers_words (without_stranger n id) ids ∙ if_both (λ (x : PlainNode). words x ≡ words n) (is_member n.tracker.config id) _ _ (λ _. refl) (λ _. refl)
 
 step_says : {R : PlainNode → PlainNode → Type 0} (p : Says R) {w : Ways} {a b : PlainNode} → StepMove w a b → R a b
-step_says p (StepTells (Sent n m says)) = p.send n m says
+step_says p (StepTells (Sent n m own says)) = p.send n m says
+step_says p (Passes n m came says) = p.send n m says
 step_says p (StepTells (Idle a b e)) = p.silent a b (step_keeps {w = anyone} (StepTells (Idle a b e))) (ap (λ (x : Whole). x.words) e)
 step_says p (Waits n m says) = p.wait n m says
-step_says p (Leads n stands won) =
-    p.silent n (leading n) (step_keeps {w = anyone} (Leads n stands tt)) (with_views_words (in_lead n) (members n.tracker.config) (not n.options.check_quorum))
+step_says p (Leads n stands elected won) =
+    p.silent n (leading n) (step_keeps {w = anyone} (Leads n stands tt won)) (with_views_words (in_lead n) (members n.tracker.config) (not n.options.check_quorum))
 step_says p m = p.silent _ _ (anyhow (step_keeps m)) refl
 
 change_says : {R : PlainNode → PlainNode → Type 0} (p : Says R) {a b : PlainNode} → ChangeMove a b → R a b
@@ -55,7 +56,7 @@ change_says p (Revises n c leads) =
 change_says p m = p.silent _ _ (change_keeps m) refl
 
 call_says : {R : PlainNode → PlainNode → Type 0} (p : Says R) {sound : Type 0} {w : Ways} → sound → {a b : PlainNode} → CallMove sound w a b → R a b
-call_says p s (CallChanges m) = change_says p m
+call_says p s (CallChanges m has) = change_says p m
 call_says p s (CallSteps m) = step_says p m
 call_says p s (Saves n known) = p.save n
 call_says p s m = p.silent _ _ (anyhow (call_keeps s m)) refl

@@ -1,5 +1,5 @@
 -- A message, as a way of moves: terms, campaigns, votes, what a follower does, and the table of roles
-use Rattle.std.proofs.Common.{[], ℕ, ◌≤◌, ◌≡◌, ◌<◌, arith, refl, false, ◌==◌, eqb-true, List, ◌∷◌, subst, sym, Bool, true, ap, ◌∙◌, ◌+◌, None, Option, Some, ◌&&◌, not, min, max, nat_le, ◌||◌, nat_lt, if◌then◌else◌}
+use Rattle.std.proofs.Common.{[], ℕ, ◌≤◌, ◌≡◌, ◌<◌, arith, refl, false, ◌==◌, eqb-true, List, ◌∷◌, subst, sym, Bool, true, ap, ◌∙◌, ◌+◌, None, Option, Some, ◌&&◌, not, min, max, nat_le, ◌||◌, nat_lt, if◌then◌else◌, inl, inr}
 use Rattle.std.proofs.lemmas.Bool.{and_parts, false≢true, leb-false, ltb-false, eqb-false, or_parts}
 use Rattle.rb_raftlog.proofs.TermLaws.{held_in, is_term_is}
 use Rattle.rb_raftlog.specs.Log.{last_term, last, is_up_to_date, answer, is_term, term_at, LogValue}
@@ -7,7 +7,7 @@ use Rattle.rb_raftlog.specs.declared.raft_log.Appended.{Appended}
 use Rattle.rb_raftlog.specs.declared.raft_log.Appended.TheVariants.{Matched, Refused, BelowCommit}
 use Rattle.rb_raftlog.specs.declared.snapshot.Snapshot.{Snapshot}
 use Rattle.rb_tracker.proofs.SetLaws.{if_both}
-use Rattle.rb_tracker.specs.Ballots.{answered}
+use Rattle.rb_tracker.specs.Ballots.{answered, vote_result}
 use Rattle.rb_tracker.specs.Configs.{voters}
 use Rattle.rb_tracker.specs.declared.votes.VoteResult.{VoteResult}
 use Rattle.rb_tracker.specs.declared.votes.VoteResult.TheVariants as vote
@@ -33,7 +33,7 @@ use Rattle.rb_node_laws.specs.Words.{Answers, Sends}
 use Rattle.rb_node_laws.proofs.FollowerLaws.{Reaches, answer_reaches}
 use Rattle.rb_node_laws.proofs.Goes.{Ways, Core, core}
 use Rattle.rb_node_laws.proofs.LeaderWays.{telling_path, nothing_done, telling, led_way, proposed_way, accepted_way, refused_way, beat_answered_way, transferred_way}
-use Rattle.rb_node_laws.proofs.Moves.{Path, StepMove, Onward, Goes_on, One, Follows, Shows, following, Waits, Way, StepTells, Sent, Idle, Then, Stands, Asks, Votes_for, Counts, Learns, Takes, Restores}
+use Rattle.rb_node_laws.proofs.Moves.{Path, StepMove, Came, IsNoProposal, Onward, Goes_on, One, Follows, Shows, following, Waits, Way, StepTells, Sent, Passes, Idle, Then, Stands, Asks, Votes_for, Counts, Learns, Takes, Restores}
 use Rattle.rb_node_laws.proofs.Saying.{different}
 
 -- ---- terms
@@ -79,6 +79,7 @@ lowered_way _ t m = Shows t _
 
 -- what may be asked of others, and answered to itself, by all that a question leaves as it is
 record May (c : Core) (term : ℕ) (question answer : MessageKind) : Type 0 where
+  own : IsNoProposal question
   others : (x : PlainNode) (to : ℕ) → core x ≡ c → (to ≡ x.id → ⊥) → Sends x (message x.id to term question)
   itself : (x : PlainNode) (to : ℕ) → core x ≡ c → to ≡ x.id → Answers x (message x.id to term answer)
 
@@ -87,7 +88,7 @@ asked_one_way : {w : Ways} (n : PlainNode) (to term : ℕ) (question answer : Me
 asked_one_way {w} n to term question answer may =
     if_both (Way (StepMove w) n) (to == n.id) _ _
     (λ is. One (Waits n (message n.id to term answer) (λ _. may.itself n to refl (eqb-true to n.id is))))
-    (λ no. One (StepTells (Sent n (message n.id to term question) (λ _. may.others n to refl (different to n.id no)))))
+    (λ no. One (StepTells (Sent n (message n.id to term question) may.own (λ _. may.others n to refl (different to n.id no)))))
 
 pub asked_one_same : (n : PlainNode) (to term : ℕ) (question answer : MessageKind) → core (asked_one n to term question answer) ≡ core n
 asked_one_same n to term question answer = if_both (λ (x : PlainNode). core x ≡ core n) (to == n.id) _ _ (λ _. refl) (λ _. refl)
@@ -102,12 +103,14 @@ asked_way n (id ∷ ids) term question answer may =
 
 may_ask : (n : PlainNode) (transfer : Bool) → n.vote ≡ n.id → May (core n) n.term (kind.Vote (last_term n.log) (last n.log) transfer) (kind.VoteResponse true)
 may_ask n transfer itself = record {
+  own = tt;
   others = λ x to e other. (refl, (sym (ap (λ (c : Core). c.term) e), other, sym (ap (λ (c : Core). last_term c.log) e), sym (ap (λ (c : Core). last c.log) e)));
   itself = λ x to e own. (refl, (sym (ap (λ (c : Core). c.term) e), λ _. ap (λ (c : Core). c.vote) e ∙ itself ∙ sym (ap (λ (c : Core). c.id) e) ∙ sym own));
 }
 
 may_ask_first : (n : PlainNode) → May (core n) (n.term + 1) (kind.PreVote (last_term n.log) (last n.log)) (kind.PreVoteResponse true)
 may_ask_first n = record {
+  own = tt;
   others = λ x to e other. (refl, (sym (ap (λ (c : Core). c.term + 1) e), other, sym (ap (λ (c : Core). last_term c.log) e), sym (ap (λ (c : Core). last c.log) e)));
   itself = λ x to e own. (refl, tt);
 }
@@ -162,18 +165,27 @@ pre_vote_answered_way {w} t m last_term last_index =
     if_both (λ (y : PlainNode). Path (StepMove w) t (with_node t y)) (grants t.node m last_term last_index true) _ _
     (λ _. waits t m.from m.term (kind.PreVoteResponse true) (λ _. (refl, tt))) (λ _. waits t m.from t.node.term (kind.PreVoteResponse false) (λ _. (refl, tt)))
 
-decided_way : {w : Ways} (v : VoteResult) (t : Turn) → t.node.role ≡ role.Candidate → (v ≡ vote.Won → w.elected t.node.term) → Path (StepMove w) t (decided v t)
-decided_way vote.Won t stands elect = led_way t stands (elect refl)
-decided_way vote.Pending t stands elect = stays t
-decided_way vote.Lost t stands elect = joins t 0 (λ leads. (let no : role.Candidate ≡ role.Leader = sym stands ∙ leads in cc))
+only_stands : (t : Turn) → t.node.role ≡ role.Candidate → t.node.role ≡ role.Leader → ⊥
+only_stands t stands leads = let no : role.Candidate ≡ role.Leader = sym stands ∙ leads in cc
+
+asks_first : (t : Turn) → t.node.role ≡ role.Precandidate → t.node.role ≡ role.Leader → ⊥
+asks_first t is leads = let no : role.Precandidate ≡ role.Leader = sym is ∙ leads in cc
+
+decided_way : {w : Ways} (v : VoteResult) (t : Turn) → t.node.role ≡ role.Candidate → (v ≡ vote.Won → w.elected t.node.term)
+    → vote_result t.node.tracker.config t.node.votes ≡ v → Path (StepMove w) t (decided v t)
+decided_way vote.Won t stands elect won = led_way t stands (elect refl) won
+decided_way vote.Pending t stands elect is = stays t
+decided_way vote.Lost t stands elect is = joins t 0 (only_stands t stands)
 
 pre_decided_way : {w : Ways} (v : VoteResult) (t : Turn) → (t.node.role ≡ role.Leader → ⊥) → Path (StepMove w) t (pre_decided v t)
 pre_decided_way vote.Won t never = after_pre_vote_way t
 pre_decided_way vote.Pending t never = stays t
 pre_decided_way vote.Lost t never = joins t 0 never
 
-counted_way : {w : Ways} (t : Turn) (m : Message) (granted : Bool) → Path (StepMove w) t (counted t m granted)
-counted_way t m granted = Onward (Goes_on t (One (Counts t.node m.from granted))) (Shows (with_node t (record t.node { votes = answered t.node.votes m.from granted })) _)
+counted_way : {w : Ways} (t : Turn) (m : Message) (granted : Bool) → w.came m
+    → (t.node.role ≡ role.Candidate → (m.kind ≡ kind.VoteResponse granted) × (m.term ≡ t.node.term)) → Path (StepMove w) t (counted t m granted)
+counted_way t m granted came answers =
+    Onward (Goes_on t (One (Counts t.node m granted came answers))) (Shows (with_node t (record t.node { votes = answered t.node.votes m.from granted })) _)
 
 -- ---- a follower
 
@@ -192,18 +204,20 @@ after_log_way (Matched i) t from append follows reach =
 after_log_way (Refused hint) t from append follows reach = waits t from t.node.term (kind.AppendRefusal append.prev hint) (λ _. (refl, refl))
 after_log_way (BelowCommit i) t from append follows reach = Shows t _
 
-append_way : {w : Ways} (t : Turn) (from : ℕ) (append : PlainAppend) → t.node.role ≡ role.Follower → Path (StepMove w) t (append_taken t from append)
+append_way : {w : Ways} (t : Turn) (from : ℕ) (append : PlainAppend) → t.node.role ≡ role.Follower → Came w (kind.Append append)
+    → Path (StepMove w) t (append_taken t from append)
 unfolding append_taken
-append_way t from append follows =
+append_way t from append follows came =
     let n = t.node in
     let u : Turn = with_node t (with_appended n from append) in
-    Onward (Goes_on t (One (Takes n from append follows)))
+    Onward (Goes_on t (One (Takes n from append follows came)))
     (after_log_way (answer n.log append.prev append.prev_term append.entries n.commit) u from append follows
     (answer_reaches n.log append.prev append.prev_term append.entries n.commit))
 
-snapshot_way : {w : Ways} (t : Turn) (from : ℕ) (s : Snapshot) → t.node.role ≡ role.Follower → Path (StepMove w) t (snapshot_taken t from s)
+snapshot_way : {w : Ways} (t : Turn) (from : ℕ) (s : Snapshot) → t.node.role ≡ role.Follower → Came w (kind.Snapshot s)
+    → Path (StepMove w) t (snapshot_taken t from s)
 unfolding snapshot_taken
-snapshot_way {w} t from s follows =
+snapshot_way {w} t from s follows came =
     let n = t.node in
     let P : Turn → Type 0 = Path (StepMove w) t in
     let x : PlainNode = record n { commit = s.index } in
@@ -213,13 +227,13 @@ snapshot_way {w} t from s follows =
     if_both P (is_term (term_at n.log s.index) s.term) _ _
     (λ holds. (let held = held_in n.log s.index s.term (is_term_is (term_at n.log s.index) s.term holds) in
     Onward (Goes_on t (One (Learns n s.index follows (omega (arith, above)) (λ _. held.1)))) (holds_up_to (with_node t x) from s.index follows (λ o. o.is_held))))
-    (λ _. Onward (Goes_on t (One (Restores n s follows above)))
+    (λ _. Onward (Goes_on t (One (Restores n s follows above came)))
     (Onward (holds_up_to y from s.index follows (λ o. o.is_held)) (Shows (with_node t (with_match (restored_to n s) from)) _)))))
 
 -- what is for its leader
-passed_way : {w : Ways} (t : Turn) (what : MessageKind) → (Sends t.node (message t.node.id t.node.lead 0 what))
+passed_way : {w : Ways} (t : Turn) (what : MessageKind) → Came w what → Sends t.node (message t.node.id t.node.lead 0 what)
     → Path (StepMove w) t (with_node t (passed_on t.node what))
-passed_way t what says = Goes_on t (One (StepTells (Sent t.node (message t.node.id t.node.lead 0 what) (λ _. says))))
+passed_way t what came says = Goes_on t (One (Passes t.node (message t.node.id t.node.lead 0 what) came (λ _. says)))
 
 beaten_way : {w : Ways} (n : PlainNode) (from commit : ℕ) → n.role ≡ role.Follower → Way (StepMove w) n (beaten n from commit)
 beaten_way n from commit follows =
@@ -227,64 +241,71 @@ beaten_way n from commit follows =
     let x : PlainNode = commits_to h (min commit (last n.log)) in
     Then {b = h} (One (StepTells (Idle n h refl)))
     (Then {b = x} (One (Learns h (max n.commit (min commit (last n.log))) follows (omega arith) (λ s. (let held = s.is_held in omega (arith, held)))))
-    (One (StepTells (Sent x (message x.id from x.term kind.HeartbeatResponse) (λ _. (refl, refl))))))
+    (One (StepTells (Sent x (message x.id from x.term kind.HeartbeatResponse) tt (λ _. (refl, refl))))))
 
 -- ---- a message
 
 -- what is known of a message where it is stepped: votes, elections and answers that it may bring
 pub record Brings (w : Ways) (t : Turn) (m : Message) : Type 0 where
+  pub came : w.came m
+  pub of_term : (granted : Bool) → m.kind ≡ kind.VoteResponse granted → m.term ≡ t.node.term
   pub votes : (last_term last_index : ℕ) (transfer : Bool) → m.kind ≡ kind.Vote last_term last_index transfer
       → (m.term ≡ t.node.term) × (is_up_to_date t.node.log last_index last_term ≡ true → w.given m.from t.node.term)
   pub elects : t.node.role ≡ role.Candidate → (granted : Bool) → m.kind ≡ kind.VoteResponse granted → count_of t.node m.from granted ≡ vote.Won → w.elected t.node.term
   pub tells : t.node.role ≡ role.Leader → (i : ℕ) → m.kind ≡ kind.AppendResponse i → w.matched t.node.term m.from (min i (last t.node.log))
 
-follower_way : {w : Ways} (k : MessageKind) (t : Turn) (m : Message) → t.node.role ≡ role.Follower → Path (StepMove w) t (as_follower k t m)
-follower_way (kind.Append append) t m is = append_way t m.from append is
-follower_way (kind.Heartbeat commit) t m is = Goes_on t (beaten_way t.node m.from commit is)
-follower_way (kind.Snapshot snapshot) t m is =
+of_message : {w : Ways} (m : Message) → w.came m → Came w m.kind
+of_message m came = record { message = m; comes = came; is = refl }
+
+follower_way : {w : Ways} (k : MessageKind) (t : Turn) (m : Message) → t.node.role ≡ role.Follower → Came w k → Path (StepMove w) t (as_follower k t m)
+follower_way (kind.Append append) t m is came = append_way t m.from append is came
+follower_way (kind.Heartbeat commit) t m is came = Goes_on t (beaten_way t.node m.from commit is)
+follower_way (kind.Snapshot snapshot) t m is came =
     let n : PlainNode = heard t.node m.from in
-    Onward (Goes_on t (One (StepTells (Idle t.node n refl)))) (snapshot_way (with_node t n) m.from snapshot is)
-follower_way {w} (kind.Proposal body) t m is =
-    if_both (Path (StepMove w) t) (t.node.lead == 0) _ _ (λ _. Shows t _) (λ _. passed_way t (kind.Proposal body) (refl, (refl, refl)))
-follower_way {w} (kind.TransferLeader target) t m is =
-    if_both (Path (StepMove w) t) (t.node.lead == 0) _ _ (λ _. Shows t _) (λ _. passed_way t (kind.TransferLeader target) (refl, (refl, refl)))
-follower_way kind.TimeoutNow t m is = campaigned_way t true
-follower_way _ t m is = Shows t _
+    Onward (Goes_on t (One (StepTells (Idle t.node n refl)))) (snapshot_way (with_node t n) m.from snapshot is came)
+follower_way {w} (kind.Proposal body) t m is came =
+    if_both (Path (StepMove w) t) (t.node.lead == 0) _ _ (λ _. Shows t _) (λ _. passed_way t (kind.Proposal body) came (refl, (refl, refl)))
+follower_way {w} (kind.TransferLeader target) t m is came =
+    if_both (Path (StepMove w) t) (t.node.lead == 0) _ _ (λ _. Shows t _) (λ _. passed_way t (kind.TransferLeader target) came (refl, (refl, refl)))
+follower_way kind.TimeoutNow t m is came = campaigned_way t true
+follower_way _ t m is came = Shows t _
 
-leader_followed_way : {w : Ways} (t : Turn) (m : Message) → (t.node.role ≡ role.Leader → ⊥) → Path (StepMove w) t (leader_followed t m)
-leader_followed_way t m never = let u = followed t t.node.term m.from in Onward (joins t m.from never) (follower_way m.kind u m refl)
+leader_followed_way : {w : Ways} (t : Turn) (m : Message) → (t.node.role ≡ role.Leader → ⊥) → w.came m → Path (StepMove w) t (leader_followed t m)
+leader_followed_way t m never came = let u = followed t t.node.term m.from in Onward (joins t m.from never) (follower_way m.kind u m refl (of_message m came))
 
-precandidate_way : {w : Ways} (k : MessageKind) (t : Turn) (m : Message) → (t.node.role ≡ role.Leader → ⊥) → Path (StepMove w) t (as_precandidate k t m)
-precandidate_way (kind.PreVoteResponse granted) t m never =
-    Onward (counted_way t m granted) (pre_decided_way (count_of t.node m.from granted) (counted t m granted) never)
-precandidate_way (kind.Append append) t m never = leader_followed_way t m never
-precandidate_way (kind.Heartbeat commit) t m never = leader_followed_way t m never
-precandidate_way (kind.Snapshot snapshot) t m never = leader_followed_way t m never
-precandidate_way _ t m never = Shows t _
+precandidate_way : {w : Ways} (k : MessageKind) (t : Turn) (m : Message) → t.node.role ≡ role.Precandidate → w.came m → Path (StepMove w) t (as_precandidate k t m)
+precandidate_way (kind.PreVoteResponse granted) t m is came =
+    Onward (counted_way t m granted came (λ stands. (let no : role.Precandidate ≡ role.Candidate = sym is ∙ stands in cc)))
+    (pre_decided_way (count_of t.node m.from granted) (counted t m granted) (asks_first t is))
+precandidate_way (kind.Append append) t m is came = leader_followed_way t m (asks_first t is) came
+precandidate_way (kind.Heartbeat commit) t m is came = leader_followed_way t m (asks_first t is) came
+precandidate_way (kind.Snapshot snapshot) t m is came = leader_followed_way t m (asks_first t is) came
+precandidate_way _ t m is came = Shows t _
 
-candidate_way : {w : Ways} (k : MessageKind) (t : Turn) (m : Message) → t.node.role ≡ role.Candidate → (t.node.role ≡ role.Leader → ⊥)
-    → ((granted : Bool) → k ≡ kind.VoteResponse granted → count_of t.node m.from granted ≡ vote.Won → w.elected t.node.term) → Path (StepMove w) t (as_candidate k t m)
-candidate_way (kind.VoteResponse granted) t m stands never elect =
-    Onward (counted_way t m granted) (decided_way (count_of t.node m.from granted) (counted t m granted) stands (elect granted refl))
-candidate_way (kind.Append append) t m stands never elect = leader_followed_way t m never
-candidate_way (kind.Heartbeat commit) t m stands never elect = leader_followed_way t m never
-candidate_way (kind.Snapshot snapshot) t m stands never elect = leader_followed_way t m never
-candidate_way _ t m stands never elect = Shows t _
+candidate_way : {w : Ways} (k : MessageKind) (t : Turn) (m : Message) → m.kind ≡ k → t.node.role ≡ role.Candidate → Brings w t m
+    → Path (StepMove w) t (as_candidate k t m)
+candidate_way (kind.VoteResponse granted) t m it is b =
+    Onward (counted_way t m granted b.came (λ _. (it, b.of_term granted it)))
+    (decided_way (count_of t.node m.from granted) (counted t m granted) is (b.elects is granted it) refl)
+candidate_way (kind.Append append) t m it is b = leader_followed_way t m (only_stands t is) b.came
+candidate_way (kind.Heartbeat commit) t m it is b = leader_followed_way t m (only_stands t is) b.came
+candidate_way (kind.Snapshot snapshot) t m it is b = leader_followed_way t m (only_stands t is) b.came
+candidate_way _ t m it is b = Shows t _
 
-leader_way : {w : Ways} (k : MessageKind) (t : Turn) (m : Message) → t.node.role ≡ role.Leader
+leader_way : {w : Ways} (k : MessageKind) (t : Turn) (m : Message) → t.node.role ≡ role.Leader → Came w k
     → ((i : ℕ) → k ≡ kind.AppendResponse i → w.matched t.node.term m.from (min i (last t.node.log))) → Path (StepMove w) t (as_leader k t m)
-leader_way (kind.Proposal body) t m is tells = proposed_way t body is
-leader_way (kind.AppendResponse i) t m is tells = accepted_way t m i is (tells i refl)
-leader_way (kind.AppendRefusal refused hint) t m is tells = telling_path (refused_way t m refused hint)
-leader_way kind.HeartbeatResponse t m is tells = telling_path (beat_answered_way t m)
-leader_way (kind.TransferLeader target) t m is tells = telling_path (transferred_way t m target is)
-leader_way _ t m is tells = Shows t _
+leader_way (kind.Proposal body) t m is came tells = proposed_way t body is (inr (inl came))
+leader_way (kind.AppendResponse i) t m is came tells = accepted_way t m i is (tells i refl)
+leader_way (kind.AppendRefusal refused hint) t m is came tells = telling_path (refused_way t m refused hint)
+leader_way kind.HeartbeatResponse t m is came tells = telling_path (beat_answered_way t m)
+leader_way (kind.TransferLeader target) t m is came tells = telling_path (transferred_way t m target is)
+leader_way _ t m is came tells = Shows t _
 
 role_way : {w : Ways} (r : Role) (t : Turn) (m : Message) → t.node.role ≡ r → Brings w t m → Path (StepMove w) t (by_role_of r t m)
-role_way role.Follower t m is b = follower_way m.kind t m is
-role_way role.Precandidate t m is b = precandidate_way m.kind t m (λ leads. (let no : role.Precandidate ≡ role.Leader = sym is ∙ leads in cc))
-role_way role.Candidate t m is b = candidate_way m.kind t m is (λ leads. (let no : role.Candidate ≡ role.Leader = sym is ∙ leads in cc)) (b.elects is)
-role_way role.Leader t m is b = leader_way m.kind t m is (b.tells is)
+role_way role.Follower t m is b = follower_way m.kind t m is (of_message m b.came)
+role_way role.Precandidate t m is b = precandidate_way m.kind t m is b.came
+role_way role.Candidate t m is b = candidate_way m.kind t m refl is b
+role_way role.Leader t m is b = leader_way m.kind t m is (of_message m b.came) (b.tells is)
 
 term_way : {w : Ways} (k : MessageKind) (t : Turn) (m : Message) → m.kind ≡ k → Brings w t m → Path (StepMove w) t (at_term_by k t m)
 term_way (kind.Vote last_term last_index transfer) t m is b = (let v = b.votes last_term last_index transfer is in vote_way t m last_term last_index v.0 v.1)
@@ -313,10 +334,12 @@ no_answer_later t m k r is follows e other = other (e ∙ ap (λ (x : MessageKin
 above : (a b : ℕ) → nat_lt b a ≡ false → (b == a) ≡ false → a < b
 above a b low apart = let le = ltb-false b a low in let ne = eqb-false b a apart in let lt : (a ≡ b → ⊥) → a < b = λ no. omega (arith, le, no) in lt (λ e. ne (sym e))
 
-brings_now : {w : Ways} (t : Turn) (m : Message) → (not (has_term m.kind) || m.term == t.node.term) ≡ true
+brings_now : {w : Ways} (t : Turn) (m : Message) → w.came m → (not (has_term m.kind) || m.term == t.node.term) ≡ true
     → (IsGranted t.node m → w.given m.from m.term) → (IsElected t.node m → w.elected t.node.term) → ((i : ℕ) → IsAccepted t.node m i → w.matched t.node.term m.from i)
     → Brings w t m
-brings_now {w} t m now grant elect accept = record {
+brings_now {w} t m came now grant elect accept = record {
+  came = came;
+  of_term = λ granted answers. of_term t m (ap has_term answers) now;
   votes = λ last_term last_index transfer asks. (let same = of_term t m (ap has_term asks) now in
       (same, λ new. subst (w.given m.from) same (grant (record { last_term = last_term; last_index = last_index; transfer = transfer; asks = asks; is_new = new }))));
   elects = λ stands granted answers won. elect
@@ -325,8 +348,10 @@ brings_now {w} t m now grant elect accept = record {
       (record { leads = leads; of_term = of_term t m (ap has_term says) now; index = i; says = says; at_most = omega arith; held = omega arith });
 }
 
-brings_later : {w : Ways} (t : Turn) (m : Message) → (IsGranted t.node m → w.given m.from m.term) → Brings w (raised t m) m
-brings_later {w} t m grant = record {
+brings_later : {w : Ways} (t : Turn) (m : Message) → w.came m → (IsGranted t.node m → w.given m.from m.term) → Brings w (raised t m) m
+brings_later {w} t m came grant = record {
+  came = came;
+  of_term = λ granted answers. sym (ap (λ (x : MessageKind). (raised_by x t m).node.term) answers);
   votes = λ last_term last_index transfer asks.
       (let same : m.term ≡ (raised t m).node.term = sym (ap (λ (x : MessageKind). (raised_by x t m).node.term) asks) in (
         same,
@@ -343,18 +368,18 @@ brings_later {w} t m grant = record {
   tells = λ leads i says. absurd (no_answer_later t m (kind.AppendResponse i) (raised t m).node.role says refl refl (λ f. (let never : role.Leader ≡ role.Follower = sym leads ∙ f in cc)));
 }
 
-pub stepped_way : {w : Ways} (t : Turn) (m : Message)
+pub stepped_way : {w : Ways} (t : Turn) (m : Message) → w.came m
     → (IsGranted t.node m → w.given m.from m.term) → (IsElected t.node m → w.elected t.node.term) → ((i : ℕ) → IsAccepted t.node m i → w.matched t.node.term m.from i)
     → Path (StepMove w) t (stepped t m)
 unfolding stepped
-stepped_way {w} t m grant elect accept =
+stepped_way {w} t m came grant elect accept =
     let P : Turn → Type 0 = Path (StepMove w) t in
     if_both P (not (has_term m.kind) || m.term == t.node.term) (at_term t m)
     (if nat_lt m.term t.node.term then lowered t m else (if is_disturbed_by m.kind t.node then ignored t m else at_term (raised t m) m))
-    (λ now. term_way m.kind t m refl (brings_now t m now grant elect accept))
+    (λ now. term_way m.kind t m refl (brings_now t m came now grant elect accept))
     (λ apart. if_both P (nat_lt m.term t.node.term) (lowered t m) (if is_disturbed_by m.kind t.node then ignored t m else at_term (raised t m) m)
     (λ _. lowered_way m.kind t m)
     (λ later. if_both P (is_disturbed_by m.kind t.node) (ignored t m) (at_term (raised t m) m)
     (λ _. Shows t _)
     (λ _. Onward (raised_way m.kind t m (above t.node.term m.term later (or_parts (not (has_term m.kind)) (m.term == t.node.term) apart).1))
-    (term_way m.kind (raised t m) m refl (brings_later t m grant)))))
+    (term_way m.kind (raised t m) m refl (brings_later t m came grant)))))

@@ -91,7 +91,7 @@ append_sent : (n : PlainNode) (at to : ℕ) (view : PlainProgress) (es : List En
     → AreOfLog n.log (view.next - 1) es
     → (to ≡ n.id → ⊥) → Way TellMove n (posted n to (append_of n view.next es))
 append_sent n at to view es is past among other =
-    One (Sent n (message n.id to n.term (append_of n view.next es)) (λ _. (
+    One (Sent n (message n.id to n.term (append_of n view.next es)) tt (λ _. (
       refl,
       (
         refl,
@@ -109,7 +109,7 @@ append_sent n at to view es is past among other =
 snapshot_sent : (n : PlainNode) (at to : ℕ) (view : PlainProgress) → view_at n.tracker.views at ≡ Some view → (to ≡ n.id → ⊥)
     → Way TellMove n (posted n to (kind.Snapshot (snapshot_of n)))
 snapshot_sent n at to view is other =
-    One (Sent n (message n.id to n.term (kind.Snapshot (snapshot_of n))) (λ _. (
+    One (Sent n (message n.id to n.term (kind.Snapshot (snapshot_of n))) tt (λ _. (
       refl,
       (
         refl,

@@ -77,7 +77,7 @@ step_views (StepTells m) s v = telling_views m s v
 step_views (Follows n term lead up past) s v = no_views role.Follower
 step_views (Asks n may) s v = record { only_leading = λ _. v.only_leading (may_campaign n may).follows; each = v.each }
 step_views (Stands n may) s v = no_views role.Candidate
-step_views (Leads n stands won) s v = record {
+step_views (Leads n stands elected won) s v = record {
   only_leading = λ no. absurd (no (leading_leads n));
   each = with_views_sound (in_lead n) (members n.tracker.config) (not n.options.check_quorum) s tt;
 }
@@ -107,7 +107,7 @@ unmarked_views n v = record {
 }
 
 call_views : {sound : Type 0} {w : Ways} {a b : PlainNode} → CallMove sound w a b → IsSound a → HasSoundViews a → HasSoundViews b
-call_views (CallChanges m) s v = change_views m s v
+call_views (CallChanges m has) s v = change_views m s v
 call_views (CallSteps m) s v = step_views m s v
 call_views (Unmarks n) s v = unmarked_views n v
 call_views (Gives_up n) s v = no_views role.Follower
