@@ -1,5 +1,5 @@
 -- What holds of each node holds after each of its moves (rb_node_laws' Moves), where what comes to it was put out so
-use Rattle.std.proofs.Common.{◌≡◌, ◌⊎◌, ℕ, ◌-◌, ◌≤◌, arith, Bool, true, false, not, List, [], ◌∷◌, length, min, None, Result, Ok, Err, refl, sym, ap, subst, ◌∙◌, inl, inr, if◌then◌else◌, ◌==◌}
+use Rattle.std.proofs.Common.{◌≡◌, ◌⊎◌, ℕ, ◌-◌, ◌≤◌, arith, Bool, true, false, not, List, [], length, min, None, Result, Ok, Err, refl, sym, ap, subst, ◌∙◌, inl, inr, if◌then◌else◌, ◌==◌}
 use Rattle.std.specs.Prelude.{All}
 use Rattle.std.proofs.lemmas.Bool.{false≢true}
 use Rattle.std.proofs.lemmas.List.Elements.{All-nil, All-append, All-take, All-drop}
@@ -17,7 +17,6 @@ use Rattle.rb_tracker.specs.Active.{unmarked}
 use Rattle.rb_tracker.specs.Ballots.{has_answered, answered, vote_result}
 use Rattle.rb_tracker.specs.Configs.{is_voter, is_joint, members, config_of, state_of}
 use Rattle.rb_tracker.specs.Sets.{has}
-use Rattle.rb_tracker.specs.Trackers.{has_view}
 use Rattle.rb_tracker.specs.declared.config.Config.{Config}
 use Rattle.rb_tracker.specs.declared.votes.Votes.{Votes}
 use Rattle.rb_tracker.specs.declared.votes.VoteResult.TheVariants as vote
@@ -28,13 +27,14 @@ use Rattle.rb_message.specs.declared.message.Message.{Message}
 use Rattle.rb_message.specs.declared.role.Role.TheVariants as role
 use Rattle.rb_node.specs.Campaigns.{candidate, precandidate}
 use Rattle.rb_node.specs.Following.{heard, with_appended, restored_to}
-use Rattle.rb_node.specs.Leading.{with_view_of, with_views, in_lead, leading}
+use Rattle.rb_node.specs.Leading.{in_lead, leading}
 use Rattle.rb_node.specs.Node.{PlainNode}
 use Rattle.rb_node.specs.Readying.{saved}
 use Rattle.rb_node_laws.specs.Sound.{IsSound}
 use Rattle.rb_node_laws.specs.Words.{SendsBy, AnswersBy}
 use Rattle.rb_node_laws.proofs.ChoiceLaws.{may_campaign}
 use Rattle.rb_node_laws.proofs.Goes.{Ways, anyone}
+use Rattle.rb_node_laws.proofs.LeaderLaws.{with_views_only}
 use Rattle.rb_node_laws.proofs.MoveLaws.{call_keeps, compact_within}
 use Rattle.rb_node_laws.proofs.Moves.{Whole, Allows, TellMove, Idle, Sent, IsNoProposal, following, StepMove, StepTells, Came, Puts, Passes, Waits, Follows, Asks, Stands as Campaigns, Leads, Counts, Appends, Takes, Restores, CallMove, CallChanges, CallSteps, Gives_up, Saves, Compacts}
 use Rattle.rb_cluster_laws.specs.Honesty.{IsPlain, KeepsBy, Keeps}
@@ -147,13 +147,6 @@ counts_holds {w} n m granted gives answers h =
 
 -- ---- the lead
 
-with_view_holds : {w : World} (n : PlainNode) (id : ℕ) (active : Bool) → Holds w n → Holds w (with_view_of n id active)
-with_view_holds {w} n id active h = if_both (λ (x : PlainNode). Holds w x) (has_view n.tracker.views id) _ _ (λ _. h) (λ _. h)
-
-with_views_holds : {w : World} (n : PlainNode) (ids : List ℕ) (active : Bool) → Holds w n → Holds w (with_views n ids active)
-with_views_holds n [] active h = h
-with_views_holds n (id ∷ ids) active h = with_views_holds (with_view_of n id active) ids active (with_view_holds n id active h)
-
 in_lead_holds : {w : World} (n : PlainNode) → n.role ≡ role.Candidate → IsElect w n.term → Holds w n → Holds w (in_lead n)
 in_lead_holds n stands chosen h = record {
   itself = h.itself;
@@ -170,7 +163,7 @@ leading_holds : {w : World} (n : PlainNode) → n.role ≡ role.Candidate → vo
 leading_holds {w} n stands won h =
     let s : Stands w n.term n.votes = h.stands stands in
     let first : vote_result w.setting.config n.votes ≡ vote.Won = subst (λ (c : Config). vote_result c n.votes ≡ vote.Won) h.config won in
-    with_views_holds (in_lead n) (members n.tracker.config) (not n.options.check_quorum)
+    subst (Holds w) (sym (with_views_only (in_lead n) (members n.tracker.config) (not n.options.check_quorum)))
     (in_lead_holds n stands (record { may = s.may; by = record { votes = n.votes; won = first; cast = s.counted } }) h)
 
 -- ---- logs

@@ -43,7 +43,7 @@ use Rattle.rb_node_laws.specs.Elections.{OwnGrants, OwnElects, own_turn, Granted
 use Rattle.rb_node_laws.specs.Matches.{IsAccepted}
 use Rattle.rb_node_laws.specs.Sound.{IsSound}
 use Rattle.rb_node_laws.proofs.Goes.{Core, core, Ways}
-use Rattle.rb_node_laws.proofs.LeaderLaws.{with_views_same, strangers_same}
+use Rattle.rb_node_laws.proofs.LeaderLaws.{viewing, with_views_only, strangers_only}
 use Rattle.rb_node_laws.proofs.LeaderWays.{nothing_done, transfer_ended_way, telling_path, appended_change_way, all_told_way}
 use Rattle.rb_node_laws.proofs.Moves.{Path, TellMove, ChangesNothing, with_members, Onward, Goes_on, ChangeMove, in_config, following, Resigns, Shows, Revises, Configures, Unchanged, Idle, Whole, Commits, Allows, over, StepMove, CallMove, wider_path, CallSteps, One, Fills, CallChanges, StepTells, Applies, Way, Sent, Then, Unmarks, Gives_up, whole, Saves, Viewed, Compacts}
 use Rattle.rb_node_laws.proofs.ProgressLaws.{unreachable_matched, sound_unreachable}
@@ -112,10 +112,11 @@ pub record Leaves (a b : PlainNode) : Type 0 where
   pub same : untouched (core b) ≡ untouched (core a)
   pub commit : a.commit ≤ b.commit
 
-pub with_members_same : (n : PlainNode) → core (with_members n) ≡ core n
-with_members_same n =
+pub with_members_only : (n : PlainNode) → with_members n ≡ viewing n (with_members n).tracker.views
+with_members_only n =
     let left = without_strangers n (ids_of n.tracker.views) in
-    with_views_same left (missing left.tracker.views (members left.tracker.config)) true ∙ strangers_same n (ids_of n.tracker.views)
+    with_views_only left (missing left.tracker.views (members left.tracker.config)) true
+    ∙ ap (λ (y : PlainNode). viewing y (with_members n).tracker.views) (strangers_only n (ids_of n.tracker.views))
 
 leaves_same : {a b : PlainNode} → core b ≡ core a → Leaves a b
 leaves_same {a} {b} e = let commit : b.commit ≡ a.commit = ap (λ (c : Core). c.commit) e in record { same = ap untouched e; commit = omega (arith, commit) }
@@ -129,7 +130,7 @@ telling_leaves (Commits n can) =
 telling_leaves _ = leaves_same refl
 
 change_leaves : {a b : PlainNode} → ChangeMove a b → Leaves a b
-change_leaves (Revises n c leads) = leaves_same (with_members_same (in_config n c))
+change_leaves (Revises n c leads) = leaves_same (ap core (with_members_only (in_config n c)))
 change_leaves _ = record { same = refl; commit = omega arith }
 
 leaves_then : (a b c : PlainNode) → Leaves a b → Leaves b c → Leaves a c

@@ -21,9 +21,9 @@ use Rattle.rb_node_laws.specs.Matches.{IsHeldBetween}
 use Rattle.rb_node_laws.specs.Sound.{IsSound}
 use Rattle.rb_node_laws.specs.Words.{IsLater}
 use Rattle.rb_node_laws.proofs.CallLaws.{Carried, over_calls}
-use Rattle.rb_node_laws.proofs.CallWays.{with_members_same, change_way}
+use Rattle.rb_node_laws.proofs.CallWays.{with_members_only, change_way}
 use Rattle.rb_node_laws.proofs.ChoiceLaws.{may_campaign}
-use Rattle.rb_node_laws.proofs.Goes.{Keeps, anyone, core, self, and_then, middle_term, Core, Ways, Goes, middle_leads, goes_then, anyhow}
+use Rattle.rb_node_laws.proofs.Goes.{Keeps, anyone, core, self, and_then, middle_term, Ways, Goes, middle_leads, goes_then, anyhow}
 use Rattle.rb_node_laws.proofs.MatchViewLaws.{of, place_set, place_here}
 use Rattle.rb_node_laws.proofs.MoveLaws.{no_leader, step_keeps, call_keeps}
 use Rattle.rb_node_laws.proofs.Moves.{TellMove, Idle, Whole, Viewed, Commits, Sent, Allows, StepMove, StepTells, Follows, Asks, Stands, Leads, Takes, Learns, Restores, Acks, over, ChangeMove, Revises, in_config, CallMove, CallChanges, CallSteps}
@@ -135,7 +135,7 @@ stepped_commits t m sound leads same = ((over leading_on (stepped_way t m tt (λ
 -- ---- a change that takes effect
 
 change_commit : {a b : PlainNode} → ChangeMove a b → b.commit ≡ a.commit
-change_commit (Revises n c leads) = ap (λ (x : Core). x.commit) (with_members_same (in_config n c))
+change_commit (Revises n c leads) = ap (λ (x : PlainNode). x.commit) (with_members_only (in_config n c))
 change_commit _ = refl
 
 pub change_commits : (t : Turn) (transition : Transition) (words : List Word) → CommitHolds t.node.commit (change_applied t transition words).node

@@ -2,6 +2,7 @@
 use Rattle.std.proofs.Common.{[], ℕ, Bool, ◌≡◌, refl, List, ◌∷◌, ◌∙◌, not, ap}
 use Rattle.rb_tracker.proofs.SetLaws.{if_both}
 use Rattle.rb_tracker.specs.Configs.{members, is_member}
+use Rattle.rb_tracker.specs.Progresses.{PlainProgress}
 use Rattle.rb_tracker.specs.Trackers.{has_view}
 use Rattle.rb_message.specs.declared.role.Role.TheVariants as role
 use Rattle.rb_node.specs.Changing.{without_stranger, without_strangers}
@@ -9,22 +10,30 @@ use Rattle.rb_node.specs.Leading.{with_view_of, with_views, leading, in_lead}
 use Rattle.rb_node.specs.Node.{PlainNode}
 use Rattle.rb_node_laws.proofs.Goes.{core, Core}
 
-pub with_view_same : (n : PlainNode) (id : ℕ) (active : Bool) → core (with_view_of n id active) ≡ core n
-with_view_same n id active = if_both (λ (x : PlainNode). core x ≡ core n) (has_view n.tracker.views id) _ _ (λ _. refl) (λ _. refl)
+-- the node with these views
+abbrev pub viewing : PlainNode → List (ℕ × PlainProgress) → PlainNode
+viewing n views = record n { tracker = record n.tracker { views = views } }
 
-pub with_views_same : (n : PlainNode) (ids : List ℕ) (active : Bool) → core (with_views n ids active) ≡ core n
-with_views_same n [] active = refl
-with_views_same n (id ∷ ids) active = with_views_same (with_view_of n id active) ids active ∙ with_view_same n id active
+pub with_view_only : (n : PlainNode) (id : ℕ) (active : Bool) → with_view_of n id active ≡ viewing n (with_view_of n id active).tracker.views
+with_view_only n id active = if_both (λ (x : PlainNode). x ≡ viewing n x.tracker.views) (has_view n.tracker.views id) _ _ (λ _. refl) (λ _. refl)
+
+pub with_views_only : (n : PlainNode) (ids : List ℕ) (active : Bool) → with_views n ids active ≡ viewing n (with_views n ids active).tracker.views
+with_views_only n [] active = refl
+with_views_only n (id ∷ ids) active =
+    let x : PlainNode = with_view_of n id active in
+    with_views_only x ids active ∙ ap (λ (y : PlainNode). viewing y (with_views x ids active).tracker.views) (with_view_only n id active)
 
 pub leading_same : (n : PlainNode) → core (leading n) ≡ core (in_lead n)
-leading_same n = with_views_same (in_lead n) (members n.tracker.config) (not n.options.check_quorum)
+leading_same n = ap core (with_views_only (in_lead n) (members n.tracker.config) (not n.options.check_quorum))
 
 pub leading_leads : (n : PlainNode) → (leading n).role ≡ role.Leader
 leading_leads n = ap (λ (c : Core). c.role) (leading_same n)
 
-without_same : (n : PlainNode) (id : ℕ) → core (without_stranger n id) ≡ core n
-without_same n id = if_both (λ (x : PlainNode). core x ≡ core n) (is_member n.tracker.config id) _ _ (λ _. refl) (λ _. refl)
+pub stranger_only : (n : PlainNode) (id : ℕ) → without_stranger n id ≡ viewing n (without_stranger n id).tracker.views
+stranger_only n id = if_both (λ (x : PlainNode). x ≡ viewing n x.tracker.views) (is_member n.tracker.config id) _ _ (λ _. refl) (λ _. refl)
 
-pub strangers_same : (n : PlainNode) (ids : List ℕ) → core (without_strangers n ids) ≡ core n
-strangers_same n [] = refl
-strangers_same n (id ∷ ids) = strangers_same (without_stranger n id) ids ∙ without_same n id
+pub strangers_only : (n : PlainNode) (ids : List ℕ) → without_strangers n ids ≡ viewing n (without_strangers n ids).tracker.views
+strangers_only n [] = refl
+strangers_only n (id ∷ ids) =
+    let x : PlainNode = without_stranger n id in
+    strangers_only x ids ∙ ap (λ (y : PlainNode). viewing y (without_strangers x ids).tracker.views) (stranger_only n id)

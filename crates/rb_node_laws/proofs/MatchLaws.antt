@@ -18,10 +18,10 @@ use Rattle.rb_node.specs.Step.{stepped}
 use Rattle.rb_node_laws.specs.Calling.{Call, after}
 use Rattle.rb_node_laws.specs.Matches.{IsAccepted, RestsOn}
 use Rattle.rb_node_laws.specs.Sound.{HasViewsOfMembers, IsSound}
-use Rattle.rb_node_laws.proofs.CallWays.{with_members_same, ways, called_way}
+use Rattle.rb_node_laws.proofs.CallWays.{with_members_only, ways, called_way}
 use Rattle.rb_node_laws.proofs.ChoiceLaws.{may_campaign}
 use Rattle.rb_node_laws.proofs.Goes.{Ways, anyone, core, Core}
-use Rattle.rb_node_laws.proofs.LeaderLaws.{leading_same, leading_leads, strangers_same}
+use Rattle.rb_node_laws.proofs.LeaderLaws.{leading_same, leading_leads, strangers_only}
 use Rattle.rb_node_laws.proofs.MatchViewLaws.{of, with_views_at_most, place_set, strangers_less, unmarked_match}
 use Rattle.rb_node_laws.proofs.MemberMoveLaws.{call_members}
 use Rattle.rb_node_laws.proofs.MoveLaws.{no_leader}
@@ -144,8 +144,8 @@ change_bounded w id low term bound (Revises n c leads) h p =
     let ids = ids_of x.tracker.views in
     let left = without_strangers x ids in
     let fewer : of left id ≤ of n id = strangers_less x ids id h.in_order in
-    let e : core left ≡ core n = strangers_same x ids in
-    let m : rest (core y) ≡ rest (core n) = ap rest (with_members_same x) in
+    let e : core left ≡ core n = ap core (strangers_only x ids) in
+    let m : rest (core y) ≡ rest (core n) = ap (λ (z : PlainNode). rest (core z)) (with_members_only x) in
     elim (with_views_at_most left (missing left.tracker.views (members left.tracker.config)) true id) as (λ _. IsBounded w id low term bound y) [
       | inl less ↦ subst (λ (r : Rest). Bounded w id low term bound r (of y id)) (sym m)
           (less_bounded w id low term bound (rest (core n)) (of n id) (of y id) (omega (arith, less, fewer)) p)

@@ -18,7 +18,7 @@ use Rattle.rb_node.specs.Changing.{without_stranger, without_strangers}
 use Rattle.rb_node.specs.Leading.{new_view, with_view_of, with_views}
 use Rattle.rb_node.specs.Node.{PlainNode}
 use Rattle.rb_node_laws.proofs.Goes.{core, Core}
-use Rattle.rb_node_laws.proofs.LeaderLaws.{with_view_same}
+use Rattle.rb_node_laws.proofs.LeaderLaws.{with_view_only}
 use Rattle.rb_node_laws.proofs.MemberLaws.{ids_set, strangers_in_order}
 
 abbrev pub of : PlainNode → ℕ → ℕ
@@ -120,7 +120,7 @@ at_most_then a b c id e p q =
 pub with_views_at_most : (n : PlainNode) (ids : List ℕ) (active : Bool) (id : ℕ) → OwnAtMost n (with_views n ids active) id
 with_views_at_most n [] active id = inl (omega arith)
 with_views_at_most n (x ∷ xs) active id =
-    at_most_then n (with_view_of n x active) (with_views (with_view_of n x active) xs active) id (with_view_same n x active)
+    at_most_then n (with_view_of n x active) (with_views (with_view_of n x active) xs active) id (ap core (with_view_only n x active))
     (with_view_at_most n x active id) (with_views_at_most (with_view_of n x active) xs active id)
 
 -- ---- who was heard of has its view where it had it

@@ -15,6 +15,7 @@ use Rattle.rb_tracker.specs.declared.config.Config.{Config}
 use Rattle.rb_node.specs.Changing.{without_stranger, without_strangers, missing}
 use Rattle.rb_node.specs.Leading.{new_view, with_view_of, with_views}
 use Rattle.rb_node.specs.Node.{PlainNode}
+use Rattle.rb_node_laws.proofs.LeaderLaws.{stranger_only, strangers_only}
 
 -- ---- the ids that have views
 
@@ -103,9 +104,6 @@ with_view_in_order n id active up =
     if_both (λ (x : PlainNode). AreInOrder x.tracker.views) (has_view n.tracker.views id) _ _
     (λ _. up) (λ none. put_in_order n.tracker id (new_view n id active) up none)
 
-with_view_config : (n : PlainNode) (id : ℕ) (active : Bool) → (with_view_of n id active).tracker.config ≡ n.tracker.config
-with_view_config n id active = if_both (λ (x : PlainNode). x.tracker.config ≡ n.tracker.config) (has_view n.tracker.views id) _ _ (λ _. refl) (λ _. refl)
-
 put_all_step : (a h b : Bool) → ((if a then true else h) || b) ≡ (h || (if a then true else b))
 put_all_step true true b = refl
 put_all_step true false b = refl
@@ -125,10 +123,6 @@ with_views_seen n (id ∷ ids) y active =
 pub with_views_in_order : (n : PlainNode) (ids : List ℕ) (active : Bool) → AreInOrder n.tracker.views → AreInOrder (with_views n ids active).tracker.views
 with_views_in_order n [] active up = up
 with_views_in_order n (id ∷ ids) active up = with_views_in_order (with_view_of n id active) ids active (with_view_in_order n id active up)
-
-pub with_views_config : (n : PlainNode) (ids : List ℕ) (active : Bool) → (with_views n ids active).tracker.config ≡ n.tracker.config
-with_views_config n [] active = refl
-with_views_config n (id ∷ ids) active = with_views_config (with_view_of n id active) ids active ∙ with_view_config n id active
 
 -- ---- views of strangers, which are taken out
 
@@ -160,18 +154,11 @@ stranger_in_order : (n : PlainNode) (id : ℕ) → AreInOrder n.tracker.views �
 stranger_in_order n id up =
     if_both (λ (x : PlainNode). AreInOrder x.tracker.views) (is_member n.tracker.config id) _ _ (λ _. up) (λ _. removed_in_order id n.tracker.views up)
 
-stranger_config : (n : PlainNode) (id : ℕ) → (without_stranger n id).tracker.config ≡ n.tracker.config
-stranger_config n id = if_both (λ (x : PlainNode). x.tracker.config ≡ n.tracker.config) (is_member n.tracker.config id) _ _ (λ _. refl) (λ _. refl)
-
 strangers_step : (h m a b : Bool) → ((h && (m || not a)) && (m || not b)) ≡ (h && (m || not (if a then true else b)))
 strangers_step true true a b = refl
 strangers_step true false true b = refl
 strangers_step true false false b = refl
 strangers_step false m a b = refl
-
-pub strangers_config : (n : PlainNode) (ids : List ℕ) → (without_strangers n ids).tracker.config ≡ n.tracker.config
-strangers_config n [] = refl
-strangers_config n (id ∷ ids) = strangers_config (without_stranger n id) ids ∙ stranger_config n id
 
 pub strangers_in_order : (n : PlainNode) (ids : List ℕ) → AreInOrder n.tracker.views → AreInOrder (without_strangers n ids).tracker.views
 strangers_in_order n [] up = up
@@ -184,7 +171,7 @@ strangers_seen n (id ∷ ids) y up =
     let more : Bool = not (has ids y) in
     strangers_seen next ids y (stranger_in_order n id up)
     ∙ ap (λ (b : Bool). b && (is_member next.tracker.config y || more)) (stranger_seen n id y up)
-    ∙ ap (λ (c : Config). (seen n y && (is_member n.tracker.config y || not (id == y))) && (is_member c y || more)) (stranger_config n id)
+    ∙ ap (λ (x : PlainNode). (seen n y && (is_member n.tracker.config y || not (id == y))) && (is_member x.tracker.config y || more)) (stranger_only n id)
     ∙ strangers_step (seen n y) (is_member n.tracker.config y) (id == y) (has ids y)
 
 -- ---- members, and those of them that have no view
@@ -239,5 +226,6 @@ revised_by left c h y config first =
 pub revised_seen : (n : PlainNode) (y : ℕ) → AreInOrder n.tracker.views → seen (with_views (without_strangers n (ids_of n.tracker.views)) (missing (without_strangers n (ids_of n.tracker.views)).tracker.views (members (without_strangers n (ids_of n.tracker.views)).tracker.config)) true) y ≡ is_member n.tracker.config y
 revised_seen n y up =
     let all : has (ids_of n.tracker.views) y ≡ seen n y = has_union [] (keys_of n.tracker.views) y in
-    revised_by (without_strangers n (ids_of n.tracker.views)) n.tracker.config (seen n y) y (strangers_config n (ids_of n.tracker.views))
+    revised_by (without_strangers n (ids_of n.tracker.views)) n.tracker.config (seen n y) y
+    (ap (λ (x : PlainNode). x.tracker.config) (strangers_only n (ids_of n.tracker.views)))
     (strangers_seen n (ids_of n.tracker.views) y up ∙ ap (λ (b : Bool). seen n y && (is_member n.tracker.config y || not b)) all)

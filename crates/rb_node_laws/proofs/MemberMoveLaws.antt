@@ -15,11 +15,11 @@ use Rattle.rb_node.specs.Node.{PlainNode, Turn}
 use Rattle.rb_node.specs.Sends.{viewed}
 use Rattle.rb_node_laws.specs.Calling.{Call, after, run}
 use Rattle.rb_node_laws.specs.Sound.{AreOfMembers, HasViewsOfMembers}
-use Rattle.rb_node_laws.proofs.CallWays.{with_members_same, called_way}
+use Rattle.rb_node_laws.proofs.CallWays.{with_members_only, called_way}
 use Rattle.rb_node_laws.proofs.ChoiceLaws.{may_campaign}
-use Rattle.rb_node_laws.proofs.Goes.{Ways, Core}
-use Rattle.rb_node_laws.proofs.LeaderLaws.{leading_leads}
-use Rattle.rb_node_laws.proofs.MemberLaws.{ids_set, with_views_in_order, with_views_seen, member_is, with_views_config, strangers_config, strangers_in_order, revised_seen, ids_unmarked}
+use Rattle.rb_node_laws.proofs.Goes.{Ways}
+use Rattle.rb_node_laws.proofs.LeaderLaws.{leading_leads, with_views_only}
+use Rattle.rb_node_laws.proofs.MemberLaws.{ids_set, with_views_in_order, with_views_seen, member_is, strangers_in_order, revised_seen, ids_unmarked}
 use Rattle.rb_node_laws.proofs.Moves.{TellMove, Idle, Whole, Viewed, StepMove, StepTells, Follows, Asks, Stands, Leads, Restores, Acks, with_members, ChangeMove, Unchanged, Configures, Resigns, Revises, in_config, CallMove, CallChanges, CallSteps, Unmarks, Gives_up, Allows, over}
 
 -- ---- each move
@@ -59,7 +59,7 @@ leading_members n =
       of_members = λ _ id.
           with_views_seen first ids id active
           ∙ member_is n.tracker.config id
-          ∙ sym (ap (λ (c : Config). is_member c id) (with_views_config first ids active));
+          ∙ sym (ap (λ (x : PlainNode). is_member x.tracker.config id) (with_views_only first ids active));
     }
 
 step_members : {w : Ways} {a b : PlainNode} → StepMove w a b → HasViewsOfMembers a → HasViewsOfMembers b
@@ -80,11 +80,10 @@ revised_members : (n : PlainNode) → n.role ≡ role.Leader → IsAscending (ke
 revised_members n leads up =
     let left : PlainNode = without_strangers n (ids_of n.tracker.views) in
     let ids : List ℕ = missing left.tracker.views (members left.tracker.config) in
-    let config : (with_members n).tracker.config ≡ n.tracker.config = with_views_config left ids true ∙ strangers_config n (ids_of n.tracker.views) in
     record {
-      only_leading = λ no. absurd (no (ap (λ (c : Core). c.role) (with_members_same n) ∙ leads));
+      only_leading = λ no. absurd (no (ap (λ (x : PlainNode). x.role) (with_members_only n) ∙ leads));
       in_order = with_views_in_order left ids true (strangers_in_order n (ids_of n.tracker.views) up);
-      of_members = λ _ id. revised_seen n id up ∙ sym (ap (λ (c : Config). is_member c id) config);
+      of_members = λ _ id. revised_seen n id up ∙ sym (ap (λ (x : PlainNode). is_member x.tracker.config id) (with_members_only n));
     }
 
 change_members : {a b : PlainNode} → ChangeMove a b → HasViewsOfMembers a → HasViewsOfMembers b

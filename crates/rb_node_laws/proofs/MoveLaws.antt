@@ -14,7 +14,7 @@ use Rattle.rb_node.specs.Campaigns.{candidate, precandidate}
 use Rattle.rb_node.specs.Leading.{leading, in_lead, can_commit}
 use Rattle.rb_node.specs.Node.{PlainNode}
 use Rattle.rb_node.specs.Votes.{grants, voted_for, can_vote_for}
-use Rattle.rb_node_laws.proofs.CallWays.{with_members_same}
+use Rattle.rb_node_laws.proofs.CallWays.{with_members_only}
 use Rattle.rb_node_laws.proofs.Goes.{Ways, Voted, core, Keeps, and_then, same, Core, self}
 use Rattle.rb_node_laws.proofs.LeaderLaws.{leading_same}
 use Rattle.rb_node_laws.proofs.Moves.{following, TellMove, Idle, Whole, Commits, StepMove, StepTells, Follows, Asks, Stands, Leads, Votes_for, Appends, Takes, Learns, Restores, ChangeMove, Resigns, in_config, Revises, CallMove, CallChanges, CallSteps, Applies, Fills, Gives_up, Saves, Compacts, Allows}
@@ -121,7 +121,7 @@ step_keeps _ = same refl
 
 pub change_keeps : {w : Ways} {a b : PlainNode} → ChangeMove a b → Keeps w (core a) (core b)
 change_keeps (Resigns n c) = follows (in_config n c) n.term 0 (omega arith)
-change_keeps (Revises n c leads) = same (with_members_same (in_config n c))
+change_keeps (Revises n c leads) = same (ap core (with_members_only (in_config n c)))
 change_keeps _ = same refl
 
 pub call_keeps : {sound : Type 0} {w : Ways} → sound → {a b : PlainNode} → CallMove sound w a b → Keeps w (core a) (core b)

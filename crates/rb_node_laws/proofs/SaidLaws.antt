@@ -1,19 +1,18 @@
 -- What a relation between nodes must allow, to hold over every call, where it is about what a node says: nothing said, a true message sent, a
 -- true answer that waits, and all saved
-use Rattle.std.proofs.Common.{[], ◌≡◌, List, ℕ, Bool, refl, ◌∷◌, ◌∙◌, ap, not, true}
-use Rattle.rb_tracker.proofs.SetLaws.{if_both}
-use Rattle.rb_tracker.specs.Configs.{is_member, members}
-use Rattle.rb_tracker.specs.Trackers.{has_view, ids_of}
+use Rattle.std.proofs.Common.{◌≡◌, List, refl, ap, not}
+use Rattle.rb_tracker.specs.Configs.{members}
 use Rattle.rb_message.specs.declared.message.Message.{Message}
-use Rattle.rb_node.specs.Changing.{without_strangers, without_stranger, missing}
-use Rattle.rb_node.specs.Leading.{with_views, with_view_of, leading, in_lead}
+use Rattle.rb_node.specs.Leading.{leading, in_lead}
 use Rattle.rb_node.specs.Node.{PlainNode, Turn}
 use Rattle.rb_node.specs.Readying.{saved}
 use Rattle.rb_node_laws.specs.Calling.{Call, after, run}
 use Rattle.rb_node_laws.specs.Sound.{IsSound}
 use Rattle.rb_node_laws.specs.Words.{Sends, Answers}
 use Rattle.rb_node_laws.proofs.CallLaws.{Carried, over_call, over_calls}
+use Rattle.rb_node_laws.proofs.CallWays.{with_members_only}
 use Rattle.rb_node_laws.proofs.Goes.{Keeps, anyone, core, Ways, anyhow, self}
+use Rattle.rb_node_laws.proofs.LeaderLaws.{with_views_only}
 use Rattle.rb_node_laws.proofs.MoveLaws.{step_keeps, change_keeps, call_keeps}
 use Rattle.rb_node_laws.proofs.Moves.{StepMove, StepTells, Sent, Passes, Idle, Whole, Waits, Leads, ChangeMove, Revises, in_config, with_members, CallMove, CallChanges, CallSteps, Saves}
 use Rattle.rb_node_laws.proofs.Saying.{words, with_sent, with_waiting}
@@ -28,31 +27,18 @@ pub record Says (R : PlainNode → PlainNode → Type 0) : Type 0 where
   pub wait : (n : PlainNode) (m : Message) → (IsSound n → Answers n m) → R n (with_waiting n m)
   pub save : (n : PlainNode) → R n (saved n)
 
-with_views_words : (n : PlainNode) (ids : List ℕ) (active : Bool) → words (with_views n ids active) ≡ words n
-with_views_words n [] active = refl
-with_views_words n (id ∷ ids) active =
-    with_views_words (with_view_of n id active) ids active ∙ if_both (λ (x : PlainNode). words x ≡ words n) (has_view n.tracker.views id) _ _ (λ _. refl) (λ _. refl)
-
-strangers_words : (n : PlainNode) (ids : List ℕ) → words (without_strangers n ids) ≡ words n
-strangers_words n [] = refl
-strangers_words n (id ∷ ids) =
-    strangers_words (without_stranger n id) ids ∙ if_both (λ (x : PlainNode). words x ≡ words n) (is_member n.tracker.config id) _ _ (λ _. refl) (λ _. refl)
-
 step_says : {R : PlainNode → PlainNode → Type 0} (p : Says R) {w : Ways} {a b : PlainNode} → StepMove w a b → R a b
 step_says p (StepTells (Sent n m own says)) = p.send n m says
 step_says p (Passes n m came says) = p.send n m says
 step_says p (StepTells (Idle a b e)) = p.silent a b (step_keeps {w = anyone} (StepTells (Idle a b e))) (ap (λ (x : Whole). x.words) e)
 step_says p (Waits n m says) = p.wait n m says
 step_says p (Leads n stands elected won) =
-    p.silent n (leading n) (step_keeps {w = anyone} (Leads n stands tt won)) (with_views_words (in_lead n) (members n.tracker.config) (not n.options.check_quorum))
+    p.silent n (leading n) (step_keeps {w = anyone} (Leads n stands tt won)) (ap words (with_views_only (in_lead n) (members n.tracker.config) (not n.options.check_quorum)))
 step_says p m = p.silent _ _ (anyhow (step_keeps m)) refl
 
 change_says : {R : PlainNode → PlainNode → Type 0} (p : Says R) {a b : PlainNode} → ChangeMove a b → R a b
 change_says p (Revises n c leads) =
-    (let x = in_config n c in
-    let left = without_strangers x (ids_of x.tracker.views) in
-    p.silent n (with_members x) (change_keeps (Revises n c leads))
-    (with_views_words left (missing left.tracker.views (members left.tracker.config)) true ∙ strangers_words x (ids_of x.tracker.views)))
+    (let x = in_config n c in p.silent n (with_members x) (change_keeps (Revises n c leads)) (ap words (with_members_only x)))
 change_says p m = p.silent _ _ (change_keeps m) refl
 
 call_says : {R : PlainNode → PlainNode → Type 0} (p : Says R) {sound : Type 0} {w : Ways} → sound → {a b : PlainNode} → CallMove sound w a b → R a b

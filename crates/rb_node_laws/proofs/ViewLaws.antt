@@ -18,10 +18,10 @@ use Rattle.rb_node.specs.Sends.{viewed}
 use Rattle.rb_node_laws.specs.Calling.{Call, after, run}
 use Rattle.rb_node_laws.specs.Sound.{IsSound, HasSoundViews, IsSoundView, IsOrdered, AreSoundViews, AreViewsOf}
 use Rattle.rb_node_laws.proofs.CallLaws.{Carried, over_call, over_calls}
-use Rattle.rb_node_laws.proofs.CallWays.{with_members_same}
+use Rattle.rb_node_laws.proofs.CallWays.{with_members_only}
 use Rattle.rb_node_laws.proofs.ChoiceLaws.{may_campaign}
 use Rattle.rb_node_laws.proofs.Goes.{Keeps, anyone, core, Core, Ways, self, and_then, anyhow}
-use Rattle.rb_node_laws.proofs.LeaderLaws.{with_view_same, leading_leads, strangers_same}
+use Rattle.rb_node_laws.proofs.LeaderLaws.{with_view_only, leading_leads, strangers_only}
 use Rattle.rb_node_laws.proofs.MoveLaws.{call_keeps}
 use Rattle.rb_node_laws.proofs.Moves.{TellMove, Idle, Whole, Viewed, StepMove, StepTells, Follows, Asks, Stands, Leads, Acks, with_members, ChangeMove, Resigns, Revises, in_config, CallMove, CallChanges, CallSteps, Unmarks, Gives_up}
 use Rattle.rb_node_laws.proofs.ProgressLaws.{new_own, new_probe, sound_put, sound_removed, sound_set, sound_at, sound_acked, sound_unmarked}
@@ -45,7 +45,7 @@ sound_as a b e s = subst (λ (c : Core). IsOrdered c.log c.commit c.applied) (sy
 with_views_sound : (n : PlainNode) (ids : List ℕ) (active : Bool) → IsSound n → AreSoundViews n.tracker.views → AreSoundViews (with_views n ids active).tracker.views
 with_views_sound n [] active s are = are
 with_views_sound n (id ∷ ids) active s are =
-    with_views_sound (with_view_of n id active) ids active (sound_as n (with_view_of n id active) (with_view_same n id active) s)
+    with_views_sound (with_view_of n id active) ids active (sound_as n (with_view_of n id active) (ap core (with_view_only n id active)) s)
     (if_both (λ (x : PlainNode). AreSoundViews x.tracker.views) (has_view n.tracker.views id) _ _ (λ _. are)
     (λ _. sound_put n.tracker.views (rank (keys_of n.tracker.views) id) id (new_view n id active) are (new_view_sound n id active s)))
 
@@ -89,9 +89,9 @@ revised_views n leads s v =
     let ids = ids_of n.tracker.views in
     let left = without_strangers n ids in
     record {
-      only_leading = λ no. absurd (no (ap (λ (c : Core). c.role) (with_members_same n) ∙ leads));
+      only_leading = λ no. absurd (no (ap (λ (x : PlainNode). x.role) (with_members_only n) ∙ leads));
       each = with_views_sound left (missing left.tracker.views (members left.tracker.config)) true
-          (sound_as n left (strangers_same n ids) s) (strangers_sound n ids v.each);
+          (sound_as n left (ap core (strangers_only n ids)) s) (strangers_sound n ids v.each);
     }
 
 change_views : {a b : PlainNode} → ChangeMove a b → IsSound a → HasSoundViews a → HasSoundViews b
