@@ -1,4 +1,4 @@
-use Rattle.std.proofs.Common.{◌≡◌, ℕ, ◌+◌, ◌<◌, true, Ok, List, ◌++◌, ◌∷◌, [], ◌-◌, length, drop, sym, ap, subst, ◌∙◌, arith}
+use Rattle.std.proofs.Common.{◌≡◌, ℕ, ◌+◌, ◌<◌, true, Ok, List, ◌++◌, ◌∷◌, [], ◌-◌, length, min, drop, sym, ap, subst, ◌∙◌, arith}
 use Rattle.std.specs.Prelude.{vec_len}
 use Rattle.std.proofs.lemmas.List.{length-drop}
 use Rattle.std.proofs.lemmas.Result.{err_from_is_err_and}
@@ -10,10 +10,12 @@ use Rattle.rb_script.specs.Valid.{IsLine}
 use Rattle.rb_script.specs.Flat.{between}
 use Rattle.rb_script.specs.Shared.{values}
 use Rattle.rb_script.specs.Results.{Fails}
-use Rattle.rb_script.specs.Script.{PlainBlock}
+use Rattle.rb_script.specs.Script.{PlainBlock, block_text}
+use Rattle.rb_script.specs.Reading.{capped}
 use Rattle.rb_script.specs.Blocks.{is_empty, from_head, blocks_at}
 use Rattle.rb_script.proofs.BlocksLaws.{with_blocks, blocks_more, blocks_fail, blocks_done, blocks_full, left_none, left_some, same_block, leads_of, begins_from, next_sound}
 use Rattle.rb_script.proofs.ValidLaws.{split_lines, block_valid}
+use Rattle.rb_script.proofs.LengthLaws.{blocks_len, sum_more, text-length}
 use Rattle.rb_script.proofs.HeadLineLaws.{HeadsSoFar, one_more_head}
 use Rattle.rb_script.proofs.reading.blocks.Goals as goal
 
@@ -23,6 +25,11 @@ returns-then-start-len-clause-gives c =
     let ls = drop c.loop-alloc.at all in
     blocks_done MAX_DIRECTIVES (values c.loop-alloc.found.items) (vec_len c.loop-alloc.found) (1 + length all) ls _ c.loop-alloc.invariant.read (left_none all ls c.run-start.result c.run-start.ensures.rest (omega arith))
     ∙ ap (λ l. Ok (record { blocks = values c.loop-alloc.found.items; tail = l })) (sym (c.in_ok-tail.ensures ∙ c.run-start.ensures.run))
+
+pub returns-then-start-len-clause-len : goal.returns-then-start-len-clause-len
+returns-then-start-len-clause-len c =
+    let whole = text-length (record { blocks = values c.loop-alloc.found.items; tail = c.in_ok-tail.tail }) in
+    omega (arith, whole, ap length c.text.ensures, c.saturating_add.ensures, c.loop-alloc.invariant.len)
 
 pub returns-then-len-eq-MAX_DIRECTIVES-clause-gives : goal.returns-then-len-eq-MAX_DIRECTIVES-clause-gives
 returns-then-len-eq-MAX_DIRECTIVES-clause-gives c =
@@ -81,6 +88,9 @@ loop-alloc-preserved c =
           ∙ blocks_more MAX_DIRECTIVES (values c.loop-alloc.found.items) (vec_len c.loop-alloc.found) (1 + length all) ls _ c.loop-alloc.invariant.read c.in_ok-block.block.value after (omega arith) some next;
       lines_left = (block_valid ls after c.in_ok-block.block.value c.loop-alloc.invariant.lines_left sound).1;
       few = omega (arith, c.in_ok-keep.ensures.len);
+      len = sum_more 0 (values c.loop-alloc.found.items) c.in_ok-block.block.value c.loop-alloc.text_len _ c.loop-alloc.invariant.len
+          (c.saturating_add-text_len.ensures ∙ ap (λ n. min (c.loop-alloc.text_len + n) 18446744073709551615) (c.text_len.ensures.len ∙ ap (λ (b : PlainBlock). capped (length (block_text b))) c.deref.ensures))
+          ∙ ap (λ (bs : List PlainBlock). capped (blocks_len bs)) (sym pushed);
       heads =
           subst (λ (bs : List PlainBlock). HeadsSoFar 1 all bs after c.push.new.self.items) (sym pushed)
           (subst (λ (ns : List ℕ). HeadsSoFar 1 all (values c.loop-alloc.found.items ++ c.in_ok-block.block.value ∷ []) after ns) (sym c.in_ok-push.ensures.items) headed);
