@@ -12,7 +12,7 @@ use Rattle.rb_replay.specs.Report.{same_lines}
 use Rattle.rb_checked.specs.declared.wanted.Picked.TheVariants as picks
 use Rattle.rb_checked.specs.declared.wanted.Wanted.{Wanted}
 use Rattle.rb_checked.specs.Accepting.{is_left}
-use Rattle.rb_json.specs.Escapes.{escaped}
+use Rattle.rb_text.specs.Json.{escaped}
 use Rattle.rb_document.specs.declared.position.Encoding.{Encoding}
 use Rattle.rb_document.specs.declared.position.Range.{Range}
 use Rattle.rb_document.specs.Tables.{start_of}

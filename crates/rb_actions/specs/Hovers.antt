@@ -8,7 +8,7 @@ use Rattle.rb_script.specs.Script.{PlainBlock, PlainScript}
 use Rattle.rb_script.specs.Reading.{read_of}
 use Rattle.rb_replay.specs.Run.{outputs}
 use Rattle.rb_look.specs.Looks.{looked}
-use Rattle.rb_json.specs.Escapes.{escaped}
+use Rattle.rb_text.specs.Json.{escaped}
 use Rattle.rb_document.specs.declared.position.Encoding.{Encoding}
 use Rattle.rb_document.specs.declared.position.Position.{Position}
 use Rattle.rb_document.specs.Tables.{start_of}

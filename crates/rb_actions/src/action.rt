@@ -16,11 +16,11 @@ use crate::replacement::new_text;
 use crate::run::fresh_run;
 use rb_checked::{block_at, is_unexpected, number_at, output_at};
 use rb_document::{Encoding, LineTable, Range};
-use rb_json::{Piece, add_pieces};
 use rb_machine::{Count, Machine};
 use rb_offers::add_range_member;
 use rb_replay::Session;
 use rb_script::{Block, Lines};
+use rb_text::{Json, Piece, add_pieces};
 use std::alloc::{AllocError, Global};
 
 fn is_same(lines: &Lines, other: &Lines) -> bool
@@ -73,7 +73,7 @@ fn add_edit(
         out,
         &[
             Piece::Bytes(b",\"newText\":\""),
-            Piece::Escaped(new),
+            Piece::Escaped(Json::Utf8, new),
             Piece::Bytes(b"\"}"),
         ],
     )
@@ -166,7 +166,7 @@ fn add_action<'a>(
         out,
         &[
             Piece::Bytes(action_head(span)),
-            Piece::Escaped(uri),
+            Piece::Escaped(Json::Utf8, uri),
             Piece::Bytes(b"\":["),
             Piece::Bytes(edits),
             Piece::Bytes(b"]}}}"),

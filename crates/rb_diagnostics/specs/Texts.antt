@@ -2,7 +2,7 @@
 -- the next begins. "DiagnosticRelatedInformation": a message for another place, by the URI of its document and a range.)
 use Rattle.std.specs.Prelude.{ℕ, ◌-◌, Bool, true, false, List, [], ◌++◌, Option, Some, None, codes}
 use Rattle.std.specs.List.{flat_map}
-use Rattle.rb_json.specs.Escapes.{escaped}
+use Rattle.rb_text.specs.Json.{escaped}
 use Rattle.rb_document.specs.declared.position.Encoding.{Encoding}
 use Rattle.rb_document.specs.Tables.{start_of}
 use Rattle.rb_offers.specs.Texts.{range_member}

@@ -4,9 +4,9 @@ ghost use Rattle.std.specs.Prelude.{◌≡◌, ◌<◌, IfOk, length, take};
 ghost use Rattle.rb_diagnostics.specs.Came.{came_of, cut_off, shown, whole};
 ghost use Rattle.rb_diagnostics.specs.declared.came.TheConstants.{MAX_SHOWN};
 
-use rb_json::{Piece, add_pieces};
 use rb_offers::BlockLines;
 use rb_script::Lines;
+use rb_text::{Piece, add_pieces};
 use std::alloc::{AllocError, Global};
 use std::marker::Model;
 

@@ -9,8 +9,8 @@ ghost use Rattle.rb_diagnostics.specs.Texts.{diagnostic_text, kind_text, message
 use crate::came::Came;
 use crate::diagnostic::{Diagnostic, Kind};
 use rb_document::{Encoding, LineTable};
-use rb_json::{Piece, add_pieces};
 use rb_offers::add_range_member;
+use rb_text::{Json, Piece, add_pieces};
 use std::alloc::{AllocError, Global};
 
 // How grave it is, and its code.
@@ -40,7 +40,7 @@ fn add_message(out: &mut Vec<u8>, diagnostic: &Diagnostic) -> Result<(), AllocEr
         out,
         &[
             Piece::Bytes(kind_text(diagnostic.kind)),
-            Piece::Escaped(diagnostic.message.as_slice()),
+            Piece::Escaped(Json::Utf8, diagnostic.message.as_slice()),
             Piece::Bytes(b"\""),
         ],
     )
@@ -75,9 +75,9 @@ fn add_shown<'a>(out: &mut Vec<u8>, uri: &'a [u8], shown: &'a [u8]) -> Result<()
         out,
         &[
             Piece::Bytes(b",\"uri\":\""),
-            Piece::Escaped(uri),
+            Piece::Escaped(Json::Utf8, uri),
             Piece::Bytes(b"\"},\"message\":\""),
-            Piece::Escaped(shown),
+            Piece::Escaped(Json::Utf8, shown),
             Piece::Bytes(b"\"}]"),
         ],
     )

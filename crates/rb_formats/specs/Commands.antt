@@ -6,11 +6,19 @@ use Rattle.rb_script.specs.Lines.{Line}
 use Rattle.rb_check.specs.declared.colors.Colors.TheVariants.{Off}
 use Rattle.rb_check.specs.Diffs.{parts}
 use Rattle.rb_check.specs.Folds.{folded_text}
+use Rattle.rb_formats.specs.declared.piece.CommandPiece.{CommandPiece}
+use Rattle.rb_formats.specs.declared.piece.CommandPiece.TheVariants as pieces
 use Rattle.rb_formats.specs.Escapes.{in_message, in_property}
 
 abbrev pub line_property : Option ℕ → List ℕ
 line_property None = []
 line_property (Some line) = codes ",line=" ++ decimal line
+
+abbrev pub piece_text : CommandPiece → List ℕ
+piece_text (pieces.Bytes bytes) = bytes.now
+piece_text (pieces.Property bytes) = flat_map in_property bytes.now
+piece_text (pieces.Message bytes) = flat_map in_message bytes.now
+piece_text (pieces.Line line) = line_property line
 
 -- a command with the file, the line and the title that it is shown with, and what follows
 abbrev pub command_with : List ℕ → List ℕ → Option ℕ → List ℕ → List ℕ → List ℕ

@@ -1,7 +1,7 @@
 -- What is told of a script as JSON, an object a line. (This project's; RFC 8259, and one object a line as in JSON Lines.)
 use Rattle.std.specs.Prelude.{ℕ, List, ◌++◌, Option, Some, None, codes, decimal, map}
 use Rattle.std.specs.List.{flat_map}
-use Rattle.rb_json.specs.Escapes.{ascii}
+use Rattle.rb_text.specs.Json.{ascii}
 use Rattle.rb_script.specs.Lines.{Line}
 use Rattle.rb_check.specs.Heads.{listed}
 

@@ -1,44 +1,43 @@
 //! A directive as a workflow command.
 
-ghost use Rattle.std.specs.Prelude.{◌≡◌, ◌++◌, [], Some, OnOk, IfOk, codes};
+ghost use Rattle.std.specs.Prelude.{◌≡◌, ◌++◌, OnOk, IfOk};
 ghost use Rattle.std.specs.List.{flat_map};
 ghost use Rattle.rb_check.specs.declared.colors.Colors.TheVariants.{Off};
 ghost use Rattle.rb_check.specs.Diffs.{parts};
 ghost use Rattle.rb_check.specs.Folds.{folded_text};
-ghost use Rattle.rb_formats.specs.Escapes.{in_message};
-ghost use Rattle.rb_formats.specs.Commands.{command_with, command_text, difference_text};
+ghost use Rattle.rb_formats.specs.Commands.{command_with, difference_text, piece_text};
 
-use crate::piece::{Piece, add_pieces};
+use crate::piece::CommandPiece;
 use rb_check::{Colors, FileLine, Table, put_diff};
 use rb_script::{Lines, Through};
+use rb_text::add_pieces;
 use std::alloc::{AllocError, Global};
 
-/// Adds a command that says the message of a directive: the head is its title.
+/// Adds a command with the file, the line and the title that it is shown with, and then the pieces of its message.
 pub(crate) fn add_command<'a>(
     text: &mut Vec<u8>,
     command: &'a [u8],
-    place: FileLine<'a>,
-    head: &'a [u8],
-    message: &'a [u8],
+    path: &'a [u8],
+    line: Option<usize>,
+    title: &'a [u8],
+    message: &[CommandPiece<'_>],
 ) -> Result<(), AllocError>
-    ensures { OnOk result (text.new.items ≡ text.old.items ++ command_text command.now place.entry.path.now (Some place.entry.line) head.now message.now) }
+    ensures { OnOk result (text.new.items ≡ text.old.items ++ command_with command.now path.now line title.now (flat_map piece_text message.now)) }
 {
     add_pieces(
         text,
         &[
-            Piece::Bytes(b"::"),
-            Piece::Bytes(command),
-            Piece::Bytes(b" file="),
-            Piece::Property(place.path),
-            Piece::Bytes(b",line="),
-            Piece::Number(place.line as u64),
-            Piece::Bytes(b",title="),
-            Piece::Property(head),
-            Piece::Bytes(b"::"),
-            Piece::Message(message),
-            Piece::Bytes(b"\n"),
+            CommandPiece::Bytes(b"::"),
+            CommandPiece::Bytes(command),
+            CommandPiece::Bytes(b" file="),
+            CommandPiece::Property(path),
+            CommandPiece::Line(line),
+            CommandPiece::Bytes(b",title="),
+            CommandPiece::Property(title),
+            CommandPiece::Bytes(b"::"),
         ],
-    )
+    )?;
+    add_pieces(text, message)
 }
 
 // What differs, as a report shows it.
@@ -57,42 +56,7 @@ fn diff_of(
     }
 }
 
-// Adds what stands before the message of a command that says what differs.
-fn add_opening<'a>(
-    text: &mut Vec<u8>,
-    place: FileLine<'a>,
-    head: &'a [u8],
-) -> Result<(), AllocError>
-    ensures { OnOk result (text.new.items ≡ text.old.items ++ command_with (codes "error") place.entry.path.now (Some place.entry.line) head.now []) }
-{
-    add_pieces(
-        text,
-        &[
-            Piece::Bytes(b"::error file="),
-            Piece::Property(place.path),
-            Piece::Bytes(b",line="),
-            Piece::Number(place.line as u64),
-            Piece::Bytes(b",title="),
-            Piece::Property(head),
-            Piece::Bytes(b"::"),
-        ],
-    )
-}
-
-// Adds the message, which says what its signs mean.
-fn add_diff(text: &mut Vec<u8>, diff: &[u8]) -> Result<(), AllocError>
-    ensures { OnOk result (text.new.items ≡ text.old.items ++ (flat_map in_message diff.now ++ codes "(- expected, + output)\n")) }
-{
-    add_pieces(
-        text,
-        &[
-            Piece::Message(diff),
-            Piece::Bytes(b"(- expected, + output)\n"),
-        ],
-    )
-}
-
-/// Adds a command that says what differs in a directive's output: the head is its title.
+/// Adds a command that says what differs in a directive's output, and what its signs mean: the head is its title.
 pub(crate) fn add_difference(
     alloc: Global,
     text: &mut Vec<u8>,
@@ -105,7 +69,9 @@ pub(crate) fn add_difference(
     ensures { OnOk result (text.new.items ≡ text.old.items ++ difference_text place.entry.path.now place.entry.line head.now expected.now output.now) }
 {
     let diff = diff_of(alloc, expected, output, table)?;
-    add_opening(text, place, head)?;
-    add_diff(text, diff.as_slice())?;
-    Ok(())
+    let message = [
+        CommandPiece::Message(diff.as_slice()),
+        CommandPiece::Bytes(b"(- expected, + output)\n"),
+    ];
+    add_command(text, b"error", place.path, Some(place.line), head, &message)
 }

@@ -1,55 +1,57 @@
 //! Bytes as they stand in a workflow command.
 
-ghost use Rattle.std.specs.Prelude.{◌≡◌, ◌++◌, OnOk};
-ghost use Rattle.std.specs.List.{flat_map};
-ghost use Rattle.rb_formats.specs.Escapes.{in_message, in_property};
+ghost use Rattle.std.specs.Prelude.{IsOk};
+ghost use Rattle.rb_script.specs.Writes.{Writes};
+ghost use Rattle.rb_formats.specs.Escapes.{byte_text, in_message, in_property};
 
-use std::alloc::AllocError;
+use rb_script::{Sink, WriteFault};
+use rb_text::Escape;
 
-fn add_message_byte(text: &mut Vec<u8>, b: u8) -> Result<(), AllocError>
-    ensures { OnOk result (text.new.items ≡ text.old.items ++ in_message b) }
+/// Where bytes stand in a workflow command.
+#[derive(Clone, Copy)]
+pub(crate) enum CommandPart {
+    /// In its message.
+    Message,
+    /// In the value of a property.
+    Property,
+}
+
+impl Escape for CommandPart {
+    ghost text = { byte_text };
+
+    fn put<S: Sink>(&self, sink: &mut S, b: u8) -> Result<(), WriteFault> {
+        match *self {
+            CommandPart::Message => put_message_byte(sink, b),
+            CommandPart::Property => put_property_byte(sink, b),
+        }
+    }
+}
+
+fn put_message_byte<S: Sink>(sink: &mut S, b: u8) -> Result<(), WriteFault>
+    ensures wrote { Writes result (S.held sink.old) (S.held sink.new) (in_message b) }
+    ensures all { S.takes_all sink.old → IsOk result × S.takes_all sink.new }
 {
     if b == b'%' {
-        return text.extend_from_slice(b"%25");
+        return sink.put(b"%25");
     }
     if b == b'\r' {
-        return text.extend_from_slice(b"%0D");
+        return sink.put(b"%0D");
     }
     if b == b'\n' {
-        return text.extend_from_slice(b"%0A");
+        return sink.put(b"%0A");
     }
-    text.push(b)?;
-    Ok(())
+    sink.put(&[b])
 }
 
-fn add_property_byte(text: &mut Vec<u8>, b: u8) -> Result<(), AllocError>
-    ensures { OnOk result (text.new.items ≡ text.old.items ++ in_property b) }
+fn put_property_byte<S: Sink>(sink: &mut S, b: u8) -> Result<(), WriteFault>
+    ensures wrote { Writes result (S.held sink.old) (S.held sink.new) (in_property b) }
+    ensures all { S.takes_all sink.old → IsOk result × S.takes_all sink.new }
 {
     if b == b':' {
-        return text.extend_from_slice(b"%3A");
+        return sink.put(b"%3A");
     }
     if b == b',' {
-        return text.extend_from_slice(b"%2C");
+        return sink.put(b"%2C");
     }
-    add_message_byte(text, b)
-}
-
-/// Adds the bytes, each as it stands in a message.
-pub(crate) fn add_message(text: &mut Vec<u8>, bytes: &[u8]) -> Result<(), AllocError>
-    ensures { OnOk result (text.new.items ≡ text.old.items ++ flat_map in_message bytes.now) }
-{
-    for b in bytes {
-        add_message_byte(text, *b)?;
-    }
-    Ok(())
-}
-
-/// Adds the bytes, each as it stands in the value of a property.
-pub(crate) fn add_property(text: &mut Vec<u8>, bytes: &[u8]) -> Result<(), AllocError>
-    ensures { OnOk result (text.new.items ≡ text.old.items ++ flat_map in_property bytes.now) }
-{
-    for b in bytes {
-        add_property_byte(text, *b)?;
-    }
-    Ok(())
+    put_message_byte(sink, b)
 }

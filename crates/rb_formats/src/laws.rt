@@ -2,7 +2,7 @@
 
 ghost use Rattle.std.specs.Prelude.{◌≡◌, ◌==◌, ◌&&◌, ℕ, true, not, nat_le, nat_lt, List};
 ghost use Rattle.std.specs.List.{flat_map, list_all};
-ghost use Rattle.rb_json.specs.Escapes.{ascii};
+ghost use Rattle.rb_text.specs.Json.{ascii};
 ghost use Rattle.rb_formats.specs.Escapes.{in_message, in_property};
 
 /// What stands between quotes is of ASCII, without control characters: so an object is a line, whatever bytes a script has.

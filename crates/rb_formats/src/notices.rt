@@ -1,13 +1,14 @@
 //! What is told of a script beside its directives.
 
 ghost use Rattle.std.specs.Prelude.{◌≡◌, ◌++◌, OnOk, IfOk};
-ghost use Rattle.rb_formats.specs.Commands.{command_text};
 ghost use Rattle.rb_formats.specs.Formats.{notice_text};
 ghost use Rattle.rb_formats.specs.Objects.{notice_object};
 
+use crate::command::add_command;
 use crate::format::Format;
 use crate::kind::Kind;
-use crate::piece::{Piece, add_pieces};
+use crate::piece::CommandPiece;
+use rb_text::{Json, Piece, add_pieces};
 use std::alloc::{AllocError, Global};
 
 fn add_object<'a>(
@@ -24,13 +25,13 @@ fn add_object<'a>(
             text,
             &[
                 Piece::Bytes(b"{\"script\":\""),
-                Piece::Json(path),
+                Piece::Escaped(Json::Ascii, path),
                 Piece::Bytes(b"\",\"line\":"),
                 Piece::Number(line as u64),
                 Piece::Bytes(b",\"status\":\""),
                 Piece::Bytes(status),
                 Piece::Bytes(b"\",\"message\":\""),
-                Piece::Json(message),
+                Piece::Escaped(Json::Ascii, message),
                 Piece::Bytes(b"\"}\n"),
             ],
         ),
@@ -38,57 +39,13 @@ fn add_object<'a>(
             text,
             &[
                 Piece::Bytes(b"{\"script\":\""),
-                Piece::Json(path),
+                Piece::Escaped(Json::Ascii, path),
                 Piece::Bytes(b"\",\"line\":null"),
                 Piece::Bytes(b",\"status\":\""),
                 Piece::Bytes(status),
                 Piece::Bytes(b"\",\"message\":\""),
-                Piece::Json(message),
+                Piece::Escaped(Json::Ascii, message),
                 Piece::Bytes(b"\"}\n"),
-            ],
-        ),
-    }
-}
-
-fn add_command<'a>(
-    text: &mut Vec<u8>,
-    command: &'a [u8],
-    path: &'a [u8],
-    line: Option<usize>,
-    title: &'a [u8],
-    message: &'a [u8],
-) -> Result<(), AllocError>
-    ensures { OnOk result (text.new.items ≡ text.old.items ++ command_text command.now path.now line title.now message.now) }
-{
-    match line {
-        Some(line) => add_pieces(
-            text,
-            &[
-                Piece::Bytes(b"::"),
-                Piece::Bytes(command),
-                Piece::Bytes(b" file="),
-                Piece::Property(path),
-                Piece::Bytes(b",line="),
-                Piece::Number(line as u64),
-                Piece::Bytes(b",title="),
-                Piece::Property(title),
-                Piece::Bytes(b"::"),
-                Piece::Message(message),
-                Piece::Bytes(b"\n"),
-            ],
-        ),
-        None => add_pieces(
-            text,
-            &[
-                Piece::Bytes(b"::"),
-                Piece::Bytes(command),
-                Piece::Bytes(b" file="),
-                Piece::Property(path),
-                Piece::Bytes(b",title="),
-                Piece::Property(title),
-                Piece::Bytes(b"::"),
-                Piece::Message(message),
-                Piece::Bytes(b"\n"),
             ],
         ),
     }
@@ -106,7 +63,10 @@ fn add_notice(
 {
     match format {
         Format::Json => add_object(text, path, line, kind.status(), message),
-        Format::Github => add_command(text, kind.command(), path, line, b"raftbench", message),
+        Format::Github => {
+            let pieces = [CommandPiece::Message(message), CommandPiece::Bytes(b"\n")];
+            add_command(text, kind.command(), path, line, b"raftbench", &pieces)
+        }
     }
 }
 

@@ -4,9 +4,9 @@ ghost use Rattle.std.specs.Prelude.{◌≡◌, ◌++◌, OnOk};
 ghost use Rattle.rb_check.specs.Heads.{before_value};
 ghost use Rattle.rb_formats.specs.Objects.{object_front, object_text, quoted, strings_from};
 
-use crate::piece::{Piece, add_pieces};
 use rb_check::FileLine;
 use rb_script::Lines;
+use rb_text::{Json, Piece, add_pieces};
 use std::alloc::AllocError;
 
 // What stands before the line at an index.
@@ -24,7 +24,7 @@ fn add_string(text: &mut Vec<u8>, index: usize, line: &[u8]) -> Result<(), Alloc
         &[
             Piece::Bytes(separator(index)),
             Piece::Bytes(b"\""),
-            Piece::Json(line),
+            Piece::Escaped(Json::Ascii, line),
             Piece::Bytes(b"\""),
         ],
     )
@@ -52,11 +52,11 @@ fn add_front<'a>(
         text,
         &[
             Piece::Bytes(b"{\"script\":\""),
-            Piece::Json(place.path),
+            Piece::Escaped(Json::Ascii, place.path),
             Piece::Bytes(b"\",\"line\":"),
             Piece::Number(place.line as u64),
             Piece::Bytes(b",\"directive\":\""),
-            Piece::Json(head),
+            Piece::Escaped(Json::Ascii, head),
             Piece::Bytes(b"\",\"status\":\""),
             Piece::Bytes(status),
             Piece::Bytes(b"\",\"expected\":["),

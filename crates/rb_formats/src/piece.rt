@@ -1,38 +1,45 @@
-//! The pieces that a text is put together of.
+//! The pieces that a workflow command is put together of.
 
-ghost use Rattle.rb_formats.specs.Pieces.{piece_text};
+ghost use Rattle.std.specs.Prelude.{IsOk};
+ghost use Rattle.rb_script.specs.Writes.{Writes};
+ghost use Rattle.rb_formats.specs.Commands.{line_property, piece_text};
 
-use crate::escape::{add_message, add_property};
-use rb_json::add_ascii;
-pub(crate) use rb_text::add_pieces;
-use rb_text::{AddedPiece, add_number};
-use std::alloc::AllocError;
+use crate::escape::CommandPart;
+use rb_script::{Sink, WriteFault};
+use rb_text::{Piece, WrittenPiece, put_escaped, put_pieces};
 
-/// A piece of a text.
+/// A piece of a workflow command.
 #[derive(Clone, Copy)]
-pub(crate) enum Piece<'a> {
+pub(crate) enum CommandPiece<'a> {
     /// The bytes as they are.
     Bytes(&'a [u8]),
-    /// A number in decimal digits.
-    Number(u64),
-    /// The bytes as they stand between the quotes of JSON in ASCII.
-    Json(&'a [u8]),
-    /// The bytes as they stand in the value of a property of a workflow command.
+    /// The bytes as they stand in the value of a property.
     Property(&'a [u8]),
-    /// The bytes as they stand in the message of a workflow command.
+    /// The bytes as they stand in the message.
     Message(&'a [u8]),
+    /// The property of a line, where there is one.
+    Line(Option<usize>),
 }
 
-impl AddedPiece for Piece<'_> {
+impl WrittenPiece for CommandPiece<'_> {
     ghost text = { piece_text };
 
-    fn add(&self, to: &mut Vec<u8>) -> Result<(), AllocError> {
+    fn put<S: Sink>(&self, sink: &mut S) -> Result<(), WriteFault> {
         match *self {
-            Piece::Bytes(bytes) => to.extend_from_slice(bytes),
-            Piece::Number(n) => add_number(to, n),
-            Piece::Json(bytes) => add_ascii(to, bytes),
-            Piece::Property(bytes) => add_property(to, bytes),
-            Piece::Message(bytes) => add_message(to, bytes),
+            CommandPiece::Bytes(bytes) => sink.put(bytes),
+            CommandPiece::Property(bytes) => put_escaped(sink, &CommandPart::Property, bytes),
+            CommandPiece::Message(bytes) => put_escaped(sink, &CommandPart::Message, bytes),
+            CommandPiece::Line(line) => put_line(sink, line),
         }
+    }
+}
+
+fn put_line<S: Sink>(sink: &mut S, line: Option<usize>) -> Result<(), WriteFault>
+    ensures wrote { Writes result (S.held sink.old) (S.held sink.new) (line_property line) }
+    ensures all { S.takes_all sink.old → IsOk result × S.takes_all sink.new }
+{
+    match line {
+        Some(line) => put_pieces(sink, &[Piece::Bytes(b",line="), Piece::Number(line as u64)]),
+        None => Ok(()),
     }
 }

@@ -11,6 +11,7 @@ ghost use Rattle.rb_formats.specs.Formats.{differing_text, directive_text, error
 use crate::command::{add_command, add_difference};
 use crate::format::Format;
 use crate::object::add_object;
+use crate::piece::CommandPiece;
 use rb_check::{FileLine, Table, put_head};
 use rb_checked::{
     Layout, block_at, first_line, is_same, is_unexpected, layout_of, number_at, output_at,
@@ -47,7 +48,20 @@ fn add_error(
     let expected = block.expected();
     match format {
         Format::Json => add_object(text, place, head, b"error", expected, output),
-        Format::Github => add_command(text, b"warning", place, head, first_line(output)),
+        Format::Github => {
+            let pieces = [
+                CommandPiece::Message(first_line(output)),
+                CommandPiece::Bytes(b"\n"),
+            ];
+            add_command(
+                text,
+                b"warning",
+                place.path,
+                Some(place.line),
+                head,
+                &pieces,
+            )
+        }
     }
 }
 
