@@ -2,25 +2,33 @@
 //!
 //! [`check_all`] checks scripts, and [`carry_out`] does what the others ask for. Both give the status that it ended with, or why it was not done: a
 //! [`Refusal`], which says so on standard error.
+//!
+//! `page_over` reads a script, runs it and writes its page, and `chart_over` the picture of its run: what rb_bench's `run_over` is for a report,
+//! with the same faults and statuses. They write nothing before all memory is there.
 #![tactic(auto)]
 
 mod chart;
+mod chart_over;
 mod checking;
 mod clusters;
 mod colors;
 mod directives;
 mod job;
+mod laws;
 mod look;
 mod misuse;
 mod page;
+mod page_over;
 mod refusal;
 mod running;
+mod script_steps;
 mod spacing;
 mod style;
 mod subcommands;
 mod target;
 
 pub use checking::{Terminals, check_all};
+pub use laws::pages_are_one;
 pub use misuse::Misuse;
 pub use refusal::Refusal;
 pub use subcommands::carry_out;

@@ -1,11 +1,11 @@
 //! `raftbench page FILE`: the page of a script.
 
 use crate::job::Job;
+use crate::page_over::page_over;
 use rb_bench::{BenchFault, Outlet};
 use rb_check::Status;
 use rb_frame::{back, front};
 use rb_line::Source;
-use rb_pages::page_over;
 use rb_steps::Frame;
 use std::alloc::Global;
 

@@ -5,6 +5,8 @@ ghost use Rattle.rb_script.specs.Reads.{Reads};
 use crate::accepting::accept;
 use crate::check_request::CheckRequest;
 use crate::ending::{Ending, ending_of};
+use crate::format::Format;
+use crate::formatted::formatted;
 use crate::picking::{named_heads, picked_of};
 use crate::reasons::asked_reasons;
 use crate::report::{Ran, Report};
@@ -17,7 +19,6 @@ use rb_checked::{
     Picked, ShowFault, Shown, Told, View, Wanted, Warning, is_quiet, put_checked, warnings,
 };
 use rb_files::PathError;
-use rb_formats::{Format, formatted};
 use rb_machine::Machine;
 use rb_replay::{Session, StartFault};
 use rb_script::{Lines, WriteFault};

@@ -7,13 +7,15 @@ ghost use Rattle.std.specs.Prelude.{◌≡◌, ◌≢◌, IfErr};
 ghost use Rattle.std.specs.IoError.{error_kind};
 ghost use Rattle.rb_suite.specs.Counts.{counted_as};
 
+use crate::format::Format;
+use crate::kind::Kind;
+use crate::notices::notice;
 use rb_check::{
     Failure, Outcome, Status, Totals, doubt_sentence, failure_sentence, fault_line, put_accepted,
     put_brief, put_failure, put_refusal, put_totals, put_unaccepted, put_warning, sentence,
 };
 use rb_checked::{Picked, Told, Warning, is_picked};
 use rb_files::PathError;
-use rb_formats::{Format, Kind, notice};
 use rb_script::{ScriptFault, Sink, Through, WriteFault};
 use rb_text::put_number;
 use std::alloc::{AllocError, Global};

@@ -1,5 +1,0 @@
-use Rattle.std.proofs.Common.{◌∙◌}
-use Rattle.rb_formats.proofs.command.add_difference.Goals as goal
-
-pub returns : goal.returns
-returns c = rw (← c.in_ok-diff.ensures, ← c.as_slice.ensures.value) c.add_command.ensures

@@ -1,4 +1,0 @@
-pub mod Escapes
-pub mod Objects
-pub mod Commands
-pub mod Formats
