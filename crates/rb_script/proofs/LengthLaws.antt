@@ -6,7 +6,6 @@ use Rattle.std.proofs.lemmas.List.Concat.{flat_map-append}
 use Rattle.rb_script.specs.Lines.{Line, line_text, text_of}
 use Rattle.rb_script.specs.Marks.{rule}
 use Rattle.rb_script.specs.Script.{PlainBlock, PlainScript, text, block_lines, block_text, shown, needs_double}
-use Rattle.rb_script.specs.Reading.{capped}
 
 -- a line with its LF, and the lines after it
 pub line-text-length : (line : Line) (rest : List Line) → length (text_of (line ∷ rest)) ≡ (length line + 1) + length (text_of rest)
@@ -34,12 +33,9 @@ blocks-cons-length b bs = text-append-length (block_lines b) (flat_map block_lin
 pub blocks-append-length : (a b : List PlainBlock) → blocks_len (a ++ b) ≡ blocks_len a + blocks_len b
 blocks-append-length a b = ap (λ (ls : List Line). length (text_of ls)) (flat_map-append block_lines a b) ∙ text-append-length (flat_map block_lines a) (flat_map block_lines b)
 
--- a sum that stops at its greatest value, of the blocks so far and n more, one block further
-pub sum_more : (n : ℕ) (bs : List PlainBlock) (b : PlainBlock) (total next : ℕ) → total ≡ capped (blocks_len bs + n) → next ≡ capped (total + capped (length (block_text b))) → next ≡ capped (blocks_len (bs ++ b ∷ []) + n)
-sum_more n bs b total next so_far is =
-    let split = blocks-append-length bs (b ∷ []) in
-    let one = blocks-cons-length b [] in
-    omega arith
+-- some blocks, and one more
+pub blocks-push-length : (bs : List PlainBlock) (b : PlainBlock) → blocks_len (bs ++ b ∷ []) ≡ blocks_len bs + length (block_text b)
+blocks-push-length bs b = let split = blocks-append-length bs (b ∷ []) in let one = blocks-cons-length b [] in omega arith
 
 -- the text of a script: its blocks, and its tail
 pub text-length : (s : PlainScript) → length (text s) ≡ blocks_len s.blocks + length (text_of s.tail)

@@ -4,8 +4,8 @@ use Rattle.rb_script.specs.Lines.{Line}
 use Rattle.rb_script.proofs.FlatLaws.{flat_line}
 use Rattle.rb_script.proofs.flat.line_of.Goals as goal
 
-pub overflow_sub-result : goal.overflow_sub-result
-overflow_sub-result c =
+pub slice_bounds-result-count : goal.slice_bounds-result-count
+slice_bounds-result-count c =
     let found = flat_line c.args.ends.now c.args.text.now c.args.i c.requires.line in
     omega (arith, ap length (c.text_part-whole.ensures ∙ found.2), length-append found.0 (10 ∷ []))
 

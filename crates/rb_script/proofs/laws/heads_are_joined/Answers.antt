@@ -1,3 +1,4 @@
+use Rattle.std.proofs.Common.{[]}
 use Rattle.rb_script.specs.Joined.{joined}
 use Rattle.rb_script.proofs.LinePartLaws.{continues_sound, continues_complete, joined_next, joined_last}
 use Rattle.rb_script.proofs.laws.heads_are_joined.Goals as goal

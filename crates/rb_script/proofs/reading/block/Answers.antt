@@ -46,7 +46,7 @@ read_below c =
     c.run-separator.ensures.run (drop_more all at [] (omega arith)) (ap (seen all) (sym c.in-Some.is) ∙ c.in_ok-expected.ensures.found)
 
 pub tokens_of-requires-clause-there : goal.tokens_of-requires-clause-there
-tokens_of-requires-clause-there c = head_some (drop c.args.start c.args.all.now) c.in_ok-new.ok (c.in_ok-new.ensures ∙ c.head-below.ensures.run) c.requires.head
+tokens_of-requires-clause-there c = head_some (drop c.args.start c.args.all.now) c.in_ok-new.field-0 (c.in_ok-new.ensures ∙ c.head-below.ensures.run) c.requires.head
 
 pub tokens_of-requires-clause-few : goal.tokens_of-requires-clause-few
 tokens_of-requires-clause-few c = omega (arith, ap length c.in_ok-new.ensures, length-between c.args.start c.head-below.result c.args.all.now c.head-below.ensures.order.1)
@@ -62,7 +62,7 @@ returns-in_err-tokens-clause-gives c =
     let start = c.args.start in
     let below = c.head-below.result in
     rw (p.1, p.2)
-    (head_fails (1 + length all) c.args.number (between c.args.from start all) (drop start all) c.in_ok-new.ok (drop below all) (omega (arith, c.requires.number, length-drop start all))
+    (head_fails (1 + length all) c.args.number (between c.args.from start all) (drop start all) c.in_ok-new.field-0 (drop below all) (omega (arith, c.requires.number, length-drop start all))
     (c.in_ok-new.ensures ∙ c.head-below.ensures.run) c.head-below.ensures.rest c.in_err-tokens.field-0.0 c.in_err-tokens.ensures.gives)
 
 pub returns-then-separator-len-clause-gives : goal.returns-then-separator-len-clause-gives
@@ -80,20 +80,20 @@ returns-in_default-clause-gives c =
     (below_open (1 + length all) c.args.number (drop c.head-below.result all) (drop at all) c.run-separator.ensures.rest (at + 1) (drop (at + 1) all) (get_or all at [])
     (number_is (at + 1) (1 + length all) (drop at all) (omega (arith, length-drop at all))) (drop_more all at [] (omega arith)) (ap (seen all) (sym c.in_default.is) ∙ c.in_ok-expected.ensures.found))
 
-pub new-requires-2-clause-block : goal.new-requires-2-clause-block
-new-requires-2-clause-block c =
+pub new-requires-3-clause-block : goal.new-requires-3-clause-block
+new-requires-3-clause-block c =
     let all = c.args.all.now in
-    let at = goal.at.new-requires-2-clause-block c in
+    let at = goal.at.new-requires-3-clause-block c in
     subst (λ (f : PlainFront). IsBlock (block_of_front f c.in-Some.expected)) (sym c.in_ok-front.ensures)
     (made_valid (1 + length all) (between c.args.from c.args.start all) (drop c.args.start all) (drop c.in-Some.after all) _ (decides at.In_ok-tokens _ (read_below at.In-Some)) c.requires.lead c.requires.head c.requires.lead_lines c.requires.lines).0
 
-pub new-requires-2-clause-tokens : goal.new-requires-2-clause-tokens
-new-requires-2-clause-tokens c =
+pub new-requires-3-clause-tokens : goal.new-requires-3-clause-tokens
+new-requires-3-clause-tokens c =
     subst HasTokens (sym c.in_ok-front.ensures)
-    (parsed_tokens c.args.all.now c.args.from c.args.start c.head-below.result c.run-separator.result c.args.number c.in_ok-tokens.tokens (parsed (goal.at.new-requires-2-clause-tokens c).In_ok-tokens))
+    (parsed_tokens c.args.all.now c.args.from c.args.start c.head-below.result c.run-separator.result c.args.number c.in_ok-tokens.tokens (parsed (goal.at.new-requires-3-clause-tokens c).In_ok-tokens))
 
 pub returns-clause-gives : goal.returns-clause-gives
 returns-clause-gives c =
     let at = goal.at.returns-clause-gives c in
     decides at.In_ok-tokens _ (read_below at.In-Some)
-    ∙ ap (λ (b : PlainBlock). Ok (b, drop c.in-Some.after c.args.all.now)) (sym (c.in_ok-block.ensures.ok ∙ c.new-2.ensures ∙ ap (λ (f : PlainFront). block_of_front f c.in-Some.expected) c.in_ok-front.ensures))
+    ∙ ap (λ (b : PlainBlock). Ok (b, drop c.in-Some.after c.args.all.now)) (sym (c.in_ok-block.ensures.ok ∙ c.new-3.ensures ∙ ap (λ (f : PlainFront). block_of_front f c.in-Some.expected) c.in_ok-front.ensures))

@@ -2,7 +2,6 @@ use Rattle.std.proofs.Common.{◌∙◌, arith}
 use Rattle.std.proofs.lemmas.Result.{err_from_is_err_and}
 use Rattle.rb_script.specs.declared.shared_lines.SharedLines.{SharedLines}
 use Rattle.rb_script.specs.declared.with_lines.ScriptWithLines.{ScriptWithLines}
-use Rattle.rb_script.specs.Lines.{lines}
 use Rattle.rb_script.specs.Shared.{parts_view}
 use Rattle.rb_script.specs.Reading.{early_fault}
 use Rattle.rb_script.proofs.ResultLaws.{early_through}

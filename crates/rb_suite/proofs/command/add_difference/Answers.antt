@@ -1,4 +1,3 @@
-use Rattle.std.proofs.Common.{◌∙◌}
 use Rattle.rb_suite.proofs.command.add_difference.Goals as goal
 
 pub returns : goal.returns

@@ -9,9 +9,9 @@ loop-i-preserved c =
     let others = c.args.other.now in
     let i = c.loop-i.i in
     let line = c.line.result.now in
-    let other = c.line-2.result.now in
+    let other = c.line-in-loop-i.result.now in
     take_there c.args.self.now i line c.line.ensures ∙ ap (λ (l : List Line). l ++ line ∷ []) c.loop-i.invariant
-    ∙ ap (λ (l : Line). take i others ++ l ∷ []) (c.is_same.ensures.0 c.if-not-is_same.false) ∙ sym (take_there others i other c.line-2.ensures)
+    ∙ ap (λ (l : Line). take i others ++ l ∷ []) (c.is_same.ensures.0 c.if-not-is_same.false) ∙ sym (take_there others i other c.line-in-loop-i.ensures)
 
 pub returns : goal.returns
 returns c =
