@@ -234,15 +234,6 @@ fn append_line(
     Ok(())
 }
 
-// Writes the line with its LF.
-fn write_text<W: WrittenLine>(text: &mut LineText, line: &W) -> Result<(), AllocError>
-    ensures { OnOk result (text.new ≡ text.old ++ line_text (W.bytes line.now)) }
-{
-    line.add_to(text)?;
-    text.push(b'\n')?;
-    Ok(())
-}
-
 // Writes the line with its LF, and adds its end.
 fn write_line<W: WrittenLine>(
     text: &mut LineText,
@@ -252,7 +243,8 @@ fn write_line<W: WrittenLine>(
     ensures text { OnOk result (text.new ≡ text.old ++ line_text (W.bytes line.now)) }
     ensures ends { OnOk result (ends.new.items ≡ ends.old.items ++ length text.new ∷ []) }
 {
-    write_text(text, line)?;
+    line.add_to(text)?;
+    text.push(b'\n')?;
     ends.push(counted(text.len())?)?;
     Ok(())
 }
