@@ -5,7 +5,7 @@ use Rattle.std.proofs.lemmas.List.{append-nil, take-append-drop, take_at, drop_a
 use Rattle.std.proofs.lemmas.Option.{slice_get-get_or}
 use Rattle.std.proofs.lemmas.List.Concat.{flat_map-append}
 use Rattle.rb_script.specs.Lines.{Line, line_text, text_of}
-use Rattle.rb_script.specs.Flat.{ends_of, parted, line_start, between, IsFlat}
+use Rattle.rb_script.specs.Flat.{ends_of, from_start, parted, line_start, between, IsFlat}
 use Rattle.rb_script.proofs.BetweenLaws.{take_between}
 
 -- the line that stands behind other text is cut out again
@@ -149,3 +149,51 @@ flat_line ends text i lt =
 
 pub part_is : (start end first last : ℕ) (text part : List ℕ) → start ≡ first → end ≡ last → TextBetween first last text part → TextBetween start end text part
 part_is start end first last text part e f at = subst (λ (n : ℕ). TextBetween n end text part) (sym e) (subst (λ (n : ℕ). TextBetween first n text part) (sym f) at)
+
+-- ---- ends
+
+drop_ends : (at : ℕ) (ls : List Line) (k : ℕ) → drop k (ends_of at ls) ≡ ends_of (line_start at (ends_of at ls) k) (drop k ls)
+unfolding ends_of
+drop_ends at ls zero = refl
+drop_ends at [] (suc k) = refl
+drop_ends at (line ∷ ls) (suc k) =
+    let n = at + length line + 1 in
+    drop_ends n ls k ∙ ap (λ (s : ℕ). ends_of s (drop k ls)) (sym (start_next n (ends_of n ls) k))
+
+take_ends : (at : ℕ) (ls : List Line) (k : ℕ) → take k (ends_of at ls) ≡ ends_of at (take k ls)
+unfolding ends_of
+take_ends at ls zero = refl
+take_ends at [] (suc k) = refl
+take_ends at (line ∷ ls) (suc k) = ap (λ (l : List ℕ). (at + length line + 1) ∷ l) (take_ends (at + length line + 1) ls k)
+
+-- where some lines end
+pub ends_between : (ends text : List ℕ) (from to : ℕ) → IsFlat ends text → take (to - from) (drop from ends) ≡ ends_of (line_start 0 ends from) (between from to (parted 0 ends text))
+ends_between ends text from to flat =
+    let ls = parted 0 ends text in
+    ap (λ (e : List ℕ). take (to - from) (drop from e)) flat.ends_are ∙ ap (take (to - from)) (drop_ends 0 ls from)
+    ∙ take_ends (line_start 0 (ends_of 0 ls) from) (drop from ls) (to - from)
+    ∙ sym (ap (λ (e : List ℕ). ends_of (line_start 0 e from) (between from to ls)) flat.ends_are)
+
+ends_moved : (at by : ℕ) (ls : List Line) → from_start at (ends_of (at + by) ls) ≡ ends_of by ls
+unfolding ends_of
+ends_moved at by [] = refl
+ends_moved at by (line ∷ ls) =
+    let n = by + length line + 1 in
+    let first : (at + by + length line + 1) - at ≡ n = omega arith in
+    let next : at + by + length line + 1 ≡ at + n = omega arith in
+    ap (λ (e : ℕ). e ∷ from_start at (ends_of (at + by + length line + 1) ls)) first
+    ∙ ap (λ (l : List ℕ). n ∷ l) (ap (λ (e : ℕ). from_start at (ends_of e ls)) next ∙ ends_moved at n ls)
+
+ends_counted : (at : ℕ) (ls : List Line) → from_start at (ends_of at ls) ≡ ends_of 0 ls
+ends_counted at ls =
+    let same : at ≡ at + 0 = omega arith in
+    ap (λ (n : ℕ). from_start at (ends_of n ls)) same ∙ ends_moved at 0 ls
+
+-- lines are told by their text, and by how long they are
+pub told_by_ends : (ls ms : List Line) (at bt : ℕ) (ends others : List ℕ) → ends ≡ ends_of at ls → others ≡ ends_of bt ms → from_start at ends ≡ from_start bt others → text_of ls ≡ text_of ms → ls ≡ ms
+told_by_ends ls ms at bt ends others e f alike text =
+    let same : ends_of 0 ls ≡ ends_of 0 ms = sym (ap (from_start at) e ∙ ends_counted at ls) ∙ alike ∙ ap (from_start bt) f ∙ ends_counted bt ms in
+    sym (parted_whole ls) ∙ ap (λ (l : List ℕ). parted 0 l (text_of ls)) same ∙ ap (parted 0 (ends_of 0 ms)) text ∙ parted_whole ms
+
+pub ends_alike : (ls ms : List Line) (at bt : ℕ) (ends others : List ℕ) → ends ≡ ends_of at ls → others ≡ ends_of bt ms → ls ≡ ms → from_start at ends ≡ from_start bt others
+ends_alike ls ms at bt ends others e f same = ap (from_start at) e ∙ ends_counted at ls ∙ ap (ends_of 0) same ∙ sym (ap (from_start bt) f ∙ ends_counted bt ms)

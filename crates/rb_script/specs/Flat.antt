@@ -1,11 +1,15 @@
 -- Lines in one buffer: each with its LF, and where each ends. (This project's.)
-use Rattle.std.specs.Prelude.{◌≡◌, ◌≤◌, ◌<◌, ◌^◌, ℕ, ◌+◌, ◌-◌, zero, suc, List, [], ◌∷◌, length, take, drop, slice_index}
+use Rattle.std.specs.Prelude.{◌≡◌, ◌≤◌, ◌<◌, ◌^◌, ℕ, ◌+◌, ◌-◌, zero, suc, List, [], ◌∷◌, length, take, drop, map, slice_index}
 use Rattle.rb_script.specs.Lines.{Line, text_of}
 
 -- where the lines end, the first of which begins here
 unfoldable pub ends_of : ℕ → List Line → List ℕ
 ends_of from [] = []
 ends_of from (line ∷ ls) = (from + length line + 1) ∷ ends_of (from + length line + 1) ls
+
+-- ends as they are counted from where the first line begins
+abbrev pub from_start : ℕ → List ℕ → List ℕ
+from_start start ends = map (λ end. end - start) ends
 
 -- the lines that end so, the first of which begins here
 unfoldable pub parted : ℕ → List ℕ → List ℕ → List Line

@@ -137,6 +137,23 @@ impl FlatLines {
         self.text.as_slice()
     }
 
+    /// Where the lines end in their text, and where the first of them begins.
+    pub(crate) fn ends(&self) -> (&[u32], u32)
+        ensures { result.0.now ≡ ends_of result.1 self.now }
+    {
+        (self.ends.as_slice(), 0)
+    }
+
+    /// The same of the lines from one position up to another, in the text of all.
+    pub(crate) fn ends_between(&self, from: usize, to: usize) -> (&[u32], u32)
+        requires order { from ≤ to }
+        requires within { to ≤ length self.now }
+        ensures { result.0.now ≡ ends_of result.1 (between from to self.now) }
+    {
+        let ends = self.ends.as_slice();
+        (&ends[from..to], start_of(ends, from))
+    }
+
     /// The text of the lines from one position up to another.
     pub(crate) fn text_between(&self, from: usize, to: usize) -> &[u8]
         requires order { from ≤ to }

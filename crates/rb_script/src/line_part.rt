@@ -2,7 +2,7 @@
 
 ghost use Rattle.std.specs.Prelude.{◌≡◌, ◌↔◌, ◌<◌, ◌≤◌, [], length, slice_get, IfOk, IsTrue, Some};
 ghost use Rattle.rb_script.specs.Lines.{text_of};
-ghost use Rattle.rb_script.specs.Flat.{between};
+ghost use Rattle.rb_script.specs.Flat.{between, ends_of};
 
 use crate::flat::FlatLines;
 use crate::shared_lines::SharedLines;
@@ -85,6 +85,13 @@ impl LinePart {
         ensures { slice_get self.now i ≡ Some result.now }
     {
         self.all.line(self.from + i)
+    }
+
+    /// Where the lines end in the text of all, and where the first of them begins.
+    pub(crate) fn ends(&self) -> (&[u32], u32)
+        ensures { result.0.now ≡ ends_of result.1 self.now }
+    {
+        self.all.ends_between(self.from, self.to)
     }
 
     /// The lines as one text, each with one LF.

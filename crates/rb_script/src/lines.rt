@@ -2,7 +2,7 @@
 
 ghost use Rattle.std.specs.Prelude.{◌≡◌, ◌↔◌, ◌+◌, ◌<◌, ◌≤◌, ◌^◌, [], ◌∷◌, ◌++◌, length, slice_get, OnOk, IfOk, OnErr, MatchOption, IfSome, IfNone, IsTrue, Some, ℕ, ◌≢◌, slice_index, vec_capacity};
 ghost use Rattle.rb_script.specs.Lines.{lines, text_of, without_returns};
-ghost use Rattle.rb_script.specs.Flat.{between};
+ghost use Rattle.rb_script.specs.Flat.{between, ends_of, from_start};
 ghost use Rattle.rb_script.specs.Kept.{kept_lines};
 
 use crate::flat::FlatLines;
@@ -158,15 +158,19 @@ impl Lines {
     pub fn same(&self, other: &Lines) -> bool
         ensures { IsTrue result ↔ (self.now ≡ other.now) }
     {
-        if self.len() != other.len() {
-            return false;
+        let (ends, start) = self.ends();
+        let (others, other_start) = other.ends();
+        are_as_long(ends, start, others, other_start) && is_same(self.text(), other.text())
+    }
+
+    // Where the lines end in a text that has them, and where the first of them begins.
+    fn ends(&self) -> (&[u32], u32)
+        ensures { result.0.now ≡ ends_of result.1 self.now }
+    {
+        match &self.kept {
+            Kept::Own(own) => own.ends(),
+            Kept::Part(part) => part.ends(),
         }
-        for i in 0..self.len() {
-            if !is_same(self.line(i), other.line(i)) {
-                return false;
-            }
-        }
-        true
     }
 
     // Where the memory is.
@@ -228,6 +232,21 @@ fn own_with<W: WrittenLine>(part: &LinePart, line: &W) -> Result<FlatLines, Allo
     let mut own = part.own()?;
     own.push_written(line)?;
     Ok(own)
+}
+
+// Whether lines that end so are as long as those that end as the others do.
+fn are_as_long(ends: &[u32], start: u32, others: &[u32], other_start: u32) -> bool
+    ensures { IsTrue result ↔ (from_start start ends.now ≡ from_start other_start others.now) }
+{
+    if ends.len() != others.len() {
+        return false;
+    }
+    for i in 0..ends.len() {
+        if ends[i].saturating_sub(start) != others[i].saturating_sub(other_start) {
+            return false;
+        }
+    }
+    true
 }
 
 /// Whether the two are the same bytes.

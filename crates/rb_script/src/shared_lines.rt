@@ -2,7 +2,7 @@
 
 ghost use Rattle.std.specs.Prelude.{◌≡◌, ◌<◌, ◌≤◌, length, slice_get, IfOk, Some};
 ghost use Rattle.rb_script.specs.Lines.{text_of};
-ghost use Rattle.rb_script.specs.Flat.{between};
+ghost use Rattle.rb_script.specs.Flat.{between, ends_of};
 
 use crate::flat::FlatLines;
 use std::alloc::{AllocError, Global};
@@ -57,6 +57,15 @@ impl SharedLines {
         ensures { slice_get self.now i ≡ Some result.now }
     {
         self.lines.line(i)
+    }
+
+    /// Where the lines from one position up to another end in the text of all, and where the first of them begins.
+    pub(crate) fn ends_between(&self, from: usize, to: usize) -> (&[u32], u32)
+        requires order { from ≤ to }
+        requires within { to ≤ length self.now }
+        ensures { result.0.now ≡ ends_of result.1 (between from to self.now) }
+    {
+        self.lines.ends_between(from, to)
     }
 
     /// The text of the lines from one position up to another.
