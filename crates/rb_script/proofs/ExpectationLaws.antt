@@ -123,7 +123,8 @@ unfolding plain_at
 plain_sound ls e rest first h =
     elim (cases_Bool (is_readable (while_of is_plain ls))) [
       | inl t ↦
-          let both = some_pair_parts (while_of is_plain ls) e (after_blank (after_while is_plain ls)) rest (sym (ap (λ b. cond b (some_pair (while_of is_plain ls) (after_blank (after_while is_plain ls))) None) t) ∙ h) in
+          let both = some_pair_parts (while_of is_plain ls) e (after_blank (after_while is_plain ls)) rest
+          (sym (ap (λ b. cond b (some_pair (while_of is_plain ls) (after_blank (after_while is_plain ls))) None) t) ∙ h) in
           subst (λ (x : List Line). Expects ls x rest) both.0 (record {
             readable = t;
             expected = inl (record { first = first; none_blank = run_all is_plain ls; closed = plain_closed ls (after_while is_plain ls) rest refl both.1 });

@@ -138,7 +138,8 @@ flat_between ends text from to flat order within =
     }
 
 -- the text of a line is the line with its LF
-pub flat_line : (ends text : List ℕ) (i : ℕ) → i < length ends → (line : Line) × (slice_get (parted 0 ends text) i ≡ Some line) × (text_of (between i (i + 1) (parted 0 ends text)) ≡ line_text line)
+pub flat_line : (ends text : List ℕ) (i : ℕ) → i < length ends → (line : Line) × (slice_get (parted 0 ends text) i ≡ Some line)
+    × (text_of (between i (i + 1) (parted 0 ends text)) ≡ line_text line)
 flat_line ends text i lt =
     let ls = parted 0 ends text in
     let line = get_or ls i [] in

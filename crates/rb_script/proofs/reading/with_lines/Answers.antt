@@ -15,7 +15,8 @@ returns-in_err-all-clause-early c =
 
 pub whole-requires : goal.whole-requires
 whole-requires c =
-    script_valid c.args.bytes.now (parts_view c.in_ok-parts.parts) c.in_ok-parts.parts.text_len (c.in_ok-all.ensures.parts ∙ c.in_ok-parts.ensures.gives) c.in_ok-parts.ensures.len (omega arith)
+    script_valid c.args.bytes.now (parts_view c.in_ok-parts.parts) c.in_ok-parts.parts.text_len
+    (c.in_ok-all.ensures.parts ∙ c.in_ok-parts.ensures.gives) c.in_ok-parts.ensures.len (omega arith)
 
 pub returns-clause-heads : goal.returns-clause-heads
 returns-clause-heads c =

@@ -19,6 +19,7 @@ returns-in-None-clause-gives c =
     ap (λ k. read k (after_while is_word bytes)) (sym c.take-key.ensures.token) ∙ ap (read key) (sym c.take-key.ensures.left)
     ∙ ap (λ t. cond t (behind_key key rest) None) (some_token head c.take-key.result c.take-key.ensures.part c.if-key.false) in
     let gives =
-    values_too_many head c.take-key.result c.values.new.at.left rest c.advance.new.self.left c.in-Some-eq61.field-0 c.in-Some-eq61.ensures c.in-Some-eq61.field-0-test c.advance.ensures.left
+    values_too_many head c.take-key.result c.values.new.at.left rest c.advance.new.self.left
+    c.in-Some-eq61.field-0 c.in-Some-eq61.ensures c.in-Some-eq61.field-0-test c.advance.ensures.left
     (rw (c.advance.ensures.head ∙ c.take-key.ensures.head, c.in-None.is) at c.in_ok-values.ensures.gives) in
     (gives.0, is ∙ gives.1, gives.2)

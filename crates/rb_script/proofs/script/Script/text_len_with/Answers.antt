@@ -20,11 +20,13 @@ loop-i-preserved c =
     let block = c.at-block.result.now.value in
     let output = c.at-output.result.now.value in
     let all = all_expecting blocks outputs in
-    let shown = ap (λ (b : PlainBlock). capped (length (block_text (expecting b c.deref-in-loop-i.result.now)))) c.deref.ensures ∙ ap (λ (o : List Line). capped (length (block_text (expecting block o)))) c.deref-in-loop-i.ensures in
+    let shown = ap (λ (b : PlainBlock). capped (length (block_text (expecting b c.deref-in-loop-i.result.now)))) c.deref.ensures
+    ∙ ap (λ (o : List Line). capped (length (block_text (expecting block o)))) c.deref-in-loop-i.ensures in
     let longer : c.saturating_add-total.result ≡ capped (blocks_len (take i all ++ expecting block output ∷ []) + tail) =
     omega (arith, c.loop-i.invariant, c.saturating_add-total.ensures, c.text_len_with.ensures ∙ shown, blocks-push-length (take i all) (expecting block output)) in
     longer
-    ∙ ap (λ (bs : List PlainBlock). capped (blocks_len bs + tail)) (sym (take_there all i (expecting block output) (expecting_at blocks outputs i block output c.at-block.ensures c.at-output.ensures)))
+    ∙ ap (λ (bs : List PlainBlock). capped (blocks_len bs + tail)) (sym (take_there all i (expecting block output)
+    (expecting_at blocks outputs i block output c.at-block.ensures c.at-output.ensures)))
 
 pub returns : goal.returns
 returns c =
