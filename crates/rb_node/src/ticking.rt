@@ -7,7 +7,7 @@
 ghost use Rattle.std.specs.Prelude.{◌≡◌, OnOk};
 ghost use Rattle.rb_node.specs.Node.{turn};
 ghost use Rattle.rb_node.specs.declared.limits.TheConstants.{MAX_TICKS, HEARTBEAT_TICKS};
-ghost use Rattle.rb_node.specs.Ticking.{counted, heartbeats_due, quorum_looked_at, leader_ticked, other_ticked, ticked};
+ghost use Rattle.rb_node.specs.Ticking.{counted, heartbeats_due, quorum_looked_at, other_ticked, ticked};
 
 use crate::limits::{ELECTION_TICKS, HEARTBEAT_TICKS, MAX_TICKS};
 use crate::node::Node;
@@ -63,20 +63,6 @@ fn look_at_quorum<L: RaftLog>(
     beat_if_due(state)
 }
 
-// A leader sends heartbeats, or looks at its quorum first where it is time for that.
-#[tactic(auto, unfolding(crate::specs::Ticking::leader_ticked))]
-fn tick_leader<L: RaftLog>(state: &mut State<L>, events: &mut Vec<Event>) -> Result<(), AllocError>
-    ensures { OnOk result (turn state.new events.new.items ≡ leader_ticked (turn state.old events.old.items)) }
-{
-    state.clock.elapsed = counted(state.clock.elapsed);
-    state.clock.heartbeat_elapsed = counted(state.clock.heartbeat_elapsed);
-    if state.clock.elapsed < ELECTION_TICKS {
-        return beat_if_due(state);
-    }
-    state.clock.elapsed = 0;
-    look_at_quorum(state, events)
-}
-
 // A voter that heard of no leader for its timeout campaigns.
 #[tactic(auto, unfolding(crate::specs::Ticking::other_ticked))]
 fn tick_other<L: RaftLog>(state: &mut State<L>, events: &mut Vec<Event>) -> Result<(), AllocError>
@@ -92,14 +78,24 @@ fn tick_other<L: RaftLog>(state: &mut State<L>, events: &mut Vec<Event>) -> Resu
 
 impl<L: RaftLog> Node<L> {
     /// One tick of the node's clock.
+    #[tactic(auto, unfolding(crate::specs::Ticking::leader_ticked))]
     pub fn tick(&mut self, events: &mut Vec<Event>) -> Result<(), AllocError>
         ensures { OnOk result (turn self.new events.new.items ≡ ticked (turn self.old events.old.items)) }
     {
-        match self.state.role {
-            Role::Leader => tick_leader(&mut self.state, events),
+        let state = &mut self.state;
+        match state.role {
+            Role::Leader => {}
             Role::Follower | Role::Precandidate | Role::Candidate => {
-                tick_other(&mut self.state, events)
+                return tick_other(state, events);
             }
         }
+        // A leader sends heartbeats, or looks at its quorum first where it is time for that.
+        state.clock.elapsed = counted(state.clock.elapsed);
+        state.clock.heartbeat_elapsed = counted(state.clock.heartbeat_elapsed);
+        if state.clock.elapsed < ELECTION_TICKS {
+            return beat_if_due(state);
+        }
+        state.clock.elapsed = 0;
+        look_at_quorum(state, events)
     }
 }
