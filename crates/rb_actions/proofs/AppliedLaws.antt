@@ -108,6 +108,7 @@ same_put n t r e output whole alike first last one other =
 
 -- from the last to the first
 abbrev pub all_put : Picks → List ℕ → List ℕ → List PlainBlock → List (List Line) → List ℕ
+all_put picks t heads [] os = t
 all_put picks t (line ∷ heads) (b ∷ bs) (output ∷ os) =
     if picks line b output then put_in t (extent_of (lines t) line b) output (all_put picks t heads bs os) else all_put picks t heads bs os
 all_put picks t heads bs os = t
@@ -216,6 +217,7 @@ put_by front cur rest tail t r line b bs output is some numbered one solid later
 pub all_claim : (picks : Picks) (t : List ℕ) (tail : List Line) (heads : List ℕ) (bs : List PlainBlock) (os : List (List Line)) (front cur : List Line) → lines t ≡ front ++ cur → (reads : ReadsSome cur bs tail)
     → AreNumbered (length front) cur bs tail reads heads → AllByRecursion (λ output. AllByRecursion IsSolid output) os
     → Claim front cur t (all_put picks t heads bs os) (with_picked picks heads bs os) tail
+all_claim picks t tail heads [] os front cur is reads numbered solid = unchanged front cur tail t [] is reads
 all_claim picks t tail (line ∷ heads) (b ∷ []) (output ∷ os) front cur is reads numbered solid =
     elim (picks line b output) as (λ (x : Bool). Claim front cur t (if x then put_in t (extent_of (lines t) line b) output t else t) ((if x then expecting b output else b) ∷ []) tail) [
       | true ↦ last_put front cur tail t line b output is reads numbered.0 solid.0
@@ -257,6 +259,8 @@ start_is encoding t k begun = place_returns encoding 0 (feed_start k t) t (line_
 
 made_is : (picks : Picks) (encoding : Encoding) (t : List ℕ) (heads : List ℕ) (bs : List PlainBlock) (os : List (List Line)) → ((n : ℕ) → begins (drop (feed_start n t) t) ≡ true)
     → edits_made encoding t (edits_in picks encoding t heads bs os) ≡ all_put picks t heads bs os
+made_is picks encoding t [] [] os begun = refl
+made_is picks encoding t [] (b ∷ bs) os begun = refl
 made_is picks encoding t (line ∷ heads) (b ∷ bs) (output ∷ os) begun =
     let e = extent_of (lines t) line b in
     let new = new_text t (lines t) e output in
@@ -271,6 +275,7 @@ made_is picks encoding t (line ∷ heads) (b ∷ bs) (output ∷ os) begun =
 made_is picks encoding t heads bs os begun = refl
 
 picked_len : (picks : Picks) (heads : List ℕ) (bs : List PlainBlock) (os : List (List Line)) → length (with_picked picks heads bs os) ≡ length bs
+picked_len picks heads [] os = refl
 picked_len picks (line ∷ heads) (b ∷ bs) (output ∷ os) = ap (λ (k : ℕ). suc k) (picked_len picks heads bs os)
 picked_len picks heads bs os = refl
 

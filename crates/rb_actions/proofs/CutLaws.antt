@@ -14,7 +14,6 @@ use Rattle.rb_script.specs.Reads.{is_readable}
 use Rattle.rb_script.proofs.ListLaws.{every-append}
 use Rattle.rb_script.proofs.SharedLaws.{text_lines}
 use Rattle.rb_script.proofs.SolidLaws.{solid_expected}
-use Rattle.rb_line.proofs.CutLaws.{in_first_more, in_first_some}
 use Rattle.rb_document.specs.Changes.{spliced}
 use Rattle.rb_document.specs.Tables.{feed_start}
 use Rattle.rb_actions.specs.declared.extent.Extent.{Extent}
@@ -46,14 +45,22 @@ lines_behind (suc n) (b ∷ t) =
     ]
 
 -- a text that isn't empty has a line
+first_some : (b : ℕ) (ls : List Line) → in_first b ls ≡ [] → ⊥
+first_some b [] e = cc
+first_some b (l ∷ ls) e = cc
+
 cut_some : (b : ℕ) (t : List ℕ) → cut (b ∷ t) ≡ [] → ⊥
 unfolding cut
-cut_some b t = elim (b == 10) as (λ (x : Bool). (if x then [] ∷ cut t else in_first b (cut t)) ≡ [] → ⊥) [ true ↦ λ e. cc | false ↦ in_first_some b (cut t) ]
+cut_some b t = elim (b == 10) as (λ (x : Bool). (if x then [] ∷ cut t else in_first b (cut t)) ≡ [] → ⊥) [ true ↦ λ e. cc | false ↦ first_some b (cut t) ]
 
 -- a byte more in the first of some lines that are there
 first_more : (b n : ℕ) (ls more : List Line) → (ls ≡ [] → ⊥) → in_first b (take (suc n) ls ++ more) ≡ take (suc n) (in_first b ls) ++ more
 first_more b n [] more some = absurd (some refl)
 first_more b n (l ∷ ls) more some = refl
+
+first_behind : (b : ℕ) (ls more : List Line) → (ls ≡ [] → ⊥) → in_first b (ls ++ more) ≡ in_first b ls ++ more
+first_behind b [] more some = absurd (some refl)
+first_behind b (l ∷ ls) more some = refl
 
 first_len : (b : ℕ) (ls : List Line) → (ls ≡ [] → ⊥) → length (in_first b ls) ≡ length ls
 first_len b [] some = absurd (some refl)
@@ -128,7 +135,7 @@ open_lines b (c ∷ t) more unended =
     let later = open_lines c t more (sym (end_later b c t) ∙ unended) in
     elim (b == 10) as (λ (x : Bool). (if x then [] ∷ cut (c ∷ (t ++ 10 ∷ more)) else in_first b (cut (c ∷ (t ++ 10 ∷ more)))) ≡ (if x then [] ∷ cut (c ∷ t) else in_first b (cut (c ∷ t))) ++ cut more) [
       | true ↦ ap (λ (ls : List Line). [] ∷ ls) later
-      | false ↦ ap (in_first b) later ∙ in_first_more b (cut (c ∷ t)) (cut more) (cut_some c t)
+      | false ↦ ap (in_first b) later ∙ first_behind b (cut (c ∷ t)) (cut more) (cut_some c t)
     ]
 
 -- behind all lines stands nothing

@@ -15,7 +15,6 @@ use Rattle.rb_script.specs.Runs.{head_of}
 use Rattle.rb_script.proofs.ExpectationLaws.{rule_is}
 use Rattle.rb_script.proofs.RunLaws.{head_run}
 use Rattle.rb_script.proofs.SolidLaws.{solid_expected, solid_plain}
-use Rattle.rb_offers.specs.declared.block_lines.TheConstants.{DOUBLE_LINES}
 use Rattle.rb_offers.specs.BlockLines.{behind_head, block_lines, lines_at, lines_from}
 use Rattle.rb_actions.specs.declared.extent.Extent.{Extent}
 use Rattle.rb_actions.specs.Extents.{extent_at, extent_of}
@@ -26,14 +25,14 @@ use Rattle.rb_actions.specs.Laws.{with_lines}
 
 -- by its parts
 extent_is : (ls : List Line) (line : ℕ) (b : PlainBlock) (head h expected : ℕ) (d : Bool) (end : ℕ) → line - 1 ≡ head → length (head_of (drop head ls)) ≡ h → head + h + length b.input + 1 ≡ expected
-    → begins_rule (drop expected ls) ≡ d → expected + length b.expected + (if d then DOUBLE_LINES else 0) ≡ end → extent_of ls line b ≡ record { head = head; expected = expected; end = end; is_double = d }
+    → begins_rule (drop expected ls) ≡ d → expected + length b.expected + (if d then 3 else 0) ≡ end → extent_of ls line b ≡ record { head = head; expected = expected; end = end; is_double = d }
 unfolding extent_of block_lines
 extent_is ls line b head h expected d end first second third fourth fifth =
     let ending : ℕ → Bool → Extent = λ k t. record { head = head; expected = expected; end = k; is_double = t } in
     ap (λ (k : ℕ). extent_at ls (lines_at ls b k (behind_head ls k))) first
     ∙ ap (λ (k : ℕ). extent_at ls (lines_at ls b head (head + k))) second
     ∙ ap (λ (k : ℕ). extent_at ls (lines_from ls b head (head + h) k)) third
-    ∙ ap (λ (t : Bool). ending (expected + length b.expected + (if t then DOUBLE_LINES else 0)) t) fourth
+    ∙ ap (λ (t : Bool). ending (expected + length b.expected + (if t then 3 else 0)) t) fourth
     ∙ ap (λ (k : ℕ). ending k d) fifth
 
 -- what stands up to the line ----
@@ -50,7 +49,7 @@ up_to_len front b separator =
     omega (arith, length-append front (b.head ++ (b.input ++ separator ∷ [])), length-append b.head (b.input ++ separator ∷ []), length-append b.input (separator ∷ []))
 
 pub stands : (front : List Line) (b : PlainBlock) (separator : Line) (after : List Line) (d : Bool) (k line : ℕ) → IsContinued b.head → line ≡ length front + 1 → begins_rule after ≡ d
-    → length b.expected + (if d then DOUBLE_LINES else 0) ≡ k
+    → length b.expected + (if d then 3 else 0) ≡ k
     → extent_of (up_to front b separator ++ after) line b ≡ record { head = length front; expected = length (up_to front b separator); end = length (up_to front b separator) + k; is_double = d }
 stands front b separator after d k line continued line_is begins len =
     let more = b.input ++ separator ∷ after in
@@ -90,7 +89,7 @@ same_first lead head input separator after other = refl
 
 -- where an expectation takes up k lines, behind which the tail stands
 edited : (before ls rest : List Line) (b : PlainBlock) (output tail : List Line) (d : Bool) (k : ℕ) (r : ReadsBlock ls b rest) → AllByRecursion IsSolid output → begins_rule r.after ≡ d
-    → length b.expected + (if d then DOUBLE_LINES else 0) ≡ k → drop k r.after ≡ tail → ReadsPlain (form d output ++ tail) output rest ⊎ ReadsDouble (form d output ++ tail) output rest → Edited before ls rest b output
+    → length b.expected + (if d then 3 else 0) ≡ k → drop k r.after ≡ tail → ReadsPlain (form d output ++ tail) output rest ⊎ ReadsDouble (form d output ++ tail) output rest → Edited before ls rest b output
 edited before ls rest b output tail d k r solid begins len left reads =
     let front = before ++ b.lead in
     let line = length before + length b.lead + 1 in

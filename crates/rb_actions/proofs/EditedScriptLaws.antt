@@ -11,7 +11,6 @@ use Rattle.rb_script.specs.Reads.{IsContinued, ReadsBlock, ReadsDouble, ReadsPla
 use Rattle.rb_script.specs.HeadLines.{AreHeadLines, IsHeadLine}
 use Rattle.rb_script.specs.LineParts.{IsSolid}
 use Rattle.rb_script.proofs.LinePartLaws.{rule_passes}
-use Rattle.rb_offers.specs.declared.block_lines.TheConstants.{DOUBLE_LINES}
 use Rattle.rb_offers.proofs.HeadLaws.{block_once}
 use Rattle.rb_actions.specs.Extents.{extent_of}
 use Rattle.rb_actions.specs.Laws.{with_lines}
@@ -52,7 +51,7 @@ pub record BeforeOne (ls rest : List Line) (x : PlainBlock) : Type 0 where
   pub above : up < length front
 
 -- by the lines above an expectation of k lines
-stands_by : (x : PlainBlock) (separator : Line) (q before other : List Line) (d : Bool) (k : ℕ) → IsContinued x.head → begins_rule (q ++ other) ≡ d → length x.expected + (if d then DOUBLE_LINES else 0) ≡ k
+stands_by : (x : PlainBlock) (separator : Line) (q before other : List Line) (d : Bool) (k : ℕ) → IsContinued x.head → begins_rule (q ++ other) ≡ d → length x.expected + (if d then 3 else 0) ≡ k
     → extent_of (before ++ ((up_to x.lead x separator ++ q) ++ other)) (length before + length x.lead + 1) x
     ≡ record { head = length before + length x.lead; expected = length before + length (up_to x.lead x separator); end = length before + length (up_to x.lead x separator) + k; is_double = d }
 stands_by x separator q before other d k continued begins len =
@@ -73,7 +72,7 @@ stands_by x separator q before other d k continued begins len =
 
 -- an expectation of k lines, up to what follows
 one_before : (ls rest q : List Line) (x : PlainBlock) (r : ReadsBlock ls x rest) (d : Bool) (k : ℕ) → r.after ≡ q ++ rest → ((other : List Line) → begins_rule (q ++ other) ≡ d)
-    → length x.expected + (if d then DOUBLE_LINES else 0) ≡ k → k ≤ length q → 1 ≤ length q
+    → length x.expected + (if d then 3 else 0) ≡ k → k ≤ length q → 1 ≤ length q
     → ((other : List Line) → begins_blank other ≡ begins_blank rest → ReadsPlain (q ++ other) x.expected other ⊎ ReadsDouble (q ++ other) x.expected other) → BeforeOne ls rest x
 one_before ls rest q x r d k parts begins len most some expected =
     let up = up_to x.lead x r.separator in

@@ -12,6 +12,7 @@ use Rattle.rb_actions.specs.Actions.{PlainEdit, Picks, is_wanted}
 
 -- the directives, of which each that is wanted expects its output
 abbrev pub with_picked : Picks → List ℕ → List PlainBlock → List (List Line) → List PlainBlock
+with_picked picks heads [] os = []
 with_picked picks (line ∷ heads) (b ∷ bs) (output ∷ os) = (if picks line b output then expecting b output else b) ∷ with_picked picks heads bs os
 with_picked picks heads bs os = bs
 

@@ -38,7 +38,6 @@ pub fn edited_lines_read()
 
 /// The text that an editor makes by an action's edits reads as the script in which each directive that is wanted expects what came of it, and
 /// the others what they did, where the text doesn't become too long.
-#[tactic(auto, using(crate::proofs::AppliedLaws::edited_text))]
 pub fn edited_texts_read()
     ensures { EditedTextsRead }
 {}

@@ -1,5 +1,5 @@
 -- What is written of the picture of a script, and the status. Where things stand in a picture is not stated. (This project's.)
-use Rattle.std.specs.Prelude.{◌≡◌, ℕ, ◌⊎◌, List, Option, Some, Result, Ok, Err}
+use Rattle.std.specs.Prelude.{ℕ, ◌⊎◌, List, Option, Some, Result, Ok, Err}
 use Rattle.std.specs.Io.KnownBytes.{Appends, Keeps}
 use Rattle.rb_script.specs.Lines.{Line}
 use Rattle.rb_script.specs.Reading.{read_of, Refuses}
