@@ -14,7 +14,7 @@ use Rattle.rb_node_laws.proofs.Turns.{own_size}
 use Rattle.rb_cluster_laws.specs.Honesty.{IsPlain}
 use Rattle.rb_cluster_laws.proofs.Links.{Link, link, Extends, still_linked, held_term, push_extends, push_single}
 use Rattle.rb_cluster_laws.proofs.LinkedLogs.{log_from, own_linked}
-use Rattle.rb_cluster_laws.proofs.Holding.{Setting, World, IsElected, IsElect, Essence, essence, IsChainBy, IsChain, IsIn, Linking, Holds, IsNew}
+use Rattle.rb_cluster_laws.proofs.Holding.{Setting, World, IsElected, IsElect, Essence, essence, IsChainBy, IsChain, IsIn, Linking, Holds, IsNew, leader_stands}
 use Rattle.rb_cluster_laws.proofs.Electing.{one_elected}
 
 -- ---- more links

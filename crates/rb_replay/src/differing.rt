@@ -2,11 +2,18 @@
 
 ghost use Rattle.std.specs.Prelude.{◌≡◌, ◌+◌, ◌-◌, ◌≤◌, length, drop, take, IfOk};
 ghost use Rattle.rb_script.specs.declared.limits.TheConstants.{MAX_DIRECTIVES};
-ghost use Rattle.rb_replay.specs.Report.{differing};
+ghost use Rattle.rb_replay.specs.Report.{differing, same_lines};
 
 use crate::blocks::block_at;
 use rb_script::{Grouped, Lines, Script};
 use std::alloc::{AllocError, Global};
+
+/// Whether these are the same lines.
+fn is_same(a: &Lines, b: &Lines) -> bool
+    ensures { result ≡ same_lines a.now b.now }
+{
+    a.same(b)
+}
 
 /// The places after `from`, up to `to`, where the expectation is not the output.
 pub(crate) fn list_differing(
@@ -25,7 +32,7 @@ pub(crate) fn list_differing(
     for i in from..to {
         let block = block_at(script, i);
         let output = outputs.at(i);
-        if !block.expected().same(output) {
+        if !is_same(block.expected(), output) {
             places.push(i + 1)?;
         }
     }
