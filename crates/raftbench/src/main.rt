@@ -5,7 +5,7 @@ mod editing;
 
 use crate::editing::serve_editor;
 use rb_args::{Choice, Subcommand, chosen};
-use rb_check::status_code;
+use rb_check::{Status, status_code};
 use rb_program::{Misuse, Refusal, Terminals, carry_out, check_all, show_directives};
 use std::io::{IsTerminal, Write};
 use std::process::ExitCode;
@@ -36,14 +36,19 @@ fn answered<R: Files + Input + Print + Env + Clock + AllocGlobal, E: Write + Dro
     match choice.subcommand {
         Some(Subcommand::Check) => {
             let every = choice.every.as_deref();
-            check_all(rt, &choice.check, every, errors, terminals).map(status_code)
+            coded(check_all(rt, &choice.check, every, errors, terminals))
         }
-        Some(Subcommand::Directives) => {
-            show_directives(rt, choice.name.as_deref()).map(status_code)
-        }
+        Some(Subcommand::Directives) => coded(show_directives(rt, choice.name.as_deref())),
         Some(Subcommand::Lsp) => serve_editor(rt),
-        Some(Subcommand::Script(command)) => carry_out(rt, command, &choice).map(status_code),
+        Some(Subcommand::Script(command)) => coded(carry_out(rt, command, &choice)),
         None => Err(Refusal::Usage(Misuse::NoCommand)),
+    }
+}
+
+fn coded(ended: Result<Status, Refusal>) -> Result<u8, Refusal> {
+    match ended {
+        Ok(status) => Ok(status_code(status)),
+        Err(refusal) => Err(refusal),
     }
 }
 
