@@ -1,7 +1,4 @@
-pub mod FindingLaws
-pub mod QuietLaws
-pub mod MismatchLaws
-pub mod CameLaws
+pub mod ExtentLaws
 pub mod HoverLaws
 pub mod ActionLaws
 pub mod RangeLaws

@@ -15,3 +15,4 @@ pub mod Talk
 pub mod Turns
 pub use Rattle.rb_text.specs.Numbers
 pub use Rattle.rb_text.specs.Words
+pub mod Pieces

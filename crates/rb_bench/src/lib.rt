@@ -16,6 +16,7 @@ mod laws;
 mod limits;
 mod names;
 mod outlet;
+mod piece;
 mod reply;
 mod respond;
 mod running;

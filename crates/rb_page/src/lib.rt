@@ -6,12 +6,14 @@
 #![tactic(auto)]
 
 mod cell;
+mod escape;
 mod event;
 mod item;
 mod kept;
 mod laws;
 mod message;
 mod names;
+mod piece;
 mod row;
 mod span;
 

@@ -1,7 +1,5 @@
 //! `raftbench directives`: what directives there are, or one of them.
 
-ghost use Rattle.std.specs.Prelude.{◌≡◌, IfOk};
-
 use crate::misuse::Misuse;
 use crate::refusal::Refusal;
 use rb_check::Status;
@@ -12,16 +10,10 @@ use std::io;
 use std::io::{BufWriter, Write};
 
 /// Shows the directive of this name, or an overview of all.
-///
-/// # Errors
-///
-/// Why it was not done: no directive has the name, it could not be written, or memory was refused.
-pub fn show_directives<R: Print + AllocGlobal>(
+pub(crate) fn directives<R: Print + AllocGlobal>(
     rt: &R,
     name: Option<&str>,
-) -> Result<Status, Refusal>
-    ensures { IfOk result (λ status. status ≡ Status.Matched) }
-{
+) -> Result<Status, Refusal> {
     let alloc = rt.alloc();
     let page = match name {
         Some(name) => Some(page_named(alloc, name)?),
@@ -45,9 +37,7 @@ fn page_named(alloc: Global, name: &str) -> Result<&'static [u8], Refusal> {
 }
 
 /// What it comes to that this was written, or was not.
-pub(crate) fn status_of(written: Result<(), WriteFault>) -> Result<Status, Refusal>
-    ensures { IfOk result (λ status. status ≡ Status.Matched) }
-{
+pub(crate) fn status_of(written: Result<(), WriteFault>) -> Result<Status, Refusal> {
     match written {
         Ok(()) => Ok(Status::Matched),
         Err(_) => Err(Refusal::Io),

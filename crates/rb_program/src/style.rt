@@ -1,6 +1,6 @@
 //! How what differs is written.
 
-use rb_suite::Format;
+use rb_formats::Format;
 
 /// What `--format` asks for.
 #[derive(Clone, Copy, PartialEq, Eq)]

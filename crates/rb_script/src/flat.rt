@@ -251,6 +251,15 @@ fn append_line(
     Ok(())
 }
 
+// Writes the line with its LF.
+fn write_text<W: WrittenLine>(text: &mut LineText, line: &W) -> Result<(), AllocError>
+    ensures { OnOk result (text.new ≡ text.old ++ line_text (W.bytes line.now)) }
+{
+    line.add_to(text)?;
+    text.push(b'\n')?;
+    Ok(())
+}
+
 // Writes the line with its LF, and adds its end.
 fn write_line<W: WrittenLine>(
     text: &mut LineText,
@@ -260,8 +269,7 @@ fn write_line<W: WrittenLine>(
     ensures text { OnOk result (text.new ≡ text.old ++ line_text (W.bytes line.now)) }
     ensures ends { OnOk result (ends.new.items ≡ ends.old.items ++ length text.new ∷ []) }
 {
-    line.add_to(text)?;
-    text.push(b'\n')?;
+    write_text(text, line)?;
     ends.push(counted(text.len())?)?;
     Ok(())
 }
@@ -300,8 +308,9 @@ fn line_of<'a>(text: &'a [u8], ends: &[u32], i: usize) -> &'a [u8]
     requires line { i < length ends.now }
     ensures { slice_get (parted 0 ends.now text.now) i ≡ Some result.now }
 {
-    let whole = text_part(text, ends, i, i + 1);
-    &whole[..whole.len() - 1]
+    let start = start_of(ends, i) as usize;
+    let end = ends[i] as usize - 1;
+    &text[start..end]
 }
 
 // The text of the lines from one position up to another.

@@ -3,12 +3,13 @@
 ghost use Rattle.rb_script.specs.Reads.{Reads};
 
 use crate::report::{Ran, Report};
-use crate::subject::Subject;
-use crate::system::System;
+use crate::system::{System, Text};
 use rb_check::Failure;
-use rb_checked::{AcceptFault, Accepted, Wanted, accept as accepted, put_left_errors};
+use rb_checked::{AcceptFault, Accepted, ShowFault, Wanted, accept as accepted, put_left_errors};
 use rb_files::PathError;
 use rb_machine::Machine;
+use rb_replay::Session;
+use rb_script::WriteFault;
 use std::alloc::Global;
 use std::fs::Metadata;
 use std::io;
@@ -19,19 +20,20 @@ pub(crate) fn accept<M: Machine, S: System, W: Write + Drop, E: Write + Drop>(
     system: &S,
     wanted: Wanted<'_>,
     ran: Ran<'_>,
-    subject: &Subject<'_, M>,
+    session: &Session<M>,
+    text: &Text,
     report: &mut Report<W, E>,
 )
-    requires { Reads subject.now.text.now.bytes.items subject.now.session.now.script }
+    requires { Reads text.now.bytes.items session.now.script }
 {
     let alloc = system.alloc();
-    match accepted(alloc, subject.session, &subject.text.bytes, wanted) {
+    match accepted(alloc, session, &text.bytes, wanted) {
         Ok(made) => {
             if !made.left.is_empty() {
                 report.leave(ran.path, wanted.picked, &made.left);
-                tell_left(alloc, subject, wanted, report);
+                tell_left(alloc, session, &text.bytes, ran.path, wanted, report);
             }
-            keep(system, ran, &made, &subject.text.seen, report);
+            keep(system, ran, &made, &text.seen, report);
         }
         Err(fault) => fail(alloc, ran, fault, report),
     }
@@ -40,11 +42,13 @@ pub(crate) fn accept<M: Machine, S: System, W: Write + Drop, E: Write + Drop>(
 // Says which outputs are not accepted.
 fn tell_left<M: Machine, W: Write + Drop, E: Write + Drop>(
     alloc: Global,
-    subject: &Subject<'_, M>,
+    session: &Session<M>,
+    bytes: &[u8],
+    path: &str,
     wanted: Wanted<'_>,
     report: &mut Report<W, E>,
 )
-    requires { Reads subject.now.text.now.bytes.items subject.now.session.now.script }
+    requires { Reads bytes.now session.now.script }
 {
     if report.is_for_programs() {
         return;
@@ -52,11 +56,12 @@ fn tell_left<M: Machine, W: Write + Drop, E: Write + Drop>(
     let Some(sink) = report.sink() else {
         return;
     };
-    let path = subject.path.as_bytes();
-    let bytes = subject.text.bytes.as_slice();
-    let shown = put_left_errors(alloc, sink, subject.session, bytes, path, wanted);
-    if let Err(error) = report.showed(shown) {
-        report.fail(path, error);
+    match put_left_errors(alloc, sink, session, bytes, path.as_bytes(), wanted) {
+        Ok(()) => report.wrote(Ok(())),
+        Err(ShowFault::Writing) => report.wrote(Err(WriteFault)),
+        Err(ShowFault::OutOfMemory) => {
+            report.fail(path.as_bytes(), PathError::alone(Failure::OutOfMemory));
+        }
     }
 }
 

@@ -7,12 +7,14 @@ use crate::check_request::CheckRequest;
 use crate::report::Report;
 use crate::subject::Subject;
 use crate::system::System;
+use rb_check::Failure;
 use rb_checked::{
-    Layout, Picked, Shown, View, is_picked, is_unexpected, layout_of, put_one_mismatch,
+    Layout, Picked, ShowFault, Shown, View, is_picked, is_unexpected, layout_of, put_one_mismatch,
 };
 use rb_files::PathError;
 use rb_machine::Machine;
 use rb_replay::Session;
+use rb_script::WriteFault;
 use std::alloc::{AllocError, Global};
 use std::io::Write;
 
@@ -182,17 +184,19 @@ fn show<M: Machine, W: Write + Drop, E: Write + Drop>(
     let Some(sink) = report.sink() else {
         return Ok(());
     };
-    let bytes = subject.text.bytes.as_slice();
-    let shown = put_one_mismatch(
+    match put_one_mismatch(
         alloc,
         sink,
         subject.session,
-        bytes,
+        &subject.text.bytes,
         view,
         subject.whys,
         index,
-    );
-    report.showed(shown)?;
+    ) {
+        Ok(()) => report.wrote(Ok(())),
+        Err(ShowFault::Writing) => report.wrote(Err(WriteFault)),
+        Err(ShowFault::OutOfMemory) => return Err(PathError::alone(Failure::OutOfMemory)),
+    }
     Ok(())
 }
 

@@ -1,4 +1,2 @@
-pub mod Json
 pub mod Numbers
-pub mod Pieces
 pub mod Words

@@ -1,4 +1,5 @@
 pub use Rattle.rb_node.specs.Node
 pub mod Reasons
 pub mod Telling
+pub mod Pieces
 pub mod Texts

@@ -6,6 +6,7 @@
 #![tactic(auto)]
 
 mod laws;
+mod piece;
 mod reasons;
 mod texts;
 mod why;

@@ -1,0 +1,4 @@
+pub mod FindingLaws
+pub mod QuietLaws
+pub mod MismatchLaws
+pub mod CameLaws

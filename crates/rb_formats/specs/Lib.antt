@@ -1,0 +1,5 @@
+pub mod Escapes
+pub mod Pieces
+pub mod Objects
+pub mod Commands
+pub mod Formats

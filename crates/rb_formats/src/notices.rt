@@ -1,0 +1,131 @@
+//! What is told of a script beside its directives.
+
+ghost use Rattle.std.specs.Prelude.{◌≡◌, ◌++◌, OnOk, IfOk};
+ghost use Rattle.rb_formats.specs.Commands.{command_text};
+ghost use Rattle.rb_formats.specs.Formats.{notice_text};
+ghost use Rattle.rb_formats.specs.Objects.{notice_object};
+
+use crate::format::Format;
+use crate::kind::Kind;
+use crate::piece::{Piece, add_pieces};
+use std::alloc::{AllocError, Global};
+
+fn add_object<'a>(
+    text: &mut Vec<u8>,
+    path: &'a [u8],
+    line: Option<usize>,
+    status: &'a [u8],
+    message: &'a [u8],
+) -> Result<(), AllocError>
+    ensures { OnOk result (text.new.items ≡ text.old.items ++ notice_object path.now line status.now message.now) }
+{
+    match line {
+        Some(line) => add_pieces(
+            text,
+            &[
+                Piece::Bytes(b"{\"script\":\""),
+                Piece::Json(path),
+                Piece::Bytes(b"\",\"line\":"),
+                Piece::Number(line as u64),
+                Piece::Bytes(b",\"status\":\""),
+                Piece::Bytes(status),
+                Piece::Bytes(b"\",\"message\":\""),
+                Piece::Json(message),
+                Piece::Bytes(b"\"}\n"),
+            ],
+        ),
+        None => add_pieces(
+            text,
+            &[
+                Piece::Bytes(b"{\"script\":\""),
+                Piece::Json(path),
+                Piece::Bytes(b"\",\"line\":null"),
+                Piece::Bytes(b",\"status\":\""),
+                Piece::Bytes(status),
+                Piece::Bytes(b"\",\"message\":\""),
+                Piece::Json(message),
+                Piece::Bytes(b"\"}\n"),
+            ],
+        ),
+    }
+}
+
+fn add_command<'a>(
+    text: &mut Vec<u8>,
+    command: &'a [u8],
+    path: &'a [u8],
+    line: Option<usize>,
+    title: &'a [u8],
+    message: &'a [u8],
+) -> Result<(), AllocError>
+    ensures { OnOk result (text.new.items ≡ text.old.items ++ command_text command.now path.now line title.now message.now) }
+{
+    match line {
+        Some(line) => add_pieces(
+            text,
+            &[
+                Piece::Bytes(b"::"),
+                Piece::Bytes(command),
+                Piece::Bytes(b" file="),
+                Piece::Property(path),
+                Piece::Bytes(b",line="),
+                Piece::Number(line as u64),
+                Piece::Bytes(b",title="),
+                Piece::Property(title),
+                Piece::Bytes(b"::"),
+                Piece::Message(message),
+                Piece::Bytes(b"\n"),
+            ],
+        ),
+        None => add_pieces(
+            text,
+            &[
+                Piece::Bytes(b"::"),
+                Piece::Bytes(command),
+                Piece::Bytes(b" file="),
+                Piece::Property(path),
+                Piece::Bytes(b",title="),
+                Piece::Property(title),
+                Piece::Bytes(b"::"),
+                Piece::Message(message),
+                Piece::Bytes(b"\n"),
+            ],
+        ),
+    }
+}
+
+fn add_notice(
+    text: &mut Vec<u8>,
+    format: Format,
+    path: &[u8],
+    line: Option<usize>,
+    kind: Kind,
+    message: &[u8],
+) -> Result<(), AllocError>
+    ensures { OnOk result (text.new.items ≡ text.old.items ++ notice_text format path.now line kind message.now) }
+{
+    match format {
+        Format::Json => add_object(text, path, line, kind.status(), message),
+        Format::Github => add_command(text, kind.command(), path, line, b"raftbench", message),
+    }
+}
+
+/// What is told of a script, of a line of it or of all.
+///
+/// # Errors
+///
+/// Where memory was refused.
+pub fn notice(
+    alloc: Global,
+    format: Format,
+    path: &[u8],
+    line: Option<usize>,
+    kind: Kind,
+    message: &[u8],
+) -> Result<Vec<u8>, AllocError>
+    ensures { IfOk result (λ made. made.items ≡ notice_text format path.now line kind message.now) }
+{
+    let mut text = Vec::new(alloc);
+    add_notice(&mut text, format, path, line, kind, message)?;
+    Ok(text)
+}
