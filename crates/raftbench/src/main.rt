@@ -6,7 +6,7 @@ mod editing;
 use crate::editing::serve_editor;
 use rb_args::{Choice, Subcommand, chosen};
 use rb_check::{Status, status_code};
-use rb_program::{Misuse, Refusal, Terminals, carry_out, check_all};
+use rb_program::{Misuse, Refusal, Terminals, carry_out, check_all, show_directives};
 use std::io::{IsTerminal, Write};
 use std::process::ExitCode;
 use std::rt::{Env, Files};
@@ -20,18 +20,11 @@ fn main(rt: HostRuntime) -> ExitCode {
         output: rt.stdout().is_terminal(),
         errors: errors.is_terminal(),
     };
-    ExitCode::from(status(&rt, errors, terminals))
-}
-
-fn status<R: Files + Input + Print + Eprint + Env + Clock + AllocGlobal, E: Write + Drop>(
-    rt: &R,
-    errors: E,
-    terminals: Terminals,
-) -> u8 {
-    match answered(rt, errors, terminals) {
-        Ok(status) => status,
-        Err(refusal) => status_code(refusal.tell(rt, terminals.errors)),
-    }
+    let code = match answered(&rt, errors, terminals) {
+        Ok(code) => code,
+        Err(refusal) => status_code(refusal.tell(&rt, terminals.errors)),
+    };
+    ExitCode::from(code)
 }
 
 fn answered<R: Files + Input + Print + Env + Clock + AllocGlobal, E: Write + Drop>(
@@ -41,12 +34,13 @@ fn answered<R: Files + Input + Print + Env + Clock + AllocGlobal, E: Write + Dro
 ) -> Result<u8, Refusal> {
     let choice = choose(rt)?;
     match choice.subcommand {
-        Some(Subcommand::Lsp) => serve_editor(rt),
         Some(Subcommand::Check) => {
             let every = choice.every.as_deref();
             coded(check_all(rt, &choice.check, every, errors, terminals))
         }
-        Some(subcommand) => coded(carry_out(rt, subcommand, &choice)),
+        Some(Subcommand::Directives) => coded(show_directives(rt, choice.name.as_deref())),
+        Some(Subcommand::Lsp) => serve_editor(rt),
+        Some(Subcommand::Script(command)) => coded(carry_out(rt, command, &choice)),
         None => Err(Refusal::Usage(Misuse::NoCommand)),
     }
 }
@@ -59,16 +53,12 @@ fn coded(ended: Result<Status, Refusal>) -> Result<u8, Refusal> {
 }
 
 fn choose<R: Env + AllocGlobal>(rt: &R) -> Result<Choice, Refusal> {
-    let words = words(rt)?;
-    Ok(chosen(rt.alloc(), words.as_slice())?)
-}
-
-fn words<R: Env + AllocGlobal>(rt: &R) -> Result<Vec<String>, Refusal> {
-    match env::args(rt) {
-        Ok(args) => Ok(args.collect(rt.alloc())?),
+    let words: Vec<String> = match env::args(rt) {
+        Ok(args) => args.collect(rt.alloc())?,
         Err(error) if error.kind() == io::ErrorKind::InvalidData => {
-            Err(Refusal::Usage(Misuse::NoText))
+            return Err(Refusal::Usage(Misuse::NoText));
         }
-        Err(error) => Err(Refusal::from(error)),
-    }
+        Err(error) => return Err(Refusal::from(error)),
+    };
+    Ok(chosen(rt.alloc(), words.as_slice())?)
 }

@@ -1,6 +1,6 @@
 -- Edits, directive by directive, and what is accepted.
 use Rattle.std.proofs.Common.{◌≡◌, ◌∙◌, ℕ, ◌+◌, ◌≤◌, Bool, true, false, List, [], ◌∷◌, ◌++◌, length, drop, Option, Some, None, refl, ap, sym, append_assoc, append-nil}
-use Rattle.std.proofs.lemmas.List.{drop_all}
+use Rattle.std.proofs.Math.Bool.{or-false, or-true}
 use Rattle.std.specs.Prelude.{if◌then◌else◌, ◌&&◌, ◌||◌, not, slice_get, codes}
 use Rattle.rb_script.specs.Lines.{Line, lines}
 use Rattle.rb_script.specs.Script.{PlainBlock, PlainScript}
@@ -8,46 +8,48 @@ use Rattle.rb_script.specs.Reads.{Reads}
 use Rattle.rb_script.proofs.ScriptLaws.{read_complete}
 use Rattle.rb_replay.specs.Report.{same_lines}
 use Rattle.rb_replay.proofs.DifferingLaws.{same_lines-Decides}
-use Rattle.rb_text.proofs.SentLaws.{drop-get}
 use Rattle.rb_checked.specs.Accepting.{accepted_lines}
+use Rattle.rb_checked.specs.Checked.{of_each}
 use Rattle.rb_checked.specs.Errors.{is_unexpected}
+use Rattle.rb_checked.proofs.EachLaws.{each_all, each_more}
 use Rattle.rb_document.specs.declared.position.Encoding.{Encoding}
 use Rattle.rb_document.specs.declared.position.Range.{Range}
 use Rattle.rb_actions.specs.declared.extent.Span.{Span}
 use Rattle.rb_actions.specs.Layouts.{IsNoScript}
-use Rattle.rb_actions.specs.Actions.{actions, actions_of, all_but_new_errors, actions_text, edits_of, edits_text, is_accepted, is_wanted, one_edit, span_of}
+use Rattle.rb_actions.specs.Extents.{extent_of}
+use Rattle.rb_actions.specs.Actions.{PlainEdit, actions, actions_of, all_but_new_errors, actions_text, comma_if, edit_of, edit_text, edits_of, is_accepted, is_wanted, listed, member_of, one_edit, span_of}
 
--- one directive more
-edits-step : (encoding : Encoding) (text : List ℕ) (span : Option Span) (later : Bool) (heads : List ℕ) (bs : List PlainBlock) (os : List (List Line)) (i line : ℕ) (b : PlainBlock) (o : List Line)
-    → slice_get heads i ≡ Some line → slice_get bs i ≡ Some b → slice_get os i ≡ Some o
-    → edits_text encoding text span later (drop i heads) (drop i bs) (drop i os)
-    ≡ one_edit encoding text span later line b o ++ edits_text encoding text span (later || is_wanted span (lines text) line b o) (drop (i + 1) heads) (drop (i + 1) bs) (drop (i + 1) os)
-edits-step encoding text span later heads bs os i line b o there block output =
-    ap (λ (ns : List ℕ). edits_text encoding text span later ns (drop i bs) (drop i os)) (drop-get heads i line there)
-    ∙ ap (λ (cs : List PlainBlock). edits_text encoding text span later (line ∷ drop (i + 1) heads) cs (drop i os)) (drop-get bs i b block)
-    ∙ ap (λ (outs : List (List Line)). edits_text encoding text span later (line ∷ drop (i + 1) heads) (b ∷ drop (i + 1) bs) outs) (drop-get os i o output)
+-- the edit of one directive, if it is wanted, and those behind it
+listed_more : (later wanted : Bool) (e : PlainEdit) (es : List PlainEdit) → (if wanted then comma_if later ++ member_of e else []) ++ listed (later || wanted) es ≡ listed later ((if wanted then e ∷ [] else []) ++ es)
+listed_more later true e es = ap (λ (x : Bool). (comma_if later ++ member_of e) ++ listed x es) (or-true later) ∙ append_assoc (comma_if later) (member_of e) (listed true es)
+listed_more later false e es = ap (λ (x : Bool). listed x es) (or-false later)
 
--- there are no more
-edits-done : (encoding : Encoding) (text : List ℕ) (span : Option Span) (later : Bool) (heads : List ℕ) (bs : List PlainBlock) (os : List (List Line)) → heads ≡ [] → edits_text encoding text span later heads bs os ≡ []
-edits-done encoding text span later [] bs os none = refl
-edits-done encoding text span later (line ∷ heads) bs os none = absurd cc
+-- that of a directive
+abbrev pub one_of : Encoding → List ℕ → Option Span → ℕ → PlainBlock → List Line → List PlainEdit
+one_of encoding text span line b output = if is_wanted span (lines text) line b output then edit_of encoding text (extent_of (lines text) line b) output ∷ [] else []
 
 -- the edit of one directive more went out, behind those so far
 pub edits_more : (encoding : Encoding) (text : List ℕ) (span : Option Span) (later : Bool) (heads : List ℕ) (bs : List PlainBlock) (os : List (List Line)) (i line : ℕ) (b : PlainBlock) (o : List Line) (out new total : List ℕ) (behind : Bool)
     → slice_get heads i ≡ Some line → slice_get bs i ≡ Some b → slice_get os i ≡ Some o → new ≡ out ++ one_edit encoding text span later line b o → behind ≡ (later || is_wanted span (lines text) line b o)
-    → out ++ edits_text encoding text span later (drop i heads) (drop i bs) (drop i os) ≡ total → new ++ edits_text encoding text span behind (drop (i + 1) heads) (drop (i + 1) bs) (drop (i + 1) os) ≡ total
+    → out ++ listed later (of_each (one_of encoding text span) (drop i heads) (drop i bs) (drop i os)) ≡ total → new ++ listed behind (of_each (one_of encoding text span) (drop (i + 1) heads) (drop (i + 1) bs) (drop (i + 1) os)) ≡ total
+unfolding one_edit edit_text
 edits_more encoding text span later heads bs os i line b o out new total behind there block output more is far =
-    ap (λ (l : List ℕ). l ++ edits_text encoding text span behind (drop (i + 1) heads) (drop (i + 1) bs) (drop (i + 1) os)) more
-    ∙ append_assoc out (one_edit encoding text span later line b o) (edits_text encoding text span behind (drop (i + 1) heads) (drop (i + 1) bs) (drop (i + 1) os))
-    ∙ ap (λ (x : Bool). out ++ (one_edit encoding text span later line b o ++ edits_text encoding text span x (drop (i + 1) heads) (drop (i + 1) bs) (drop (i + 1) os))) is
-    ∙ ap (λ (l : List ℕ). out ++ l) (sym (edits-step encoding text span later heads bs os i line b o there block output))
+    let one = one_of encoding text span in
+    let w = is_wanted span (lines text) line b o in
+    let rest = of_each one (drop (i + 1) heads) (drop (i + 1) bs) (drop (i + 1) os) in
+    ap (λ (l : List ℕ). l ++ listed behind rest) more
+    ∙ append_assoc out (one_edit encoding text span later line b o) (listed behind rest)
+    ∙ ap (λ (x : Bool). out ++ (one_edit encoding text span later line b o ++ listed x rest)) is
+    ∙ ap (λ (l : List ℕ). out ++ l) (listed_more later w (edit_of encoding text (extent_of (lines text) line b) o) rest)
+    ∙ ap (λ (es : List PlainEdit). out ++ listed later es) (each_more one heads bs os i line b o [] (one line b o) (of_each one (drop i heads) (drop i bs) (drop i os)) there block output refl refl)
     ∙ far
 
 -- all of them went out
-pub edits_last : (encoding : Encoding) (text : List ℕ) (span : Option Span) (later : Bool) (heads : List ℕ) (bs : List PlainBlock) (os : List (List Line)) (i : ℕ) (out total : List ℕ) → length heads ≤ i
-    → out ++ edits_text encoding text span later (drop i heads) (drop i bs) (drop i os) ≡ total → out ≡ total
+pub edits_last : (encoding : Encoding) (text : List ℕ) (span : Option Span) (later : Bool) (heads : List ℕ) (bs : List PlainBlock) (os : List (List Line)) (i : ℕ) (out total : List ℕ) → length bs ≤ i
+    → out ++ listed later (of_each (one_of encoding text span) (drop i heads) (drop i bs) (drop i os)) ≡ total → out ≡ total
 edits_last encoding text span later heads bs os i out total past far =
-    sym (append-nil out) ∙ ap (λ (l : List ℕ). out ++ l) (sym (edits-done encoding text span later (drop i heads) (drop i bs) (drop i os) (drop_all i heads past))) ∙ far
+    let one = one_of encoding text span in
+    sym (append-nil out) ∙ ap (λ (es : List PlainEdit). out ++ listed later es) (each_all one heads bs os i [] (of_each one (drop i heads) (drop i bs) (drop i os)) past refl) ∙ far
 
 -- ---- of a text
 

@@ -1,13 +1,12 @@
 -- A text with an action's edits reads as the script that expects what came.
-use Rattle.std.proofs.Common.{◌≡◌, ◌∙◌, ℕ, zero, suc, ◌+◌, ◌-◌, ◌<◌, ◌≤◌, Bool, true, false, ◌⊎◌, inl, inr, List, [], ◌∷◌, ◌++◌, length, take, drop, Option, refl, ap, sym, subst, arith, append_assoc, length-append}
+use Rattle.std.proofs.Common.{◌≡◌, ◌∙◌, ℕ, zero, suc, ◌+◌, ◌-◌, ◌<◌, ◌≤◌, Bool, true, false, List, [], ◌∷◌, ◌++◌, length, take, drop, Option, refl, ap, sym, subst, arith, append_assoc, length-append}
 use Rattle.std.proofs.lemmas.Bool.{lt-leb}
-use Rattle.std.proofs.lemmas.List.{length-map, take-append-drop}
-use Rattle.std.specs.Prelude.{◌==◌, ◌&&◌, not, if◌then◌else◌, ◌||◌}
+use Rattle.std.proofs.lemmas.List.{length-map, length-take, take-append-drop, take-append-le, take-take}
+use Rattle.std.specs.Prelude.{◌==◌, ◌&&◌, not, if◌then◌else◌}
 use Rattle.std.specs.List.{AllByRecursion}
 use Rattle.rb_script.specs.Lines.{Line, cut, lines, text_of, without_returns}
-use Rattle.rb_script.specs.Marks.{is_blank, rule}
 use Rattle.rb_script.specs.Script.{PlainBlock, PlainScript, expecting}
-use Rattle.rb_script.specs.Reads.{Reads, ReadsBlock, ReadsDouble, ReadsPlain, ReadsSome, begins_blank}
+use Rattle.rb_script.specs.Reads.{Reads, ReadsSome, begins_blank}
 use Rattle.rb_script.specs.Blocks.{block_at, from_head, lead_of}
 use Rattle.rb_script.proofs.BlockLaws.{block_complete, cut_lead}
 use Rattle.rb_script.specs.LineParts.{IsSolid}
@@ -21,10 +20,12 @@ use Rattle.rb_actions.specs.declared.extent.Span.{Span}
 use Rattle.rb_actions.specs.Extents.{extent_of}
 use Rattle.rb_replay.specs.Run.{outputs}
 use Rattle.rb_offers.specs.Heads.{behind_block, heads_at, heads_of}
-use Rattle.rb_actions.specs.Actions.{comma_if, edit_text, edits_of, edits_text, end_above, form, has_end, is_wanted, new_text, one_edit}
-use Rattle.rb_actions.specs.Edits.{Picks, edit_of, edits_asked, edits_in, edits_made, listed, member_of, with_picked, with_wanted}
+use Rattle.rb_offers.proofs.BlockLaws.{block_front}
+use Rattle.rb_offers.proofs.OrderLaws.{feed_grows}
+use Rattle.rb_actions.specs.Actions.{Picks, edit_of, edits_asked, edits_in, end_above, form, has_end, is_wanted, new_text}
+use Rattle.rb_actions.specs.Edits.{edits_made, with_picked, with_wanted}
 use Rattle.rb_actions.specs.Laws.{AreShort, with_lines}
-use Rattle.rb_actions.proofs.RangeLaws.{line_is_place, lines_grow}
+use Rattle.rb_actions.proofs.RangeLaws.{line_is_place}
 use Rattle.rb_actions.proofs.CutLaws.{are_whole, edited_cut, whole_within}
 use Rattle.rb_actions.proofs.EditedLaws.{either_closed}
 use Rattle.rb_actions.proofs.EditedScriptLaws.{BeforeOne, begin_alike, block_before, some_lines}
@@ -77,28 +78,14 @@ starts_alike n k t r whole alike less =
     let there : r ≡ p ++ drop m r = sym (take-append-drop m r) ∙ ap (λ (l : List ℕ). l ++ drop m r) alike in
     ap (feed_start k) there ∙ start_kept n k p (drop m r) front less ∙ sym (start_kept n k p (drop m t) front less) ∙ ap (feed_start k) (take-append-drop m t)
 
+take_less : (m n : ℕ) (r t : List ℕ) → m ≤ n → take n r ≡ take n t → take m r ≡ take m t
+take_less m n r t less alike = sym (take-take m n r less) ∙ ap (take m) alike ∙ take-take m n t less
+
 -- what is put in further on leaves the beginning
 take_before : (m a n : ℕ) (r t more : List ℕ) → m ≤ a → a ≤ n → n ≤ length t → take n r ≡ take n t → take m (take a r ++ more) ≡ take m t
-take_before zero a n r t more first second most alike = refl
-take_before (suc m) zero n r t more first second most alike = absurd (omega (arith, first))
-take_before (suc m) (suc a) zero r t more first second most alike = absurd (omega (arith, second))
-take_before (suc m) (suc a) (suc n) r [] more first second most alike = absurd (omega (arith, most))
-take_before (suc m) (suc a) (suc n) [] (x ∷ t) more first second most alike = absurd cc
-take_before (suc m) (suc a) (suc n) (y ∷ r) (x ∷ t) more first second most alike =
-    let heads : y ≡ x = cc in
-    let tails : take n r ≡ take n t = cc in
-    ap (λ (b : ℕ). b ∷ take m (take a r ++ more)) heads ∙ ap (λ (l : List ℕ). x ∷ l) (take_before m a n r t more (omega (arith, first)) (omega (arith, second)) (omega (arith, most)) tails)
-
-take_less : (m n : ℕ) (r t : List ℕ) → m ≤ n → take n r ≡ take n t → take m r ≡ take m t
-take_less zero n r t less alike = refl
-take_less (suc m) zero r t less alike = absurd (omega (arith, less))
-take_less (suc m) (suc n) [] [] less alike = refl
-take_less (suc m) (suc n) [] (x ∷ t) less alike = absurd cc
-take_less (suc m) (suc n) (y ∷ r) [] less alike = absurd cc
-take_less (suc m) (suc n) (y ∷ r) (x ∷ t) less alike =
-    let heads : y ≡ x = cc in
-    let tails : take n r ≡ take n t = cc in
-    ap (λ (b : ℕ). b ∷ take m r) heads ∙ ap (λ (l : List ℕ). x ∷ l) (take_less m n r t (omega (arith, less)) tails)
+take_before m a n r t more first second most alike =
+    let whole : n ≤ length r = omega (arith, ap length alike, length-take n r, length-take n t, most) in
+    take-append-le m (take a r) more (omega (arith, length-take a r, first, second, whole)) ∙ take-take m a r first ∙ take_less m n r t (omega (arith, first, second)) alike
 
 -- ---- one edit of a text, made in one that begins alike
 
@@ -122,10 +109,9 @@ same_put n t r e output whole alike first last one other =
 -- from the last to the first
 abbrev pub all_put : Picks → List ℕ → List ℕ → List PlainBlock → List (List Line) → List ℕ
 all_put picks t heads [] os = t
-all_put picks t [] (b ∷ bs) os = t
-all_put picks t (line ∷ heads) (b ∷ bs) [] = t
 all_put picks t (line ∷ heads) (b ∷ bs) (output ∷ os) =
     if picks line b output then put_in t (extent_of (lines t) line b) output (all_put picks t heads bs os) else all_put picks t heads bs os
+all_put picks t heads bs os = t
 
 -- the lines behind the first so many are these, and read so
 pub record Claim (front cur : List Line) (t r : List ℕ) (bs : List PlainBlock) (tail : List Line) : Type 0 where
@@ -148,10 +134,6 @@ cut_len : (t : List ℕ) → length (lines t) ≡ length (cut t)
 unfolding lines
 cut_len t = length-map (cut t) without_returns
 
-within_lines : (ls : List Line) (line : ℕ) (b : PlainBlock) → (extent_of ls line b).expected ≤ length ls
-unfolding extent_of
-within_lines ls line b = omega arith
-
 -- the last block, whose output is put in
 last_put : (front cur tail : List Line) (t : List ℕ) (line : ℕ) (b : PlainBlock) (output : List Line) → lines t ≡ front ++ cur → (reads : ReadsSome cur (b ∷ []) tail) → line ≡ length front + length b.lead + 1 → AllByRecursion IsSolid output
     → Claim front cur t (put_in t (extent_of (lines t) line b) output t) (expecting b output ∷ []) tail
@@ -160,7 +142,7 @@ last_put front cur tail t line b output is reads numbered solid =
     let ed = either_closed front cur reads.0 b output reads.1 solid reads.1.expected in
     let there : e ≡ extent_of (front ++ cur) (length front + length b.lead + 1) b = ap (λ (l : List Line). extent_of l line b) is ∙ ap (λ (k : ℕ). extent_of (front ++ cur) k b) numbered in
     let from : e.expected ≡ (extent_of (front ++ cur) (length front + length b.lead + 1) b).expected = ap (λ (x : Extent). x.expected) there in
-    let cut_is = edited_cut t e output (omega (arith, ed.behind, from)) (within_lines (lines t) line b) solid in
+    let cut_is = edited_cut t e output (omega (arith, ed.behind, from)) (omega (arith, ed.within, from, ap (λ (l : List Line). length l) is)) solid in
     record {
       more = ed.more;
       lines_is = cut_is ∙ ap (λ (l : List Line). with_lines l e output) is ∙ ap (λ (x : Extent). with_lines (front ++ cur) x output) there ∙ ed.made;
@@ -168,7 +150,7 @@ last_put front cur tail t line b output is reads numbered solid =
       first = ed.first;
       alike = ap (take (feed_start (length front) t)) (append_assoc (take (feed_start e.expected t) t) (new_text t (lines t) e output) (drop (feed_start e.end t) t))
           ∙ take_before (feed_start (length front) t) (feed_start e.expected t) (feed_start e.expected t) t t (new_text t (lines t) e output ++ drop (feed_start e.end t) t)
-          (lines_grow (length front) e.expected t (omega (arith, ed.behind, from))) (omega arith) (start_within e.expected t) refl;
+          (feed_grows (length front) e.expected t (omega (arith, ed.behind, from))) (omega arith) (start_within e.expected t) refl;
     }
 
 -- ---- a block behind which others stand
@@ -188,7 +170,7 @@ passed_by front cur rest tail t r b bs one later = record {
   reads = (later.more, one.reads later.more later.first, later.reads);
   first = begin_alike one.front rest later.more later.first ∙ ap begins_blank (sym one.parts);
   alike = take_less (feed_start (length front) t) (feed_start (length (front ++ one.front)) t) r t
-      (lines_grow (length front) (length (front ++ one.front)) t (omega (arith, length-append front one.front))) later.alike;
+      (feed_grows (length front) (length (front ++ one.front)) t (omega (arith, length-append front one.front))) later.alike;
 }
 
 -- its output is put in
@@ -227,7 +209,7 @@ put_by front cur rest tail t r line b bs output is some numbered one solid later
       first = ed.first ∙ begin_alike one.front rest later.more later.first ∙ ap begins_blank (sym one.parts);
       alike = ap (take (feed_start (length front) t)) (append_assoc (take (feed_start e.expected t) r) (new_text t (lines t) e output) (drop (feed_start e.end t) r))
           ∙ take_before (feed_start (length front) t) (feed_start e.expected t) (feed_start n t) r t (new_text t (lines t) e output ++ drop (feed_start e.end t) r)
-          (lines_grow (length front) e.expected t (omega (arith, from))) (lines_grow e.expected n t (omega (arith, from, one.above, len))) (start_within n t) later.alike;
+          (feed_grows (length front) e.expected t (omega (arith, from))) (feed_grows e.expected n t (omega (arith, from, one.above, len))) (start_within n t) later.alike;
     }
 
 -- ---- all of them
@@ -236,8 +218,6 @@ pub all_claim : (picks : Picks) (t : List ℕ) (tail : List Line) (heads : List 
     → AreNumbered (length front) cur bs tail reads heads → AllByRecursion (λ output. AllByRecursion IsSolid output) os
     → Claim front cur t (all_put picks t heads bs os) (with_picked picks heads bs os) tail
 all_claim picks t tail heads [] os front cur is reads numbered solid = unchanged front cur tail t [] is reads
-all_claim picks t tail [] (b ∷ bs) os front cur is reads numbered solid = unchanged front cur tail t (b ∷ bs) is reads
-all_claim picks t tail (line ∷ heads) (b ∷ bs) [] front cur is reads numbered solid = unchanged front cur tail t (b ∷ bs) is reads
 all_claim picks t tail (line ∷ heads) (b ∷ []) (output ∷ os) front cur is reads numbered solid =
     elim (picks line b output) as (λ (x : Bool). Claim front cur t (if x then put_in t (extent_of (lines t) line b) output t else t) ((if x then expecting b output else b) ∷ []) tail) [
       | true ↦ last_put front cur tail t line b output is reads numbered.0 solid.0
@@ -255,26 +235,9 @@ all_claim picks t tail (line ∷ heads) (b ∷ c ∷ bs) (output ∷ os) front c
       | true ↦ put_by front cur reads.0 tail t (all_put picks t heads (c ∷ bs) os) line b (with_picked picks heads (c ∷ bs) os) output is some numbered.0 one solid.0 later
       | false ↦ passed_by front cur reads.0 tail t (all_put picks t heads (c ∷ bs) os) b (with_picked picks heads (c ∷ bs) os) one later
     ]
+all_claim picks t tail heads bs os front cur is reads numbered solid = unchanged front cur tail t bs is reads
 
 -- ---- the lines of heads
-
-plain_shorter : (after expected rest : List Line) → ((blank : Line) × (is_blank blank ≡ true) × (after ≡ expected ++ blank ∷ rest)) ⊎ ((after ≡ expected) × (rest ≡ [])) → length rest ≤ length after
-plain_shorter after expected rest (inl c) = let len : length after ≡ length expected + length (c.0 ∷ rest) = ap (λ (l : List Line). length l) c.2 ∙ length-append expected (c.0 ∷ rest) in omega (arith, len)
-plain_shorter after expected rest (inr c) = let none : length rest ≡ 0 = ap (λ (l : List Line). length l) c.1 in omega (arith, none)
-
-double_shorter : (more rest : List Line) → ((blank : Line) × (is_blank blank ≡ true) × (more ≡ blank ∷ rest)) ⊎ ((begins_blank rest ≡ false) × (more ≡ rest)) → length rest ≤ length more
-double_shorter more rest (inl c) = let len : length more ≡ length (c.0 ∷ rest) = ap (λ (l : List Line). length l) c.2 in omega (arith, len)
-double_shorter more rest (inr c) = let len : length more ≡ length rest = ap (λ (l : List Line). length l) c.1 in omega (arith, len)
-
-rest_shorter : (after expected rest : List Line) → ReadsPlain after expected rest ⊎ ReadsDouble after expected rest → length rest ≤ length after
-rest_shorter after expected rest (inl p) = plain_shorter after expected rest p.closed
-rest_shorter after expected rest (inr q) =
-    let len : length (expected ++ rule ∷ rule ∷ q.more) ≡ length expected + length (rule ∷ rule ∷ q.more) = length-append expected (rule ∷ rule ∷ q.more) in
-    omega (arith, ap (λ (l : List Line). length l) q.parts, len, double_shorter q.more rest q.closed)
-
-block_shorter : (ls rest : List Line) (b : PlainBlock) → ReadsBlock ls b rest → length rest ≤ length ls
-block_shorter ls rest b r =
-    omega (arith, ap (λ (l : List Line). length l) r.parts, length-append b.lead (b.head ++ (b.input ++ r.separator ∷ r.after)), length-append b.head (b.input ++ r.separator ∷ r.after), length-append b.input (r.separator ∷ r.after), rest_shorter r.after b.expected rest r.expected)
 
 numbered : (before end : ℕ) (cur tail : List Line) (bs : List PlainBlock) (reads : ReadsSome cur bs tail) → end ≡ 1 + before + length cur → AreNumbered before cur bs tail reads (heads_at end bs cur)
 unfolding heads_at
@@ -282,10 +245,11 @@ numbered before end cur tail [] reads is = tt
 numbered before end cur tail (b ∷ bs) reads is =
     let r = reads.1 in
     let more = b.input ++ r.separator ∷ r.after in
+    let front = block_front cur reads.0 b r in
     let left : length (from_head cur) ≡ length (b.head ++ more) = ap (λ (l : List Line). length l) (cut_lead cur b.lead b.head more r.parts r.lead r.head.0).from_is in
     let whole : length cur ≡ length b.lead + length (b.head ++ more) = ap (λ (l : List Line). length l) r.parts ∙ length-append b.lead (b.head ++ more) in
     let rest : behind_block (block_at end (lead_of cur) (from_head cur)) ≡ reads.0 = ap behind_block (block_complete end cur reads.0 b r).1 in
-    let later = numbered (before + (length cur - length reads.0)) end reads.0 tail bs reads.2 (omega (arith, is, block_shorter cur reads.0 b r)) in
+    let later = numbered (before + (length cur - length reads.0)) end reads.0 tail bs reads.2 (omega (arith, is, ap length front.1, length-append front.0 reads.0)) in
     (omega (arith, is, left, whole), subst (λ (l : List Line). AreNumbered (before + (length cur - length reads.0)) reads.0 bs tail reads.2 (heads_at end bs l)) (sym rest) later)
 
 -- ---- as an editor makes them
@@ -295,26 +259,25 @@ start_is encoding t k begun = place_returns encoding 0 (feed_start k t) t (line_
 
 made_is : (picks : Picks) (encoding : Encoding) (t : List ℕ) (heads : List ℕ) (bs : List PlainBlock) (os : List (List Line)) → ((n : ℕ) → begins (drop (feed_start n t) t) ≡ true)
     → edits_made encoding t (edits_in picks encoding t heads bs os) ≡ all_put picks t heads bs os
-made_is picks encoding t heads [] os begun = refl
+made_is picks encoding t [] [] os begun = refl
 made_is picks encoding t [] (b ∷ bs) os begun = refl
-made_is picks encoding t (line ∷ heads) (b ∷ bs) [] begun = refl
 made_is picks encoding t (line ∷ heads) (b ∷ bs) (output ∷ os) begun =
     let e = extent_of (lines t) line b in
     let new = new_text t (lines t) e output in
     let others = edits_in picks encoding t heads bs os in
     let later = made_is picks encoding t heads bs os begun in
-    elim (picks line b output) as (λ (x : Bool). edits_made encoding t (if x then edit_of encoding t e output ∷ others else others) ≡ (if x then put_in t e output (all_put picks t heads bs os) else all_put picks t heads bs os)) [
+    elim (picks line b output) as (λ (x : Bool). edits_made encoding t ((if x then edit_of encoding t e output ∷ [] else []) ++ others) ≡ (if x then put_in t e output (all_put picks t heads bs os) else all_put picks t heads bs os)) [
       | true ↦ ap (λ (k : ℕ). spliced k (offset encoding (start_of encoding e.end t) t) new (edits_made encoding t others)) (start_is encoding t e.expected begun)
           ∙ ap (λ (k : ℕ). spliced (feed_start e.expected t) k new (edits_made encoding t others)) (start_is encoding t e.end begun)
           ∙ ap (λ (r : List ℕ). spliced (feed_start e.expected t) (feed_start e.end t) new r) later
       | false ↦ later
     ]
+made_is picks encoding t heads bs os begun = refl
 
 picked_len : (picks : Picks) (heads : List ℕ) (bs : List PlainBlock) (os : List (List Line)) → length (with_picked picks heads bs os) ≡ length bs
 picked_len picks heads [] os = refl
-picked_len picks [] (b ∷ bs) os = refl
-picked_len picks (line ∷ heads) (b ∷ bs) [] = refl
 picked_len picks (line ∷ heads) (b ∷ bs) (output ∷ os) = ap (λ (k : ℕ). suc k) (picked_len picks heads bs os)
+picked_len picks heads bs os = refl
 
 pub edited_text : (encoding : Encoding) (bytes : List ℕ) (s : PlainScript) (span : Option Span) → Reads bytes s → AllByRecursion (λ output. AllByRecursion IsSolid output) (outputs s)
     → ((n : ℕ) → begins (drop (feed_start n bytes) bytes) ≡ true) → AreShort (edits_made encoding bytes (edits_asked encoding bytes s span)) (with_wanted bytes s span)
@@ -332,35 +295,3 @@ edited_text encoding bytes s span reads solid begun short =
       few = omega (arith, reads.few, picked_len picks heads s.blocks (outputs s));
       short_text = short.short_text;
     }
-
--- ---- as they are sent
-
-or_true : (b : Bool) → (b || true) ≡ true
-or_true true = refl
-or_true false = refl
-
-or_false : (b : Bool) → (b || false) ≡ b
-or_false true = refl
-or_false false = refl
-
-sent_from : (encoding : Encoding) (text : List ℕ) (span : Option Span) (later : Bool) (heads : List ℕ) (bs : List PlainBlock) (os : List (List Line))
-    → edits_text encoding text span later heads bs os ≡ listed later (edits_in (is_wanted span (lines text)) encoding text heads bs os)
-unfolding one_edit edit_text
-sent_from encoding text span later [] [] os = refl
-sent_from encoding text span later [] (b ∷ bs) os = refl
-sent_from encoding text span later (line ∷ heads) [] os = refl
-sent_from encoding text span later (line ∷ heads) (b ∷ bs) [] = refl
-sent_from encoding text span later (line ∷ heads) (b ∷ bs) (output ∷ os) =
-    let picks = is_wanted span (lines text) in
-    let e = extent_of (lines text) line b in
-    let one = edit_of encoding text e output in
-    let others = edits_in picks encoding text heads bs os in
-    elim (picks line b output) as (λ (x : Bool). (if x then comma_if later ++ member_of one else []) ++ edits_text encoding text span (later || x) heads bs os ≡ listed later (if x then one ∷ others else others)) [
-      | true ↦ ap (λ (x : Bool). (comma_if later ++ member_of one) ++ edits_text encoding text span x heads bs os) (or_true later)
-          ∙ append_assoc (comma_if later) (member_of one) (edits_text encoding text span true heads bs os)
-          ∙ ap (λ (l : List ℕ). comma_if later ++ (member_of one ++ l)) (sent_from encoding text span true heads bs os)
-      | false ↦ ap (λ (x : Bool). edits_text encoding text span x heads bs os) (or_false later) ∙ sent_from encoding text span later heads bs os
-    ]
-
-pub edits_sent : (encoding : Encoding) (text : List ℕ) (s : PlainScript) (span : Option Span) → edits_of encoding text s span ≡ listed false (edits_asked encoding text s span)
-edits_sent encoding text s span = sent_from encoding text span false (heads_of text s) s.blocks (outputs s)

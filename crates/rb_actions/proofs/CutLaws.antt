@@ -4,7 +4,7 @@ use Rattle.std.specs.Prelude.{◌==◌, ◌&&◌, not, nat_le, if◌then◌else�
 use Rattle.std.specs.List.{list_all, AllByRecursion}
 use Rattle.std.proofs.lemmas.Bool.{and_parts, not-true}
 use Rattle.std.proofs.lemmas.Bool.Decides.{nat_tests}
-use Rattle.std.proofs.lemmas.List.{length-map, map-append, drop-map}
+use Rattle.std.proofs.lemmas.List.{length-map, map-append, drop-map, drop_all, nil_from_length, take_all, take-map}
 use Rattle.rb_script.specs.Lines.{Line, cut, in_first, lines, text_of, without_returns}
 use Rattle.rb_script.specs.Marks.{rule}
 use Rattle.rb_script.specs.LineParts.{IsSolid}
@@ -28,14 +28,9 @@ are_whole zero t = true
 are_whole (suc n) [] = false
 are_whole (suc n) (b ∷ t) = if b == 10 then are_whole n t else are_whole (suc n) t
 
-drop_none : (n : ℕ) (ls : List Line) → ls ≡ [] → drop n ls ≡ []
-drop_none zero ls none = none
-drop_none (suc n) [] none = refl
-drop_none (suc n) (l ∷ ls) none = absurd cc
-
 -- a byte more in the first line leaves the others
 drop_first : (b n : ℕ) (ls : List Line) → drop (suc n) ls ≡ drop (suc n) (in_first b ls)
-drop_first b n [] = sym (drop_none n [] refl)
+drop_first b n [] = sym (drop_all n [] (omega arith))
 drop_first b n (l ∷ ls) = refl
 
 -- what stands behind n lines are the other lines
@@ -143,14 +138,10 @@ open_lines b (c ∷ t) more unended =
       | false ↦ ap (in_first b) later ∙ first_behind b (cut (c ∷ t)) (cut more) (cut_some c t)
     ]
 
-no_line : (ls : List Line) → length ls ≤ 0 → (ls ≡ [] → ⊥) → ⊥
-no_line [] none some = some refl
-no_line (l ∷ ls) none some = omega (arith, none)
-
 -- behind all lines stands nothing
 open_start : (n b : ℕ) (t : List ℕ) → has_end (b ∷ t) ≡ false → length (cut (b ∷ t)) ≤ n → feed_start n (b ∷ t) ≡ length (b ∷ t)
 unfolding cut feed_start
-open_start zero b t unended past = absurd (no_line (cut (b ∷ t)) past (cut_some b t))
+open_start zero b t unended past = absurd (cut_some b t (nil_from_length (cut (b ∷ t)) (omega (arith, past))))
 open_start (suc n) b [] unended past = ap (λ (x : Bool). suc (if x then feed_start n [] else 0)) unended
 open_start (suc n) b (c ∷ t) unended past =
     let later = sym (end_later b c t) ∙ unended in
@@ -159,25 +150,14 @@ open_start (suc n) b (c ∷ t) unended past =
       | false ↦ λ l. ap (λ (k : ℕ). suc k) (open_start (suc n) c t later (omega (arith, l, first_len b (cut (c ∷ t)) (cut_some c t))))
     ] past
 
-take_len : (t : List ℕ) (n : ℕ) → n ≡ length t → take n t ≡ t
-take_len [] n e = ap (λ (k : ℕ). take k (let t : List ℕ = [] in t)) e
-take_len (b ∷ t) zero e = absurd (omega (arith, e))
-take_len (b ∷ t) (suc n) e = ap (λ (l : List ℕ). b ∷ l) (take_len t n (omega (arith, e)))
-
-take_lines : (ls : List Line) (n : ℕ) → n ≡ length ls → take n ls ≡ ls
-take_lines [] zero e = refl
-take_lines [] (suc n) e = refl
-take_lines (l ∷ ls) zero e = absurd (omega (arith, e))
-take_lines (l ∷ ls) (suc n) e = ap (λ (l' : List Line). l ∷ l') (take_lines ls n (omega (arith, e)))
-
 -- all lines, the last of which gets an end, stand before whatever follows
 pub open_before : (n : ℕ) (t more : List ℕ) → 1 ≤ length (cut t) → has_end t ≡ false → n ≡ length (cut t) → cut (take (feed_start n t) t ++ 10 ∷ more) ≡ take n (cut t) ++ cut more
 unfolding cut
 open_before n [] more some unended all = absurd (omega (arith, some))
 open_before n (b ∷ t) more some unended all =
-    ap (λ (l : List ℕ). cut (l ++ 10 ∷ more)) (take_len (b ∷ t) (feed_start n (b ∷ t)) (open_start n b t unended (omega (arith, all))))
+    ap (λ (l : List ℕ). cut (l ++ 10 ∷ more)) (take_all (feed_start n (b ∷ t)) (b ∷ t) (omega (arith, open_start n b t unended (omega (arith, all)))))
     ∙ open_lines b t more unended
-    ∙ ap (λ (ls : List Line). ls ++ cut more) (sym (take_lines (cut (b ∷ t)) n all))
+    ∙ ap (λ (ls : List Line). ls ++ cut more) (sym (take_all n (cut (b ∷ t)) (omega (arith, all))))
 
 -- a line with its LF is cut off
 cut_line : (line : Line) (bytes : List ℕ) → list_all (λ b. not (b == 10)) line ≡ true → cut (line ++ 10 ∷ bytes) ≡ line ∷ cut bytes
@@ -219,11 +199,6 @@ form_lines : (is_double : Bool) (output : List Line) → AllByRecursion IsSolid 
 form_lines false output solid = solid_all output solid
 form_lines true output solid = (rule_line, every-append IsLine output (rule ∷ rule ∷ []) (solid_all output solid) (rule_line, (rule_line, tt)))
 
-take_map : (n : ℕ) (ls : List Line) → map without_returns (take n ls) ≡ take n (map without_returns ls)
-take_map zero ls = refl
-take_map (suc n) [] = refl
-take_map (suc n) (l ∷ ls) = ap (λ (m : List Line). without_returns l ∷ m) (take_map n ls)
-
 pub edited_cut : (t : List ℕ) (e : Extent) (output : List Line) → 1 ≤ e.expected → e.expected ≤ length (lines t) → AllByRecursion IsSolid output
     → lines (spliced (feed_start e.expected t) (feed_start e.end t) (new_text t (lines t) e output) t) ≡ with_lines (lines t) e output
 unfolding lines new_text
@@ -243,6 +218,6 @@ edited_cut t e output some most solid =
     ap (λ (l : List ℕ). map without_returns (cut l)) (append_assoc (take (feed_start n t) t) (above ++ text_of put) rest)
     ∙ ap (map without_returns) all
     ∙ map-append without_returns (take n raw) (put ++ drop e.end raw)
-    ∙ ap (λ (l : List Line). l ++ map without_returns (put ++ drop e.end raw)) (take_map n raw)
+    ∙ ap (λ (l : List Line). l ++ map without_returns (put ++ drop e.end raw)) (sym (take-map without_returns n raw))
     ∙ ap (λ (l : List Line). take n (map without_returns raw) ++ l)
     (map-append without_returns put (drop e.end raw) ∙ ap (λ (l : List Line). l ++ map without_returns (drop e.end raw)) (kept put are) ∙ ap (λ (l : List Line). put ++ l) (sym (drop-map without_returns e.end raw)))

@@ -1,26 +1,22 @@
 -- A script's lines with what came in the place of an expectation read as the script that expects it there.
 use Rattle.std.proofs.Common.{◌≡◌, ◌∙◌, ℕ, ◌+◌, ◌<◌, ◌≤◌, Bool, true, false, ◌⊎◌, inl, inr, List, [], ◌∷◌, ◌++◌, length, refl, ap, sym, subst, arith, append_assoc, length-append}
 use Rattle.std.proofs.lemmas.List.{append_cancel_right}
-use Rattle.std.specs.Prelude.{not, slice_index}
-use Rattle.std.specs.List.{list_all, AllByRecursion}
+use Rattle.std.proofs.Math.Seq.{append_snoc}
+use Rattle.std.specs.Prelude.{if◌then◌else◌, slice_index}
+use Rattle.std.specs.List.{AllByRecursion}
 use Rattle.rb_script.specs.Lines.{Line}
-use Rattle.rb_script.specs.Marks.{is_blank, is_rule, is_separator, rule}
+use Rattle.rb_script.specs.Marks.{is_blank, rule}
 use Rattle.rb_script.specs.Script.{PlainBlock, expecting}
 use Rattle.rb_script.specs.Reads.{IsContinued, ReadsBlock, ReadsDouble, ReadsPlain, ReadsSome, begins_blank, begins_rule}
 use Rattle.rb_script.specs.HeadLines.{AreHeadLines, IsHeadLine}
 use Rattle.rb_script.specs.LineParts.{IsSolid}
-use Rattle.rb_script.proofs.ResultLaws.{done, ok_is}
-use Rattle.rb_script.proofs.BlockLaws.{block_complete}
-use Rattle.rb_actions.specs.Extents.{expectation_len, extent_of}
+use Rattle.rb_script.proofs.LinePartLaws.{rule_passes}
+use Rattle.rb_offers.proofs.HeadLaws.{block_once}
+use Rattle.rb_actions.specs.Extents.{extent_of}
 use Rattle.rb_actions.specs.Laws.{with_lines}
 use Rattle.rb_actions.proofs.EditedLaws.{either_closed, parts_of, stands, up_to, up_to_len}
 
 -- ---- what follows a block
-
-block_once : (ls x y : List Line) (b : PlainBlock) → ReadsBlock ls b x → ReadsBlock ls b y → x ≡ y
-block_once ls x y b r q =
-    let same : done (b, x) ≡ done (b, y) = sym (block_complete 0 ls x b r).1 ∙ (block_complete 0 ls y b q).1 in
-    ap (λ (p : PlainBlock × List Line). p.1) (ok_is (b, x) (b, y) same)
 
 -- a block, a part of the lines, and others behind it
 later_reads : (ls rest tail : List Line) (xs ys : List PlainBlock) (b : PlainBlock) (from : List Line) → ReadsSome ls xs from → ReadsBlock from b rest → ReadsSome ls (xs ++ b ∷ ys) tail → ReadsSome rest ys tail
@@ -55,11 +51,10 @@ pub record BeforeOne (ls rest : List Line) (x : PlainBlock) : Type 0 where
   pub above : up < length front
 
 -- by the lines above an expectation of k lines
-stands_by : (x : PlainBlock) (separator : Line) (q before other : List Line) (d : Bool) (k : ℕ) → IsContinued x.head → list_all (λ line. not (is_separator line)) x.input ≡ true → is_separator separator ≡ true
-    → begins_rule (q ++ other) ≡ d → expectation_len d (length x.expected) ≡ k → k ≤ length q
+stands_by : (x : PlainBlock) (separator : Line) (q before other : List Line) (d : Bool) (k : ℕ) → IsContinued x.head → begins_rule (q ++ other) ≡ d → length x.expected + (if d then 3 else 0) ≡ k
     → extent_of (before ++ ((up_to x.lead x separator ++ q) ++ other)) (length before + length x.lead + 1) x
     ≡ record { head = length before + length x.lead; expected = length before + length (up_to x.lead x separator); end = length before + length (up_to x.lead x separator) + k; is_double = d }
-stands_by x separator q before other d k continued inputs separates begins len most =
+stands_by x separator q before other d k continued begins len =
     let up = up_to x.lead x separator in
     let front = before ++ x.lead in
     let after = q ++ other in
@@ -71,13 +66,13 @@ stands_by x separator q before other d k continued inputs separates begins len m
     let head : length front ≡ length before + length x.lead = length-append before x.lead in
     let expected : length (up_to front x separator) ≡ length before + length up = omega (arith, up_to_len front x separator, up_to_len x.lead x separator, head) in
     ap (λ (l : List Line). extent_of l line x) lines
-    ∙ stands front x separator after d k line continued inputs separates (omega (arith, head)) begins len (omega (arith, most, length-append q other))
+    ∙ stands front x separator after d k line continued (omega (arith, head)) begins len
     ∙ ap (λ (h : ℕ). record { head = h; expected = length (up_to front x separator); end = length (up_to front x separator) + k; is_double = d }) head
     ∙ ap (λ (m : ℕ). record { head = length before + length x.lead; expected = m; end = m + k; is_double = d }) expected
 
 -- an expectation of k lines, up to what follows
 one_before : (ls rest q : List Line) (x : PlainBlock) (r : ReadsBlock ls x rest) (d : Bool) (k : ℕ) → r.after ≡ q ++ rest → ((other : List Line) → begins_rule (q ++ other) ≡ d)
-    → expectation_len d (length x.expected) ≡ k → k ≤ length q → 1 ≤ length q
+    → length x.expected + (if d then 3 else 0) ≡ k → k ≤ length q → 1 ≤ length q
     → ((other : List Line) → begins_blank other ≡ begins_blank rest → ReadsPlain (q ++ other) x.expected other ⊎ ReadsDouble (q ++ other) x.expected other) → BeforeOne ls rest x
 one_before ls rest q x r d k parts begins len most some expected =
     let up = up_to x.lead x r.separator in
@@ -99,7 +94,7 @@ one_before ls rest q x r d k parts begins len most some expected =
       up = length up;
       len = k;
       is_double = d;
-      stands = λ before other. stands_by x r.separator q before other d k r.head.1 r.input r.separates (begins other) len most;
+      stands = λ before other. stands_by x r.separator q before other d k r.head.1 (begins other) len;
       some = omega (arith, up_to_len x.lead x r.separator);
       within = omega (arith, most, whole);
       above = omega (arith, some, whole);
@@ -109,16 +104,13 @@ same_rule : (expected : List Line) (blank : Line) (rest other : List Line) → b
 same_rule [] blank rest other = refl
 same_rule (line ∷ expected) blank rest other = refl
 
-behind_blank : (expected : List Line) (blank : Line) (rest : List Line) → (expected ++ blank ∷ []) ++ rest ≡ expected ++ blank ∷ rest
-behind_blank expected blank rest = append_assoc expected (blank ∷ []) rest
-
 plain_before : (ls rest : List Line) (x : PlainBlock) (r : ReadsBlock ls x rest) → (rest ≡ [] → ⊥) → (p : ReadsPlain r.after x.expected rest)
     → ((blank : Line) × (is_blank blank ≡ true) × (r.after ≡ x.expected ++ blank ∷ rest)) ⊎ ((r.after ≡ x.expected) × (rest ≡ [])) → BeforeOne ls rest x
 plain_before ls rest x r some p (inl c) =
-    let plain = λ (other : List Line). ap begins_rule (behind_blank x.expected c.0 other) ∙ same_rule x.expected c.0 other rest ∙ ap begins_rule (sym c.2) ∙ p.first in
+    let plain = λ (other : List Line). ap begins_rule (append_snoc x.expected c.0 other) ∙ same_rule x.expected c.0 other rest ∙ ap begins_rule (sym c.2) ∙ p.first in
     let len : length (x.expected ++ c.0 ∷ []) ≡ length x.expected + 1 = length-append x.expected (c.0 ∷ []) in
-    one_before ls rest (x.expected ++ c.0 ∷ []) x r false (length x.expected) (c.2 ∙ sym (behind_blank x.expected c.0 rest)) plain refl (omega (arith, len)) (omega (arith, len))
-    (λ other same. inl (record { first = plain other; none_blank = p.none_blank; closed = inl (c.0, c.1, behind_blank x.expected c.0 other) }))
+    one_before ls rest (x.expected ++ c.0 ∷ []) x r false (length x.expected) (c.2 ∙ sym (append_snoc x.expected c.0 rest)) plain (omega arith) (omega (arith, len)) (omega (arith, len))
+    (λ other same. inl (record { first = plain other; none_blank = p.none_blank; closed = inl (c.0, c.1, append_snoc x.expected c.0 other) }))
 plain_before ls rest x r some p (inr c) = absurd (some c.1)
 
 -- the rules of the double form, and what stands between them
@@ -131,18 +123,14 @@ behind_rules expected more rest = ap (λ (l : List Line). rule ∷ l) (append_as
 ruled_len : (expected more : List Line) → length (ruled expected more) ≡ length expected + 3 + length more
 ruled_len expected more = let len : length (expected ++ rule ∷ rule ∷ more) ≡ length expected + length (rule ∷ rule ∷ more) = length-append expected (rule ∷ rule ∷ more) in omega (arith, len)
 
-rule_first : is_rule rule ≡ true
-unfolding is_rule
-rule_first = refl
-
 double_before : (ls rest : List Line) (x : PlainBlock) (r : ReadsBlock ls x rest) (q : ReadsDouble r.after x.expected rest)
     → ((blank : Line) × (is_blank blank ≡ true) × (q.more ≡ blank ∷ rest)) ⊎ ((begins_blank rest ≡ false) × (q.more ≡ rest)) → BeforeOne ls rest x
 double_before ls rest x r q (inl c) =
-    one_before ls rest (ruled x.expected (c.0 ∷ [])) x r true (length x.expected + 3) (q.parts ∙ ap (ruled x.expected) c.2 ∙ sym (behind_rules x.expected (c.0 ∷ []) rest)) (λ other. rule_first) refl
+    one_before ls rest (ruled x.expected (c.0 ∷ [])) x r true (length x.expected + 3) (q.parts ∙ ap (ruled x.expected) c.2 ∙ sym (behind_rules x.expected (c.0 ∷ []) rest)) (λ other. rule_passes rule refl) (omega arith)
     (omega (arith, ruled_len x.expected (c.0 ∷ []))) (omega (arith, ruled_len x.expected (c.0 ∷ [])))
     (λ other same. inr (record { more = c.0 ∷ other; parts = behind_rules x.expected (c.0 ∷ []) other; closed = inl (c.0, c.1, refl) }))
 double_before ls rest x r q (inr c) =
-    one_before ls rest (ruled x.expected []) x r true (length x.expected + 3) (q.parts ∙ ap (ruled x.expected) c.1 ∙ sym (behind_rules x.expected [] rest)) (λ other. rule_first) refl
+    one_before ls rest (ruled x.expected []) x r true (length x.expected + 3) (q.parts ∙ ap (ruled x.expected) c.1 ∙ sym (behind_rules x.expected [] rest)) (λ other. rule_passes rule refl) (omega arith)
     (omega (arith, ruled_len x.expected [])) (omega (arith, ruled_len x.expected []))
     (λ other same. inr (record { more = other; parts = behind_rules x.expected [] other; closed = inr (same ∙ c.0, refl) }))
 
@@ -175,9 +163,7 @@ all_before ls rest (x ∷ xs) some reads =
 
 pub some_lines : (lead head input : List Line) (separator : Line) (after : List Line) → lead ++ (head ++ (input ++ separator ∷ after)) ≡ [] → ⊥
 some_lines [] [] [] separator after none = cc
-some_lines [] [] (line ∷ input) separator after none = cc
-some_lines [] (line ∷ head) input separator after none = cc
-some_lines (line ∷ lead) head input separator after none = cc
+some_lines lead head input separator after none = cc
 
 -- some blocks, one behind them, and others
 joined : (ls mid rest tail : List Line) (xs ys : List PlainBlock) (b : PlainBlock) → ReadsSome ls xs mid → ReadsBlock mid b rest → ReadsSome rest ys tail → ReadsSome ls (xs ++ b ∷ ys) tail

@@ -46,13 +46,6 @@ looked_at encoding text s line i head b o ls e t u total there block output line
     ∙ sym (hover-step encoding text s line i (heads_of text s) s.blocks (outputs s) i head b o there block output)
     ∙ far
 
--- it has the line
-hover_here : (encoding : Encoding) (text : List ℕ) (s : PlainScript) (line i head : ℕ) (b : PlainBlock) (o ls : List Line) (e : Extent) (t : Bool) (total : List ℕ)
-    → slice_get (heads_of text s) i ≡ Some head → slice_get s.blocks i ≡ Some b → slice_get (outputs s) i ≡ Some o → ls ≡ lines text → e ≡ extent_of ls head b → t ≡ has_line line line e → t ≡ true
-    → hover_in encoding text s line i (drop i (heads_of text s)) (drop i s.blocks) (drop i (outputs s)) ≡ total → hover_text encoding text e (shown o (looked s (i + 1))) ≡ total
-hover_here encoding text s line i head b o ls e t total there block output lines_are extent test is far =
-    looked_at encoding text s line i head b o ls e t true total there block output lines_are extent test is far
-
 -- it hasn't
 pub hover_next : (encoding : Encoding) (text : List ℕ) (s : PlainScript) (line i head : ℕ) (b : PlainBlock) (o ls : List Line) (e : Extent) (t : Bool) (total : List ℕ)
     → slice_get (heads_of text s) i ≡ Some head → slice_get s.blocks i ≡ Some b → slice_get (outputs s) i ≡ Some o → ls ≡ lines text → e ≡ extent_of ls head b → t ≡ has_line line line e → t ≡ false
@@ -70,7 +63,7 @@ hover_went encoding text s line i head b o ls e t seen before out new total ther
     went
     ∙ ap (λ (l : List ℕ). l ++ hover_text encoding text e seen) unmoved
     ∙ ap (λ (l : List ℕ). out ++ hover_text encoding text e l) shows
-    ∙ ap (λ (l : List ℕ). out ++ l) (hover_here encoding text s line i head b o ls e t total there block output lines_are extent test is far)
+    ∙ ap (λ (l : List ℕ). out ++ l) (looked_at encoding text s line i head b o ls e t true total there block output lines_are extent test is far)
 
 -- none has it
 pub hover_none : (encoding : Encoding) (text : List ℕ) (s : PlainScript) (line i : ℕ) (heads : List ℕ) (bs : List PlainBlock) (os : List (List Line)) (before out new total : List ℕ) → length heads ≤ i

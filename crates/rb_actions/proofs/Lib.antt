@@ -1,4 +1,7 @@
-pub mod ExtentLaws
+pub mod FindingLaws
+pub mod QuietLaws
+pub mod MismatchLaws
+pub mod CameLaws
 pub mod HoverLaws
 pub mod ActionLaws
 pub mod RangeLaws

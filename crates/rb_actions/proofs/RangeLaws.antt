@@ -7,7 +7,8 @@ use Rattle.rb_document.specs.Places.{begins, feeds, is_place_behind, offset}
 use Rattle.rb_document.specs.Changes.{changed, spliced}
 use Rattle.rb_document.specs.Tables.{feed_start, start_of}
 use Rattle.rb_document.proofs.PositionLaws.{place_returns}
-use Rattle.rb_actions.specs.Edits.{lines_range}
+use Rattle.rb_offers.proofs.OrderLaws.{feed_grows}
+use Rattle.rb_actions.specs.Actions.{lines_range}
 
 no_feed : (b : Bool) → not (b && false) ≡ true
 no_feed true = refl
@@ -36,24 +37,12 @@ line_is_place before (suc n) [] other is = no_feed (before == 13)
 line_is_place before (suc n) (b ∷ bytes) other is =
     place_more (b == 10) b n bytes refl (λ z i. line_is_place b n bytes z i) (λ i. line_is_place b (suc n) bytes (λ z. absurd (omega (arith, z))) i) is
 
-both_grow : (t : Bool) (a b c d : ℕ) → a ≤ c → b ≤ d → suc (if t then a else b) ≤ suc (if t then c else d)
-both_grow true a b c d first second = omega arith
-both_grow false a b c d first second = omega arith
-
--- a later line begins later
-pub lines_grow : (n m : ℕ) (bytes : List ℕ) → n ≤ m → feed_start n bytes ≤ feed_start m bytes
-unfolding feed_start
-lines_grow zero m bytes less = omega arith
-lines_grow (suc n) zero bytes less = absurd (omega (arith, less))
-lines_grow (suc n) (suc m) [] less = omega arith
-lines_grow (suc n) (suc m) (b ∷ bytes) less = both_grow (b == 10) _ _ _ _ (lines_grow n m bytes (omega (arith, less))) (lines_grow (suc n) (suc m) bytes less)
-
 pub lines_replaced : (encoding : Encoding) (text new : List ℕ) (first behind : ℕ) → first ≤ behind → begins (drop (feed_start first text) text) ≡ true → begins (drop (feed_start behind text) text) ≡ true
     → changed encoding (lines_range encoding text first behind) new text ≡ spliced (feed_start first text) (feed_start behind text) new text
 lines_replaced encoding text new first behind less one other =
     let start : offset encoding (start_of encoding first text) text ≡ feed_start first text = place_returns encoding 0 (feed_start first text) text (line_is_place 0 first text (λ z. refl) one) in
     let stop : offset encoding (start_of encoding behind text) text ≡ feed_start behind text = place_returns encoding 0 (feed_start behind text) text (line_is_place 0 behind text (λ z. refl) other) in
-    let most : max (feed_start first text) (feed_start behind text) ≡ feed_start behind text = omega (arith, lines_grow first behind text less) in
+    let most : max (feed_start first text) (feed_start behind text) ≡ feed_start behind text = omega (arith, feed_grows first behind text less) in
     ap (λ (k : ℕ). spliced k (max k (offset encoding (start_of encoding behind text) text)) new text) start
     ∙ ap (λ (k : ℕ). spliced (feed_start first text) (max (feed_start first text) k) new text) stop
     ∙ ap (λ (k : ℕ). spliced (feed_start first text) k new text) most

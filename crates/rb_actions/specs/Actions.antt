@@ -1,6 +1,6 @@
 -- Actions that accept outputs: edits of expectations. (LSP 3.17, "Code Action Request", "WorkspaceEdit" and "TextEdit". What is accepted
 -- is what `check --accept` accepts.)
-use Rattle.std.specs.Prelude.{ℕ, ◌-◌, ◌==◌, Bool, false, ◌&&◌, ◌||◌, not, nat_le, if◌then◌else◌, List, [], ◌∷◌, ◌++◌, codes, length, slice_get, Option, Some, None, Result, Ok, Err}
+use Rattle.std.specs.Prelude.{ℕ, ◌-◌, ◌==◌, Bool, true, false, ◌&&◌, ◌||◌, not, nat_le, if◌then◌else◌, List, [], ◌∷◌, ◌++◌, codes, length, slice_get, Option, Some, None, Result, Ok, Err}
 use Rattle.std.specs.List.{flat_map}
 use Rattle.rb_script.specs.declared.fault.ScriptFault.{ScriptFault}
 use Rattle.rb_script.specs.Lines.{Line, lines, text_of}
@@ -12,7 +12,8 @@ use Rattle.rb_replay.specs.Report.{same_lines}
 use Rattle.rb_checked.specs.declared.wanted.Picked.TheVariants as picks
 use Rattle.rb_checked.specs.declared.wanted.Wanted.{Wanted}
 use Rattle.rb_checked.specs.Accepting.{is_left}
-use Rattle.rb_json.specs.Escapes.{escaped}
+use Rattle.rb_checked.specs.Checked.{of_each}
+use Rattle.rb_text.specs.Json.{escaped}
 use Rattle.rb_document.specs.declared.position.Encoding.{Encoding}
 use Rattle.rb_document.specs.declared.position.Range.{Range}
 use Rattle.rb_document.specs.Tables.{start_of}
@@ -62,9 +63,26 @@ form is_double output = if is_double then rule ∷ output ++ rule ∷ rule ∷ [
 unfoldable pub new_text : List ℕ → List Line → Extent → List Line → List ℕ
 new_text text ls e output = end_above text ls e ++ text_of (form e.is_double output)
 
+-- what stands in a range of a text is replaced
+pub record PlainEdit : Type 0 where
+  pub range : Range
+  pub new : List ℕ
+
+-- the range of the lines of a script from `first` on, up to `behind`, as edits have it
+abbrev pub lines_range : Encoding → List ℕ → ℕ → ℕ → Range
+lines_range encoding text first behind = record { start = start_of encoding first text; end = start_of encoding behind text }
+
+-- that the directive expects this output
+abbrev pub edit_of : Encoding → List ℕ → Extent → List Line → PlainEdit
+edit_of encoding text e output = record { range = lines_range encoding text e.expected e.end; new = new_text text (lines text) e output }
+
+-- how it is sent
+abbrev pub member_of : PlainEdit → List ℕ
+member_of e = range_member e.range.start e.range.end ++ (codes ",\"newText\":\"" ++ (flat_map escaped e.new ++ codes "\"}"))
+
+-- with this text in the place of the expectation that stands there
 unfoldable pub edit_text : Encoding → List ℕ → Extent → List ℕ → List ℕ
-edit_text encoding text e new =
-    range_member (start_of encoding e.expected text) (start_of encoding e.end text) ++ (codes ",\"newText\":\"" ++ (flat_map escaped new ++ codes "\"}"))
+edit_text encoding text e new = member_of (record { range = lines_range encoding text e.expected e.end; new = new })
 
 -- ---- the edits of some
 
@@ -79,13 +97,23 @@ one_edit encoding text span later line b output =
     then comma_if later ++ edit_text encoding text (extent_of (lines text) line b) (new_text text (lines text) (extent_of (lines text) line b) output)
     else []
 
--- of directives in order, with the lines of their heads and their outputs
-abbrev pub edits_text : Encoding → List ℕ → Option Span → Bool → List ℕ → List PlainBlock → List (List Line) → List ℕ
-edits_text encoding text span later [] bs os = []
-edits_text encoding text span later (line ∷ heads) [] os = []
-edits_text encoding text span later (line ∷ heads) (b ∷ bs) [] = []
-edits_text encoding text span later (line ∷ heads) (b ∷ bs) (output ∷ os) =
-    one_edit encoding text span later line b output ++ edits_text encoding text span (later || is_wanted span (lines text) line b output) heads bs os
+-- which directives are wanted: by the lines of their heads, and by their outputs
+abbrev pub Picks : Type 0
+Picks = ℕ → PlainBlock → List Line → Bool
+
+-- of directives in order, an edit of each that is wanted
+abbrev pub edits_in : Picks → Encoding → List ℕ → List ℕ → List PlainBlock → List (List Line) → List PlainEdit
+edits_in picks encoding text heads bs os =
+    of_each (λ line b output. if picks line b output then edit_of encoding text (extent_of (lines text) line b) output ∷ [] else []) heads bs os
+
+-- as they are sent, where others stand before
+abbrev pub listed : Bool → List PlainEdit → List ℕ
+listed later [] = []
+listed later (e ∷ es) = comma_if later ++ (member_of e ++ listed true es)
+
+-- those of an action
+abbrev pub edits_asked : Encoding → List ℕ → PlainScript → Option Span → List PlainEdit
+edits_asked encoding text s span = edits_in (is_wanted span (lines text)) encoding text (heads_of text s) s.blocks (outputs s)
 
 -- ---- actions
 
@@ -112,7 +140,7 @@ actions_text uri span here all =
     codes "[" ++ (action_if uri (Some span) here ++ (comma_behind here ++ (action_if uri None all ++ codes "]")))
 
 abbrev pub edits_of : Encoding → List ℕ → PlainScript → Option Span → List ℕ
-edits_of encoding text s span = edits_text encoding text span false (heads_of text s) s.blocks (outputs s)
+edits_of encoding text s span = listed false (edits_asked encoding text s span)
 
 -- the lines on which a range begins and ends
 abbrev pub span_of : Encoding → Range → List ℕ → Span

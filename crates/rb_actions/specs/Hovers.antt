@@ -1,6 +1,6 @@
 -- What is shown of a position in a script: what came of the directive that stands there, and the cluster behind it. (LSP 3.17, "Hover
 -- Request".)
-use Rattle.std.specs.Prelude.{ℕ, ◌+◌, if◌then◌else◌, List, [], ◌∷◌, ◌++◌, codes, Result, Ok, Err}
+use Rattle.std.specs.Prelude.{ℕ, ◌+◌, if◌then◌else◌, List, ◌∷◌, ◌++◌, codes, Result, Ok, Err}
 use Rattle.std.specs.List.{flat_map}
 use Rattle.rb_script.specs.declared.fault.ScriptFault.{ScriptFault}
 use Rattle.rb_script.specs.Lines.{Line, lines, text_of}
@@ -8,7 +8,7 @@ use Rattle.rb_script.specs.Script.{PlainBlock, PlainScript}
 use Rattle.rb_script.specs.Reading.{read_of}
 use Rattle.rb_replay.specs.Run.{outputs}
 use Rattle.rb_look.specs.Looks.{looked}
-use Rattle.rb_json.specs.Escapes.{escaped}
+use Rattle.rb_text.specs.Json.{escaped}
 use Rattle.rb_document.specs.declared.position.Encoding.{Encoding}
 use Rattle.rb_document.specs.declared.position.Position.{Position}
 use Rattle.rb_document.specs.Tables.{start_of}
@@ -29,12 +29,10 @@ hover_text encoding text e shown =
 
 -- of the directives of a script, behind n others, the first that has the line; nothing, where none has it
 abbrev pub hover_in : Encoding → List ℕ → PlainScript → ℕ → ℕ → List ℕ → List PlainBlock → List (List Line) → List ℕ
-hover_in encoding text s line n [] bs os = codes "null"
-hover_in encoding text s line n (head ∷ heads) [] os = codes "null"
-hover_in encoding text s line n (head ∷ heads) (b ∷ bs) [] = codes "null"
 hover_in encoding text s line n (head ∷ heads) (b ∷ bs) (output ∷ os) =
     if has_line line line (extent_of (lines text) head b) then hover_text encoding text (extent_of (lines text) head b) (shown output (looked s (n + 1)))
     else hover_in encoding text s line (n + 1) heads bs os
+hover_in encoding text s line n heads bs os = codes "null"
 
 -- of a text that is read so
 abbrev pub hover_of : Encoding → Position → List ℕ → Result PlainScript ScriptFault → List ℕ

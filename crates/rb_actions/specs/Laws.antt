@@ -1,6 +1,6 @@
 -- What holds of what an editor is shown. (This project's.)
-use Rattle.std.specs.Prelude.{◌≡◌, ℕ, ◌≤◌, Bool, true, false, List, ◌∷◌, ◌++◌, length, take, drop, slice_index, Option}
-use Rattle.std.specs.List.{AllByRecursion}
+use Rattle.std.specs.Prelude.{◌≡◌, ℕ, ◌≤◌, Bool, true, false, List, ◌∷◌, ◌++◌, [], length, take, drop, slice_index, Option}
+use Rattle.std.specs.List.{AllByRecursion, list_any}
 use Rattle.serde_json.specs.Data.{Data}
 use Rattle.rb_script.specs.declared.limits.TheConstants.{MAX_SCRIPT, MAX_LINE}
 use Rattle.rb_script.specs.Lines.{Line, lines}
@@ -9,6 +9,7 @@ use Rattle.rb_script.specs.HeadLines.{AreHeadLines}
 use Rattle.rb_script.specs.Reads.{Reads, ReadsSome}
 use Rattle.rb_script.specs.Script.{PlainBlock, PlainScript, expecting, text}
 use Rattle.rb_replay.specs.Run.{outputs}
+use Rattle.rb_replay.specs.Report.{mismatches}
 use Rattle.rb_document.specs.declared.position.Encoding.{Encoding}
 use Rattle.rb_document.specs.Places.{begins}
 use Rattle.rb_document.specs.Changes.{changed, spliced}
@@ -19,12 +20,20 @@ use Rattle.rb_server.specs.Methods.{method_of}
 use Rattle.rb_server.specs.Notices.{notice_of}
 use Rattle.rb_server.specs.Laws.{IsPublished}
 use Rattle.rb_checked.specs.Accepting.{accepted_lines}
+use Rattle.rb_checked.specs.Errors.{is_error}
 use Rattle.rb_actions.specs.declared.extent.Extent.{Extent}
 use Rattle.rb_actions.specs.declared.extent.Span.{Span}
 use Rattle.rb_actions.specs.Extents.{extent_of}
-use Rattle.rb_actions.specs.Actions.{all_but_new_errors, edits_of, form, is_accepted}
-use Rattle.rb_actions.specs.Edits.{edits_asked, edits_made, lines_range, listed, with_wanted}
+use Rattle.rb_actions.specs.Actions.{all_but_new_errors, edits_asked, form, is_accepted, lines_range}
+use Rattle.rb_actions.specs.Edits.{edits_made, with_wanted}
 use Rattle.rb_actions.specs.Meanings.{meaning}
+
+-- the bytes are a script, each directive's output is the expected one, and none is an error
+pub record IsQuietText (bytes : List ℕ) : Type 0 where
+  pub script : PlainScript
+  pub reads : Reads bytes script
+  pub same : mismatches script ≡ []
+  pub no_error : list_any is_error (outputs script) ≡ false
 
 -- Whatever was sent before: what goes out for a notification is what one fresh run of its document's text gives, as the text then stands, or, where
 -- memory is refused for it, the one diagnostic that says so. Nothing goes out only where it tells of no document.
@@ -55,10 +64,6 @@ abbrev pub EditedLinesRead : Type 0
 EditedLinesRead = (ls tail : List Line) (before later : List PlainBlock) (b : PlainBlock) (output : List Line) (heads : List ℕ)
     → ReadsSome ls (before ++ b ∷ later) tail → AreHeadLines 1 ls (before ++ b ∷ later) heads → AllByRecursion IsSolid output
     → ReadsSome (with_lines ls (extent_of ls (slice_index heads (length before)) b) output) (before ++ expecting b output ∷ later) tail
-
--- what is sent of an action are its edits, one behind another
-abbrev pub EditsAreSent : Type 0
-EditsAreSent = (encoding : Encoding) (text : List ℕ) (s : PlainScript) (span : Option Span) → edits_of encoding text s span ≡ listed false (edits_asked encoding text s span)
 
 -- bytes and the script that they are to be are short enough for a script
 pub record AreShort (bytes : List ℕ) (s : PlainScript) : Type 0 where

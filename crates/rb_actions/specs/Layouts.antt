@@ -2,6 +2,7 @@
 use Rattle.std.specs.Prelude.{◌≡◌, ℕ, ◌==◌, List, length, take, count_by, Err}
 use Rattle.rb_script.specs.declared.fault.ScriptFault.{ScriptFault}
 use Rattle.rb_script.specs.Lines.{lines}
+use Rattle.rb_script.specs.HeadLines.{AreHeadLines}
 use Rattle.rb_script.specs.Reading.{read_of}
 use Rattle.rb_script.specs.Script.{PlainScript}
 use Rattle.rb_document.specs.declared.position.Encoding.{Encoding}
@@ -15,6 +16,7 @@ use Rattle.rb_actions.specs.declared.layout.Layout.{Layout}
 pub record IsLayout (encoding : Encoding) (bytes : List ℕ) (s : PlainScript) (layout : Layout) : Type 0 where
   pub script_is : layout.script ≡ s
   pub lines_are : layout.lines ≡ lines bytes
+  pub heads : AreHeadLines 1 layout.lines s.blocks layout.heads.items
   pub heads_are : layout.heads.items ≡ heads_of bytes s
   pub count : length layout.heads.items ≡ length s.blocks
   pub table : IsTable encoding bytes layout.table

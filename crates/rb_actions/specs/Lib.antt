@@ -1,3 +1,7 @@
+pub mod Diagnostics
+pub mod Came
+pub mod Findings
+pub mod Published
 pub mod Layouts
 pub mod Extents
 pub mod Hovers

@@ -9,7 +9,7 @@ use Rattle.rb_offers.specs.Completion.{completion}
 use Rattle.rb_offers.specs.Folds.{folds}
 use Rattle.rb_offers.specs.Formatting.{formatting}
 use Rattle.rb_offers.specs.Symbols.{symbols}
-use Rattle.rb_diagnostics.specs.Published.{diagnose}
+use Rattle.rb_actions.specs.Published.{diagnose}
 use Rattle.rb_actions.specs.Actions.{actions}
 use Rattle.rb_actions.specs.Hovers.{hover}
 

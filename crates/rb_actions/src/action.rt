@@ -3,10 +3,10 @@
 ghost use Rattle.std.specs.Prelude.{◌≡◌, ◌≤◌, ◌^◌, ◌++◌, ◌||◌, None, Some, IfOk, OnOk, length};
 ghost use Rattle.rb_script.specs.Lines.{lines};
 ghost use Rattle.rb_script.specs.Reads.{Reads};
-ghost use Rattle.rb_replay.specs.Report.{same_lines};
 ghost use Rattle.rb_replay.specs.Run.{outputs};
 ghost use Rattle.rb_document.specs.declared.limits.TheConstants.{MAX_TEXT};
 ghost use Rattle.rb_document.specs.Tables.{IsTable};
+ghost use Rattle.rb_offers.specs.BlockLines.{StandsIn};
 ghost use Rattle.rb_actions.specs.Layouts.{IsLayout};
 ghost use Rattle.rb_actions.specs.Actions.{action_head, action_if, action_text, actions, actions_text, comma_behind, comma_if, edit_text, edits_of, is_accepted, is_among, is_wanted, one_edit, span_of};
 
@@ -14,20 +14,14 @@ use crate::extent::{Extent, Span, extent_of, has_line};
 use crate::layout::{Layout, layout_of, line_at};
 use crate::replacement::new_text;
 use crate::run::fresh_run;
-use rb_checked::{block_at, is_unexpected, number_at, output_at};
+use rb_checked::{block_at, is_same, is_unexpected, number_at, output_at};
 use rb_document::{Encoding, LineTable, Range};
-use rb_json::{Piece, add_pieces};
 use rb_machine::{Count, Machine};
 use rb_offers::add_range_member;
 use rb_replay::Session;
 use rb_script::{Block, Lines};
+use rb_text::{Json, Piece, add_pieces};
 use std::alloc::{AllocError, Global};
-
-fn is_same(lines: &Lines, other: &Lines) -> bool
-    ensures { result ≡ same_lines lines.now other.now }
-{
-    lines.same(other)
-}
 
 // Whether the output isn't the expected one, and no new error.
 fn is_accepted(lines: &Lines, line: usize, block: &Block, output: &Lines) -> bool
@@ -48,6 +42,7 @@ fn is_among(span: Option<Span>, extent: Extent) -> bool
 
 #[tactic(auto, unfolding(crate::specs::Actions::is_wanted))]
 fn is_wanted(span: Option<Span>, lines: &Lines, line: usize, block: &Block, output: &Lines) -> bool
+    requires { StandsIn lines.now line block.now }
     ensures { result ≡ is_wanted span lines.now line block.now output.now }
 {
     is_accepted(lines, line, block, output) && is_among(span, extent_of(lines, line, block))
@@ -73,7 +68,7 @@ fn add_edit(
         out,
         &[
             Piece::Bytes(b",\"newText\":\""),
-            Piece::Escaped(new),
+            Piece::Escaped(Json::Utf8, new),
             Piece::Bytes(b"\"}"),
         ],
     )
@@ -101,6 +96,7 @@ fn add_one(
 ) -> Result<bool, AllocError>
     requires lines { layout.now.lines ≡ lines text.now }
     requires table { IsTable encoding text.now layout.now.table }
+    requires stands { StandsIn layout.now.lines line block.now }
     ensures out { OnOk result (out.new.items ≡ out.old.items ++ one_edit encoding text.now span later line block.now output.now) }
     ensures later { IfOk result (λ behind. behind ≡ (later || is_wanted span (lines text.now) line block.now output.now)) }
 {
@@ -166,7 +162,7 @@ fn add_action<'a>(
         out,
         &[
             Piece::Bytes(action_head(span)),
-            Piece::Escaped(uri),
+            Piece::Escaped(Json::Utf8, uri),
             Piece::Bytes(b"\":["),
             Piece::Bytes(edits),
             Piece::Bytes(b"]}}}"),

@@ -16,12 +16,12 @@ use crate::layout::{Layout, layout_of, line_at};
 use crate::run::fresh_run;
 use rb_checked::{block_at, number_at, output_at};
 use rb_document::{Encoding, LineTable, Position};
-use rb_json::{Piece, add_pieces};
 use rb_look::{Nodes, look};
 use rb_machine::{Count, Machine};
 use rb_offers::add_range_member;
 use rb_replay::Session;
 use rb_script::{Lines, Script};
+use rb_text::{Json, Piece, add_pieces};
 use std::alloc::{AllocError, Global};
 
 // The output of the directive at a place, which counts from 1, an empty line, and what is seen behind it.
@@ -64,7 +64,7 @@ fn add_hover_text(
         out,
         &[
             Piece::Bytes(b",\"contents\":{\"kind\":\"plaintext\",\"value\":\""),
-            Piece::Escaped(shown),
+            Piece::Escaped(Json::Utf8, shown),
             Piece::Bytes(b"\"}}"),
         ],
     )

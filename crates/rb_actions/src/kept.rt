@@ -8,10 +8,11 @@ ghost use Rattle.rb_script.specs.declared.limits.TheConstants.{MAX_DIRECTIVES};
 ghost use Rattle.rb_script.specs.Lines.{lines};
 ghost use Rattle.rb_script.specs.Reads.{Reads};
 ghost use Rattle.rb_script.specs.HeadLines.{AreHeadLines};
-ghost use Rattle.rb_diagnostics.specs.Findings.{diagnostics_of};
+ghost use Rattle.rb_actions.specs.Findings.{diagnostics_of};
 
+use crate::diagnostic::Diagnostic;
+use crate::findings::{of_fault, of_session};
 use rb_check::Table;
-use rb_diagnostics::{Diagnostic, of_fault, of_session};
 use rb_machine::{Count, Machine};
 use rb_replay::Session;
 use rb_script::{Script, ScriptFault, ScriptWithLines};
@@ -112,7 +113,7 @@ impl<M: Machine> Sessions<M> {
 }
 
 // What is to be said of a document of whose text this was read.
-#[tactic(auto, using(rb_diagnostics::proofs::FindingLaws::of_lines, rb_diagnostics::proofs::FindingLaws::heads_stand))]
+#[tactic(auto, using(crate::proofs::FindingLaws::of_lines, crate::proofs::FindingLaws::heads_stand))]
 fn of_read<M: Machine>(
     alloc: Global,
     table: &mut Table,
@@ -139,7 +140,7 @@ fn of_read<M: Machine>(
 /// # Errors
 ///
 /// Where memory was refused. The document has no session then.
-#[tactic(auto, using(rb_diagnostics::proofs::FindingLaws::of_fault))]
+#[tactic(auto, using(crate::proofs::FindingLaws::of_fault))]
 pub(crate) fn of_document<M: Machine>(
     alloc: Global,
     table: &mut Table,

@@ -5,22 +5,24 @@ use Rattle.clap.specs.Words.{IsAmong, Kinds, Row, Text, all_of, first_of, kind_o
 use Rattle.clap.specs.declared.error.Error.{Error}
 use Rattle.clap.specs.declared.error.kind.ErrorKind.TheVariants as kind
 use Rattle.rb_args.specs.declared.choice.Subcommand.{Subcommand}
-use Rattle.rb_args.specs.declared.choice.Subcommand.TheVariants.{Run, Rewrite, Session, Check, Look, Page, Chart, Directives, Lsp}
+use Rattle.rb_args.specs.declared.choice.Subcommand.TheVariants.{Check, Directives, Lsp, Script}
+use Rattle.rb_args.specs.declared.choice.ScriptCommand.{ScriptCommand}
+use Rattle.rb_args.specs.declared.choice.ScriptCommand.TheVariants.{Run, Rewrite, Session, Look, Page, Chart}
 use Rattle.rb_args.specs.declared.choice.Choice.{Choice}
 use Rattle.rb_args.specs.declared.choice.CheckChoice.{CheckChoice}
 use Rattle.rb_args.specs.declared.choice.ChoiceFault.{ChoiceFault}
 use Rattle.rb_args.specs.declared.choice.ChoiceFault.TheVariants.{Refused, OutOfMemory}
 
--- the subcommand of this name that shows what a script does
-abbrev pub of_one_view : Text → Option Subcommand
+-- what the subcommand of this name does with one script, where it shows what the script does
+abbrev pub of_one_view : Text → Option ScriptCommand
 of_one_view name =
     if bytes_eq name (codes "look") then Some Look
     else if bytes_eq name (codes "page") then Some Page
     else if bytes_eq name (codes "chart") then Some Chart
     else None
 
--- the subcommand of this name that takes FILE
-abbrev pub of_one_script : Text → Option Subcommand
+-- what it does with one script
+abbrev pub of_one_script : Text → Option ScriptCommand
 of_one_script name =
     if bytes_eq name (codes "run") then Some Run
     else if bytes_eq name (codes "rewrite") then Some Rewrite
@@ -33,7 +35,7 @@ named_by name =
     if bytes_eq name (codes "check") then Some Check
     else if bytes_eq name (codes "directives") then Some Directives
     else if bytes_eq name (codes "lsp") then Some Lsp
-    else of_one_script name
+    else option_map (λ command. Script command) (of_one_script name)
 
 -- what is said by the text that clap gives a flag
 abbrev pub is_set : Option Text → Bool

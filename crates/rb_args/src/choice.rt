@@ -5,24 +5,31 @@ use clap::Error;
 /// What the program is asked to do.
 #[derive(Clone, Copy, PartialEq, Eq)]
 pub enum Subcommand {
-    /// `run`: write the report of a script.
-    Run,
-    /// `rewrite`: write a script with its outputs.
-    Rewrite,
-    /// `session`: keep a script, and answer edits of it.
-    Session,
     /// `check`: check scripts, and folders of them.
     Check,
-    /// `look`: show the cluster as it is after a directive.
-    Look,
-    /// `page`: write the page of a script.
-    Page,
-    /// `chart`: write the picture of a script.
-    Chart,
     /// `directives`: show what directives there are, or one of them.
     Directives,
     /// `lsp`: answer an editor.
     Lsp,
+    /// What is done with the script in FILE.
+    Script(ScriptCommand),
+}
+
+/// What is done with one script.
+#[derive(Clone, Copy, PartialEq, Eq)]
+pub enum ScriptCommand {
+    /// `run`: write its report.
+    Run,
+    /// `rewrite`: write it with its outputs.
+    Rewrite,
+    /// `session`: keep it, and answer edits of it.
+    Session,
+    /// `look`: show the cluster as it is after a directive.
+    Look,
+    /// `page`: write its page.
+    Page,
+    /// `chart`: write its picture.
+    Chart,
 }
 
 /// What the arguments choose. What they don't give is `None`.

@@ -6,7 +6,7 @@ ghost use Rattle.rb_args.specs.CommandLine.{command_line};
 ghost use Rattle.rb_args.specs.Chosen.{IsCheckOf, IsChoiceOf, IsRefusal, RefusedFor, is_set, named_by, of_one_script, of_one_view};
 
 use crate::commands::raftbench_command;
-use crate::{CheckChoice, Choice, ChoiceFault, Subcommand};
+use crate::{CheckChoice, Choice, ChoiceFault, ScriptCommand, Subcommand};
 use clap::error::ErrorKind;
 use clap::{ArgMatches, Error};
 use std::alloc::{AllocError, Global};
@@ -143,35 +143,35 @@ fn named_by(name: &str) -> Option<Subcommand>
     } else if name == "lsp" {
         Some(Subcommand::Lsp)
     } else {
-        of_one_script(name)
+        Some(Subcommand::Script(of_one_script(name)?))
     }
 }
 
-// The subcommand of this name that takes FILE.
-fn of_one_script(name: &str) -> Option<Subcommand>
+// What the subcommand of this name does with one script.
+fn of_one_script(name: &str) -> Option<ScriptCommand>
     ensures { result ≡ of_one_script name.now }
 {
     if name == "run" {
-        Some(Subcommand::Run)
+        Some(ScriptCommand::Run)
     } else if name == "rewrite" {
-        Some(Subcommand::Rewrite)
+        Some(ScriptCommand::Rewrite)
     } else if name == "session" {
-        Some(Subcommand::Session)
+        Some(ScriptCommand::Session)
     } else {
         of_one_view(name)
     }
 }
 
-// The subcommand of this name that shows what a script does.
-fn of_one_view(name: &str) -> Option<Subcommand>
+// The same, where it shows what a script does.
+fn of_one_view(name: &str) -> Option<ScriptCommand>
     ensures { result ≡ of_one_view name.now }
 {
     if name == "look" {
-        Some(Subcommand::Look)
+        Some(ScriptCommand::Look)
     } else if name == "page" {
-        Some(Subcommand::Page)
+        Some(ScriptCommand::Page)
     } else if name == "chart" {
-        Some(Subcommand::Chart)
+        Some(ScriptCommand::Chart)
     } else {
         None
     }

@@ -15,4 +15,3 @@ pub mod Talk
 pub mod Turns
 pub use Rattle.rb_text.specs.Numbers
 pub use Rattle.rb_text.specs.Words
-pub mod Pieces

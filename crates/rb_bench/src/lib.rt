@@ -16,7 +16,6 @@ mod laws;
 mod limits;
 mod names;
 mod outlet;
-mod piece;
 mod reply;
 mod respond;
 mod running;

@@ -9,12 +9,12 @@ ghost use Rattle.rb_bench.specs.Replies.{reply_text};
 
 use crate::names::{edit_fault_name, script_fault_name};
 use crate::outlet::Outlet;
-use crate::piece::{Piece, put_pieces};
 use crate::reply::Reply;
 use crate::starting::BenchSession;
 use rb_check::fault_line;
 use rb_replay::Changed;
 use rb_script::{Lines, ScriptFault, Sink, WriteFault};
+use rb_text::{Piece, put_pieces};
 
 fn put_refused<S: Sink>(sink: &mut S, name: &[u8]) -> Result<(), WriteFault>
     ensures wrote { Writes result (S.held sink.old) (S.held sink.new) (refused name.now) }

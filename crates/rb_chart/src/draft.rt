@@ -8,8 +8,8 @@ use crate::chart::Chart;
 use crate::drafter::Drafter;
 use crate::event::{Event, event_of};
 use crate::shown::shown;
-use rb_json::{Piece, add_pieces};
 use rb_script::Lines;
+use rb_text::{Piece, add_pieces};
 use std::alloc::{AllocError, Global};
 
 fn add_until(title: &mut Vec<u8>, until: Option<u64>) -> Result<(), AllocError>

@@ -18,8 +18,8 @@ use crate::sizes::{ASIDE, MOST_HEAD, MOST_MARK, MOST_NOTE, least_right, middle};
 use crate::slots::Slots;
 use crate::source::Source;
 use crate::telling::End;
-use rb_json::{Piece, add_pieces};
 use rb_message::Role;
+use rb_text::{Piece, add_pieces};
 use std::alloc::{AllocError, Global};
 
 // Where the gutter has a directive's line, which ends there, and its head.

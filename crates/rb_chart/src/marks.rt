@@ -4,8 +4,8 @@ use crate::event::{Mark, Note};
 use crate::look::Look;
 use crate::names::short_name;
 use crate::sentence::{sentence, with_one, with_two};
-use rb_json::Piece;
 use rb_message::Role;
+use rb_text::Piece;
 use std::alloc::{AllocError, Global};
 
 fn became_words(alloc: Global, role: Role, term: u64) -> Result<Vec<u8>, AllocError> {

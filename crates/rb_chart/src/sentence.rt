@@ -1,6 +1,6 @@
 //! Words that are put together of pieces and of a row's texts.
 
-use rb_json::{Piece, add_pieces};
+use rb_text::{Piece, add_pieces};
 use std::alloc::{AllocError, Global};
 
 // What a hexadecimal digit of a row stands for.

@@ -7,9 +7,9 @@ ghost use Rattle.rb_chart.specs.Shapes.{arrow_text, band_text, loop_text, part_o
 
 use crate::escape::escaped;
 use crate::look::{Fate, Kind, Look};
-use rb_json::{Piece, add_pieces};
 use rb_message::Role;
 use rb_page::role_name;
+use rb_text::{Piece, add_pieces};
 use std::alloc::AllocError;
 
 /// A shape.

@@ -1,7 +1,7 @@
 //! What a picture tells readers who can't see: the notes of the script, its directives, and a sentence for each thing that happens.
 
 use crate::chart::Chart;
-use rb_json::{Piece, add_pieces};
+use rb_text::{Piece, add_pieces};
 use std::alloc::AllocError;
 
 /// How a message ended, or that it hasn't.

@@ -10,7 +10,7 @@ use crate::chart::Chart;
 use crate::escape::escaped;
 use crate::shape::{Shape, add_shapes};
 use crate::style::STYLE;
-use rb_json::{Piece, add_pieces};
+use rb_text::{Piece, add_pieces};
 use std::alloc::{AllocError, Global};
 
 // Adds what stands before the shapes, where the title and what is told are as they stand in texts of XML.

@@ -4,7 +4,7 @@ ghost use Rattle.std.specs.Prelude.{IsOk};
 ghost use Rattle.rb_script.specs.Tokens.{plain};
 ghost use Rattle.rb_script.specs.Writes.{Writes};
 ghost use Rattle.rb_check.specs.Heads.{head_text};
-ghost use Rattle.rb_check.specs.Headings.{place_text, heading_text};
+ghost use Rattle.rb_check.specs.Headings.{heading_text};
 
 use crate::head::put_head;
 use crate::piece::{Piece, put_pieces};
@@ -19,9 +19,13 @@ pub struct FileLine<'a> {
     pub line: usize,
 }
 
-// Writes the file and the line.
-fn put_place<'a, S: Sink>(sink: &mut S, place: FileLine<'a>) -> Result<(), WriteFault>
-    ensures wrote { Writes result (S.held sink.old) (S.held sink.new) (place_text place.entry.path.now place.entry.line) }
+/// Writes where a directive stands, and its head.
+pub(crate) fn put_heading<'a, S: Sink>(
+    sink: &mut S,
+    place: FileLine<'a>,
+    directive: &DirectiveRef<'a>,
+) -> Result<(), WriteFault>
+    ensures wrote { Writes result (S.held sink.old) (S.held sink.new) (heading_text place.entry.path.now place.entry.line (head_text (plain directive.now))) }
     ensures all { S.takes_all sink.old → IsOk result × S.takes_all sink.new }
 {
     put_pieces(
@@ -32,18 +36,6 @@ fn put_place<'a, S: Sink>(sink: &mut S, place: FileLine<'a>) -> Result<(), Write
             Piece::Number(place.line as u64),
             Piece::Bytes(b": "),
         ],
-    )
-}
-
-/// Writes where a directive stands, and its head.
-pub(crate) fn put_heading<'a, S: Sink>(
-    sink: &mut S,
-    place: FileLine<'a>,
-    directive: &DirectiveRef<'a>,
-) -> Result<(), WriteFault>
-    ensures wrote { Writes result (S.held sink.old) (S.held sink.new) (heading_text place.entry.path.now place.entry.line (head_text (plain directive.now))) }
-    ensures all { S.takes_all sink.old → IsOk result × S.takes_all sink.new }
-{
-    put_place(sink, place)?;
+    )?;
     put_head(sink, directive)
 }

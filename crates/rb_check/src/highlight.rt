@@ -7,7 +7,7 @@ ghost use Rattle.std.specs.Prelude.{◌≡◌, ◌+◌, ◌^◌, ◌<◌, ◌≤
 ghost use Rattle.rb_script.specs.Writes.{Writes};
 ghost use Rattle.rb_check.specs.Ends.{read_from};
 ghost use Rattle.rb_check.specs.LineRanges.{in_range};
-ghost use Rattle.rb_check.specs.Highlights.{same_len, parts_beside, highlighted_text, beside_text, is_paired};
+ghost use Rattle.rb_check.specs.Highlights.{same_len, parts_beside, beside_text, is_paired};
 ghost use Rattle.rb_check.specs.Whys.{reasons_in, told_beside, told_paired, told_changed};
 
 use crate::colors::Colors;
@@ -59,34 +59,7 @@ fn parts_beside<'a>(line: &'a [u8], other: &[u8]) -> (&'a [u8], &'a [u8], &'a [u
     (front, differs, back)
 }
 
-// Writes a line in three parts, the one between in reverse video.
-fn put_highlighted<'a, S: Sink>(
-    sink: &mut S,
-    side: Side,
-    front: &'a [u8],
-    differs: &'a [u8],
-    back: &'a [u8],
-    mark: &'a [u8],
-) -> Result<(), WriteFault>
-    ensures wrote { Writes result (S.held sink.old) (S.held sink.new) (highlighted_text side (record { front = front.now; differs = differs.now; back = back.now }) mark.now) }
-    ensures all { S.takes_all sink.old → IsOk result × S.takes_all sink.new }
-{
-    put_pieces(
-        sink,
-        &[
-            Piece::Bytes(before(Colors::On, side)),
-            Piece::Bytes(front),
-            Piece::Bytes(b"\x1b[7m"),
-            Piece::Bytes(differs),
-            Piece::Bytes(b"\x1b[27m"),
-            Piece::Bytes(back),
-            Piece::Bytes(mark),
-            Piece::Bytes(after(Colors::On, side)),
-            Piece::Bytes(b"\n"),
-        ],
-    )
-}
-
+// Writes a line, what differs from the other in reverse video where not all of it does.
 fn put_beside<S: Sink>(
     sink: &mut S,
     side: Side,
@@ -100,7 +73,20 @@ fn put_beside<S: Sink>(
     if differs.len() == line.len() {
         return put_line(sink, Colors::On, side, line);
     }
-    put_highlighted(sink, side, front, differs, back, end_mark(line))
+    put_pieces(
+        sink,
+        &[
+            Piece::Bytes(before(Colors::On, side)),
+            Piece::Bytes(front),
+            Piece::Bytes(b"\x1b[7m"),
+            Piece::Bytes(differs),
+            Piece::Bytes(b"\x1b[27m"),
+            Piece::Bytes(back),
+            Piece::Bytes(end_mark(line)),
+            Piece::Bytes(after(Colors::On, side)),
+            Piece::Bytes(b"\n"),
+        ],
+    )
 }
 
 // Writes a line beside the one that it stands for, and the reason below it.

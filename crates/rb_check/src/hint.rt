@@ -2,24 +2,10 @@
 
 ghost use Rattle.std.specs.Prelude.{IsOk};
 ghost use Rattle.rb_script.specs.Writes.{Writes};
-ghost use Rattle.rb_check.specs.Hints.{question, hint_text};
+ghost use Rattle.rb_check.specs.Hints.{hint_text};
 
 use crate::piece::{Piece, put_pieces};
 use rb_script::{Sink, WriteFault};
-
-fn put_question<S: Sink>(sink: &mut S, word: &[u8]) -> Result<(), WriteFault>
-    ensures wrote { Writes result (S.held sink.old) (S.held sink.new) (question word.now) }
-    ensures all { S.takes_all sink.old → IsOk result × S.takes_all sink.new }
-{
-    put_pieces(
-        sink,
-        &[
-            Piece::Bytes(b"did you mean \""),
-            Piece::Bytes(word),
-            Piece::Bytes(b"\"?\n"),
-        ],
-    )
-}
 
 /// Writes which word was probably meant, on a line; nothing, where that is empty.
 pub(crate) fn put_hint<S: Sink>(sink: &mut S, hint: &[u8]) -> Result<(), WriteFault>
@@ -27,7 +13,14 @@ pub(crate) fn put_hint<S: Sink>(sink: &mut S, hint: &[u8]) -> Result<(), WriteFa
     ensures all { S.takes_all sink.old → IsOk result × S.takes_all sink.new }
 {
     if hint.is_empty() {
-        return put_pieces::<S, Piece<'_>>(sink, &[]);
+        return Ok(());
     }
-    put_question(sink, hint)
+    put_pieces(
+        sink,
+        &[
+            Piece::Bytes(b"did you mean \""),
+            Piece::Bytes(hint),
+            Piece::Bytes(b"\"?\n"),
+        ],
+    )
 }

@@ -6,7 +6,7 @@ ghost use Rattle.rb_check.specs.Pieces.{count_text, noun, piece_text};
 
 use rb_script::{Sink, WriteFault};
 pub(crate) use rb_text::put_pieces;
-use rb_text::{WrittenPiece, put_number};
+use rb_text::{Piece as Plain, WrittenPiece, put_number};
 
 /// A piece of a text.
 #[derive(Clone, Copy)]
@@ -45,7 +45,8 @@ fn put_count<S: Sink>(sink: &mut S, n: u64, word: &[u8]) -> Result<(), WriteFaul
     if n == 0 {
         return Ok(());
     }
-    sink.put(b", ")?;
-    put_number(sink, n)?;
-    sink.put(word)
+    put_pieces(
+        sink,
+        &[Plain::Bytes(b", "), Plain::Number(n), Plain::Bytes(word)],
+    )
 }

@@ -2,9 +2,9 @@
 //!
 //! A reason is no line of the output: it stands behind a sign of its own, which points at the line above it.
 
-ghost use Rattle.std.specs.Prelude.{IsOk};
+ghost use Rattle.std.specs.Prelude.{◌≡◌, IsOk};
 ghost use Rattle.rb_script.specs.Writes.{Writes};
-ghost use Rattle.rb_check.specs.Whys.{reasons_in, pointed, below, below_of, reason_at, told_line};
+ghost use Rattle.rb_check.specs.Whys.{reasons_in, below, reason_at, told_line};
 
 use crate::colors::Colors;
 use crate::line::put_line;
@@ -21,10 +21,26 @@ pub enum Why<'a> {
     Told(&'a Lines),
 }
 
-fn put_pointed<S: Sink>(sink: &mut S, reason: &[u8]) -> Result<(), WriteFault>
-    ensures wrote { Writes result (S.held sink.old) (S.held sink.new) (pointed reason.now) }
+// The reason of the line at a place of an output; an empty one, where there is none.
+fn reason_of<'a>(why: Why<'a>, at: usize) -> &'a [u8]
+    ensures { below result.now ≡ reason_at (reasons_in why.entry) at }
+{
+    match why {
+        Why::Untold => b"",
+        Why::Told(reasons) if at < reasons.len() => reasons.line(at),
+        Why::Told(_) => b"",
+    }
+}
+
+/// Writes the reason that stands below the line at a place of an output, where there is one.
+pub(crate) fn put_reason<S: Sink>(sink: &mut S, why: Why<'_>, at: usize) -> Result<(), WriteFault>
+    ensures wrote { Writes result (S.held sink.old) (S.held sink.new) (reason_at (reasons_in why.entry) at) }
     ensures all { S.takes_all sink.old → IsOk result × S.takes_all sink.new }
 {
+    let reason = reason_of(why, at);
+    if reason.is_empty() {
+        return Ok(());
+    }
     put_pieces(
         sink,
         &[
@@ -33,37 +49,6 @@ fn put_pointed<S: Sink>(sink: &mut S, reason: &[u8]) -> Result<(), WriteFault>
             Piece::Bytes(b"\n"),
         ],
     )
-}
-
-fn put_below<S: Sink>(sink: &mut S, reason: &[u8]) -> Result<(), WriteFault>
-    ensures wrote { Writes result (S.held sink.old) (S.held sink.new) (below reason.now) }
-    ensures all { S.takes_all sink.old → IsOk result × S.takes_all sink.new }
-{
-    if reason.is_empty() {
-        return put_pieces::<S, Piece<'_>>(sink, &[]);
-    }
-    put_pointed(sink, reason)
-}
-
-fn put_one_of<S: Sink>(sink: &mut S, reasons: &Lines, at: usize) -> Result<(), WriteFault>
-    ensures wrote { Writes result (S.held sink.old) (S.held sink.new) (reason_at reasons.now at) }
-    ensures all { S.takes_all sink.old → IsOk result × S.takes_all sink.new }
-{
-    if at < reasons.len() {
-        return put_below(sink, reasons.line(at));
-    }
-    put_pieces::<S, Piece<'_>>(sink, &[])
-}
-
-/// Writes the reason that stands below the line at a place of an output, where there is one.
-pub(crate) fn put_reason<S: Sink>(sink: &mut S, why: Why<'_>, at: usize) -> Result<(), WriteFault>
-    ensures wrote { Writes result (S.held sink.old) (S.held sink.new) (reason_at (reasons_in why.entry) at) }
-    ensures all { S.takes_all sink.old → IsOk result × S.takes_all sink.new }
-{
-    match why {
-        Why::Untold => put_pieces::<S, Piece<'_>>(sink, &[]),
-        Why::Told(reasons) => put_one_of(sink, reasons, at),
-    }
 }
 
 /// Writes a line of a side, and the reason below it: it is the line at a place of the output.

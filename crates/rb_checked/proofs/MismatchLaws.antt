@@ -1,5 +1,5 @@
 -- What is shown where only what differs is: the mismatches. And where nothing is.
-use Rattle.std.proofs.Common.{◌≡◌, ◌∙◌, ℕ, suc, ◌+◌, ◌-◌, ◌≤◌, Bool, true, false, List, [], ◌∷◌, ◌++◌, length, Option, None, refl, ap, arith}
+use Rattle.std.proofs.Common.{◌≡◌, ◌∙◌, ℕ, suc, ◌+◌, ◌-◌, ◌≤◌, Bool, true, false, List, [], ◌∷◌, ◌++◌, length, Option, None, refl, ap, ap₂, arith}
 use Rattle.std.specs.Prelude.{◌&&◌, ◌||◌, not, slice_index, slice_index_or}
 use Rattle.std.specs.List.{flat_map, list_any}
 use Rattle.rb_script.specs.Lines.{Line}
@@ -7,7 +7,6 @@ use Rattle.rb_script.specs.Script.{PlainBlock, PlainScript}
 use Rattle.rb_replay.specs.Points.{IsRising}
 use Rattle.rb_replay.specs.Run.{outputs}
 use Rattle.rb_replay.specs.Report.{same_lines, differing, mismatches}
-use Rattle.rb_replay.proofs.RunLaws.{both}
 use Rattle.rb_replay.proofs.DifferingLaws.{differing-rising}
 use Rattle.rb_check.specs.declared.colors.Colors.{Colors}
 use Rattle.rb_checked.specs.declared.told.Told.{Told}
@@ -34,7 +33,7 @@ shifted : (colors : Colors) (path heads : List ℕ) (bs : List PlainBlock) (os :
 shifted colors path heads bs os line b o p [] rising = refl
 shifted colors path heads bs os line b o p (k ∷ ks) rising =
     let on : suc (k - (p + 1)) ≡ k - p = omega (arith, rising.0) in
-    both (λ (x y : List ℕ). x ++ y)
+    ap₂ (λ (x y : List ℕ). x ++ y)
     (ap (λ (d : ℕ). nth colors path (line ∷ heads) (b ∷ bs) (o ∷ os) d) on)
     (shifted colors path heads bs os line b o p ks (rising-from (p + 1) (k + 1) ks (omega (arith, rising.0)) rising.1))
 
@@ -62,7 +61,7 @@ shown-differing colors ls path (line ∷ heads) (b ∷ bs) (o ∷ os) p e none =
     let here : 0 ≡ p - p = omega arith in
     test_cases (same_lines b.expected o)
     (λ yes. let unnamed : is_unexpected ls line o ≡ false = second (same_lines b.expected o) (is_unexpected ls line o) yes none.0 in rw (yes, unnamed) rest)
-    (λ no. rw no (both (λ (x y : List ℕ). x ++ y) (ap (λ (d : ℕ). nth colors path (line ∷ heads) (b ∷ bs) (o ∷ os) d) here) rest))
+    (λ no. rw no (ap₂ (λ (x y : List ℕ). x ++ y) (ap (λ (d : ℕ). nth colors path (line ∷ heads) (b ∷ bs) (o ∷ os) d) here) rest))
 
 pub shown-mismatches : (colors : Colors) (ls : List Line) (path heads : List ℕ) (s : PlainScript) → length heads ≡ length s.blocks → NoneIsNamed ls heads s.blocks (outputs s)
     → checked_text shown.Differing colors ls path heads s ≡ flat_map (mismatch_at colors path heads s) (mismatches s)
@@ -100,4 +99,4 @@ abbrev told_by : Option ℕ → ℕ → Told
 told_by first errors = record { first = first; errors = errors }
 
 pub found-nothing : (wanted : Shown) (ls : List Line) (heads : List ℕ) (s : PlainScript) → IsQuiet wanted s → told_of ls heads s ≡ told_by None 0
-found-nothing wanted ls heads s q = both told_by (ap (λ (ks : List ℕ). first_head heads ks) q.same) (quiet-count ls heads (outputs s) q.no_error)
+found-nothing wanted ls heads s q = ap₂ told_by (ap (λ (ks : List ℕ). first_head heads ks) q.same) (quiet-count ls heads (outputs s) q.no_error)

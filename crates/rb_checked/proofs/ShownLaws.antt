@@ -1,5 +1,5 @@
 -- What is shown of a script's directives.
-use Rattle.std.proofs.Common.{◌≡◌, ◌∙◌, ℕ, suc, ◌+◌, ◌-◌, ◌≤◌, Bool, true, false, List, [], ◌∷◌, length, drop, Some, refl, ap, sym, arith}
+use Rattle.std.proofs.Common.{◌≡◌, ◌∙◌, ℕ, suc, ◌+◌, ◌-◌, ◌≤◌, Bool, true, false, List, [], ◌∷◌, length, drop, Some, refl, ap, ap₂, sym, arith}
 use Rattle.std.specs.Prelude.{◌&&◌, ◌||◌, slice_get, slice_index}
 use Rattle.std.specs.List.{list_any}
 use Rattle.rb_script.specs.Lines.{Line}
@@ -9,7 +9,7 @@ use Rattle.rb_script.specs.Script.{PlainScript}
 use Rattle.rb_replay.specs.Points.{IsRising}
 use Rattle.rb_replay.specs.Run.{outputs}
 use Rattle.rb_replay.specs.Report.{mismatches}
-use Rattle.rb_replay.proofs.RunLaws.{both, length-outputs}
+use Rattle.rb_replay.proofs.RunLaws.{length-outputs}
 use Rattle.rb_replay.proofs.DifferingLaws.{AreAtMost}
 use Rattle.rb_check.specs.Briefs.{brief_text}
 use Rattle.rb_text.proofs.SentLaws.{drop-get}
@@ -65,6 +65,6 @@ head_line-is heads i line got =
 pub first-brief : (path heads : List ℕ) (s : PlainScript) (i m n line : ℕ) → IsFirst (i + 1) (mismatches s) → m ≡ length (mismatches s) → n ≡ length s.blocks → slice_get heads i ≡ Some line
     → brief_text path m n line ≡ of_first (brief_at path heads s) (mismatches s)
 first-brief path heads s i m n line first many count got =
-    both (λ (a b : ℕ). brief_text path a b line) many count
+    ap₂ (λ (a b : ℕ). brief_text path a b line) many count
     ∙ ap (λ (l : ℕ). brief_text path (length (mismatches s)) (length s.blocks) l) (head_line-is heads i line got)
     ∙ of_first-is (brief_at path heads s) (i + 1) (mismatches s) first

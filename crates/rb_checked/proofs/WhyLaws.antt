@@ -53,6 +53,14 @@ told-is colors path whys heads s i line b o w head block output why =
     ∙ ap (λ (ls : List Line). told_differing colors path (head_line heads (i + 1)) (block_at_place s.blocks (i + 1)) (slice_index_or (outputs s) (i + 1 - 1) []) ls) why
     ∙ ap (λ (k : ℕ). told_differing colors path (head_line heads (i + 1)) (block_at_place s.blocks (i + 1)) (slice_index_or (outputs s) (i + 1 - 1) []) (why_at whys k)) on
 
+-- ---- what is shown of a directive
+
+pub shows-mismatch : (all : Bool) (colors : Colors) (ls : List Line) (path : List ℕ) (whys : List (List Line)) (heads : List ℕ) (s : PlainScript) (i line : ℕ) (b : PlainBlock) (o w : List Line)
+    → slice_get heads i ≡ Some line → slice_get s.blocks i ≡ Some b → slice_get (outputs s) i ≡ Some o → w ≡ why_at whys i → same_lines b.expected o ≡ false
+    → told_at colors path whys heads s (i + 1) ≡ told_directive all colors ls path line b o w
+shows-mismatch all colors ls path whys heads s i line b o w head block output why other =
+    sym (told-is colors path whys heads s i line b o w head block output why) ∙ sym (ap (λ (t : Bool). cond t (told_match all ls path line b o w) (told_differing colors path line b o w)) other)
+
 -- ---- what reasons add, and that none add nothing
 
 nothing_at : (whys : List (List Line)) (i : ℕ) → whys ≡ [] → why_at whys i ≡ []

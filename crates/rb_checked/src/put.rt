@@ -1,17 +1,15 @@
 //! Writing what is shown of a script.
 
-ghost use Rattle.std.specs.Prelude.{◌≡◌, ◌≢◌, ◌+◌, ◌<◌, ◌≤◌, ℕ, List, [], Err, IfOk, IfSome, IfNone, IsOk, IsTrue, length};
+ghost use Rattle.std.specs.Prelude.{◌≡◌, ◌≢◌, ◌+◌, ◌<◌, ◌≤◌, ℕ, List, [], Option, Err, IfOk, IfSome, IfNone, IsOk, IsTrue, length};
 ghost use Rattle.rb_script.specs.declared.limits.TheConstants.{MAX_DIRECTIVES};
 ghost use Rattle.rb_script.specs.Lines.{lines};
-ghost use Rattle.rb_script.specs.Script.{PlainScript};
 ghost use Rattle.rb_script.specs.Reads.{Reads};
 ghost use Rattle.rb_script.specs.HeadLines.{AreHeadLines};
 ghost use Rattle.rb_script.specs.Writes.{Writes};
 ghost use Rattle.rb_replay.specs.Run.{outputs};
 ghost use Rattle.rb_replay.specs.Report.{same_lines, mismatches};
-ghost use Rattle.rb_check.specs.Whys.{reasons_in};
 ghost use Rattle.rb_checked.specs.Checked.{of_first, brief_at, IsFirst};
-ghost use Rattle.rb_checked.specs.Whys.{told_directive, all_told, told_at, told_text};
+ghost use Rattle.rb_checked.specs.Whys.{all_told, told_at, told_text};
 ghost use Rattle.rb_checked.specs.Accepting.{all_left};
 ghost use Rattle.rb_checked.specs.Shows.{Shows, told_of, IsQuiet};
 
@@ -25,12 +23,10 @@ use crate::reasons::why_at;
 use crate::told::Told;
 use crate::view::{Shown, View};
 use crate::wanted::Wanted;
-use rb_check::{
-    Colors, FileLine, Table, Why, put_brief, put_note, put_told_mismatch, put_told_run,
-};
+use rb_check::{FileLine, Table, put_brief, put_note, put_told_mismatch, put_told_run};
 use rb_machine::Machine;
 use rb_replay::Session;
-use rb_script::{Block, Lines, Sink, WriteFault};
+use rb_script::{Lines, Sink, WriteFault};
 use std::alloc::Global;
 
 /// Whether these are the same lines.
@@ -38,79 +34,6 @@ pub fn is_same(lines: &Lines, other: &Lines) -> bool
     ensures { result ≡ same_lines lines.now other.now }
 {
     lines.same(other)
-}
-
-// Writes what is shown of a directive: what differs, where it expects other lines. Else an error is named, and where all are shown the output is
-// too.
-fn put_shown<S: Sink>(
-    sink: &mut S,
-    block: &Block,
-    output: &Lines,
-    text: &Lines,
-    place: FileLine<'_>,
-    colors: Colors,
-    all: bool,
-    why: Why<'_>,
-    table: &mut Table,
-) -> Result<(), WriteFault>
-    ensures wrote { Writes result (S.held sink.old) (S.held sink.new) (told_directive all colors text.now place.entry.path.now place.entry.line block.now output.now (reasons_in why.entry)) }
-    ensures all { S.takes_all sink.old → IsOk result × S.takes_all sink.new }
-{
-    let hint = hint_of(block, output);
-    let expected = block.expected();
-    if !is_same(expected, output) {
-        return put_told_mismatch(
-            sink,
-            place,
-            &block.directive(),
-            expected,
-            output,
-            why,
-            hint,
-            colors,
-            table,
-        );
-    }
-    if all {
-        return put_told_run(sink, place, &block.directive(), output, why, hint);
-    }
-    if !is_unexpected(text, place.line, output) {
-        return Ok(());
-    }
-    put_note(sink, place, &block.directive(), first_line(output), hint)
-}
-
-// Writes what is shown of each directive.
-fn put_directives<M: Machine, S: Sink>(
-    sink: &mut S,
-    session: &Session<M>,
-    layout: &Layout,
-    view: View<'_>,
-    all: bool,
-    whys: &[Lines],
-    table: &mut Table,
-) -> Result<(), WriteFault>
-    requires { length layout.now.heads.items ≡ length session.now.script.blocks }
-    ensures wrote { Writes result (S.held sink.old) (S.held sink.new) (all_told all view.entry.colors layout.now.text view.entry.path.now whys.now 0 layout.now.heads.items session.now.script.blocks (outputs session.now.script)) }
-    ensures all { S.takes_all sink.old → IsOk result × S.takes_all sink.new }
-{
-    let heads = layout.heads.as_slice();
-    let path = view.path;
-    for i in 0..session.len() {
-        let line = number_at(heads, i);
-        put_shown(
-            sink,
-            block_at(session, i),
-            output_at(session, i),
-            &layout.text,
-            FileLine { path, line },
-            view.colors,
-            all,
-            why_at(whys, i),
-            table,
-        )?;
-    }
-    Ok(())
 }
 
 // Writes the directive at an index as a mismatch.
@@ -132,18 +55,56 @@ fn put_mismatch_at<M: Machine, S: Sink>(
     let block = block_at(session, index);
     let path = view.path;
     let line = number_at(layout.heads.as_slice(), index);
+    let expected = block.expected();
     let output = output_at(session, index);
     put_told_mismatch(
         sink,
         FileLine { path, line },
         &block.directive(),
-        block.expected(),
+        expected,
         output,
         why_at(whys, index),
         hint_of(block, output),
         view.colors,
         table,
     )
+}
+
+// Writes what is shown of each directive: what differs, where it expects other lines. Else an error is named, and where all are shown the output
+// is too.
+fn put_directives<M: Machine, S: Sink>(
+    sink: &mut S,
+    session: &Session<M>,
+    layout: &Layout,
+    view: View<'_>,
+    all: bool,
+    whys: &[Lines],
+    table: &mut Table,
+) -> Result<(), WriteFault>
+    requires { length layout.now.heads.items ≡ length session.now.script.blocks }
+    ensures wrote { Writes result (S.held sink.old) (S.held sink.new) (all_told all view.entry.colors layout.now.text view.entry.path.now whys.now 0 layout.now.heads.items session.now.script.blocks (outputs session.now.script)) }
+    ensures all { S.takes_all sink.old → IsOk result × S.takes_all sink.new }
+{
+    let path = view.path;
+    for i in 0..session.len() {
+        let block = block_at(session, i);
+        let output = output_at(session, i);
+        let line = number_at(layout.heads.as_slice(), i);
+        let place = FileLine { path, line };
+        let hint = hint_of(block, output);
+        let why = why_at(whys, i);
+        let written = if !is_same(block.expected(), output) {
+            put_mismatch_at(sink, session, layout, view, whys, i, table)
+        } else if all {
+            put_told_run(sink, place, &block.directive(), output, why, hint)
+        } else if is_unexpected(&layout.text, line, output) {
+            put_note(sink, place, &block.directive(), first_line(output), hint)
+        } else {
+            Ok(())
+        };
+        written?;
+    }
+    Ok(())
 }
 
 // The index of the first mismatch.
@@ -204,27 +165,6 @@ fn put_in_brief<M: Machine, S: Sink>(
     }
 }
 
-// Writes what is wanted of a script.
-fn put_wanted<M: Machine, S: Sink>(
-    sink: &mut S,
-    session: &Session<M>,
-    layout: &Layout,
-    view: View<'_>,
-    whys: &[Lines],
-    table: &mut Table,
-) -> Result<(), WriteFault>
-    requires { length layout.now.heads.items ≡ length session.now.script.blocks }
-    ensures wrote { Writes result (S.held sink.old) (S.held sink.new) (told_text view.entry.shown view.entry.colors layout.now.text view.entry.path.now whys.now layout.now.heads.items session.now.script) }
-    ensures all { S.takes_all sink.old → IsOk result × S.takes_all sink.new }
-{
-    match view.shown {
-        Shown::Differing => put_directives(sink, session, layout, view, false, whys, table),
-        Shown::All => put_directives(sink, session, layout, view, true, whys, table),
-        Shown::First => put_first(sink, session, layout, view, whys, table),
-        Shown::Brief => put_in_brief(sink, session, layout, view.path),
-    }
-}
-
 // What was found of a script.
 fn told<M: Machine>(session: &Session<M>, layout: &Layout) -> Told
     requires { length layout.now.heads.items ≡ length session.now.script.blocks }
@@ -244,6 +184,18 @@ pub fn is_quiet<M: Machine>(session: &Session<M>, shown: Shown) -> bool
     ensures { IsTrue result → IsQuiet shown session.now.script }
 {
     shown != Shown::All && session.mismatches().is_empty() && !has_errors(session)
+}
+
+// What was found of what is shown, once it was written.
+fn shown<F: Copy>(written: Result<(), WriteFault>, found: F) -> Result<F, ShowFault>
+    ensures shows { (old new : Option (List ℕ)) (text : List ℕ) → Writes written old new text → Shows result old new text }
+    ensures found { IfOk result (λ was. was ≡ found) }
+    ensures all { IsOk written → result ≢ Err ShowFault.Writing }
+{
+    match written {
+        Ok(()) => Ok(found),
+        Err(_) => Err(ShowFault::Writing),
+    }
 }
 
 /// Writes what is shown of the script of the bytes, and answers what was found: below the lines of each directive's output the reasons that
@@ -269,10 +221,13 @@ pub fn put_checked<M: Machine, S: Sink>(
     let Ok(mut table) = Table::new(alloc) else {
         return Err(ShowFault::OutOfMemory);
     };
-    match put_wanted(sink, session, &layout, view, whys, &mut table) {
-        Ok(()) => Ok(told(session, &layout)),
-        Err(_) => Err(ShowFault::Writing),
-    }
+    let written = match view.shown {
+        Shown::Differing => put_directives(sink, session, &layout, view, false, whys, &mut table),
+        Shown::All => put_directives(sink, session, &layout, view, true, whys, &mut table),
+        Shown::First => put_first(sink, session, &layout, view, whys, &mut table),
+        Shown::Brief => put_in_brief(sink, session, &layout, view.path),
+    };
+    shown(written, told(session, &layout))
 }
 
 /// Writes the directive at an index, which counts from 0, of the script of the bytes as a mismatch, with its reasons, where some are given: how
@@ -297,10 +252,8 @@ pub fn put_one_mismatch<M: Machine, S: Sink>(
     let Ok(mut table) = Table::new(alloc) else {
         return Err(ShowFault::OutOfMemory);
     };
-    match put_mismatch_at(sink, session, &layout, view, whys, index, &mut table) {
-        Ok(()) => Ok(()),
-        Err(_) => Err(ShowFault::Writing),
-    }
+    let written = put_mismatch_at(sink, session, &layout, view, whys, index, &mut table);
+    shown(written, ())
 }
 
 /// Writes which outputs of the script of the bytes are picked and not accepted. On a failure of the writer what went out is a beginning of the text.
@@ -319,8 +272,5 @@ pub fn put_left_errors<M: Machine, S: Sink>(
     let Ok(layout) = layout_of(alloc, bytes) else {
         return Err(ShowFault::OutOfMemory);
     };
-    match put_all_left(sink, session, &layout, path, wanted) {
-        Ok(()) => Ok(()),
-        Err(_) => Err(ShowFault::Writing),
-    }
+    shown(put_all_left(sink, session, &layout, path, wanted), ())
 }

@@ -284,16 +284,11 @@ abbrev items_of : Told → List PlainItem
 items_of (item i) = i ∷ []
 items_of (because reason) = []
 
--- a level shows no reasons, and so do rows
-printed_alone : (level : Level) (told : List Told) → flat_map (told_lines (ways.At level)) told ≡ flat_map (lines_of (ways.At level)) (flat_map items_of told)
-printed_alone level [] = refl
-printed_alone level (item i ∷ told) = ap (λ (ls : List Line). lines_of (ways.At level) i ++ ls) (printed_alone level told)
-printed_alone level (because reason ∷ told) = printed_alone level told
-
-kept_alone : (told : List Told) → flat_map (told_lines ways.Rows) told ≡ flat_map (lines_of ways.Rows) (flat_map items_of told)
-kept_alone [] = refl
-kept_alone (item i ∷ told) = ap (λ (ls : List Line). lines_of ways.Rows i ++ ls) (kept_alone told)
-kept_alone (because reason ∷ told) = kept_alone told
+-- what shows no reasons, as a level and as rows do, shows these items
+shown_alone : (way : Way) → ((reason : Option Reason) → lines_because way reason ≡ []) → (told : List Told) → flat_map (told_lines way) told ≡ flat_map (lines_of way) (flat_map items_of told)
+shown_alone way none [] = refl
+shown_alone way none (item i ∷ told) = ap (λ (ls : List Line). lines_of way i ++ ls) (shown_alone way none told)
+shown_alone way none (because reason ∷ told) = ap (λ (ls : List Line). ls ++ flat_map (told_lines way) told) (none reason) ∙ shown_alone way none told
 
 abbrev with_output : Cluster → List Line → Outcome
 with_output c lines = record { cluster = c; output = lines }
@@ -334,8 +329,8 @@ are_of_one c d =
     let s : Shows (λ (form : Form). outcome_of form (request d) c) = outcome_shows (request d) c in record {
       level = s.level;
       items = flat_map items_of s.told;
-      printed_is = ap (λ (o : Outcome). o.output) (s.is forms.Lines) ∙ ap (or_ok (ways.At s.level)) (printed_alone s.level s.told);
-      kept_is = ap (λ (o : Outcome). o.output) (s.is forms.Rows) ∙ ap (or_ok ways.Rows) (kept_alone s.told);
+      printed_is = ap (λ (o : Outcome). o.output) (s.is forms.Lines) ∙ ap (or_ok (ways.At s.level)) (shown_alone (ways.At s.level) (λ _. refl) s.told);
+      kept_is = ap (λ (o : Outcome). o.output) (s.is forms.Rows) ∙ ap (or_ok ways.Rows) (shown_alone ways.Rows (λ _. refl) s.told);
     }
 
 -- what a directive prints with reasons is of what it prints without

@@ -3,7 +3,7 @@
 ghost use Rattle.std.specs.Prelude.{◌≡◌, OnOk};
 ghost use Rattle.rb_message.specs.declared.kind.MessageKind.TheVariants.{TransferLeader};
 ghost use Rattle.rb_node.specs.Node.{turn, message};
-ghost use Rattle.rb_machine.specs.Acts.{ticked_times, turn_by, act, propose, set_timeout, transfer, report_unreachable};
+ghost use Rattle.rb_machine.specs.Acts.{ticked_times, act, propose, set_timeout, transfer, report_unreachable};
 ghost use Rattle.rb_machine.specs.Scenes.{scene};
 
 use crate::cluster::{Cluster, place_of};
@@ -32,25 +32,6 @@ fn tick_times<L: RaftLog>(
     Ok(())
 }
 
-// The turn of a node that is told nothing more.
-fn take_turn<L: RaftLog>(
-    node: &mut Node<L>,
-    what: Act,
-    events: &mut Vec<Event>,
-) -> Result<(), AllocError>
-    ensures { OnOk result (turn node.new events.new.items ≡ turn_by what (turn node.old events.old.items)) }
-{
-    match what {
-        Act::Campaign => node.campaign(events),
-        Act::TickElection => tick_times(node, ELECTION_TICKS, events),
-        Act::TickHeartbeat => node.tick(events),
-        Act::ForgetLeader => {
-            node.forget_leader();
-            Ok(())
-        }
-    }
-}
-
 // What a node tells itself where it is asked to hand the lead over.
 fn transfer_message(from: u64, to: u64) -> Message
     ensures { result ≡ message from from 0 (TransferLeader to) }
@@ -73,7 +54,12 @@ impl<L: RaftLog> Cluster<L> {
             return Ok(());
         };
         let node = shared.to_change()?;
-        take_turn(node, what, &mut events)?;
+        match what {
+            Act::Campaign => node.campaign(&mut events)?,
+            Act::TickElection => tick_times(node, ELECTION_TICKS, &mut events)?,
+            Act::TickHeartbeat => node.tick(&mut events)?,
+            Act::ForgetLeader => node.forget_leader(),
+        }
         screen.show_events(&events)
     }
 

@@ -1,7 +1,7 @@
 //! `deliver-msgs`: pending messages reach their nodes, or are dropped.
 
-ghost use Rattle.std.specs.Prelude.{◌≡◌, [], OnOk, map};
-ghost use Rattle.rb_machine.specs.Pending.{with_pending};
+ghost use Rattle.std.specs.Prelude.{◌≡◌, IfOk, OnOk, map};
+ghost use Rattle.rb_machine.specs.Pending.{mail, other_mail, with_pending};
 ghost use Rattle.rb_machine.specs.Deliveries.{received, all_received, delivered, delivered_each, drop_item, dropped, dropped_each, is_for_any, meets_any, msgs_delivered};
 ghost use Rattle.rb_machine.specs.Scenes.{scene, showing_all};
 
@@ -78,12 +78,19 @@ impl<L: RaftLog> Cluster<L> {
         Ok(())
     }
 
-    // The pending messages, which are none from here on.
-    fn take_pending(&mut self) -> Vec<SharedMessage>
-        ensures value { result.items ≡ self.old.pending }
-        ensures none { self.new ≡ with_pending self.old [] }
+    // A node's pending messages of the types, which are pending no more.
+    fn take_mail(
+        &mut self,
+        id: u64,
+        types: &Option<TypeSet>,
+    ) -> Result<Vec<SharedMessage>, AllocError>
+        ensures mail { IfOk result (λ taken. taken.items ≡ mail self.old.pending id types.now) }
+        ensures left { OnOk result (self.new ≡ with_pending self.old (other_mail self.old.pending id types.now)) }
     {
-        mem::replace(&mut self.pending, Vec::new(self.alloc))
+        let pending = mem::replace(&mut self.pending, Vec::new(self.alloc));
+        let parted = split(self.alloc, pending, id, types)?;
+        self.pending = parted.others;
+        Ok(parted.mail)
     }
 
     /// A node gets its pending messages of the types.
@@ -96,10 +103,8 @@ impl<L: RaftLog> Cluster<L> {
     ) -> Result<(), AllocError>
         ensures { OnOk result (scene self.new screen.new ≡ delivered (scene self.old screen.old) id types.now) }
     {
-        let pending = self.take_pending();
-        let parted = split(self.alloc, pending, id, types)?;
-        self.pending = parted.others;
-        self.receive_all(id, &parted.mail, screen)
+        let mail = self.take_mail(id, types)?;
+        self.receive_all(id, &mail, screen)
     }
 
     fn deliver_each(
@@ -126,10 +131,8 @@ impl<L: RaftLog> Cluster<L> {
     ) -> Result<(), AllocError>
         ensures { OnOk result (scene self.new screen.new ≡ dropped (scene self.old screen.old) id types.now) }
     {
-        let pending = self.take_pending();
-        let parted = split(self.alloc, pending, id, types)?;
-        self.pending = parted.others;
-        show_dropped(screen, &parted.mail)
+        let mail = self.take_mail(id, types)?;
+        show_dropped(screen, &mail)
     }
 
     fn drop_each(

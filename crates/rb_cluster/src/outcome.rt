@@ -6,16 +6,15 @@
 ghost use Rattle.std.specs.Prelude.{◌≡◌, IfOk, OnOk, None};
 ghost use Rattle.rb_script.specs.Tokens.{plain};
 ghost use Rattle.rb_directive.specs.Requests.{request, IsWithin};
-ghost use Rattle.rb_node.specs.Node.{PlainNode};
 ghost use Rattle.rb_texts.specs.Items.{error};
 ghost use Rattle.rb_machine.specs.Cluster.{is_node};
-ghost use Rattle.rb_machine.specs.Outcome.{absent, first_absent, missing_node, with_fault, own_fault, fault, act_with, effect, level_set, unless_refused, refused, outcome_of, outcome, happened, explanation, way_of};
+ghost use Rattle.rb_machine.specs.Outcome.{absent, first_absent, missing_node, fault, act_with, effect, outcome_of, outcome, happened, explanation, way_of};
 ghost use Rattle.rb_machine.specs.Scenes.{scene, lines_of};
 
 use crate::add_nodes::add_nodes_fault;
 use crate::cluster::Cluster;
 use crate::shared_node::SharedNode;
-use rb_directive::{ActWith, Asked, Named, Request, request};
+use rb_directive::{ActWith, Named, Request, request};
 use rb_level::{DirectiveError, Level};
 use rb_machine::{Form, Machine, Screen, Way};
 use rb_raftlog::RaftLog;
@@ -87,45 +86,24 @@ fn error_lines<'d>(alloc: Global, way: Way, fault: DirectiveError<'d>) -> Result
 }
 
 impl<L: RaftLog> Cluster<L> {
-    // What a node may not do with a number.
-    fn with_fault<'d>(&self, what: ActWith, id: u64, number: u64) -> Option<DirectiveError<'d>>
-        ensures { result ≡ with_fault what id number self.now }
-    {
-        match what {
-            ActWith::Compact => self.compact_error(id, number),
-            _ => None,
-        }
-    }
-
-    // What a directive may not do in this cluster, where its nodes exist.
-    fn own_fault<'d>(&self, wanted: &Request<'d>) -> Option<DirectiveError<'d>>
-        ensures { result ≡ own_fault wanted.now self.now }
-    {
-        match wanted {
-            Request::AddNodes(asked) => add_nodes_fault(asked, &self.nodes),
-            Request::ProposeConfChange(asked) => asked.fault.as_ref().map(DirectiveError::copy),
-            Request::ActWith(what, id, number) => self.with_fault(*what, *id, *number),
-            _ => None,
-        }
-    }
-
     // The first thing for which this cluster refuses a request: a node that doesn't exist, or what it can't do.
     #[tactic(auto, unfolding(rb_machine::specs::Outcome::fault))]
     fn fault<'d>(&self, wanted: &Request<'d>) -> Option<DirectiveError<'d>>
         ensures { result ≡ fault wanted.now self.now }
     {
-        let fault = missing_node(&self.nodes, &wanted.nodes());
-        if fault.is_some() {
-            return fault;
+        let missing = missing_node(&self.nodes, &wanted.nodes());
+        if missing.is_some() {
+            return missing;
         }
-        self.own_fault(wanted)
-    }
-
-    // Sets the least level that is shown from the next directive on.
-    fn set_level(&mut self, level: Level)
-        ensures { self.new ≡ level_set level self.old }
-    {
-        self.level = level;
+        match wanted {
+            Request::AddNodes(asked) => add_nodes_fault(asked, &self.nodes),
+            Request::ProposeConfChange(asked) => asked.fault.as_ref().map(DirectiveError::copy),
+            Request::ActWith(what, id, number) => match what {
+                ActWith::Compact => self.compact_error(*id, *number),
+                _ => None,
+            },
+            _ => None,
+        }
     }
 
     // A node does something with a number.
@@ -170,7 +148,7 @@ impl<L: RaftLog> Cluster<L> {
             Request::Stabilize(ids, rounds) => self.stabilize(ids, *rounds, screen),
             Request::ActWith(what, id, number) => self.act_with(*what, *id, *number, screen),
             Request::LogLevel(level) => {
-                self.set_level(*level);
+                self.level = *level;
                 Ok(())
             }
             Request::RaftLog(id) => self.raft_log(*id, screen),
@@ -179,24 +157,7 @@ impl<L: RaftLog> Cluster<L> {
         }
     }
 
-    // Carries out what is asked for, and gives what it shows.
-    fn carry_out_asked(&mut self, form: Form, asked: &Asked<'_>) -> Result<Lines, AllocError>
-        requires within { IsWithin asked.now.request }
-        ensures cluster { OnOk result (self.new ≡ (unless_refused form (fault asked.now.request self.old) asked.now self.old).cluster) }
-        ensures output { IfOk result (λ lines. lines ≡ (unless_refused form (fault asked.now.request self.old) asked.now self.old).output) }
-    {
-        if let Some(error) = self.fault(&asked.request) {
-            return error_lines(self.alloc, way_of(form, self.level), error);
-        }
-        let mut screen = Screen {
-            way: way_of(form, asked.log_level.unwrap_or(self.level)),
-            lines: Lines::new(self.alloc),
-        };
-        self.perform(&asked.request, &mut screen)?;
-        screen.or_ok()
-    }
-
-    /// Runs a directive, and gives what it shows.
+    /// Runs a directive, and gives what it shows: what is wrong with it or with this cluster, or what it does.
     pub(crate) fn shown(
         &mut self,
         form: Form,
@@ -207,10 +168,19 @@ impl<L: RaftLog> Cluster<L> {
     {
         // What is asked for is looked at where it stands: it is large.
         let read = request(directive);
-        match &read {
-            Ok(asked) => self.carry_out_asked(form, asked),
-            Err(error) => error_lines(self.alloc, way_of(form, self.level), error.copy()),
+        let asked = match &read {
+            Ok(asked) => asked,
+            Err(error) => return error_lines(self.alloc, way_of(form, self.level), error.copy()),
+        };
+        if let Some(error) = self.fault(&asked.request) {
+            return error_lines(self.alloc, way_of(form, self.level), error);
         }
+        let mut screen = Screen {
+            way: way_of(form, asked.log_level.unwrap_or(self.level)),
+            lines: Lines::new(self.alloc),
+        };
+        self.perform(&asked.request, &mut screen)?;
+        screen.or_ok()
     }
 
     /// What a directive does, as rows of a page: a text an item, whatever the level is. It is done to a copy.

@@ -2,8 +2,8 @@
 //!
 //! They stand in one list, in the order in which they were sent. A message never changes, so a copy of the list costs a pointer a message.
 
-ghost use Rattle.std.specs.Prelude.{◌≡◌, ◌++◌, ◌∷◌, [], IfOk, OnOk, not, filter};
-ghost use Rattle.rb_machine.specs.Pending.{is_meant, is_for, mail, other_mail, has_room, with_pending, sent, all_sent};
+ghost use Rattle.std.specs.Prelude.{◌≡◌, IfOk, OnOk};
+ghost use Rattle.rb_machine.specs.Pending.{is_meant, is_for, mail, other_mail, has_room, sent, all_sent};
 ghost use Rattle.rb_machine.specs.Scenes.{scene};
 
 use crate::cluster::Cluster;

@@ -1,6 +1,6 @@
 //! `process-ready`: what is ready at a node is printed and done.
 
-ghost use Rattle.std.specs.Prelude.{◌≡◌, ◌+◌, ◌++◌, OnOk, map};
+ghost use Rattle.std.specs.Prelude.{◌≡◌, ◌+◌, OnOk, map};
 ghost use Rattle.rb_raftlog.specs.Log.{not_durable};
 ghost use Rattle.rb_node.specs.Readying.{ready, applying, others};
 ghost use Rattle.rb_texts.specs.Items as items;

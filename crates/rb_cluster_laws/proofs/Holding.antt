@@ -199,7 +199,12 @@ waits {w} n m own fine chain h =
 
 -- ---- another term or role, of the same log and messages
 
-pub becomes : {w : World} (a b : Essence) → b.log ≡ a.log → b.sent ≡ a.sent → b.waiting ≡ a.waiting → a.term ≤ b.term → (b.role ≡ role.Candidate → (a.term < b.term) ⊎ ((a.role ≡ role.Candidate) × (b.term ≡ a.term))) → (b.role ≡ role.Leader → (a.role ≡ role.Leader) × (b.term ≡ a.term)) → Linking w a → Linking w b
+-- who leads anew is elected, and no link is of its term yet
+pub record IsNew (w : World) (e : Essence) (term : ℕ) : Type 0 where
+  pub elected : IsElect w term
+  pub none_yet : (ls : List Link) → IsIn w.setting w.said w.id ls e → (l : Link) → Contains ls l → l.entry.term ≡ term → ⊥
+
+pub becomes : {w : World} (a b : Essence) → b.log ≡ a.log → b.sent ≡ a.sent → b.waiting ≡ a.waiting → a.term ≤ b.term → (b.role ≡ role.Candidate → (a.term < b.term) ⊎ ((a.role ≡ role.Candidate) × (b.term ≡ a.term))) → (b.role ≡ role.Leader → ((a.role ≡ role.Leader) × (b.term ≡ a.term)) ⊎ IsNew w a b.term) → Linking w a → Linking w b
 becomes {w} a b log sent waiting later stands leads h = record {
   links = h.links;
   since = h.since;
@@ -217,12 +222,16 @@ becomes {w} a b log sent waiting later stands leads h = record {
           | inl new ↦ (let low = c.past l among own in omega (arith, low, new, term))
           | inr old ↦ c.stands old.0 l among own (term ∙ old.1)
         ];
-    leads = λ is l among term. (let old = leads is in let low = c.leads old.0 l among (term ∙ old.1) in subst (λ (v : LogValue). l.index ≤ last v) (sym log) low);
+    leads = λ is l among term.
+        elim (leads is) as (λ _. l.index ≤ last b.log) [
+          | inl old ↦ (let low = c.leads old.0 l among (term ∙ old.1) in subst (λ (v : LogValue). l.index ≤ last v) (sym log) low)
+          | inr new ↦ absurd (new.none_yet h.links c l among term)
+        ];
   });
 }
 
--- with other votes: a candidate's are cast, and who leads led before
-pub turned : {w : World} (e : Essence) (term : ℕ) (r : Role) (votes : Votes) → e.term ≤ term → (r ≡ role.Candidate → ((e.term < term) ⊎ ((e.role ≡ role.Candidate) × (term ≡ e.term))) × Stands w term votes) → (r ≡ role.Leader → (e.role ≡ role.Leader) × (term ≡ e.term)) → Fits w e → Fits w (record e { term = term; role = r; votes = votes })
+-- with other votes: a candidate's are cast, and who leads led before or is elected
+pub turned : {w : World} (e : Essence) (term : ℕ) (r : Role) (votes : Votes) → e.term ≤ term → (r ≡ role.Candidate → ((e.term < term) ⊎ ((e.role ≡ role.Candidate) × (term ≡ e.term))) × Stands w term votes) → (r ≡ role.Leader → ((e.role ≡ role.Leader) × (term ≡ e.term)) ⊎ IsNew w e term) → Fits w e → Fits w (record e { term = term; role = r; votes = votes })
 turned {w} e term r votes later stands leads h = record {
   itself = h.itself;
   config = h.config;
@@ -230,7 +239,7 @@ turned {w} e term r votes later stands leads h = record {
   sent = h.sent;
   waiting = h.waiting;
   stands = λ is. (stands is).1;
-  leads = λ is. (let old = leads is in subst (IsElect w) (sym old.1) (h.leads old.0));
+  leads = λ is. elim (leads is) as (λ _. IsElect w term) [ inl old ↦ subst (IsElect w) (sym old.1) (h.leads old.0) | inr new ↦ new.elected ];
   linking = becomes e (record e { term = term; role = r; votes = votes }) refl refl refl later (λ is. (stands is).0) leads h.linking;
 }
 

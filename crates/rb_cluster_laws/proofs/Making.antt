@@ -9,13 +9,12 @@ use Rattle.rb_message.specs.declared.kind.MessageKind.{MessageKind}
 use Rattle.rb_message.specs.declared.kind.MessageKind.TheVariants as kind
 use Rattle.rb_message.specs.declared.message.Message.{Message}
 use Rattle.rb_message.specs.declared.role.Role.TheVariants as role
-use Rattle.rb_node.specs.Leading.{in_lead}
 use Rattle.rb_node.specs.Node.{PlainNode}
 use Rattle.rb_node_laws.proofs.Turns.{own_size}
 use Rattle.rb_cluster_laws.specs.Honesty.{IsPlain}
 use Rattle.rb_cluster_laws.proofs.Links.{Link, link, Extends, still_linked, held_term, push_extends, push_single}
 use Rattle.rb_cluster_laws.proofs.LinkedLogs.{log_from, own_linked}
-use Rattle.rb_cluster_laws.proofs.Holding.{Setting, World, IsElected, IsElect, essence, IsChainBy, IsChain, IsIn, Linking, Holds, leader_stands}
+use Rattle.rb_cluster_laws.proofs.Holding.{Setting, World, IsElected, IsElect, Essence, essence, IsChainBy, IsChain, IsIn, Linking, Holds, IsNew, leader_stands}
 use Rattle.rb_cluster_laws.proofs.Electing.{one_elected}
 
 -- ---- more links
@@ -92,22 +91,11 @@ own_entry_holds n e same plain leads h = record {
 
 -- ---- the lead
 
-pub in_lead_linking : {w : World} (n : PlainNode) → n.role ≡ role.Candidate → IsElect w n.term → Linking w (essence n) → Linking w (essence (in_lead n))
-in_lead_linking {w} n stands elected h = record {
-  links = h.links;
-  since = h.since;
-  own = h.own;
-  holds = λ strict. (let c = h.holds strict in record {
-    once = c.once;
-    single = c.single;
-    made = c.made;
-    logged = c.logged;
-    sent = c.sent;
-    waiting = c.waiting;
-    past = c.past;
-    stands = λ no. absurd (leader_stands no);
-    leads = λ _ l among term.
-        absurd (c.stands stands l among
-        (one_elected w.setting w.said l.maker w.id n.term c.once (subst (λ (t : ℕ). IsElected w.setting w.said l.maker t) term (c.made l among)) elected) term);
-  });
+-- a candidate that is elected leads anew: who made a link of its term would be another that was elected in it
+pub elected_new : {w : World} (e : Essence) → e.role ≡ role.Candidate → IsElect w e.term → IsNew w e e.term
+elected_new {w} e stands elected = record {
+  elected = elected;
+  none_yet = λ ls c l among term.
+      c.stands stands l among
+      (one_elected w.setting w.said l.maker w.id e.term c.once (subst (λ (t : ℕ). IsElected w.setting w.said l.maker t) term (c.made l among)) elected) term;
 }

@@ -42,7 +42,7 @@ use Rattle.rb_cluster_laws.specs.Votes.{IsCast}
 use Rattle.rb_cluster_laws.proofs.Links.{Link, IsLinked, still_linked}
 use Rattle.rb_cluster_laws.proofs.LinkedLogs.{log_from, none_linked, part_linked, part_plain, appended_linked, compacted_linked}
 use Rattle.rb_cluster_laws.proofs.Holding.{World, Stands, IsElect, IsOwn, IsChainBy, IsChain, IsFine, Essence, Fits, Holds, essence, becomes, turned, still_fits, with_log, says, waits, follower_stands, follower_leads, precandidate_stands, precandidate_leads, candidate_leads, leader_stands}
-use Rattle.rb_cluster_laws.proofs.Making.{own_entry_holds, in_lead_linking}
+use Rattle.rb_cluster_laws.proofs.Making.{own_entry_holds, elected_new}
 
 -- ---- what comes
 
@@ -143,21 +143,13 @@ counts_holds {w} n m granted gives answers h =
         | inr now ↦ subst (λ (i : ℕ). IsCast w.said i n.term w.id) now.0 (cast is now.1)
       ];
     }) in
-    turned (essence n) n.term n.role new (omega arith) (λ is. (inr (is, refl), counted is)) (λ is. (is, refl)) h
+    turned (essence n) n.term n.role new (omega arith) (λ is. (inr (is, refl), counted is)) (λ is. inl (is, refl)) h
 
 -- ---- the lead
 
 in_lead_holds : {w : World} (n : PlainNode) → n.role ≡ role.Candidate → IsElect w n.term → Holds w n → Holds w (in_lead n)
-in_lead_holds n stands chosen h = record {
-  itself = h.itself;
-  config = h.config;
-  log = h.log;
-  sent = h.sent;
-  waiting = h.waiting;
-  stands = λ no. absurd (leader_stands no);
-  leads = λ _. chosen;
-  linking = in_lead_linking n stands chosen h.linking;
-}
+in_lead_holds n stands elected h =
+    turned (essence n) n.term role.Leader (in_lead n).votes (omega arith) (λ no. absurd (leader_stands no)) (λ _. inr (elected_new (essence n) stands elected)) h
 
 leading_holds : {w : World} (n : PlainNode) → n.role ≡ role.Candidate → vote_result n.tracker.config n.votes ≡ vote.Won → Holds w n → Holds w (leading n)
 leading_holds {w} n stands won h =
@@ -210,7 +202,7 @@ restores_holds n s is same h =
       waiting = x.waiting;
       stands = x.stands;
       leads = x.leads;
-      linking = becomes (essence (record n { log = restored s })) (essence (restored_to n s)) refl refl refl (omega arith) (λ is. inr (is, refl)) (λ is. (is, refl)) x.linking;
+      linking = becomes (essence (record n { log = restored s })) (essence (restored_to n s)) refl refl refl (omega arith) (λ is. inr (is, refl)) (λ is. inl (is, refl)) x.linking;
     }
 
 saved_holds : {w : World} (n : PlainNode) → Holds w n → Holds w (saved n)

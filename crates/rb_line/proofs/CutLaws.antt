@@ -1,5 +1,5 @@
 -- The first line of bytes that begin with a line, and the lines of bytes that begin with whole lines.
-use Rattle.std.proofs.Common.{◌≡◌, ◌≢◌, ◌≤◌, ◌∙◌, ◌==◌, ℕ, Bool, true, false, List, [], ◌∷◌, ◌++◌, inl, inr, length, map, refl, sym, ap, subst, append_assoc, append-nil, arith}
+use Rattle.std.proofs.Common.{◌≡◌, ◌≢◌, ◌≤◌, ◌∙◌, ◌==◌, ℕ, true, false, List, [], ◌∷◌, ◌++◌, inl, inr, length, map, refl, sym, ap, subst, append_assoc, append-nil, arith}
 use Rattle.std.specs.Prelude.{if◌then◌else◌}
 use Rattle.std.proofs.lemmas.Bool.{ne_eqb}
 use Rattle.std.proofs.lemmas.List.{append_cancel_right, map-append}
@@ -44,11 +44,11 @@ lines_last begun h some = ap (map without_returns) (cut_last begun h some)
 
 -- ---- whole lines, and what follows them
 
-in_first_more : (b : ℕ) (ls more : List Line) → ls ≢ [] → in_first b (ls ++ more) ≡ in_first b ls ++ more
+pub in_first_more : (b : ℕ) (ls more : List Line) → ls ≢ [] → in_first b (ls ++ more) ≡ in_first b ls ++ more
 in_first_more b [] more some = absurd (some refl)
 in_first_more b (line ∷ ls) more some = refl
 
-in_first_some : (b : ℕ) (ls : List Line) → in_first b ls ≢ []
+pub in_first_some : (b : ℕ) (ls : List Line) → in_first b ls ≢ []
 in_first_some b [] e = let l : length (in_first b []) ≡ 0 = ap length e in omega (arith, l)
 in_first_some b (line ∷ ls) e = let l : length (in_first b (line ∷ ls)) ≡ 0 = ap length e in omega (arith, l)
 

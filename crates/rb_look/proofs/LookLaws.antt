@@ -1,5 +1,5 @@
 -- What stands behind a directive.
-use Rattle.std.proofs.Common.{◌≡◌, ℕ, suc, ◌+◌, ◌-◌, ◌≤◌, List, [], ◌∷◌, ◌++◌, length, take, drop, map, refl, ap, sym, ◌∙◌, arith, append_assoc, ◌<◌, Bool, cond}
+use Rattle.std.proofs.Common.{◌≡◌, ℕ, suc, ◌+◌, ◌-◌, ◌≤◌, List, [], ◌∷◌, ◌++◌, length, take, drop, map, refl, ap, ap₂, sym, ◌∙◌, arith, append_assoc, ◌<◌, Bool, cond}
 use Rattle.std.specs.Prelude.{Some, None, Ok, slice_get}
 use Rattle.std.specs.List.{take-map}
 use Rattle.std.proofs.lemmas.List.{length-map, map-append, length-take, take_more}
@@ -12,7 +12,7 @@ use Rattle.rb_script.specs.Reading.{block_of, directive_of}
 use Rattle.rb_machine.specs.Cluster.{Cluster, empty}
 use Rattle.rb_machine.specs.Outcome.{outcome}
 use Rattle.rb_replay.specs.Run.{led, answers, at_place, state, outputs, output_at}
-use Rattle.rb_replay.proofs.RunLaws.{both, state_next}
+use Rattle.rb_replay.proofs.RunLaws.{state_next}
 use Rattle.rb_look.specs.Looks.{answer_in, answer_of, shown, of_node, of_nodes}
 
 -- the output of the directive behind some
@@ -55,7 +55,7 @@ shown_more word lines added now title line answer i there so_far next =
 pub machine_next : (s : PlainScript) (i : ℕ) (b : PlainBlock) (before after : Cluster) → slice_get s.blocks i ≡ Some b → before ≡ state s i → after ≡ (outcome before (directive_of b)).cluster → after ≡ state s (i + 1)
 machine_next s i b before after there here next =
     let within : i < length s.blocks = slice_get_within s.blocks i b there in
-    next ∙ both (λ (c : Cluster) (x : PlainBlock). (outcome c (directive_of x)).cluster) here (sym (get_or_from_slice_get s.blocks i b b there)) ∙ sym (state_next s i b within)
+    next ∙ ap₂ (λ (c : Cluster) (x : PlainBlock). (outcome c (directive_of x)).cluster) here (sym (get_or_from_slice_get s.blocks i b b there)) ∙ sym (state_next s i b within)
 
 -- a node more
 pub nodes_more : (c : Cluster) (lines added now : List Line) (i count : ℕ) → i < count → lines ++ of_nodes c (i + 1) (count - i) ≡ added ++ of_nodes c 1 count → now ≡ lines ++ of_node c (i + 1)

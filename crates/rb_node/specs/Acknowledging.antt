@@ -23,12 +23,11 @@ heard_of n at = record n { tracker = marked_at n.tracker at true }
 abbrev pub handed_to : PlainNode → ℕ → ℕ → PlainNode
 handed_to n to i = if to == n.transferee && i == last n.log then posted n to kind.TimeoutNow else n
 
-abbrev pub commits_or_sends : PlainNode → ℕ → ℕ → Mode → PlainNode
-commits_or_sends n i to how = if can_commit n i then told_all (record n { commit = i }) else sends n to how
-
 -- where the commit moves it goes to all, else the sender gets what it has not
 unfoldable pub commit_or_sent : PlainNode → ℕ → Mode → PlainNode
-commit_or_sent n to how = commits_or_sends n (commit_of n.tracker) to how
+commit_or_sent n to how =
+    let i = commit_of n.tracker in
+    if can_commit n i then told_all (record n { commit = i }) else sends n to how
 
 -- one that was paused hears in any case, others hear news alone
 abbrev pub mode_after : Bool → Mode

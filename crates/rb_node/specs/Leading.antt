@@ -67,9 +67,8 @@ led t = all_told (appended (told (with_node t (leading t.node)) (Became t.node.i
 abbrev pub can_commit : PlainNode → ℕ → Bool
 can_commit n i = nat_lt n.commit i && is_term (term_at n.log i) n.term
 
-abbrev pub commits_or_tells : PlainNode → ℕ → List ℕ → PlainNode
-commits_or_tells n i ids = if can_commit n i then told_all (record n { commit = i }) else tells n ids
-
 -- where the commit moves it goes to all, else to these
 unfoldable pub checked_commit : PlainNode → List ℕ → PlainNode
-checked_commit n ids = commits_or_tells n (commit_of n.tracker) ids
+checked_commit n ids =
+    let i = commit_of n.tracker in
+    if can_commit n i then told_all (record n { commit = i }) else tells n ids

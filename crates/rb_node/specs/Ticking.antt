@@ -29,12 +29,10 @@ abbrev pub beat_each : PlainNode → List ℕ → PlainNode
 beat_each n [] = n
 beat_each n (id ∷ ids) = beat_each (beat_to n id) ids
 
--- to all others with a view
-abbrev pub all_beat : PlainNode → PlainNode
-all_beat n = beat_each (with_heartbeat_elapsed n 0) (ids_of n.tracker.views)
-
-unfoldable pub heartbeats_due : Turn → Turn
-heartbeats_due t = if nat_le HEARTBEAT_TICKS t.node.clock.heartbeat_elapsed then with_node t (all_beat t.node) else t
+-- to all others with a view, where they are due
+unfoldable pub heartbeats_due : PlainNode → PlainNode
+heartbeats_due n =
+    if nat_le HEARTBEAT_TICKS n.clock.heartbeat_elapsed then beat_each (with_heartbeat_elapsed n 0) (ids_of n.tracker.views) else n
 
 abbrev pub has_lost_quorum : PlainNode → Bool
 has_lost_quorum n = n.options.check_quorum && not (quorum_active n.tracker)
@@ -46,19 +44,19 @@ looked_anew n = if n.options.check_quorum then record n { tracker = unmarked n.t
 -- a leader that heard of no quorum steps down; else a transfer has had its time
 unfoldable pub quorum_looked_at : Turn → Turn
 quorum_looked_at t =
+    let u = transfer_ended (with_node t (looked_anew t.node)) in
     if has_lost_quorum t.node then followed (told t (LostQuorum t.node.id)) t.node.term 0
-    else heartbeats_due (transfer_ended (with_node t (looked_anew t.node)))
+    else with_node u (heartbeats_due u.node)
 
-unfoldable pub leader_counted : Turn → Turn
-leader_counted t =
-    if nat_le ELECTION_TICKS t.node.clock.elapsed then quorum_looked_at (with_node t (with_elapsed t.node 0))
-    else heartbeats_due t
-
+-- both counters go on
 abbrev pub counted_up : PlainNode → PlainNode
 counted_up n = with_heartbeat_elapsed (with_elapsed n (counted n.clock.elapsed)) (counted n.clock.heartbeat_elapsed)
 
 unfoldable pub leader_ticked : Turn → Turn
-leader_ticked t = leader_counted (with_node t (counted_up t.node))
+leader_ticked t =
+    let n = counted_up t.node in
+    if nat_le ELECTION_TICKS n.clock.elapsed then quorum_looked_at (with_node t (with_elapsed n 0))
+    else with_node t (heartbeats_due n)
 
 -- ---- any other
 
@@ -66,11 +64,10 @@ leader_ticked t = leader_counted (with_node t (counted_up t.node))
 abbrev pub is_due : PlainNode → Bool
 is_due n = is_voter n.tracker.config n.id && nat_le n.clock.timeout n.clock.elapsed
 
-abbrev pub timed_out : Turn → Turn
-timed_out t = if is_due t.node then campaigned (with_node t (with_elapsed t.node 0)) false else t
-
 unfoldable pub other_ticked : Turn → Turn
-other_ticked t = timed_out (with_node t (with_elapsed t.node (counted t.node.clock.elapsed)))
+other_ticked t =
+    let n = with_elapsed t.node (counted t.node.clock.elapsed) in
+    if is_due n then campaigned (with_node t (with_elapsed n 0)) false else with_node t n
 
 abbrev pub ticked_by : Role → Turn → Turn
 ticked_by role.Follower t = other_ticked t

@@ -7,7 +7,7 @@ ghost use Rattle.std.specs.Prelude.{◌≡◌, ◌<◌, ◌≤◌, length, OnOk}
 ghost use Rattle.rb_raftlog.specs.declared.limits.TheConstants.{MAX_INDEX};
 ghost use Rattle.rb_tracker.specs.Trackers.{view_at};
 ghost use Rattle.rb_node.specs.Node.{turn};
-ghost use Rattle.rb_node.specs.Acknowledging.{heard_of, handed_to, commits_or_sends, commit_or_sent, mode_after, accepted_news, accepted_with, accepted_old, accepted, refused_with, append_refused, lags, beat_answered_with, beat_answered};
+ghost use Rattle.rb_node.specs.Acknowledging.{heard_of, handed_to, commit_or_sent, mode_after, accepted_news, accepted_with, accepted, refused_with, append_refused, lags, beat_answered_with, beat_answered};
 
 use crate::sends::Mode;
 use crate::state::State;
@@ -42,24 +42,17 @@ impl<L: RaftLog> State<L> {
         Ok(())
     }
 
-    fn commit_or_send_at(&mut self, index: u64, to: u64, mode: Mode) -> Result<(), AllocError>
-        ensures { OnOk result (self.new ≡ commits_or_sends self.old index to mode) }
-    {
-        if self.can_commit(index) {
-            self.commit = index;
-            self.tell_all()
-        } else {
-            self.send(to, mode)
-        }
-    }
-
     // Where the commit moves it goes to all, else the sender gets what it has not.
     #[tactic(auto, unfolding(crate::specs::Acknowledging::commit_or_sent))]
     fn commit_or_send(&mut self, to: u64, mode: Mode) -> Result<(), AllocError>
         ensures { OnOk result (self.new ≡ commit_or_sent self.old to mode) }
     {
         let index = self.tracker.committed()?;
-        self.commit_or_send_at(index, to, mode)
+        if self.can_commit(index) {
+            self.commit = index;
+            return self.tell_all();
+        }
+        self.send(to, mode)
     }
 
     fn accept_news(&mut self, place: usize, from: u64, index: u64) -> Result<(), AllocError>
@@ -73,13 +66,6 @@ impl<L: RaftLog> State<L> {
         self.hand_to(from, index)
     }
 
-    fn accept_old(&mut self, place: usize, index: u64)
-        requires { place < length self.old.tracker.views }
-        ensures { self.new ≡ accepted_old (view_at self.old.tracker.views place) self.old place index }
-    {
-        self.tracker.view_mut(place).free_through(index);
-    }
-
     fn accept_at(&mut self, place: usize, from: u64, index: u64) -> Result<(), AllocError>
         requires place { place < length self.old.tracker.views }
         requires fits { index ≤ MAX_INDEX }
@@ -88,7 +74,7 @@ impl<L: RaftLog> State<L> {
         if self.tracker.progress(place).is_news(index) {
             self.accept_news(place, from, index)
         } else {
-            self.accept_old(place, index);
+            self.tracker.view_mut(place).free_through(index);
             Ok(())
         }
     }

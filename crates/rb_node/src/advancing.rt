@@ -106,28 +106,10 @@ fn step_own<L: RaftLog>(
     Ok(())
 }
 
-#[tactic(auto, unfolding(crate::specs::Readying::advanced))]
-fn advance<L: RaftLog>(
-    state: &mut State<L>,
-    sent: &mut Vec<Message>,
-    events: &mut Vec<Event>,
-) -> Result<(), AllocError>
-    ensures node { OnOk result (turn state.new events.new.items ≡ advanced (turn state.old events.old.items)) }
-    ensures sent { OnOk result (sent.new.items ≡ sent.old.items ++ handed state.old) }
-{
-    let id = state.id;
-    let applied = state.applied;
-    let entries = applying_copies(state)?;
-    let taken = save(state)?;
-    apply_all(state, applied, entries.as_slice(), events)?;
-    state.leave_joint(events)?;
-    hand_over(id, taken.sent, taken.waiting.as_slice(), sent)?;
-    step_own(state, id, taken.waiting.as_slice(), events)
-}
-
 impl<L: RaftLog> Node<L> {
     /// Goes on once all that is ready is done: what was saved is durable, what was committed takes effect. The messages that go out are
     /// appended to `sent`, those that waited last.
+    #[tactic(auto, unfolding(crate::specs::Readying::advanced))]
     pub fn advance(
         &mut self,
         sent: &mut Vec<Message>,
@@ -136,6 +118,14 @@ impl<L: RaftLog> Node<L> {
         ensures node { OnOk result (turn self.new events.new.items ≡ advanced (turn self.old events.old.items)) }
         ensures sent { OnOk result (sent.new.items ≡ sent.old.items ++ handed self.old) }
     {
-        advance(&mut self.state, sent, events)
+        let state = &mut self.state;
+        let id = state.id;
+        let applied = state.applied;
+        let entries = applying_copies(state)?;
+        let taken = save(state)?;
+        apply_all(state, applied, entries.as_slice(), events)?;
+        state.leave_joint(events)?;
+        hand_over(id, taken.sent, taken.waiting.as_slice(), sent)?;
+        step_own(state, id, taken.waiting.as_slice(), events)
     }
 }

@@ -11,48 +11,11 @@ ghost use Rattle.rb_node.specs.Step.{stepped};
 ghost use Rattle.rb_node.specs.Calls.{called, leader_forgotten, reported, IsCompactedTo};
 
 use crate::node::Node;
-use crate::state::State;
 use rb_change::{Shared, Transition, Word};
 use rb_message::{Event, Message, MessageKind, Role};
 use rb_raftlog::{Body, CompactFault, RaftLog, Snapshot};
 use rb_tracker::ProgressState;
 use std::alloc::AllocError;
-
-// What becomes of a leader's view of a node that can't be reached.
-fn report<L: RaftLog>(state: &mut State<L>, id: u64)
-    ensures { state.new ≡ reported state.old id }
-{
-    if state.role != Role::Leader {
-        return;
-    }
-    if let Some(place) = state.tracker.place(id) {
-        let view = state.tracker.view_mut(place);
-        if view.state() == ProgressState::Replicate {
-            view.to_probe();
-        }
-    }
-}
-
-fn forget<L: RaftLog>(state: &mut State<L>)
-    ensures { state.new ≡ leader_forgotten state.old }
-{
-    if state.role == Role::Follower {
-        state.lead = 0;
-    }
-}
-
-fn set_ticks<L: RaftLog>(state: &mut State<L>, timeout: u64)
-    ensures { state.new ≡ with_timeout state.old timeout }
-{
-    state.clock.timeout = timeout;
-}
-
-fn compact_to<L: RaftLog>(state: &mut State<L>, index: u64) -> Result<(), CompactFault>
-    ensures { IsCompactedTo state.old index result state.new }
-{
-    let applied = state.applied.min(state.log.durable());
-    state.log.compact(index, applied)
-}
 
 impl<L: RaftLog> Node<L> {
     /// Takes a message in, which stays the caller's: what is kept of it is shared.
@@ -119,14 +82,24 @@ impl<L: RaftLog> Node<L> {
     pub fn forget_leader(&mut self)
         ensures { self.new ≡ leader_forgotten self.old }
     {
-        forget(&mut self.state);
+        if self.state.role == Role::Follower {
+            self.state.lead = 0;
+        }
     }
 
     /// A node can't be reached: a leader that replicates to it probes it. It takes no memory.
     pub fn report_unreachable(&mut self, id: u64)
         ensures { self.new ≡ reported self.old id }
     {
-        report(&mut self.state, id);
+        if self.state.role != Role::Leader {
+            return;
+        }
+        if let Some(place) = self.state.tracker.place(id) {
+            let view = self.state.tracker.view_mut(place);
+            if view.state() == ProgressState::Replicate {
+                view.to_probe();
+            }
+        }
     }
 
     /// The node's state as far as it is applied. Its index is within the limits.
@@ -141,13 +114,14 @@ impl<L: RaftLog> Node<L> {
     pub fn compact(&mut self, index: u64) -> Result<(), CompactFault>
         ensures { IsCompactedTo self.old index result self.new }
     {
-        compact_to(&mut self.state, index)
+        let applied = self.state.applied.min(self.state.log.durable());
+        self.state.log.compact(index, applied)
     }
 
     /// After so many ticks without a leader the node campaigns, until the next reset. It takes no memory.
     pub fn set_timeout(&mut self, timeout: u64)
         ensures { self.new ≡ with_timeout self.old timeout }
     {
-        set_ticks(&mut self.state, timeout);
+        self.state.clock.timeout = timeout;
     }
 }

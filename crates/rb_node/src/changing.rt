@@ -9,7 +9,7 @@ ghost use Rattle.rb_change.specs.declared.change.Transition.TheVariants.{Auto};
 ghost use Rattle.rb_raftlog.specs.declared.limits.TheConstants.{MAX_INDEX};
 ghost use Rattle.rb_message.specs.declared.event.Event.TheVariants.{Switched};
 ghost use Rattle.rb_node.specs.Node.{turn, told};
-ghost use Rattle.rb_node.specs.Changing.{missing, without_stranger, without_strangers, stranger_given_up, joined_by, joined, revised, steps_down, led_on, switched, change_applied, body_applied, applied_one, applied_all, leaves_joint, joint_left};
+ghost use Rattle.rb_node.specs.Changing.{missing, without_stranger, without_strangers, stranger_given_up, joined_by, joined, revised, steps_down, led_on, switched, change_applied, applied_one, applied_all, leaves_joint, joint_left};
 
 use crate::state::State;
 use rb_change::{Shared, Transition, Word};
@@ -150,17 +150,6 @@ impl<L: RaftLog> State<L> {
         }
     }
 
-    fn apply_body(&mut self, body: &Body, events: &mut Vec<Event>) -> Result<(), AllocError>
-        ensures { OnOk result (turn self.new events.new.items ≡ body_applied body.now (turn self.old events.old.items)) }
-    {
-        match body {
-            Body::Payload(bytes) => self.content.append(bytes.as_slice()),
-            Body::Change { transition, words } => {
-                self.apply_change(*transition, words.as_slice(), events)
-            }
-        }
-    }
-
     /// Applies one entry.
     pub(crate) fn apply(
         &mut self,
@@ -172,7 +161,12 @@ impl<L: RaftLog> State<L> {
         ensures { OnOk result (turn self.new events.new.items ≡ applied_one (turn self.old events.old.items) index entry.now) }
     {
         self.applied = index;
-        self.apply_body(&entry.body, events)
+        match &entry.body {
+            Body::Payload(bytes) => self.content.append(bytes.as_slice()),
+            Body::Change { transition, words } => {
+                self.apply_change(*transition, words.as_slice(), events)
+            }
+        }
     }
 
     fn leaves_joint(&self) -> bool

@@ -8,7 +8,7 @@ ghost use Rattle.rb_raftlog.specs.declared.entry.Body.TheVariants.{Payload};
 ghost use Rattle.rb_raftlog.specs.declared.limits.TheConstants.{MAX_INDEX};
 ghost use Rattle.rb_message.specs.declared.event.Event.TheVariants.{AppendsNothing};
 ghost use Rattle.rb_node.specs.Node.{turn, told};
-ghost use Rattle.rb_node.specs.Leading.{with_own, is_log_full, appended, appended_change, new_view, with_view_of, with_views, in_lead, leading, led, can_commit, commits_or_tells, checked_commit};
+ghost use Rattle.rb_node.specs.Leading.{with_own, is_log_full, appended, appended_change, new_view, with_view_of, with_views, leading, led, can_commit, checked_commit};
 
 use crate::state::State;
 use rb_change::Shared;
@@ -107,20 +107,14 @@ impl<L: RaftLog> State<L> {
         Ok(())
     }
 
-    fn take_lead(&mut self)
-        ensures { self.new ≡ in_lead self.old }
-    {
-        self.reset(self.term);
-        self.lead = self.id;
-        self.role = Role::Leader;
-    }
-
     fn start_lead(&mut self) -> Result<(), AllocError>
         ensures { OnOk result (self.new ≡ leading self.old) }
     {
         let members = self.tracker.config().members()?;
         let last = self.log.last_index();
-        self.take_lead();
+        self.reset(self.term);
+        self.lead = self.id;
+        self.role = Role::Leader;
         let active = !self.options.check_quorum;
         self.add_views(members.as_slice(), active)?;
         self.pending_change = last;
@@ -163,23 +157,16 @@ impl<L: RaftLog> State<L> {
         }
     }
 
-    fn commit_or_tell(&mut self, index: u64, ids: &[u64]) -> Result<(), AllocError>
-        ensures { OnOk result (self.new ≡ commits_or_tells self.old index ids.now) }
-    {
-        if self.can_commit(index) {
-            self.commit = index;
-            self.tell_all()
-        } else {
-            self.tell(ids)
-        }
-    }
-
     // Where the commit moves it goes to all, else to these.
     #[tactic(auto, unfolding(crate::specs::Leading::checked_commit))]
     pub(crate) fn check_commit(&mut self, ids: &[u64]) -> Result<(), AllocError>
         ensures { OnOk result (self.new ≡ checked_commit self.old ids.now) }
     {
         let index = self.tracker.committed()?;
-        self.commit_or_tell(index, ids)
+        if self.can_commit(index) {
+            self.commit = index;
+            return self.tell_all();
+        }
+        self.tell(ids)
     }
 }

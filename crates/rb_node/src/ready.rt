@@ -45,17 +45,6 @@ pub(crate) fn is_saved<L: RaftLog>(state: &State<L>) -> bool
         && state.commit == state.saved.commit
 }
 
-fn has_ready<L: RaftLog>(state: &State<L>) -> bool
-    ensures { result ≡ has_ready state.now }
-{
-    !is_saved(state)
-        || state.log.durable() < state.log.last_index()
-        || state.restored
-        || state.applied < state.commit
-        || state.sent.len() != 0
-        || state.waiting.len() != 0
-}
-
 // How many committed entries aren't applied.
 #[tactic(auto, using(crate::proofs::Between::between_sizes))]
 pub(crate) fn applying_len<L: RaftLog>(state: &State<L>) -> usize
@@ -158,7 +147,13 @@ impl<L: RaftLog> Node<L> {
     pub fn has_ready(&self) -> bool
         ensures { result ≡ has_ready self.now }
     {
-        has_ready(&self.state)
+        let state = &self.state;
+        !is_saved(state)
+            || state.log.durable() < state.log.last_index()
+            || state.restored
+            || state.applied < state.commit
+            || state.sent.len() != 0
+            || state.waiting.len() != 0
     }
 
     /// What is ready. It takes no memory.

@@ -5,7 +5,7 @@
 
 ghost use Rattle.std.specs.Prelude.{◌≡◌, OnOk};
 ghost use Rattle.rb_node.specs.Node.{turn};
-ghost use Rattle.rb_node.specs.Terms.{reset, followed, raised, answers_earlier, shown_term, lowered, hears_leader, is_disturbed_by};
+ghost use Rattle.rb_node.specs.Terms.{reset, followed, raised, shown_term, lowered, hears_leader, is_disturbed_by};
 
 use crate::clock::Clock;
 use crate::limits::ELECTION_TICKS;
@@ -69,17 +69,11 @@ impl<L: RaftLog> State<L> {
         }
     }
 
-    fn answers_earlier(&self) -> bool
-        ensures { result ≡ answers_earlier self.now }
-    {
-        self.options.pre_vote || self.options.check_quorum
-    }
-
     // Shows a leader of an earlier term that there is a later one, where it may not learn it otherwise.
     fn show_term(&mut self, message: &Message, events: &mut Vec<Event>) -> Result<(), AllocError>
         ensures { OnOk result (turn self.new events.new.items ≡ shown_term (turn self.old events.old.items) message.now) }
     {
-        if self.answers_earlier() {
+        if self.options.pre_vote || self.options.check_quorum {
             return self.answer(
                 message.from,
                 self.term,

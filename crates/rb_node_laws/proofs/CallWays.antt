@@ -35,7 +35,7 @@ use Rattle.rb_node.specs.Node.{Turn, with_node, is_leader, PlainNode, told, mess
 use Rattle.rb_node.specs.Readying.{own_stepped, applying, saved, advanced}
 use Rattle.rb_node.specs.Step.{stepped}
 use Rattle.rb_node.specs.Terms.{followed}
-use Rattle.rb_node.specs.Ticking.{beat_to, beat_each, heartbeats_due, looked_anew, quorum_looked_at, has_lost_quorum, leader_counted, leader_ticked, counted_up, other_ticked, counted as counted_tick, is_due, ticked_by}
+use Rattle.rb_node.specs.Ticking.{beat_to, beat_each, heartbeats_due, looked_anew, quorum_looked_at, has_lost_quorum, leader_ticked, counted_up, other_ticked, counted as counted_tick, is_due, ticked_by}
 use Rattle.rb_node.specs.Transferring.{transfer_ended}
 use Rattle.rb_node.specs.declared.limits.TheConstants.{HEARTBEAT_TICKS, ELECTION_TICKS}
 use Rattle.rb_node_laws.specs.Calling.{Call, Step, Advance, compacted_unless, after, Campaign, Propose, Transfer, Tick, ForgetLeader, ReportUnreachable, SetTimeout, Compact}
@@ -222,11 +222,11 @@ beat_each_way : (n : PlainNode) (ids : List ℕ) → Way TellMove n (beat_each n
 beat_each_way n [] = One (Idle n n refl)
 beat_each_way n (id ∷ ids) = Then (beat_way n id) (beat_each_way (beat_to n id) ids)
 
-beats_due_way : (t : Turn) → Path TellMove t (heartbeats_due t)
+beats_due_way : (t : Turn) → Path TellMove t (with_node t (heartbeats_due t.node))
 unfolding heartbeats_due
 beats_due_way t =
     let n : PlainNode = with_heartbeat_elapsed t.node 0 in
-    if_both (Path TellMove t) (nat_le HEARTBEAT_TICKS t.node.clock.heartbeat_elapsed) _ _
+    if_both (λ (x : PlainNode). Path TellMove t (with_node t x)) (nat_le HEARTBEAT_TICKS t.node.clock.heartbeat_elapsed) _ _
     (λ _. Goes_on t (Then {b = n} (One (Idle t.node n refl)) (beat_each_way n (ids_of t.node.tracker.views)))) (λ _. nothing_done t)
 
 looked_way : {sound : Type 0} {w : Ways} (t : Turn) → Path (CallMove sound w) t (with_node t (looked_anew t.node))
@@ -248,16 +248,14 @@ quorum_way {sound} {w} t =
 clocked : {sound : Type 0} {w : Ways} (t : Turn) (n : PlainNode) → whole n ≡ whole t.node → Path (CallMove sound w) t (with_node t n)
 clocked t n same = Goes_on t (One (CallSteps (StepTells (Idle t.node n same))))
 
-leader_counted_way : {sound : Type 0} {w : Ways} (t : Turn) → Path (CallMove sound w) t (leader_counted t)
-unfolding leader_counted
-leader_counted_way {sound} {w} t =
-    let n : PlainNode = with_elapsed t.node 0 in
-    if_both (Path (CallMove sound w) t) (nat_le ELECTION_TICKS t.node.clock.elapsed) _ _
-    (λ _. Onward (clocked t n refl) (quorum_way (with_node t n))) (λ _. stepping (telling_path (beats_due_way t)))
-
 leader_ticked_way : {sound : Type 0} {w : Ways} (t : Turn) → Path (CallMove sound w) t (leader_ticked t)
 unfolding leader_ticked
-leader_ticked_way t = Onward (clocked t (counted_up t.node) refl) (leader_counted_way (with_node t (counted_up t.node)))
+leader_ticked_way {sound} {w} t =
+    let u : Turn = with_node t (counted_up t.node) in
+    let n : PlainNode = with_elapsed u.node 0 in
+    Onward (clocked t u.node refl)
+    (if_both (Path (CallMove sound w) u) (nat_le ELECTION_TICKS u.node.clock.elapsed) _ _
+    (λ _. Onward (clocked u n refl) (quorum_way (with_node u n))) (λ _. stepping (telling_path (beats_due_way u))))
 
 other_ticked_way : {sound : Type 0} {w : Ways} (t : Turn) → Path (CallMove sound w) t (other_ticked t)
 unfolding other_ticked

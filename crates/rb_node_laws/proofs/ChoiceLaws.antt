@@ -30,7 +30,7 @@ use Rattle.rb_node.specs.Node.{PlainNode, is_leader, Turn, told, message, with_n
 use Rattle.rb_node.specs.Proposing.{why_replaced, change_put, put_in, proposed, takes_none}
 use Rattle.rb_node.specs.Step.{by_role_of, as_leader, stepped, at_term}
 use Rattle.rb_node.specs.Terms.{hears_leader, is_disturbed_by, lowered, raised}
-use Rattle.rb_node.specs.Ticking.{quorum_looked_at, has_lost_quorum, counted, leader_ticked, leader_counted, counted_up, ticked_by, ticked}
+use Rattle.rb_node.specs.Ticking.{quorum_looked_at, has_lost_quorum, counted, leader_ticked, counted_up, ticked_by, ticked}
 use Rattle.rb_node.specs.Transferring.{transferred, cannot_take_lead}
 use Rattle.rb_node.specs.declared.limits.TheConstants.{ELECTION_TICKS}
 use Rattle.rb_node_laws.specs.Choices.{MayCampaign, PutsChange, MayTakeLead, StepsDown}
@@ -179,7 +179,7 @@ looks_down t checks lost =
     (λ no. absurd (false≢true (sym no ∙ both_true t.node.options.check_quorum (quorum_active t.node.tracker) checks lost)))
 
 leader_looks_down : (t : Turn) → t.node.options.check_quorum ≡ true → quorum_active t.node.tracker ≡ false → ELECTION_TICKS ≤ counted t.node.clock.elapsed → StepsDown t.node (leader_ticked t).node
-unfolding leader_ticked leader_counted
+unfolding leader_ticked
 leader_looks_down t checks lost due =
     let u : Turn = with_node t (counted_up t.node) in
     if_both (λ (x : Turn). StepsDown t.node x.node) (nat_le ELECTION_TICKS u.node.clock.elapsed) _ _

@@ -67,7 +67,8 @@ pub regrouped : (a b c e rest : List Line) (line : Line) → (a ++ (b ++ (c ++ l
 regrouped a b c e rest line =
     append_assoc a (b ++ (c ++ line ∷ e)) rest ∙ ap (λ (l : List Line). a ++ l) (append_assoc b (c ++ line ∷ e) rest ∙ ap (λ (l : List Line). b ++ l) (append_assoc c (line ∷ e) rest))
 
-block_front : (ls rest : List Line) (b : PlainBlock) → ReadsBlock ls b rest → (front : List Line) × (ls ≡ front ++ rest)
+-- so does what is left behind a block
+pub block_front : (ls rest : List Line) (b : PlainBlock) → ReadsBlock ls b rest → (front : List Line) × (ls ≡ front ++ rest)
 block_front ls rest b r =
     let e = expectation_front r.after b.expected rest r.expected in
     (b.lead ++ (b.head ++ (b.input ++ r.separator ∷ e.0)), r.parts ∙ ap (λ (after : List Line). b.lead ++ (b.head ++ (b.input ++ r.separator ∷ after))) e.1 ∙ sym (regrouped b.lead b.head b.input e.0 rest r.separator))

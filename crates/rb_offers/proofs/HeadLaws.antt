@@ -19,7 +19,7 @@ abbrev Each : ℕ → List Line → List PlainBlock → List ℕ → Type 0
 Each end ls bs ns = (before later : List PlainBlock) (b : PlainBlock) → bs ≡ before ++ b ∷ later → CountsFrom end ls before b (get_or ns (length before) 0)
 
 -- what is left behind a block is one thing
-block_once : (ls x y : List Line) (b : PlainBlock) → ReadsBlock ls b x → ReadsBlock ls b y → x ≡ y
+pub block_once : (ls x y : List Line) (b : PlainBlock) → ReadsBlock ls b x → ReadsBlock ls b y → x ≡ y
 block_once ls x y b r q =
     let same : done (b, x) ≡ done (b, y) = sym (block_complete 0 ls x b r).1 ∙ (block_complete 0 ls y b q).1 in
     ap (λ (p : PlainBlock × List Line). p.1) (ok_is (b, x) (b, y) same)

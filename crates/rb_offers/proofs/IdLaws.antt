@@ -3,6 +3,7 @@ use Rattle.std.proofs.Common.{◌≡◌, ◌∙◌, ℕ, zero, suc, ◌+◌, ◌
 use Rattle.std.specs.Prelude.{decimal, filter, if◌then◌else◌, nat_le}
 use Rattle.std.specs.Fmt.{digits}
 use Rattle.std.proofs.lemmas.Bool.Decides.{nat_tests}
+use Rattle.std.proofs.lemmas.List.{take-map}
 use Rattle.rb_script.specs.Lines.{Line, lines}
 use Rattle.rb_offers.specs.declared.ids.TheConstants.{IDS, MAX_IDS}
 use Rattle.rb_offers.specs.declared.part.Part.{Part}
@@ -11,7 +12,7 @@ use Rattle.rb_offers.specs.Above.{kept, line_begin, next}
 use Rattle.rb_offers.specs.Ids.{first_ids, id_offers, takes_ids}
 use Rattle.rb_offers.specs.Laws.{numbers_from, words}
 use Rattle.rb_offers.specs.Nodes.{added, ends_head, nodes_above, nodes_at, nodes_behind, with_more}
-use Rattle.rb_offers.specs.Offers.{begins_with, chosen, line_of}
+use Rattle.rb_offers.specs.Offers.{begins_with, line_of}
 use Rattle.rb_offers.specs.Unfinished.{PlainWanted, name_of}
 use Rattle.rb_offers.proofs.OfferLaws.{chosen_words}
 
@@ -40,11 +41,6 @@ few_at at text head = few_more (nodes_above Lead [] 0 (lines (take (line_begin a
 
 -- ---- the first ids
 
-pub take_mapped : {X Y : Type 0} (f : X → Y) (n : ℕ) (xs : List X) → map f (take n xs) ≡ take n (map f xs)
-take_mapped f zero xs = refl
-take_mapped f (suc n) [] = refl
-take_mapped f (suc n) (x ∷ xs) = ap (λ (ys : List _). f x ∷ ys) (take_mapped f n xs)
-
 take_numbers : (first n m : ℕ) → n ≤ m → numbers_from first n ≡ take n (numbers_from first m)
 take_numbers first zero m few = refl
 take_numbers first (suc n) zero few = absurd (omega (arith, few))
@@ -57,7 +53,7 @@ all_ids = refl
 ids_are : (n : ℕ) → n ≤ MAX_IDS → first_ids n ≡ map decimal (numbers_from 1 n)
 ids_are n few =
     ap (λ (ws : List (List ℕ)). take n ws) all_ids
-    ∙ sym (take_mapped decimal n (numbers_from 1 MAX_IDS))
+    ∙ take-map decimal n (numbers_from 1 MAX_IDS)
     ∙ ap (λ (ks : List ℕ). map decimal ks) (sym (take_numbers 1 n MAX_IDS few))
 
 -- ---- what is offered

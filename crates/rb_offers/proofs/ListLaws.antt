@@ -29,12 +29,3 @@ one_more_read text lead out xs i d within = one_more text lead out xs i (get_or 
 pub no_more : {X : Type 0} (text : X → List ℕ) (lead : List ℕ) (xs : List X) (i : ℕ) → length xs ≤ i → listed text lead (drop i xs) ≡ codes "]"
 unfolding listed
 no_more text lead xs i past = ap (listed text lead) (drop_all i xs past)
-
--- ---- one text behind another
-
-pub two_parts : (o a b p q : List ℕ) → p ≡ o ++ a → q ≡ p ++ b → q ≡ o ++ (a ++ b)
-two_parts o a b p q first second = second ∙ ap (λ (l : List ℕ). l ++ b) first ∙ append_assoc o a b
-
-pub five_parts : (o a b c d e p q r s t : List ℕ) → p ≡ o ++ a → q ≡ p ++ b → r ≡ q ++ c → s ≡ r ++ d → t ≡ s ++ e → t ≡ o ++ (a ++ (b ++ (c ++ (d ++ e))))
-five_parts o a b c d e p q r s t first second third fourth fifth =
-    two_parts o a (b ++ (c ++ (d ++ e))) p t first (two_parts p b (c ++ (d ++ e)) q t second (two_parts q c (d ++ e) r t third (two_parts r d e s t fourth fifth)))

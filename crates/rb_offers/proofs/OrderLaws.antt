@@ -24,7 +24,8 @@ line_grows e (suc j) (suc k) (b ∷ bytes) up =
     (λ yes. rw yes (omega (arith, rest)))
     (λ no. rw no (omega (arith, rest, before, after)))
 
-feed_grows : (m n : ℕ) (bytes : List ℕ) → m ≤ n → feed_start m bytes ≤ feed_start n bytes
+-- a later line begins later
+pub feed_grows : (m n : ℕ) (bytes : List ℕ) → m ≤ n → feed_start m bytes ≤ feed_start n bytes
 unfolding feed_start
 feed_grows zero n bytes up = omega arith
 feed_grows (suc m) zero bytes up = absurd (omega (arith, up))

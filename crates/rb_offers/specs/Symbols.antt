@@ -3,7 +3,7 @@ use Rattle.std.specs.Prelude.{ℕ, zero, suc, if◌then◌else◌, List, [], ◌
 use Rattle.std.specs.List.{flat_map}
 use Rattle.rb_script.specs.Lines.{Line, lines}
 use Rattle.rb_script.specs.Marks.{without_front}
-use Rattle.rb_json.specs.Escapes.{escaped}
+use Rattle.rb_text.specs.Json.{escaped}
 use Rattle.rb_document.specs.declared.position.Encoding.{Encoding}
 use Rattle.rb_document.specs.declared.position.Position.{Position}
 use Rattle.rb_document.specs.Places.{is_within}

@@ -41,8 +41,8 @@ fn behind_head(text: &Lines, from: usize) -> usize
     count
 }
 
-// Whether these lines begin with one that is `----`.
-fn begins_rule(text: &Lines, below: usize) -> bool
+/// Whether there is a line behind so many of these, and it is `----`.
+pub fn begins_rule(text: &Lines, below: usize) -> bool
     ensures { result ≡ begins_rule (drop below text.now) }
 {
     below < text.len() && is_rule(text.line(below))

@@ -11,7 +11,7 @@ use crate::offer::{Kind, Offer, offers};
 use crate::unfinished::{name_of, wanted_of};
 use crate::writing::add_range;
 use rb_document::{Encoding, Position, offset, position_of};
-use rb_json::{Piece, add_pieces};
+use rb_text::{Json, Piece, add_pieces};
 use std::alloc::{AllocError, Global};
 
 // What the protocol calls a word.
@@ -44,12 +44,12 @@ fn add_front(out: &mut Vec<u8>, offer: &Offer) -> Result<(), AllocError>
         out,
         &[
             Piece::Bytes(b"{\"label\":\""),
-            Piece::Escaped(offer.word),
+            Piece::Escaped(Json::Utf8, offer.word),
             Piece::Bytes(mark(offer.kind)),
             Piece::Bytes(b"\",\"kind\":"),
             Piece::Number(kind_number(offer.kind)),
             Piece::Bytes(b",\"documentation\":\""),
-            Piece::Escaped(offer.documentation),
+            Piece::Escaped(Json::Utf8, offer.documentation),
             Piece::Bytes(b"\",\"textEdit\":{\"range\":"),
         ],
     )
@@ -64,7 +64,7 @@ fn add_back(out: &mut Vec<u8>, offer: &Offer) -> Result<(), AllocError>
         out,
         &[
             Piece::Bytes(b",\"newText\":\""),
-            Piece::Escaped(offer.word),
+            Piece::Escaped(Json::Utf8, offer.word),
             Piece::Bytes(mark(offer.kind)),
             Piece::Bytes(b"\"}}"),
         ],

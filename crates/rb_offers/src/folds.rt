@@ -10,7 +10,7 @@ ghost use Rattle.rb_offers.specs.Texts.{listed};
 use crate::block_lines::{BlockLines, blocks_of};
 use crate::writing::start_of;
 use rb_document::{Encoding, LineTable, Position};
-use rb_json::{Piece, add_pieces};
+use rb_text::{Piece, add_pieces};
 use std::alloc::{AllocError, Global};
 
 // The line that ends at a position.

@@ -9,8 +9,8 @@ ghost use Rattle.rb_offers.specs.Formatting.{edits, formatting, text_edit};
 use crate::block_lines::script_of;
 use crate::writing::add_range;
 use rb_document::{Encoding, Range, edit_between};
-use rb_json::{Piece, add_pieces};
 use rb_script::{Script, Through};
+use rb_text::{Json, Piece, add_pieces};
 use std::alloc::{AllocError, Global};
 
 // The canonical text of a script.
@@ -36,7 +36,7 @@ fn add_text_edit(out: &mut Vec<u8>, range: Range, new: &[u8]) -> Result<(), Allo
         out,
         &[
             Piece::Bytes(b",\"newText\":\""),
-            Piece::Escaped(new),
+            Piece::Escaped(Json::Utf8, new),
             Piece::Bytes(b"\"}]"),
         ],
     )

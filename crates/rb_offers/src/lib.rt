@@ -21,7 +21,7 @@ mod unfinished;
 mod words;
 mod writing;
 
-pub use block_lines::BlockLines;
+pub use block_lines::{BlockLines, begins_rule};
 pub use completion::add_completion;
 pub use folds::add_folds;
 pub use formatting::add_formatting;

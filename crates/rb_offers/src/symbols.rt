@@ -10,8 +10,8 @@ ghost use Rattle.rb_offers.specs.Texts.{listed};
 use crate::block_lines::{BlockLines, blocks_of};
 use crate::writing::{add_range, start_of};
 use rb_document::{Encoding, LineTable, Position, is_within};
-use rb_json::{Piece, add_pieces};
 use rb_script::{Lines, lines_of, without_front};
+use rb_text::{Json, Piece, add_pieces};
 use std::alloc::{AllocError, Global};
 
 /// How many characters of a head's first line the name of a symbol has at most.
@@ -56,7 +56,7 @@ fn add_name(out: &mut Vec<u8>, text_lines: &Lines, from: usize) -> Result<(), Al
         out,
         &[
             Piece::Bytes(b"{\"name\":\""),
-            Piece::Escaped(name_of(text_lines, from)),
+            Piece::Escaped(Json::Utf8, name_of(text_lines, from)),
             Piece::Bytes(b"\",\"kind\":24,\"range\":"),
         ],
     )

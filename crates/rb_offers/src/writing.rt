@@ -5,7 +5,7 @@ ghost use Rattle.rb_document.specs.Tables.{IsTable, start_of};
 ghost use Rattle.rb_offers.specs.Texts.{position_text, range_member, range_text};
 
 use rb_document::{Encoding, LineTable, Position};
-use rb_json::{Piece, add_pieces};
+use rb_text::{Piece, add_pieces};
 use std::alloc::AllocError;
 
 #[tactic(auto, unfolding(crate::specs::Texts::position_text))]

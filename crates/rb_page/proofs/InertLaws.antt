@@ -1,10 +1,13 @@
 -- No byte of a text is a mark of a page, or past ASCII.
-use Rattle.std.proofs.Common.{◌≡◌, ℕ, ◌+◌, ◌%◌, ◌/◌, ◌<◌, ◌≤◌, ◌*◌, Bool, true, false, List, [], ◌∷◌, ◌++◌, length, decimal, codes, refl, ap, arith}
-use Rattle.std.specs.Prelude.{not, ◌&&◌, ◌==◌, nat_le, nat_lt, if◌then◌else◌}
+use Rattle.std.proofs.Common.{◌≡◌, ℕ, ◌+◌, ◌≤◌, ◌*◌, Bool, true, false, List, [], ◌∷◌, ◌++◌, length, decimal, codes, refl, ap, arith}
+use Rattle.std.specs.Prelude.{not, ◌&&◌, ◌==◌, nat_le, if◌then◌else◌}
 use Rattle.std.specs.List.{flat_map, list_all}
-use Rattle.std.proofs.lemmas.Bool.{and_from, and_parts, le-leb, leb-true, ne_eqb, ltb-true}
+use Rattle.std.proofs.lemmas.Bool.{and_from, and_parts, le-leb, leb-true, ne_eqb}
 use Rattle.std.proofs.lemmas.List.{length-append}
-use Rattle.rb_page.specs.Escapes.{hex_digit, is_no_mark, is_inert, is_plain, numbered, escaped}
+use Rattle.rb_text.specs.declared.json.Json.TheVariants.{Page}
+use Rattle.rb_text.specs.Json.{is_no_mark, is_plain, numbered, in_page}
+use Rattle.rb_text.proofs.JsonLaws.{text_of}
+use Rattle.rb_page.specs.Escapes.{is_inert}
 use Rattle.rb_page.specs.Rows.{PlainCell, number, text, Row, cell_text, front_text, row_text, next_text, rows_text}
 use Rattle.rb_texts.proofs.KindLaws.{decimal_of, flat_of, joined_of}
 
@@ -29,16 +32,8 @@ letter b low high =
     (and_from (not (b == 60)) (not (b == 62)) (other b 60 (λ e. omega (arith, e, low))) (other b 62 (λ e. omega (arith, e, low)))) (other b 38 (λ e. omega (arith, e, low))))
     (le-leb b 127 high)
 
--- so is a hexadecimal digit
-hex_by : (t : Bool) (n : ℕ) → nat_lt n 10 ≡ t → n < 16 → is_inert (if t then n + 48 else n + 87) ≡ true
-hex_by true n e lt = figure (n + 48) (omega arith) (omega (arith, ltb-true n 10 e))
-hex_by false n e lt = letter (n + 87) (omega arith) (omega (arith, lt))
-
-hex_inert : (n : ℕ) → n < 16 → is_inert (hex_digit n) ≡ true
-hex_inert n lt = hex_by (nat_lt n 10) n refl lt
-
--- and a byte that stands for itself
-plain_inert : (b : ℕ) → is_plain b ≡ true → is_inert b ≡ true
+-- so is one that stands for itself
+plain_inert : (b : ℕ) → is_plain Page b ≡ true → is_inert b ≡ true
 plain_inert b h =
     let no_mark = and_parts (nat_le 32 b && nat_le b 126 && not (b == 34) && not (b == 92)) (is_no_mark b) h in
     let no_backslash = and_parts (nat_le 32 b && nat_le b 126 && not (b == 34)) (not (b == 92)) no_mark.0 in
@@ -46,24 +41,14 @@ plain_inert b h =
     let within = and_parts (nat_le 32 b) (nat_le b 126) no_quote.0 in
     and_from (is_no_mark b) (nat_le b 127) no_mark.1 (le-leb b 127 (omega (arith, leb-true b 126 within.1)))
 
--- a byte as it stands between quotes is of inert bytes
-escaped_by : (t : Bool) (b : ℕ) → is_plain b ≡ t → list_all is_inert (if t then b ∷ [] else numbered b) ≡ true
-escaped_by true b h = and_from (is_inert b) true (plain_inert b h) refl
-escaped_by false b h =
-    and_from (is_inert (hex_digit (b / 16 % 16))) _ (hex_inert (b / 16 % 16) (omega arith))
-    (and_from (is_inert (hex_digit (b % 16))) true (hex_inert (b % 16) (omega arith)) refl)
-
-escaped_inert : (b : ℕ) → list_all is_inert (escaped b) ≡ true
-escaped_inert b = escaped_by (is_plain b) b refl
-
 -- ---- texts
 
 -- two inert texts make one
 joined : (a b : List ℕ) → list_all is_inert a ≡ true → list_all is_inert b ≡ true → list_all is_inert (a ++ b) ≡ true
 joined a b p q = joined_of is_inert a b p q
 
-all_escaped_inert : (bytes : List ℕ) → list_all is_inert (flat_map escaped bytes) ≡ true
-all_escaped_inert bytes = flat_of is_inert escaped escaped_inert bytes
+all_escaped_inert : (bytes : List ℕ) → list_all is_inert (flat_map in_page bytes) ≡ true
+all_escaped_inert bytes = text_of is_inert Page plain_inert figure (λ b low high. letter b (omega (arith, low)) (omega (arith, high))) bytes
 
 -- ---- numbers
 
@@ -75,7 +60,7 @@ decimal_inert n = decimal_of is_inert (λ d lt. figure (48 + d) (omega arith) (o
 cell_inert : (c : PlainCell) → list_all is_inert (cell_text c) ≡ true
 cell_inert (number n) = joined (codes ",") (decimal n) refl (decimal_inert n)
 cell_inert (text bytes) =
-    joined (codes ",\"") (flat_map escaped bytes ++ codes "\"") refl (joined (flat_map escaped bytes) (codes "\"") (all_escaped_inert bytes) refl)
+    joined (codes ",\"") (flat_map in_page bytes ++ codes "\"") refl (joined (flat_map in_page bytes) (codes "\"") (all_escaped_inert bytes) refl)
 
 cells_inert : (cs : List PlainCell) → list_all is_inert (flat_map cell_text cs) ≡ true
 cells_inert cs = flat_of is_inert cell_text cell_inert cs
@@ -83,7 +68,7 @@ cells_inert cs = flat_of is_inert cell_text cell_inert cs
 row_inert : (r : Row) → list_all is_inert (row_text r) ≡ true
 row_inert r =
     joined (front_text r.name) (flat_map cell_text r.cells ++ codes "]")
-    (joined (codes "[\"") (flat_map escaped r.name ++ codes "\"") refl (joined (flat_map escaped r.name) (codes "\"") (all_escaped_inert r.name) refl))
+    (joined (codes "[\"") (flat_map in_page r.name ++ codes "\"") refl (joined (flat_map in_page r.name) (codes "\"") (all_escaped_inert r.name) refl))
     (joined (flat_map cell_text r.cells) (codes "]") (cells_inert r.cells) refl)
 
 next_inert : (rs : List Row) → list_all is_inert (flat_map next_text rs) ≡ true
@@ -103,6 +88,6 @@ escaped_short true b = omega arith
 escaped_short false b = omega arith
 
 -- a text takes at most six bytes for each of its own
-pub texts_short : (bytes : List ℕ) → length (flat_map escaped bytes) ≤ 6 * length bytes
+pub texts_short : (bytes : List ℕ) → length (flat_map in_page bytes) ≤ 6 * length bytes
 texts_short [] = omega arith
-texts_short (b ∷ bytes) = omega (arith, length-append (escaped b) (flat_map escaped bytes), escaped_short (is_plain b) b, texts_short bytes)
+texts_short (b ∷ bytes) = omega (arith, length-append (in_page b) (flat_map in_page bytes), escaped_short (is_plain Page b) b, texts_short bytes)

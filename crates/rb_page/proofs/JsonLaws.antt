@@ -3,7 +3,8 @@ use Rattle.std.proofs.Common.{◌≡◌, ℕ, ◌+◌, ◌*◌, ◌%◌, ◌/◌
 use Rattle.std.specs.Prelude.{not, ◌&&◌, ◌==◌, nat_le, nat_lt, if◌then◌else◌}
 use Rattle.std.specs.List.{flat_map, list_all}
 use Rattle.std.proofs.lemmas.Bool.{and_parts, ltb-true}
-use Rattle.rb_page.specs.Escapes.{is_no_mark, is_plain, numbered, escaped}
+use Rattle.rb_text.specs.declared.json.Json.TheVariants.{Page}
+use Rattle.rb_text.specs.Json.{is_no_mark, is_plain, numbered, in_page}
 use Rattle.rb_page.specs.Json.{IsParted, is_unescaped, IsNumbered, IsChar, AreChars, IsString, IsFurther, AreFurther, IsList, IsCell, IsRow, AreRows, is_byte, cell_has_bytes, has_bytes}
 use Rattle.rb_page.specs.Rows.{PlainCell, number, text, Row, cell_text, row_text, next_text, rows_text}
 
@@ -20,24 +21,24 @@ by_number b lt = record {
   parts = refl;
 }
 
-char_by : (t : Bool) (b : ℕ) → is_plain b ≡ t → b < 256 → IsChar b (if t then b ∷ [] else numbered b)
+char_by : (t : Bool) (b : ℕ) → is_plain Page b ≡ t → b < 256 → IsChar b (if t then b ∷ [] else numbered b)
 char_by true b h lt = inl ((and_parts (is_unescaped b) (is_no_mark b) h).0, refl)
 char_by false b h lt = inr (by_number b lt)
 
-chars_are : (bytes : List ℕ) → list_all is_byte bytes ≡ true → AreChars bytes (flat_map escaped bytes)
+chars_are : (bytes : List ℕ) → list_all is_byte bytes ≡ true → AreChars bytes (flat_map in_page bytes)
 chars_are [] h = refl
 chars_are (b ∷ bytes) h =
     let both = and_parts (is_byte b) (list_all is_byte bytes) h in
-    record { front = escaped b; back = flat_map escaped bytes; parts = refl; first = char_by (is_plain b) b refl (ltb-true b 256 both.0); rest = chars_are bytes both.1 }
+    record { front = in_page b; back = flat_map in_page bytes; parts = refl; first = char_by (is_plain Page b) b refl (ltb-true b 256 both.0); rest = chars_are bytes both.1 }
 
-string_is : (bytes : List ℕ) → list_all is_byte bytes ≡ true → IsString bytes (34 ∷ (flat_map escaped bytes ++ 34 ∷ []))
-string_is bytes h = record { inside = flat_map escaped bytes; parts = refl; are = chars_are bytes h }
+string_is : (bytes : List ℕ) → list_all is_byte bytes ≡ true → IsString bytes (34 ∷ (flat_map in_page bytes ++ 34 ∷ []))
+string_is bytes h = record { inside = flat_map in_page bytes; parts = refl; are = chars_are bytes h }
 
 -- ---- rows
 
 cell_is : (c : PlainCell) → cell_has_bytes c ≡ true → IsFurther IsCell c (cell_text c)
 cell_is (number n) h = record { space = []; value = decimal n; parts = refl; blank = refl; is = refl }
-cell_is (text bytes) h = record { space = []; value = 34 ∷ (flat_map escaped bytes ++ 34 ∷ []); parts = refl; blank = refl; is = string_is bytes h }
+cell_is (text bytes) h = record { space = []; value = 34 ∷ (flat_map in_page bytes ++ 34 ∷ []); parts = refl; blank = refl; is = string_is bytes h }
 
 cells_are : (cs : List PlainCell) → list_all cell_has_bytes cs ≡ true → AreFurther IsCell cs (flat_map cell_text cs)
 cells_are [] h = refl
@@ -49,7 +50,7 @@ row_is : (r : Row) → has_bytes r ≡ true → IsRow r (row_text r)
 row_is r h =
     let both = and_parts (list_all is_byte r.name) (list_all cell_has_bytes r.cells) h in
     record {
-      front = 34 ∷ (flat_map escaped r.name ++ 34 ∷ []);
+      front = 34 ∷ (flat_map in_page r.name ++ 34 ∷ []);
       back = flat_map cell_text r.cells;
       parts = refl;
       first = string_is r.name both.0;

@@ -5,7 +5,7 @@ use Rattle.std.proofs.lemmas.List.{length-append}
 use Rattle.std.proofs.lemmas.List.Sums.{sum_by-cons}
 use Rattle.rb_texts.specs.Items.{PlainItem}
 use Rattle.rb_texts.specs.Items as items
-use Rattle.rb_page.specs.Escapes.{escaped}
+use Rattle.rb_text.specs.Json.{in_page}
 use Rattle.rb_page.specs.ItemRows.{item_rows}
 use Rattle.rb_page.specs.Rows.{PlainCell, number, text, Row, cell_text, front_text, row_text, next_text, rows_text}
 use Rattle.rb_page.specs.Sizes.{cell_size, row_size, count_of}
@@ -13,14 +13,14 @@ use Rattle.rb_page.proofs.InertLaws.{texts_short}
 
 cell_short : (c : PlainCell) → length (cell_text c) ≤ cell_size c
 cell_short (number n) = omega arith
-cell_short (text bytes) = omega (arith, length-append (flat_map escaped bytes) (codes "\""), texts_short bytes)
+cell_short (text bytes) = omega (arith, length-append (flat_map in_page bytes) (codes "\""), texts_short bytes)
 
 cells_short : (cs : List PlainCell) → length (flat_map cell_text cs) ≤ sum_by cell_size cs
 cells_short [] = omega arith
 cells_short (c ∷ cs) = omega (arith, sum_by-cons cell_size c cs, length-append (cell_text c) (flat_map cell_text cs), cell_short c, cells_short cs)
 
 row_short : (r : Row) → length (row_text r) + 2 ≤ row_size r
-row_short r = omega (arith, length-append (front_text r.name) (flat_map cell_text r.cells ++ codes "]"), length-append (flat_map cell_text r.cells) (codes "]"), length-append (flat_map escaped r.name) (codes "\""), texts_short r.name, cells_short r.cells)
+row_short r = omega (arith, length-append (front_text r.name) (flat_map cell_text r.cells ++ codes "]"), length-append (flat_map cell_text r.cells) (codes "]"), length-append (flat_map in_page r.name) (codes "\""), texts_short r.name, cells_short r.cells)
 
 next_short : (rs : List Row) → length (flat_map next_text rs) ≤ sum_by row_size rs
 unfolding next_text

@@ -2,7 +2,7 @@
 -- fractions, and characters by a letter behind a backslash are left out: a page has none of them. A row's name is the first of its texts.)
 use Rattle.std.specs.Prelude.{◌≡◌, ℕ, ◌+◌, ◌*◌, ◌<◌, ◌⊎◌, Bool, true, not, ◌&&◌, ◌||◌, ◌==◌, nat_le, nat_lt, List, [], ◌∷◌, ◌++◌, decimal}
 use Rattle.std.specs.List.{list_all}
-use Rattle.rb_page.specs.Escapes.{hex_digit}
+use Rattle.rb_text.specs.Json.{hex_digit}
 use Rattle.rb_page.specs.Rows.{PlainCell, number, text, Row}
 
 -- ---- parts

@@ -1,6 +1,5 @@
 pub mod Escapes
 pub mod Commas
-pub mod Pieces
 pub mod Spans
 pub mod Rows
 pub mod Json

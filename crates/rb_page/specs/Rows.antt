@@ -9,7 +9,7 @@ use Rattle.rb_page.specs.declared.cell.Cell.{Cell}
 use Rattle.rb_page.specs.declared.cell.Cell.TheVariants as cells
 use Rattle.rb_page.specs.declared.row.RowPlace.{RowPlace}
 use Rattle.rb_page.specs.declared.row.RowPlace.TheVariants.{First, Next}
-use Rattle.rb_page.specs.Escapes.{escaped}
+use Rattle.rb_text.specs.Json.{in_page}
 
 pub data PlainCell : Type 0 where
   number : ℕ → PlainCell
@@ -33,11 +33,11 @@ row name cells = record { name = name; cells = cells }
 -- a cell, with the comma before it
 abbrev pub cell_text : PlainCell → List ℕ
 cell_text (number n) = codes "," ++ decimal n
-cell_text (text bytes) = codes ",\"" ++ (flat_map escaped bytes ++ codes "\"")
+cell_text (text bytes) = codes ",\"" ++ (flat_map in_page bytes ++ codes "\"")
 
 -- a row up to its name
 abbrev pub front_text : List ℕ → List ℕ
-front_text name = codes "[\"" ++ (flat_map escaped name ++ codes "\"")
+front_text name = codes "[\"" ++ (flat_map in_page name ++ codes "\"")
 
 abbrev pub row_text : Row → List ℕ
 row_text r = front_text r.name ++ (flat_map cell_text r.cells ++ codes "]")

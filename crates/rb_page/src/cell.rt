@@ -11,12 +11,11 @@ ghost use Rattle.rb_page.specs.Rows.{cell_text, plain_cell, text};
 ghost use Rattle.rb_page.specs.Spans.{spans_text};
 
 use crate::names::transition_name;
-use crate::piece::{Piece, put_pieces};
 use crate::span::{Span, put_parts};
 use rb_change::{Transition, Word};
 use rb_raftlog::Body;
 use rb_script::{Sink, WriteFault};
-use rb_text::WrittenPiece;
+use rb_text::{Piece, WrittenPiece, put_pieces};
 use rb_tracker::Config;
 
 // How many bytes of a word an error shows.

@@ -3,7 +3,8 @@
 ghost use Rattle.std.specs.Prelude.{◌≡◌, ◌≤◌, ◌+◌, ◌*◌, ◌∷◌, ℕ, List, length, true};
 ghost use Rattle.std.specs.List.{flat_map, list_all, sum_by};
 ghost use Rattle.rb_texts.specs.Items.{PlainItem};
-ghost use Rattle.rb_page.specs.Escapes.{escaped, is_inert};
+ghost use Rattle.rb_text.specs.Json.{in_page};
+ghost use Rattle.rb_page.specs.Escapes.{is_inert};
 ghost use Rattle.rb_page.specs.ItemRows.{item_rows};
 ghost use Rattle.rb_page.specs.Json.{AreRows, has_bytes};
 ghost use Rattle.rb_page.specs.Rows.{Row, rows_text};
@@ -17,7 +18,7 @@ pub fn rows_are_inert()
 
 /// A text takes at most six bytes for each of its own.
 pub fn texts_grow_little()
-    ensures { (bytes : List ℕ) → length (flat_map escaped bytes) ≤ 6 * length bytes }
+    ensures { (bytes : List ℕ) → length (flat_map in_page bytes) ≤ 6 * length bytes }
 {}
 
 /// The text of rows is a text of JSON, by its grammar, and these rows are its value: a list of lists, each of a text, the name, and then

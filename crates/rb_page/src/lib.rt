@@ -6,14 +6,12 @@
 #![tactic(auto)]
 
 mod cell;
-mod escape;
 mod event;
 mod item;
 mod kept;
 mod laws;
 mod message;
 mod names;
-mod piece;
 mod row;
 mod span;
 

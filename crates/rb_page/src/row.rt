@@ -6,8 +6,8 @@ ghost use Rattle.rb_script.specs.Writes.{Writes};
 ghost use Rattle.rb_page.specs.Rows.{cell_text, front_text, next_text, plain_cell, row_text, row, before};
 
 use crate::cell::Cell;
-use crate::piece::{Piece, put_pieces};
 use rb_script::{Sink, WriteFault};
+use rb_text::{Json, Piece, put_pieces};
 
 /// Where a row stands.
 #[derive(Clone, Copy, Debug, PartialEq, Eq)]
@@ -50,7 +50,7 @@ fn put_front<S: Sink>(sink: &mut S, place: RowPlace, name: &[u8]) -> Result<(), 
         &[
             Piece::Bytes(before(place)),
             Piece::Bytes(b"[\""),
-            Piece::Escaped(name),
+            Piece::Escaped(Json::Page, name),
             Piece::Bytes(b"\""),
         ],
     )

@@ -9,14 +9,14 @@ ghost use Rattle.rb_script.specs.Writes.{Writes};
 ghost use Rattle.rb_texts.specs.Configs.{ids_text, part_text};
 ghost use Rattle.rb_texts.specs.Entries.{letter, change_word};
 ghost use Rattle.rb_texts.specs.Quoted as quotes;
+ghost use Rattle.rb_text.specs.Json.{in_page};
 ghost use Rattle.rb_page.specs.Commas.{comma_before};
-ghost use Rattle.rb_page.specs.Escapes.{escaped};
 ghost use Rattle.rb_page.specs.Spans.{span_text};
 
-use crate::escape::{hex_digit, put_escaped};
 use itoa::Buffer;
 use rb_change::{Word, WordKind};
 use rb_script::{Sink, WriteFault};
+use rb_text::{Json, hex_digit, put_escaped};
 
 /// A part of a text.
 #[derive(Clone, Copy)]
@@ -41,13 +41,13 @@ pub(crate) trait Part {
 
     /// Writes the part, as it stands between quotes. On a failure a beginning of that went out.
     fn put<S: Sink>(&self, sink: &mut S) -> Result<(), WriteFault>
-        ensures wrote { Writes result (S.held sink.old) (S.held sink.new) (flat_map escaped (text self.now)) }
+        ensures wrote { Writes result (S.held sink.old) (S.held sink.new) (flat_map in_page (text self.now)) }
         ensures all { S.takes_all sink.old → IsOk result × S.takes_all sink.new };
 }
 
 /// Writes the parts, each as it stands between quotes.
 pub(crate) fn put_parts<S: Sink, P: Part>(sink: &mut S, parts: &[P]) -> Result<(), WriteFault>
-    ensures wrote { Writes result (S.held sink.old) (S.held sink.new) (flat_map escaped (flat_map P.text parts.now)) }
+    ensures wrote { Writes result (S.held sink.old) (S.held sink.new) (flat_map in_page (flat_map P.text parts.now)) }
     ensures all { S.takes_all sink.old → IsOk result × S.takes_all sink.new }
 {
     for part in parts {
@@ -61,7 +61,7 @@ impl Part for Span<'_> {
 
     fn put<S: Sink>(&self, sink: &mut S) -> Result<(), WriteFault> {
         match *self {
-            Span::Bytes(bytes) => put_escaped(sink, bytes),
+            Span::Bytes(bytes) => put_escaped(sink, &Json::Page, bytes),
             Span::Number(n) => put_digits(sink, n),
             Span::Inside(bytes) => put_parts(sink, bytes),
             Span::Ids(ids) => put_ids(sink, ids),
@@ -72,11 +72,11 @@ impl Part for Span<'_> {
 }
 
 fn put_digits<S: Sink>(sink: &mut S, n: u64) -> Result<(), WriteFault>
-    ensures wrote { Writes result (S.held sink.old) (S.held sink.new) (flat_map escaped (decimal n)) }
+    ensures wrote { Writes result (S.held sink.old) (S.held sink.new) (flat_map in_page (decimal n)) }
     ensures all { S.takes_all sink.old → IsOk result × S.takes_all sink.new }
 {
     let mut digits = Buffer::new();
-    put_escaped(sink, digits.format(n).as_bytes())
+    put_escaped(sink, &Json::Page, digits.format(n).as_bytes())
 }
 
 // ---- bytes inside double quotes
@@ -100,9 +100,9 @@ impl Part for u8 {
 
     fn put<S: Sink>(&self, sink: &mut S) -> Result<(), WriteFault> {
         if is_plain(*self) {
-            put_escaped(sink, &[*self])
+            put_escaped(sink, &Json::Page, &[*self])
         } else {
-            put_escaped(sink, &numbered(*self))
+            put_escaped(sink, &Json::Page, &numbered(*self))
         }
     }
 }
@@ -114,13 +114,13 @@ impl Part for u64 {
     ghost text = { comma_before };
 
     fn put<S: Sink>(&self, sink: &mut S) -> Result<(), WriteFault> {
-        put_escaped(sink, b",")?;
+        put_escaped(sink, &Json::Page, b",")?;
         put_digits(sink, *self)
     }
 }
 
 fn put_ids<S: Sink>(sink: &mut S, ids: &[u64]) -> Result<(), WriteFault>
-    ensures wrote { Writes result (S.held sink.old) (S.held sink.new) (flat_map escaped (ids_text ids.now)) }
+    ensures wrote { Writes result (S.held sink.old) (S.held sink.new) (flat_map in_page (ids_text ids.now)) }
     ensures all { S.takes_all sink.old → IsOk result × S.takes_all sink.new }
 {
     let Some((first, rest)) = ids.split_first() else {
@@ -131,15 +131,15 @@ fn put_ids<S: Sink>(sink: &mut S, ids: &[u64]) -> Result<(), WriteFault>
 }
 
 fn put_part<S: Sink>(sink: &mut S, name: &[u8], ids: &[u64]) -> Result<(), WriteFault>
-    ensures wrote { Writes result (S.held sink.old) (S.held sink.new) (flat_map escaped (part_text name.now ids.now)) }
+    ensures wrote { Writes result (S.held sink.old) (S.held sink.new) (flat_map in_page (part_text name.now ids.now)) }
     ensures all { S.takes_all sink.old → IsOk result × S.takes_all sink.new }
 {
     if ids.is_empty() {
         return Ok(());
     }
-    put_escaped(sink, name)?;
+    put_escaped(sink, &Json::Page, name)?;
     put_ids(sink, ids)?;
-    put_escaped(sink, b")")
+    put_escaped(sink, &Json::Page, b")")
 }
 
 // ---- words of a change
@@ -160,7 +160,7 @@ impl Part for Word {
     ghost text = { change_word };
 
     fn put<S: Sink>(&self, sink: &mut S) -> Result<(), WriteFault> {
-        put_escaped(sink, letter(self.kind))?;
+        put_escaped(sink, &Json::Page, letter(self.kind))?;
         put_digits(sink, self.id)
     }
 }

@@ -1,5 +1,6 @@
 //! `raftbench chart FILE [--until LINE]`: the picture of a script.
 
+use crate::chart_over::chart_over;
 use crate::job::{Job, run_job};
 use crate::misuse::{Misuse, misused};
 use crate::page::name_of;
@@ -7,7 +8,6 @@ use crate::refusal::Refusal;
 use rb_bench::{BenchFault, Outlet};
 use rb_check::Status;
 use rb_line::Source;
-use rb_pages::chart_over;
 use rb_text::number_of;
 use std::alloc::Global;
 use std::rt::Files;

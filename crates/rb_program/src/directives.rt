@@ -1,5 +1,7 @@
 //! `raftbench directives`: what directives there are, or one of them.
 
+ghost use Rattle.std.specs.Prelude.{◌≡◌, IfOk};
+
 use crate::misuse::Misuse;
 use crate::refusal::Refusal;
 use rb_check::Status;
@@ -10,10 +12,16 @@ use std::io;
 use std::io::{BufWriter, Write};
 
 /// Shows the directive of this name, or an overview of all.
-pub(crate) fn directives<R: Print + AllocGlobal>(
+///
+/// # Errors
+///
+/// Why it was not done: no directive has the name, it could not be written, or memory was refused.
+pub fn show_directives<R: Print + AllocGlobal>(
     rt: &R,
     name: Option<&str>,
-) -> Result<Status, Refusal> {
+) -> Result<Status, Refusal>
+    ensures { IfOk result (λ status. status ≡ Status.Matched) }
+{
     let alloc = rt.alloc();
     let page = match name {
         Some(name) => Some(page_named(alloc, name)?),
@@ -37,7 +45,9 @@ fn page_named(alloc: Global, name: &str) -> Result<&'static [u8], Refusal> {
 }
 
 /// What it comes to that this was written, or was not.
-pub(crate) fn status_of(written: Result<(), WriteFault>) -> Result<Status, Refusal> {
+pub(crate) fn status_of(written: Result<(), WriteFault>) -> Result<Status, Refusal>
+    ensures { IfOk result (λ status. status ≡ Status.Matched) }
+{
     match written {
         Ok(()) => Ok(Status::Matched),
         Err(_) => Err(Refusal::Io),

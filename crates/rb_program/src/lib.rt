@@ -1,26 +1,35 @@
 //! What the program does for each of its subcommands but `lsp`, over the files, the streams, the environment and the clock of a runtime.
 //!
-//! [`check_all`] checks scripts, and [`carry_out`] does what the others ask for. Both give the status that it ended with, or why it was not done: a
-//! [`Refusal`], which says so on standard error.
+//! [`check_all`] checks scripts, [`show_directives`] shows what directives there are, and [`carry_out`] does what is asked for with one script.
+//! Each gives the status that it ended with, or why it was not done: a [`Refusal`], which says so on standard error.
+//!
+//! `page_over` reads a script, runs it and writes its page, and `chart_over` the picture of its run: what rb_bench's `run_over` is for a report,
+//! with the same faults and statuses. They write nothing before all memory is there.
 #![tactic(auto)]
 
 mod chart;
+mod chart_over;
 mod checking;
 mod clusters;
 mod colors;
 mod directives;
 mod job;
+mod laws;
 mod look;
 mod misuse;
 mod page;
+mod page_over;
 mod refusal;
 mod running;
+mod script_steps;
 mod spacing;
 mod style;
 mod subcommands;
 mod target;
 
 pub use checking::{Terminals, check_all};
+pub use directives::show_directives;
+pub use laws::pages_are_one;
 pub use misuse::Misuse;
 pub use refusal::Refusal;
 pub use subcommands::carry_out;

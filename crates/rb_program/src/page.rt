@@ -1,19 +1,31 @@
 //! `raftbench page FILE`: the page of a script.
 
-use crate::job::Job;
+use crate::job::{Job, run_job};
+use crate::page_over::page_over;
+use crate::refusal::Refusal;
 use rb_bench::{BenchFault, Outlet};
 use rb_check::Status;
 use rb_frame::{back, front};
 use rb_line::Source;
-use rb_pages::page_over;
 use rb_steps::Frame;
 use std::alloc::Global;
+use std::rt::Files;
 
-/// The page of a script, under this name.
+/// Writes the page of the script in the file, or on standard input.
+pub(crate) fn page<R: Files + Input + Print + AllocGlobal>(
+    rt: &R,
+    file: &str,
+    every: u64,
+) -> Result<Status, Refusal> {
+    let name = name_of(file).as_bytes();
+    run_job(rt, file, &Paging { name, every })
+}
+
+// The page of a script, under this name.
 #[derive(Drop)]
-pub(crate) struct Paging<'a> {
-    pub(crate) name: &'a [u8],
-    pub(crate) every: u64,
+struct Paging<'a> {
+    name: &'a [u8],
+    every: u64,
 }
 
 impl<'a> Job for Paging<'a> {

@@ -1,6 +1,6 @@
 //! `raftbench run|rewrite|session FILE`: the report of a script, its text with its outputs, and a session on it.
 
-use crate::job::{Job, run_from};
+use crate::job::{Job, run_from, run_job};
 use crate::refusal::Refusal;
 use rb_bench::{BenchFault, Mode, Outlet, run_over, serve};
 use rb_check::Status;
@@ -10,11 +10,21 @@ use std::alloc::Global;
 use std::fs::File;
 use std::rt::Files;
 
-/// The report of a script, or its text with its outputs.
+/// Writes the report of the script in the file, or on standard input, or its text with its outputs.
+pub(crate) fn run<R: Files + Input + Print + AllocGlobal>(
+    rt: &R,
+    file: &str,
+    mode: Mode,
+    every: u64,
+) -> Result<Status, Refusal> {
+    run_job(rt, file, &Running { mode, every })
+}
+
+// The report of a script, or its text with its outputs.
 #[derive(Drop)]
-pub(crate) struct Running {
-    pub(crate) mode: Mode,
-    pub(crate) every: u64,
+struct Running {
+    mode: Mode,
+    every: u64,
 }
 
 impl Job for Running {

@@ -1,6 +1,6 @@
 //! How what differs is written.
 
-use rb_formats::Format;
+use rb_suite::Format;
 
 /// What `--format` asks for.
 #[derive(Clone, Copy, PartialEq, Eq)]

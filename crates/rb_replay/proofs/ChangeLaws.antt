@@ -1,5 +1,5 @@
 -- What an edit changes.
-use Rattle.std.proofs.Common.{◌≡◌, ℕ, zero, suc, ◌+◌, ◌-◌, ◌≤◌, Bool, true, false, List, [], ◌∷◌, ◌++◌, length, take, drop, map, refl, ap, sym, subst, ◌∙◌, arith, get_or, append_assoc}
+use Rattle.std.proofs.Common.{◌≡◌, ℕ, zero, suc, ◌+◌, ◌-◌, ◌≤◌, Bool, true, false, List, [], ◌∷◌, ◌++◌, length, take, drop, map, refl, ap, ap₂, sym, subst, ◌∙◌, arith, get_or, append_assoc}
 use Rattle.std.specs.Prelude.{Result, Ok, Option, IfSome, insert, remove, slice_set, nat_lt, nat_le, not}
 use Rattle.std.specs.List.{list_all}
 use Rattle.std.proofs.lemmas.Bool.Decides.{nat_tests}
@@ -22,7 +22,7 @@ use Rattle.rb_replay.specs.Report.{differing, mismatches}
 use Rattle.rb_replay.specs.Holding.{Holding, IsFresh}
 use Rattle.rb_replay.specs.Reuse.{Change, change_by, effect_of, change, change_of, change_for, IsChange, IsOneBlock}
 use Rattle.rb_replay.specs.Splices.{no_splice, IsMended}
-use Rattle.rb_replay.proofs.RunLaws.{both, outputs-same, length-outputs}
+use Rattle.rb_replay.proofs.RunLaws.{outputs-same, length-outputs}
 use Rattle.rb_replay.proofs.DifferingLaws.{differing-accepted}
 
 -- ---- what an edit that is not refused makes
@@ -92,7 +92,7 @@ spliced-change h new f put r t fresh made fr rf rs few t_is =
     let bs : List PlainBlock = h.script.blocks in
     let long : length (take f h.script.blocks) ≡ f = length-take-le f h.script.blocks (omega arith) in
     let joined : length (take f h.script.blocks ++ put) ≡ t = length-append (take f h.script.blocks) put ∙ omega arith in
-    let whole : length (take f h.script.blocks ++ (put ++ drop r h.script.blocks)) ≡ f + (length put + (length h.script.blocks - r)) = length-append (take f h.script.blocks) (put ++ drop r h.script.blocks) ∙ both (λ (a b : ℕ). a + b) long (length-append put (drop r h.script.blocks) ∙ ap (λ (a : ℕ). length put + a) (length-drop r h.script.blocks)) in
+    let whole : length (take f h.script.blocks ++ (put ++ drop r h.script.blocks)) ≡ f + (length put + (length h.script.blocks - r)) = length-append (take f h.script.blocks) (put ++ drop r h.script.blocks) ∙ ap₂ (λ (a b : ℕ). a + b) long (length-append put (drop r h.script.blocks) ∙ ap (λ (a : ℕ). length put + a) (length-drop r h.script.blocks)) in
     let size : length new.blocks ≡ f + (length put + (length h.script.blocks - r)) = ap length (sym made) ∙ whole in
     let front : take f new.blocks ≡ take f h.script.blocks = ap (take f) (sym made) ∙ take_at (take f h.script.blocks) (put ++ drop r h.script.blocks) f long in
     let rest : drop t new.blocks ≡ drop r h.script.blocks = ap (drop t) (sym made) ∙ ap (drop t) (sym (append_assoc (take f h.script.blocks) put (drop r h.script.blocks))) ∙ drop_at (take f h.script.blocks ++ put) (drop r h.script.blocks) t joined in
@@ -165,7 +165,7 @@ all-directives : (bs : List PlainBlock) (os : List (List Line)) → length os �
 unfolding all_expecting
 all-directives [] os e = refl
 all-directives (b ∷ bs) [] e = absurd (omega arith)
-all-directives (b ∷ bs) (o ∷ os) e = both (λ (x : PlainDirective) (xs : List PlainDirective). x ∷ xs) (expecting-directive b o) (all-directives bs os (omega arith))
+all-directives (b ∷ bs) (o ∷ os) e = ap₂ (λ (x : PlainDirective) (xs : List PlainDirective). x ∷ xs) (expecting-directive b o) (all-directives bs os (omega arith))
 
 pub expect-directives : (s new : PlainScript) (k : ℕ) (lines : List Line) (os : List (List Line)) → edited s (Expect k lines) os ≡ Ok new → directives new ≡ directives s
 expect-directives s new k lines os e =

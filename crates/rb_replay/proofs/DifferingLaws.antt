@@ -1,5 +1,5 @@
 -- Laws of mismatches.
-use Rattle.std.proofs.Common.{◌≡◌, ℕ, zero, suc, ◌+◌, ◌-◌, ◌<◌, ◌≤◌, List, [], ◌∷◌, ◌++◌, length, take, drop, map, refl, ap, sym, ◌∙◌, arith, Bool, Some, true, false, append_assoc}
+use Rattle.std.proofs.Common.{◌≡◌, ℕ, zero, suc, ◌+◌, ◌-◌, ◌<◌, ◌≤◌, List, [], ◌∷◌, ◌++◌, length, take, drop, map, refl, ap, ap₂, sym, ◌∙◌, arith, Bool, Some, true, false, append_assoc}
 use Rattle.std.specs.Prelude.{filter, nat_lt, nat_le, Decides, slice_get}
 use Rattle.std.specs.List.{AllByRecursion}
 use Rattle.std.proofs.lemmas.Bool.{le-leb}
@@ -13,7 +13,7 @@ use Rattle.rb_replay.specs.Run.{outputs}
 use Rattle.rb_replay.specs.Report.{same_lines, differing, mismatches}
 use Rattle.rb_replay.specs.Points.{IsRising}
 use Rattle.rb_replay.specs.Splices.{IsMended}
-use Rattle.rb_replay.proofs.RunLaws.{both, length-outputs}
+use Rattle.rb_replay.proofs.RunLaws.{length-outputs}
 use Rattle.rb_replay.proofs.PartLaws.{nothing_below}
 use Rattle.rb_text.proofs.SentLaws.{drop-get}
 
@@ -29,7 +29,7 @@ module _ (to i : ℕ) (bs : List PlainBlock) (os : List (List Line)) (b : PlainB
   one_on : differing (i + 1) (drop i bs) (take (to - i) (drop i os)) ≡ differing (i + 1) (b ∷ drop (i + 1) bs) (o ∷ take (to - (i + 1)) (drop (i + 1) os))
   one_on =
       let more : to - i ≡ suc (to - (i + 1)) = omega arith in
-      both (differing (i + 1)) (drop-get bs i b block) (both (λ (n : ℕ) (l : List (List Line)). take n l) more (drop-get os i o output))
+      ap₂ (differing (i + 1)) (drop-get bs i b block) (ap₂ (λ (n : ℕ) (l : List (List Line)). take n l) more (drop-get os i o output))
 
   pub differing_same : same_lines b.expected o ≡ true → differing (i + 1) (drop i bs) (take (to - i) (drop i os)) ≡ differing (i + 1 + 1) (drop (i + 1) bs) (take (to - (i + 1)) (drop (i + 1) os))
   differing_same same = one_on ∙ (rw same refl)
@@ -110,7 +110,7 @@ differing-moved r t place to [] os le e = refl
 differing-moved r t place to (b ∷ bs) [] le e = refl
 differing-moved r t place to (b ∷ bs) (o ∷ os) le e =
     let ih : map (λ (p : ℕ). p - r + t) (differing (place + 1) bs os) ≡ differing (to + 1) bs os = differing-moved r t (place + 1) (to + 1) bs os (omega arith) (omega arith) in
-    test_cases (same_lines b.expected o) (λ yes. rw yes ih) (λ no. rw no (both (λ (q : ℕ) (qs : List ℕ). q ∷ qs) (sym e) ih))
+    test_cases (same_lines b.expected o) (λ yes. rw yes ih) (λ no. rw no (ap₂ (λ (q : ℕ) (qs : List ℕ). q ∷ qs) (sym e) ih))
 
 -- no more outputs than there are count
 pub differing-take : (place : ℕ) (bs : List PlainBlock) (os : List (List Line)) → differing place (take (length os) bs) os ≡ differing place bs os
@@ -153,7 +153,7 @@ mended-differing old new splice from os stop m =
     let rest_len : length (drop from new.blocks) ≡ length new.blocks - from = length-drop from new.blocks in
     let mids : length (take (length os) (drop from new.blocks)) ≡ length os = length-take-le (length os) (drop from new.blocks) (omega (arith, m.new_within)) in
     let first : filter (λ p. nat_lt p (from + 1)) (mismatches old) ≡ differing 1 (take from new.blocks) (take from (outputs new)) =
-    ap (λ (n : ℕ). filter (λ p. nat_lt p n) (mismatches old)) one ∙ differing-before 1 from old.blocks (outputs old) ∙ both (differing 1) (sym m.same_front) (sym m.same_answers) in
+    ap (λ (n : ℕ). filter (λ p. nat_lt p n) (mismatches old)) one ∙ differing-before 1 from old.blocks (outputs old) ∙ ap₂ (differing 1) (sym m.same_front) (sym m.same_answers) in
     let second : differing (from + 1) (drop from new.blocks) os ≡ differing (1 + from) (take (length os) (drop from new.blocks)) os =
     ap (λ (n : ℕ). differing n (drop from new.blocks) os) one ∙ sym (differing-take (1 + from) (drop from new.blocks) os) in
     let to : 1 + from + length os ≡ 1 + stop - splice.old_rest + splice.new_rest = omega (arith, m.moved, m.in_rest) in
@@ -161,20 +161,20 @@ mended-differing old new splice from os stop m =
     ap (λ (n : ℕ). map (λ (p : ℕ). p - splice.old_rest + splice.new_rest) (filter (λ p. nat_le n p) (mismatches old))) last
     ∙ ap (map (λ (p : ℕ). p - splice.old_rest + splice.new_rest)) (differing-from 1 stop old.blocks (outputs old))
     ∙ differing-moved splice.old_rest splice.new_rest (1 + stop) (1 + from + length os) (drop stop old.blocks) (drop stop (outputs old)) (omega (arith, m.in_rest)) to
-    ∙ both (differing (1 + from + length os)) (sym m.same_rest) (sym m.same_end) in
+    ∙ ap₂ (differing (1 + from + length os)) (sym m.same_rest) (sym m.same_end) in
     let blocks : take from new.blocks ++ (take (length os) (drop from new.blocks) ++ drop (from + length os) new.blocks) ≡ new.blocks =
     ap (λ (bs : List PlainBlock). take from new.blocks ++ (take (length os) (drop from new.blocks) ++ bs)) (ap (λ (n : ℕ). drop n new.blocks) (omega arith) ∙ sym (drop-drop (length os) from new.blocks))
     ∙ ap (λ (bs : List PlainBlock). take from new.blocks ++ bs) (take-append-drop (length os) (drop from new.blocks)) ∙ take-append-drop from new.blocks in
     let outs : take from (outputs new) ++ (os ++ drop (from + length os) (outputs new)) ≡ outputs new =
     sym (append_assoc (take from (outputs new)) os (drop (from + length os) (outputs new))) ∙ ap (λ (o : List (List Line)). o ++ drop (from + length os) (outputs new)) m.answers_on ∙ take-append-drop (from + length os) (outputs new) in
     let split : mismatches new ≡ differing 1 (take from new.blocks) (take from (outputs new)) ++ (differing (1 + from) (take (length os) (drop from new.blocks)) os ++ differing (1 + from + length os) (drop (from + length os) new.blocks) (drop (from + length os) (outputs new))) =
-    sym (both (differing 1) blocks outs)
+    sym (ap₂ (differing 1) blocks outs)
     ∙ differing-append 1 (take from new.blocks) (take from (outputs new)) (os ++ drop (from + length os) (outputs new)) (take (length os) (drop from new.blocks) ++ drop (from + length os) new.blocks) (omega arith)
     ∙ ap (λ (n : ℕ). differing 1 (take from new.blocks) (take from (outputs new)) ++ differing (1 + n) (take (length os) (drop from new.blocks) ++ drop (from + length os) new.blocks) (os ++ drop (from + length os) (outputs new))) fronts
     ∙ ap (λ (ps : List ℕ). differing 1 (take from new.blocks) (take from (outputs new)) ++ ps)
     (differing-append (1 + from) (take (length os) (drop from new.blocks)) os (drop (from + length os) (outputs new)) (drop (from + length os) new.blocks) mids
     ∙ ap (λ (n : ℕ). differing (1 + from) (take (length os) (drop from new.blocks)) os ++ differing (1 + from + n) (drop (from + length os) new.blocks) (drop (from + length os) (outputs new))) mids) in
-    both (λ (a b : List ℕ). a ++ b) first (both (λ (a b : List ℕ). a ++ b) second third) ∙ sym split
+    ap₂ (λ (a b : List ℕ). a ++ b) first (ap₂ (λ (a b : List ℕ). a ++ b) second third) ∙ sym split
 
 -- a script's mismatches are ascending, and are places of it
 pub mismatches-rising : (s : PlainScript) → IsRising 0 (mismatches s)

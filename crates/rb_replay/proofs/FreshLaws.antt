@@ -1,5 +1,5 @@
 -- What a session holds is fresh.
-use Rattle.std.proofs.Common.{◌≡◌, ℕ, ◌+◌, ◌/◌, ◌≤◌, List, [], ◌∷◌, ◌++◌, length, take, drop, map, ap, sym, ◌∙◌, arith, subst}
+use Rattle.std.proofs.Common.{◌≡◌, ℕ, ◌+◌, ◌/◌, ◌<◌, ◌≤◌, List, [], ◌∷◌, ◌++◌, length, take, drop, map, ap, ap₂, sym, ◌∙◌, arith, subst}
 use Rattle.std.proofs.Math.Nat.{div-eq_of_lt}
 use Rattle.std.proofs.lemmas.List.{map-append, take-map, drop-map}
 use Rattle.rb_script.specs.declared.limits.TheConstants.{MAX_DIRECTIVES}
@@ -11,7 +11,14 @@ use Rattle.rb_replay.specs.Report.{mismatches}
 use Rattle.rb_replay.specs.Points.{AreKept, every, start_points}
 use Rattle.rb_replay.specs.Holding.{Holding, IsFresh}
 use Rattle.rb_replay.proofs.NearLaws.{start-kept}
-use Rattle.rb_replay.proofs.RunLaws.{both, outputs-same, states-same, lengths-same}
+use Rattle.rb_replay.proofs.RunLaws.{outputs-same, states-same, lengths-same}
+
+-- what a session holds of outputs and mismatches, seen from within
+pub held-outputs : {inside h : Holding} → inside ≡ h → IsFresh inside → inside.outputs ≡ outputs h.script
+held-outputs view fresh = fresh.answered ∙ ap (λ (h : Holding). outputs h.script) view
+
+pub held-mismatches : {inside h : Holding} → inside ≡ h → IsFresh inside → inside.mismatches ≡ mismatches h.script
+held-mismatches view fresh = fresh.compared ∙ ap (λ (h : Holding). mismatches h.script) view
 
 -- a script of the same directives
 pub fresh-same : (h inside : Holding) (new : PlainScript) (ms : List ℕ) → inside ≡ h → IsFresh inside → directives new ≡ directives h.script → ms ≡ mismatches new
@@ -32,11 +39,11 @@ fresh-same h inside new ms view fresh same compared =
 pub joined-map : {M : Type 0} (meaning : M → Cluster) (f r : ℕ) (kept fresh : List M) → map meaning (take f kept ++ (fresh ++ drop r kept)) ≡ take f (map meaning kept) ++ (map meaning fresh ++ drop r (map meaning kept))
 joined-map meaning f r kept fresh =
     map-append meaning (take f kept) (fresh ++ drop r kept)
-    ∙ both (λ (a b : List Cluster). a ++ b) (sym (take-map meaning f kept)) (map-append meaning fresh (drop r kept) ∙ ap (λ (b : List Cluster). map meaning fresh ++ b) (sym (drop-map meaning r kept)))
+    ∙ ap₂ (λ (a b : List Cluster). a ++ b) (sym (take-map meaning f kept)) (map-append meaning fresh (drop r kept) ∙ ap (λ (b : List Cluster). map meaning fresh ++ b) (sym (drop-map meaning r kept)))
 
 -- Where the spacing is past the end, the empty cluster alone is kept.
-pub start-alone : (n : ℕ) → start_points (n + 1) n ≡ 0 ∷ []
-start-alone n = let none : n / (n + 1) ≡ 0 = div-eq_of_lt (omega arith) in ap (λ (j : ℕ). 0 ∷ every (n + 1) 0 j) none
+pub start-alone : (K n : ℕ) → n < K → start_points K n ≡ 0 ∷ []
+start-alone K n lt = let none : n / K ≡ 0 = div-eq_of_lt lt in ap (λ (j : ℕ). 0 ∷ every K 0 j) none
 
 -- what a run of the whole script gives
 pub fresh-whole : (s : PlainScript) (K : ℕ) (os : List (List Line)) (ms points : List ℕ) (kept : List Cluster) → 1 ≤ K → length s.blocks ≤ MAX_DIRECTIVES → os ≡ outputs s → ms ≡ mismatches s → points ≡ start_points K (length s.blocks) → kept ≡ map (state s) points

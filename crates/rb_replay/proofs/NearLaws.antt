@@ -1,5 +1,5 @@
 -- The points of a changed script are near.
-use Rattle.std.proofs.Common.{◌≡◌, ℕ, zero, suc, ◌+◌, ◌-◌, ◌*◌, ◌/◌, ◌<◌, ◌≤◌, max, min, List, [], ◌∷◌, ◌++◌, length, map, refl, ap, sym, ◌∙◌, arith, Option, Some, None, inl, inr, get_or, true, false, subst}
+use Rattle.std.proofs.Common.{◌≡◌, ℕ, zero, suc, ◌+◌, ◌-◌, ◌*◌, ◌/◌, ◌<◌, ◌≤◌, max, min, List, [], ◌∷◌, ◌++◌, length, map, refl, ap, ap₂, sym, ◌∙◌, arith, Option, Some, None, inl, inr, get_or, true, false, subst}
 use Rattle.std.specs.Prelude.{Contains, filter, nat_lt, nat_le}
 use Rattle.std.proofs.lemmas.Bool.{cases_lt, le-leb, lt-leb}
 use Rattle.std.proofs.lemmas.Bool.Decides.{leb_tells}
@@ -7,7 +7,6 @@ use Rattle.std.proofs.lemmas.List.{append-nil}
 use Rattle.std.proofs.Math.Nat.{div-eq_of_lt, div-mul-le_self, lt-div-mul-add}
 use Rattle.rb_replay.specs.Points.{IsRising, AreNear, AreKept, AreSparse, AreSparseAfter, last_up_to, every}
 use Rattle.rb_replay.specs.Reuse.{Change, start, old_point, new_point, Meets, IsFirstMeeting, IsChange, fresh_points, points_before, points_after}
-use Rattle.rb_replay.proofs.RunLaws.{both}
 use Rattle.rb_replay.proofs.NextLaws.{rising-first}
 use Rattle.rb_replay.proofs.PointLaws.{StartNear, thin-kept}
 use Rattle.rb_replay.proofs.PartLaws.{nothing_below}
@@ -162,7 +161,7 @@ before-rising c o is first = start-rising c.spacing (length c.new.blocks) (point
 -- the points that a start keeps
 every-first : (K from j : ℕ) → every K from (suc j) ≡ (from + K) ∷ every K (from + K) j
 every-first K from zero = ap (λ (x : ℕ). x ∷ []) (omega arith)
-every-first K from (suc j) = both (λ (xs : List ℕ) (x : ℕ). xs ++ x ∷ []) (every-first K from j) (omega arith)
+every-first K from (suc j) = ap₂ (λ (xs : List ℕ) (x : ℕ). xs ++ x ∷ []) (every-first K from j) (omega arith)
 
 every-sparse : (K a j : ℕ) → 1 ≤ K → AreSparse K a (a + K) (every K (a + K) j)
 every-sparse K a zero one = tt

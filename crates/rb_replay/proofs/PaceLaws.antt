@@ -1,11 +1,10 @@
 -- Laws of points that are kept on the way.
-use Rattle.std.proofs.Common.{◌≡◌, ℕ, suc, ◌+◌, ◌-◌, ◌*◌, ◌/◌, ◌<◌, ◌≤◌, List, [], ◌∷◌, ◌++◌, length, refl, ap, sym, ◌∙◌, arith, inl, inr}
+use Rattle.std.proofs.Common.{◌≡◌, ℕ, suc, ◌+◌, ◌-◌, ◌*◌, ◌/◌, ◌<◌, ◌≤◌, List, [], ◌∷◌, ◌++◌, length, refl, ap, ap₂, sym, ◌∙◌, arith, inl, inr}
 use Rattle.std.proofs.lemmas.List.{length_push}
 use Rattle.std.proofs.lemmas.Nat.{div-mul-add}
 use Rattle.std.proofs.lemmas.Bool.{cases_lt}
 use Rattle.rb_replay.specs.Points.{every}
 use Rattle.rb_replay.specs.Running.{IsPaced, IsPacedOn}
-use Rattle.rb_replay.proofs.RunLaws.{both}
 
 pub paced_start : (K from : ℕ) → IsPaced K from from K []
 paced_start K from = record { so_far = refl; next = omega arith; most = omega arith; fresh = λ _. refl }
@@ -15,7 +14,7 @@ paced_push K from at due ps one none p =
     let more : length (ps ++ at ∷ []) ≡ suc (length ps) = length_push ps at ∙ omega arith in
     let here : at ≡ from + suc (length ps) * K = omega (arith, p.next) in
     record {
-      so_far = both (λ (s : List ℕ) (x : ℕ). s ++ x ∷ []) p.so_far here ∙ sym (ap (every K from) more);
+      so_far = ap₂ (λ (s : List ℕ) (x : ℕ). s ++ x ∷ []) p.so_far here ∙ sym (ap (every K from) more);
       next = rw more (omega (arith, here));
       least = one;
       most = omega arith;

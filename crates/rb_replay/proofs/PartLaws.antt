@@ -1,11 +1,10 @@
 -- Laws of the plain work on points.
-use Rattle.std.proofs.Common.{◌≡◌, ℕ, zero, suc, ◌+◌, ◌-◌, ◌<◌, ◌≤◌, List, [], ◌∷◌, ◌++◌, length, take, drop, map, refl, ap, sym, ◌∙◌, arith, get_or, true, false, subst}
+use Rattle.std.proofs.Common.{◌≡◌, ℕ, zero, suc, ◌+◌, ◌-◌, ◌<◌, ◌≤◌, List, [], ◌∷◌, ◌++◌, length, take, drop, map, refl, ap, ap₂, sym, ◌∙◌, arith, get_or, true, false, subst}
 use Rattle.std.specs.Prelude.{All, filter, nat_lt, nat_le, remove}
 use Rattle.std.proofs.lemmas.Bool.{le-leb}
 use Rattle.std.proofs.lemmas.Bool.Decides.{nat_tests}
 use Rattle.std.proofs.lemmas.List.{take_at, drop_at, map-append, take-map, length-take-le, drop_more, drop_all, take_all, drop-drop, take_more, take_rest, drop-map}
 use Rattle.std.proofs.lemmas.List.Elements.{All-drop}
-use Rattle.rb_replay.proofs.RunLaws.{both}
 use Rattle.std.proofs.lemmas.List.Edits.{get_or-remove_below, get_or-remove_above}
 use Rattle.rb_replay.specs.Points.{thin_after, IsRising}
 
@@ -71,7 +70,7 @@ thinned_end K i ps all =
 
 -- what is kept goes with its point
 pub map-remove : {A B : Type 0} (f : A → B) (xs : List A) (i : ℕ) → map f (remove xs i) ≡ remove (map f xs) i
-map-remove f xs i = map-append f (take i xs) (drop (suc i) xs) ∙ both (λ s t. s ++ t) (sym (take-map f i xs)) (sym (drop-map f (suc i) xs))
+map-remove f xs i = map-append f (take i xs) (drop (suc i) xs) ∙ ap₂ (λ s t. s ++ t) (sym (take-map f i xs)) (sym (drop-map f (suc i) xs))
 
 pub kept-remove : {A B C : Type 0} (f : A → C) (h : B → C) (xs : List A) (ys : List B) (i : ℕ) → map f xs ≡ map h ys → map f (remove xs i) ≡ map h (remove ys i)
 kept-remove f h xs ys i same = map-remove f xs i ∙ ap (λ t. remove t i) same ∙ sym (map-remove h ys i)

@@ -1,5 +1,5 @@
 -- Laws of what stands ready for a change.
-use Rattle.std.proofs.Common.{◌≡◌, ℕ, zero, suc, ◌+◌, ◌-◌, ◌<◌, ◌≤◌, max, min, Bool, List, [], ◌∷◌, ◌++◌, length, take, drop, map, refl, ap, sym, ◌∙◌, arith, get_or, true, false, cond, append_assoc, Option, Some, None}
+use Rattle.std.proofs.Common.{◌≡◌, ℕ, zero, suc, ◌+◌, ◌-◌, ◌<◌, ◌≤◌, max, min, Bool, List, [], ◌∷◌, ◌++◌, length, take, drop, map, refl, ap, ap₂, sym, ◌∙◌, arith, get_or, true, false, cond, append_assoc, Option, Some, None}
 use Rattle.std.specs.Prelude.{All, filter, nat_lt, nat_le, Result, Ok, Err, OnErr}
 use Rattle.std.proofs.lemmas.Bool.{le-leb, lt-leb, leb-true, ltb-true}
 use Rattle.std.proofs.lemmas.Bool.Decides.{nat_tests}
@@ -14,7 +14,7 @@ use Rattle.rb_replay.specs.Run.{directives, state, outputs}
 use Rattle.rb_replay.specs.Points.{IsRising, AreNear, AreKept, last_up_to}
 use Rattle.rb_replay.specs.Reuse.{Change, start, stop, old_point, new_point, Meets, IsFirstMeeting, IsChange, StayWhole, fresh_points, points_before}
 use Rattle.rb_replay.specs.Splices.{front_bound, old_stop, run_points, IsRejoin, IsMended}
-use Rattle.rb_replay.proofs.RunLaws.{both, outputs-front, states-front, length-outputs}
+use Rattle.rb_replay.proofs.RunLaws.{outputs-front, states-front, length-outputs}
 use Rattle.rb_replay.proofs.NextLaws.{rising-first}
 use Rattle.rb_replay.proofs.PointLaws.{kept-all}
 use Rattle.rb_replay.proofs.ReuseLaws.{parts-on, outputs-after, states-after, start-le, kept-within, stop-within}
@@ -41,7 +41,7 @@ from-kept a x zero (p ∷ ps) rising lt is =
     let yes : nat_le x p ≡ true = le-leb x p (omega arith) in
     let past : nat_le (x + 1) p ≡ false = grind (arith, nat_tests) in
     let after : IsRising (p + 1) ps = rising.1 in
-    rw (yes, past) (both (λ (q : ℕ) (qs : List ℕ). q ∷ qs) is (all-from (p + 1) x ps (omega arith) rising.1 ∙ sym (all-from (p + 1) (x + 1) ps (omega arith) rising.1)))
+    rw (yes, past) (ap₂ (λ (q : ℕ) (qs : List ℕ). q ∷ qs) is (all-from (p + 1) x ps (omega arith) rising.1 ∙ sym (all-from (p + 1) (x + 1) ps (omega arith) rising.1)))
 from-kept a x (suc k) (p ∷ ps) rising lt is =
     let above : p + 1 ≤ get_or ps k x = rising-first (p + 1) k x ps rising.1 (omega arith) in
     let before : nat_le x p ≡ false = grind (arith, nat_tests) in
@@ -90,7 +90,7 @@ start-before q (suc k) ps rising one le below above =
 pub points-met : (c : Change) (s : ℕ) → IsChange c → Meets c s → s ∷ map (new_point c) (filter (λ p. nat_le (old_point c s + 1) p) c.points) ≡ map (new_point c) (filter (λ p. nat_le (old_point c s) p) c.points)
 points-met c s is m =
     let back : s ≡ new_point c (old_point c s) = there c s m.in_rest in
-    both (λ (q : ℕ) (qs : List ℕ). q ∷ qs) back refl ∙ sym (ap (map (new_point c)) (from-kept 0 (old_point c s) m.is_kept.0 c.points (kept-rising c.spacing (length c.old.blocks) c.points is.kept) m.is_kept.1 m.is_kept.2))
+    ap₂ (λ (q : ℕ) (qs : List ℕ). q ∷ qs) back refl ∙ sym (ap (map (new_point c)) (from-kept 0 (old_point c s) m.is_kept.0 c.points (kept-rising c.spacing (length c.old.blocks) c.points is.kept) m.is_kept.1 m.is_kept.2))
   where
     there : (c : Change) (s : ℕ) → c.new_rest ≤ s → s ≡ new_point c (old_point c s)
     there c s le = omega arith
@@ -144,7 +144,7 @@ start-old c o is first = let le : start c ≤ c.front = start-le c in let rest :
 -- the old outputs before the start and after the stop, and those of the run between them
 pub outputs-ready : (c : Change) (o : Option ℕ) (os : List (List Line)) → IsChange c → IsFirstMeeting c o → take (start c) (outputs c.new) ++ os ≡ take (stop c o) (outputs c.new) → take (start c) (outputs c.old) ++ (os ++ drop (old_stop c o) (outputs c.old)) ≡ outputs c.new
 outputs-ready c o os is first on =
-    both (λ (a b : List (List Line)). a ++ (os ++ b)) (sym (outputs-front c.new c.old (start c) (front-of c (start c) is (start-le c)))) (sym (outputs-end c o is first))
+    ap₂ (λ (a b : List (List Line)). a ++ (os ++ b)) (sym (outputs-front c.new c.old (start c) (front-of c (start c) is (start-le c)))) (sym (outputs-end c o is first))
     ∙ sym (append_assoc (take (start c) (outputs c.new)) os (drop (stop c o) (outputs c.new)))
     ∙ ap (λ (a : List (List Line)). a ++ drop (stop c o) (outputs c.new)) on
     ∙ take-append-drop (stop c o) (outputs c.new)
@@ -217,7 +217,7 @@ same-at f h test n [] all same = refl
 same-at f h test n (p ∷ ps) all same =
     let rest : map f (filter test ps) ≡ map h (filter test ps) = same-at f h test n ps (All-tail (λ p. p ≤ n) p ps all) same in
     elim (test p) as (λ b. test p ≡ b → map f (cond b (p ∷ filter test ps) (filter test ps)) ≡ map h (cond b (p ∷ filter test ps) (filter test ps))) [
-      | true ↦ λ yes. both (λ (x : Cluster) (xs : List Cluster). x ∷ xs) (same p yes (All-head (λ p. p ≤ n) p ps all)) rest
+      | true ↦ λ yes. ap₂ (λ (x : Cluster) (xs : List Cluster). x ∷ xs) (same p yes (All-head (λ p. p ≤ n) p ps all)) rest
       | false ↦ λ no. rest
     ] refl
 
@@ -234,7 +234,7 @@ states-ready c o rejoin kept fresh is first at olds run =
     ∙ same-at (state c.old) (λ p. state c.new (new_point c p)) (λ p. nat_le (old_stop c o + 1) p) (length c.old.blocks) c.points within
     (λ p past le. moved-states c o p is first (leb-true (old_stop c o + 1) p past) le)
     ∙ sym (map-map (state c.new) (new_point c) (filter (λ p. nat_le (old_stop c o + 1) p) c.points)) in
-    both (λ (a b : List Cluster). a ++ b) one (both (λ (a b : List Cluster). a ++ b) run three ∙ sym (map-append (state c.new) (run_points c o) (map (new_point c) (filter (λ p. nat_le (old_stop c o + 1) p) c.points))))
+    ap₂ (λ (a b : List Cluster). a ++ b) one (ap₂ (λ (a b : List Cluster). a ++ b) run three ∙ sym (map-append (state c.new) (run_points c o) (map (new_point c) (filter (λ p. nat_le (old_stop c o + 1) p) c.points))))
     ∙ sym (map-append (state c.new) (filter (λ p. nat_lt p (front_bound c o)) c.points) (run_points c o ++ map (new_point c) (filter (λ p. nat_le (old_stop c o + 1) p) c.points)))
 
 -- the front stays before the rest

@@ -1,5 +1,5 @@
 -- Laws of one run.
-use Rattle.std.proofs.Common.{◌≡◌, ℕ, zero, suc, ◌+◌, ◌-◌, ◌<◌, ◌≤◌, List, [], ◌∷◌, ◌++◌, length, take, drop, map, refl, ap, sym, ◌∙◌, arith, get_or}
+use Rattle.std.proofs.Common.{◌≡◌, ℕ, zero, suc, ◌+◌, ◌-◌, ◌<◌, ◌≤◌, List, [], ◌∷◌, ◌++◌, length, take, drop, map, refl, ap, ap₂, sym, ◌∙◌, arith, get_or}
 use Rattle.std.proofs.lemmas.List.{length-map, drop_more, get_or-map}
 use Rattle.std.proofs.Math.Seq.{take-add}
 use Rattle.rb_script.specs.Lines.{Line}
@@ -9,10 +9,6 @@ use Rattle.rb_script.specs.Reading.{directive_of}
 use Rattle.rb_machine.specs.Cluster.{Cluster, empty}
 use Rattle.rb_machine.specs.Outcome.{outcome}
 use Rattle.rb_replay.specs.Run.{directives, led, answers, state, outputs}
-
--- a function of two equal arguments
-pub both : {A B C : Type 0} (f : A → B → C) {a b : A} {x y : B} → a ≡ b → x ≡ y → f a x ≡ f b y
-both {A} {B} {C} f {a} {b} {x} {y} p q = ap (λ (t : A). f t x) p ∙ ap (f b) q
 
 -- the first, and those behind them up to a place
 pub take-between : {T : Type 0} (from to : ℕ) (xs : List T) → from ≤ to → take from xs ++ take (to - from) (drop from xs) ≡ take to xs
@@ -53,11 +49,11 @@ drop-outputs s i = drop-answers empty i (directives s)
 
 -- Scripts whose directives agree from a point on, in equal clusters there, have equal clusters from there on.
 pub states-on : (new old : PlainScript) (i k j : ℕ) → drop i (directives new) ≡ drop k (directives old) → state new i ≡ state old k → state new (i + j) ≡ state old (k + j)
-states-on new old i k j rest same = state-add new i j ∙ both (λ (c : Cluster) (ds : List PlainDirective). led c (take j ds)) same rest ∙ sym (state-add old k j)
+states-on new old i k j rest same = state-add new i j ∙ ap₂ (λ (c : Cluster) (ds : List PlainDirective). led c (take j ds)) same rest ∙ sym (state-add old k j)
 
 -- and equal outputs
 pub outputs-on : (new old : PlainScript) (i k : ℕ) → drop i (directives new) ≡ drop k (directives old) → state new i ≡ state old k → drop i (outputs new) ≡ drop k (outputs old)
-outputs-on new old i k rest same = drop-outputs new i ∙ both (λ (c : Cluster) (ds : List PlainDirective). answers c ds) same rest ∙ sym (drop-outputs old k)
+outputs-on new old i k rest same = drop-outputs new i ∙ ap₂ (λ (c : Cluster) (ds : List PlainDirective). answers c ds) same rest ∙ sym (drop-outputs old k)
 
 -- Scripts with an equal front have equal clusters there, and equal outputs.
 pub states-front : (new old : PlainScript) (i : ℕ) → take i (directives new) ≡ take i (directives old) → state new i ≡ state old i

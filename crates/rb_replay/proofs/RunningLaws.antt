@@ -1,5 +1,5 @@
 -- Laws of a run under way.
-use Rattle.std.proofs.Common.{◌≡◌, ℕ, ◌≤◌, List, [], ◌∷◌, ◌++◌, length, take, map, refl, ap, sym, ◌∙◌, arith, append-nil, Some, None}
+use Rattle.std.proofs.Common.{◌≡◌, ℕ, ◌≤◌, List, [], ◌∷◌, ◌++◌, length, take, map, refl, ap, ap₂, sym, ◌∙◌, arith, append-nil, Some, None}
 use Rattle.std.proofs.lemmas.List.{map-append, length-map}
 use Rattle.rb_script.specs.Script.{PlainScript}
 use Rattle.rb_machine.specs.Cluster.{Cluster}
@@ -8,7 +8,6 @@ use Rattle.rb_replay.specs.Run.{state, outputs}
 use Rattle.rb_replay.specs.Reuse.{Change, start, fresh_points}
 use Rattle.rb_replay.specs.Running.{HasRun, PacedAt, PacedOn}
 use Rattle.rb_replay.specs.Splices.{run_points}
-use Rattle.rb_replay.proofs.RunLaws.{both}
 use Rattle.rb_replay.proofs.PaceLaws.{paced_start, paced_end, paced_meeting}
 
 -- what holds when nothing has run
@@ -33,7 +32,7 @@ running-meeting c ch s one le paced spacing from at = paced_meeting c.spacing c.
 -- a kept cluster more
 pub states-more : {M : Type 0} (meaning : M → Cluster) (s : PlainScript) (kept : List M) (points : List ℕ) (m : M) (at : ℕ) → map meaning kept ≡ map (state s) points → meaning m ≡ state s at → map meaning (kept ++ m ∷ []) ≡ map (state s) (points ++ at ∷ [])
 states-more meaning s kept points m at same here =
-    map-append meaning kept (m ∷ []) ∙ both (λ (a : List Cluster) (b : Cluster). a ++ b ∷ []) same here ∙ sym (map-append (state s) points (at ∷ []))
+    map-append meaning kept (m ∷ []) ∙ ap₂ (λ (a : List Cluster) (b : Cluster). a ++ b ∷ []) same here ∙ sym (map-append (state s) points (at ∷ []))
 
 -- lists with equal images are as long
 pub same-length : {A B C : Type 0} (f : A → C) (h : B → C) (xs : List A) (ys : List B) → map f xs ≡ map h ys → length xs ≡ length ys

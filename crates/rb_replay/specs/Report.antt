@@ -6,8 +6,6 @@ use Rattle.std.specs.Str.{bytes_eq}
 use Rattle.std.specs.Cmp.Lexicographic.{pointwise}
 use Rattle.rb_script.specs.Lines.{Line, text_of}
 use Rattle.rb_script.specs.Script.{PlainBlock, PlainScript, text, with_outputs}
-use Rattle.rb_replay.specs.declared.report.Piece.{Piece}
-use Rattle.rb_replay.specs.declared.report.Piece.TheVariants as pieces
 use Rattle.rb_replay.specs.Run.{outputs, at_place, output_at}
 
 -- the lines are the same
@@ -31,10 +29,6 @@ rewritten s = text (with_outputs s (outputs s))
 -- each line after a mark
 abbrev pub marked : List ℕ → List Line → List Line
 marked mark ls = map (λ line. mark ++ line) ls
-
-abbrev pub piece_text : Piece → List ℕ
-piece_text (pieces.Bytes bytes) = bytes.now
-piece_text (pieces.Number n) = decimal n
 
 abbrev pub mismatch_line : ℕ → Line
 mismatch_line k = codes "mismatch " ++ decimal k

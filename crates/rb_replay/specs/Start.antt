@@ -1,6 +1,7 @@
 -- What a refused start says. (This project's.)
 use Rattle.std.specs.Prelude.{◌≡◌, ℕ, ◌≤◌, ◌+◌, Bool, ◌&&◌, nat_le, List, length, Result}
 use Rattle.rb_script.specs.declared.fault.ScriptFault.{ScriptFault}
+use Rattle.rb_script.specs.declared.fault.ScriptFault.TheVariants as reads
 use Rattle.rb_script.specs.Script.{PlainScript}
 use Rattle.rb_script.specs.Reads.{Reads}
 use Rattle.rb_script.specs.Reading.{Refuses}
@@ -11,6 +12,11 @@ use Rattle.rb_replay.specs.declared.fault.StartFault.TheVariants.{Script, BadSpa
 -- how far apart clusters may be kept
 abbrev pub is_spacing : ℕ → Bool
 is_spacing every = nat_le 1 every && nat_le every MAX_SPACING
+
+-- the fault of a start for one of reading: want of memory is the start's own
+abbrev pub of_reading : ScriptFault → StartFault
+of_reading reads.OutOfMemory = OutOfMemory
+of_reading fault = Script fault
 
 -- why no script was read: its fault is that of reading, and never want of memory
 abbrev pub TellsStartFault : StartFault → Result PlainScript ScriptFault → Type 0

@@ -3,7 +3,7 @@
 ghost use Rattle.std.specs.Prelude.{◌≡◌};
 ghost use Rattle.rb_replay.specs.Reuse.{effect_of};
 
-use crate::ready::{make_room, take_over};
+use crate::ready::take_over;
 use crate::session::{Changed, Session};
 use crate::splice::{Common, Effect, Splice};
 use rb_machine::{Count, Machine};
@@ -105,7 +105,7 @@ impl<M: Machine> Session<M> {
         ensures most { M.Meter.count_of meter.new ≤ M.Meter.count_of meter.old + length new.blocks }
     {
         let ready = self.prepare(&new, splice, common, meter)?;
-        make_room(&ready.running, &mut self.kept)?;
+        self.kept.reserve(ready.running.kept.len())?;
         // From here on nothing can fail.
         let executed = (ready.running.at - ready.running.from) as u64;
         let mismatches = ready.mismatches.len();

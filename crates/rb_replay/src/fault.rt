@@ -2,6 +2,7 @@
 
 ghost use Rattle.std.specs.Prelude.{◌≡◌};
 ghost use Rattle.rb_replay.specs.declared.fault.StartFault.TheVariants.{OutOfMemory as StartOutOfMemory};
+ghost use Rattle.rb_replay.specs.Start.{of_reading};
 
 use rb_script::ScriptFault;
 use std::alloc::AllocError;
@@ -26,5 +27,16 @@ impl From<AllocError> for StartFault {
 
     fn from(_e: AllocError) -> StartFault {
         StartFault::OutOfMemory
+    }
+}
+
+impl From<ScriptFault> for StartFault {
+    ghost from_gives = { λ fault made. made ≡ of_reading fault };
+
+    fn from(fault: ScriptFault) -> StartFault {
+        match fault {
+            ScriptFault::OutOfMemory => StartFault::OutOfMemory,
+            _ => StartFault::Script(fault),
+        }
     }
 }

@@ -11,7 +11,7 @@ use rb_script::{Grouped, Lines, Script};
 use std::alloc::AllocError;
 
 impl<M: Machine> Session<M> {
-    ghost use Rattle.std.specs.Prelude.{◌≡◌, ◌+◌, ◌-◌, ◌≤◌, ◌^◌, ℕ, ◌++◌, length, take, drop, IfOk, OnErr};
+    ghost use Rattle.std.specs.Prelude.{◌≡◌, ◌+◌, ◌-◌, ◌≤◌, ◌^◌, ℕ, length, take, drop, IfOk, OnErr};
     ghost use Rattle.rb_script.specs.declared.limits.TheConstants.{MAX_DIRECTIVES};
     ghost use Rattle.rb_replay.specs.Run.{outputs};
     ghost use Rattle.rb_replay.specs.Report.{mismatches};
@@ -47,25 +47,6 @@ impl<M: Machine> Session<M> {
             &self.mismatches[rest..],
             splice,
         )
-    }
-
-    /// The outputs of the new script after a run: the old ones before it, those of the run, and the old ones behind it.
-    fn outputs_after(
-        &self,
-        new: &Script,
-        splice: Splice,
-        run: &Rerun<M>,
-        old_stop: usize,
-    ) -> Result<Grouped<Lines>, AllocError>
-        requires change { IsChange (change_by self.now new.now splice) }
-        requires few { length new.now.blocks ≤ MAX_DIRECTIVES }
-        requires run { IsRerun M.meaning (change_by self.now new.now splice) run.now }
-        requires old_stop { old_stop ≡ old_stop_of (change_by self.now new.now splice) run.now.met }
-        ensures { IfOk result (λ made. made ≡ outputs new.now) }
-    {
-        let running = &run.running;
-        self.outputs
-            .with_part(self.alloc, running.from, &running.outputs, old_stop)
     }
 
     /// The mismatches of the new script after a run. Where other lines may be expected of any directive, all outputs are compared.
@@ -117,7 +98,13 @@ impl<M: Machine> Session<M> {
         ensures ready { IfOk result (IsReady M.meaning (change_by self.now new.now splice) self.now.kept) }
         ensures running { IfOk result (λ ready. ready.running ≡ run.running) }
     {
-        let outputs = self.outputs_after(new, splice, &run, rejoin.old_stop)?;
+        // The old outputs before the run, its own, and the old ones behind it.
+        let outputs = self.outputs.with_part(
+            self.alloc,
+            run.running.from,
+            &run.running.outputs,
+            rejoin.old_stop,
+        )?;
         let mismatches = self.mismatches_after(
             new,
             splice,

@@ -1,6 +1,6 @@
 //! What stands ready before a session is changed, and taking it over.
 
-ghost use Rattle.std.specs.Prelude.{◌≡◌, ◌+◌, ◌≤◌, ℕ, ◌++◌, length, take, drop, map, OnOk, vec_len, vec_capacity};
+ghost use Rattle.std.specs.Prelude.{◌≡◌, ◌+◌, ◌≤◌, ℕ, ◌++◌, length, take, drop, map, vec_len, vec_capacity};
 ghost use Rattle.rb_machine.specs.Cluster.{Cluster};
 ghost use Rattle.rb_replay.specs.Points.{thin};
 
@@ -9,7 +9,6 @@ use crate::prepare::Rejoin;
 use crate::run::Run;
 use rb_machine::Machine;
 use rb_script::{Grouped, Lines};
-use std::alloc::AllocError;
 
 /// What stands ready: what was run, where the old run goes on, and the outputs, points and mismatches that there
 /// will be.
@@ -20,15 +19,6 @@ pub(crate) struct Ready<M> {
     pub(crate) outputs: Grouped<Lines>,
     pub(crate) points: Vec<usize>,
     pub(crate) mismatches: Vec<usize>,
-}
-
-/// Makes the room that taking over needs. What is held stays.
-pub(crate) fn make_room<M: Machine>(running: &Run<M>, kept: &mut Vec<M>) -> Result<(), AllocError>
-    ensures kept { kept.new.items ≡ kept.old.items }
-    ensures room { OnOk result (vec_len kept.new + vec_len running.now.kept ≤ vec_capacity kept.new) }
-{
-    kept.reserve(running.kept.len())?;
-    Ok(())
 }
 
 /// Puts the clusters that were kept on the way in place of the old, and thins them. It takes no memory.

@@ -3,33 +3,13 @@
 ghost use Rattle.std.specs.Prelude.{◌≡◌, ◌++◌, ◌≤◌, ◌∷◌, [], IsOk, codes, length};
 ghost use Rattle.rb_script.specs.Lines.{text_of, line_text};
 ghost use Rattle.rb_script.specs.Writes.{Writes};
-ghost use Rattle.rb_replay.specs.Report.{marked, mismatch_line, total_line, piece_text};
+ghost use Rattle.rb_replay.specs.Report.{marked, mismatch_line, total_line};
 
 use crate::blocks::block_at;
 use crate::session::Session;
 use rb_machine::Machine;
 use rb_script::{Lines, Sink, WriteFault};
-use rb_text::{WrittenPiece, put_number, put_pieces};
-
-/// A piece of a text.
-#[derive(Clone, Copy)]
-enum Piece<'a> {
-    /// The bytes as they are.
-    Bytes(&'a [u8]),
-    /// A number in decimal digits.
-    Number(u64),
-}
-
-impl WrittenPiece for Piece<'_> {
-    ghost text = { piece_text };
-
-    fn put<S: Sink>(&self, sink: &mut S) -> Result<(), WriteFault> {
-        match *self {
-            Piece::Bytes(bytes) => sink.put(bytes),
-            Piece::Number(n) => put_number(sink, n),
-        }
-    }
-}
+use rb_text::{Piece, put_pieces};
 
 /// Writes each line after a mark.
 fn put_marked<'p, S: Sink>(sink: &mut S, mark: &'p [u8], lines: &'p Lines) -> Result<(), WriteFault>

@@ -1,14 +1,10 @@
 //! Starting a session.
 
-ghost use Rattle.std.specs.Prelude.{◌≡◌, ◌≢◌, ◌+◌, ◌≤◌, ◌^◌, length, map, IfOk, IfErr, IfSome, OnOk, OnErr, Ok, Err};
+ghost use Rattle.std.specs.Prelude.{◌≡◌, ◌+◌, ◌≤◌, ◌^◌, length, map, IfOk, OnOk, OnErr};
 ghost use Rattle.rb_script.specs.declared.limits.TheConstants.{MAX_DIRECTIVES};
-ghost use Rattle.rb_script.specs.Script.{PlainScript};
-ghost use Rattle.rb_script.specs.Reads.{Reads};
-ghost use Rattle.rb_script.specs.Reading.{read_of, early_fault};
 ghost use Rattle.rb_script.specs.Shared.{values};
 ghost use Rattle.rb_replay.specs.Run.{state, outputs};
 ghost use Rattle.rb_replay.specs.Points.{start_points};
-ghost use Rattle.rb_replay.specs.Start.{TellsStartFault};
 
 use crate::differing::list_differing;
 use crate::fault::StartFault;
@@ -16,33 +12,8 @@ use crate::run::Run;
 use crate::session::Session;
 use crate::spacing::is_spacing;
 use rb_machine::{Count, Machine};
-use rb_script::{Grouped, Script, ScriptFault};
+use rb_script::{Grouped, MAX_DIRECTIVES, Script};
 use std::alloc::{AllocError, Global};
-
-/// The fault of a start for one of reading. Want of memory is the start's own.
-fn refusal(fault: ScriptFault) -> StartFault
-    ensures memory { fault ≡ ScriptFault.OutOfMemory → result ≡ StartFault.OutOfMemory }
-    ensures other { fault ≢ ScriptFault.OutOfMemory → result ≡ StartFault.Script fault }
-{
-    match fault {
-        ScriptFault::OutOfMemory => StartFault::OutOfMemory,
-        _ => StartFault::Script(fault),
-    }
-}
-
-/// The script of the bytes.
-fn read(alloc: Global, bytes: &[u8]) -> Result<Script, StartFault>
-    ensures found { IfOk result (λ s. Reads bytes.now s) }
-    ensures only { (s : PlainScript) → Reads bytes.now s → IfErr result (λ fault. fault ≡ StartFault.OutOfMemory) }
-    ensures refused { IfErr result (λ fault. TellsStartFault fault (read_of bytes.now)) }
-    ensures spaced { result ≢ Err StartFault.BadSpacing }
-    ensures early { IfSome (early_fault bytes.now) (λ fault. result ≡ Err (StartFault.Script fault)) }
-{
-    match Script::read(alloc, bytes) {
-        Ok(script) => Ok(script),
-        Err(fault) => Err(refusal(fault)),
-    }
-}
 
 impl<M: Machine> Session<M> {
     ghost use Rattle.std.specs.Prelude.{◌≡◌, ◌≢◌, ◌+◌, ◌≤◌, ◌^◌, ◌∷◌, [], ℕ, true, false, length, IfOk, IfErr, IfSome, OnOk, OnErr, Ok, Err};
@@ -85,8 +56,7 @@ impl<M: Machine> Session<M> {
         if !is_spacing(every) {
             return Err(StartFault::BadSpacing);
         }
-        let script = read(alloc, bytes)?;
-        Ok(Session::started(alloc, script, every as usize, meter)?)
+        Session::begin(alloc, bytes, every as usize, meter)
     }
 
     /// Reads the script of the bytes and runs it whole, as [`Session::start`] does, for whoever edits no directive: the empty
@@ -107,28 +77,31 @@ impl<M: Machine> Session<M> {
         ensures early { IfSome (early_fault bytes.now) (λ fault. result ≡ Err (StartFault.Script fault)) }
         ensures risen { IfErr result (λ fault. RisesFor fault bytes.now (M.Meter.count_of meter.old) (M.Meter.count_of meter.new)) }
     {
-        let script = read(alloc, bytes)?;
-        let past_the_end = script.len() + 1;
-        Ok(Session::started(alloc, script, past_the_end, meter)?)
+        // No script has so many directives.
+        Session::begin(alloc, bytes, MAX_DIRECTIVES + 1, meter)
     }
 
-    /// Runs the script whole.
-    fn started(
+    /// Reads the script of the bytes, runs it whole, and compares the outputs with what is expected.
+    fn begin(
         alloc: Global,
-        script: Script,
+        bytes: &[u8],
         spacing: usize,
         meter: &mut M::Meter,
-    ) -> Result<Session<M>, AllocError>
+    ) -> Result<Session<M>, StartFault>
         requires spacing { 1 ≤ spacing }
-        requires few { length script.blocks ≤ MAX_DIRECTIVES }
         requires meter { M.Meter.count_of meter.old ≤ 2 ^ 62 }
-        ensures script { IfOk result (λ s. s.script ≡ script) }
-        ensures spacing { IfOk result (λ s. s.spacing ≡ spacing) }
-        ensures points { IfOk result (λ s. s.points ≡ start_points spacing (length script.blocks)) }
+        ensures script { IfOk result (λ s. Reads bytes.now s.script) }
         ensures fresh { IfOk result IsFresh }
-        ensures counted { OnOk result (M.Meter.count_of meter.new ≡ M.Meter.count_of meter.old + length script.blocks) }
-        ensures refused { OnErr result (M.Meter.count_of meter.new ≤ M.Meter.count_of meter.old + length script.blocks) }
+        ensures spacing { IfOk result (λ s. s.spacing ≡ spacing) }
+        ensures points { IfOk result (λ s. s.points ≡ start_points spacing (length s.script.blocks)) }
+        ensures counted { IfOk result (λ s. M.Meter.count_of meter.new ≡ M.Meter.count_of meter.old + length s.script.blocks) }
+        ensures spaced { result ≢ Err StartFault.BadSpacing }
+        ensures only { (s : PlainScript) → Reads bytes.now s → IfErr result (λ fault. fault ≡ StartFault.OutOfMemory) }
+        ensures refused { IfErr result (λ fault. TellsStartFault fault (read_of bytes.now)) }
+        ensures early { IfSome (early_fault bytes.now) (λ fault. result ≡ Err (StartFault.Script fault)) }
+        ensures risen { IfErr result (λ fault. RisesFor fault bytes.now (M.Meter.count_of meter.old) (M.Meter.count_of meter.new)) }
     {
+        let script = Script::read(alloc, bytes)?;
         let running = run_whole(alloc, &script, spacing, meter)?;
         let outputs = Grouped::of(alloc, running.outputs)?;
         let mismatches = list_differing(alloc, &script, &outputs, 0, script.len())?;

@@ -370,7 +370,7 @@ some_bytes [] some = absurd (omega arith)
 some_bytes (b ∷ bytes) some = refl
 
 -- a token whose end isn't its start has bytes
-some_token : (head : List Line) (s : Span) → IsPart head s → s.start ≢ s.end → is_some_piece (token head s) ≡ true
+pub some_token : (head : List Line) (s : Span) → IsPart head s → s.start ≢ s.end → is_some_piece (token head s) ≡ true
 some_token head s part other =
     let line = line_at head s.line in
     some_bytes (token head s) (omega (arith, length-take (s.end - s.start) (drop s.start line), length-drop s.start line, part.start, part.end, other))

@@ -96,10 +96,6 @@ module _ (end n : ℕ) (lead ls head after : List Line) (at : n ≡ line_number 
     pub block_below : (r : Result (List Line × List Line × List Line) ScriptFault) → below_head end n after ≡ r → block_at end lead ls ≡ (r >>= completed lead head)
     block_below r e = behind (Ok x) found ∙ ap (λ (below : Result (List Line × List Line × List Line) ScriptFault). below >>= completed lead head) e
 
-    -- a fault below the head is the fault of the block
-    pub below_fails : (e : ScriptFault) → Fails e (below_head end n after) → Fails e (block_at end lead ls)
-    below_fails e h = fails_through e (below_head end n after) (block_at end lead ls) h (λ f. block_below (Err e) f)
-
 module _ (end n : ℕ) (ls onwards : List Line) (e : onwards ≡ after_while is_input ls) where
   -- no line ---- follows
   pub below_none : onwards ≡ [] → below_head end n ls ≡ Err (faults.NoSeparator n)

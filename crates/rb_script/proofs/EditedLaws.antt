@@ -1,10 +1,9 @@
 -- What an edit makes, and that it is valid.
 use Rattle.std.proofs.Common.{◌≡◌, ◌≢◌, ℕ, ◌+◌, ◌-◌, ◌≤◌, ◌<◌, Bool, true, false, cond, not, ◌||◌, List, [], ◌∷◌, ◌++◌, length, take, drop, min, Option, Some, None, Result, Ok, Err, suc, refl, ap, sym, subst, ◌∙◌, arith, inl, inr, ◌⊎◌}
 use Rattle.std.specs.Prelude.{◌==◌, nat_lt, nat_le, slice_get, slice_set, IfOk, IfErr, if◌then◌else◌}
-use Rattle.std.specs.List.{list_all, flat_map, AllByRecursion}
+use Rattle.std.specs.List.{list_all, AllByRecursion}
 use Rattle.std.proofs.lemmas.Bool.{cases_Bool, cond-true, cond-false, eq-eqb, eqb-true, eqb-false, ne_eqb, or_from, lt-ltb, le-ltb, leb-true, false_from_ne_true}
 use Rattle.std.proofs.lemmas.List.{take-append-drop, drop_more, set_split, length-append, length-take, length-drop}
-use Rattle.std.proofs.lemmas.List.Concat.{flat_map-append}
 use Rattle.std.proofs.lemmas.Option.{none-some, slice_get_cases, slice_get_within, get_or_from_slice_get}
 use Rattle.rb_script.specs.declared.fault.EditFault.{EditFault}
 use Rattle.rb_script.specs.declared.fault.EditFault.TheVariants.{NoSuchPlace, BadExpectation, TooManyDirectives, TooLong, OutOfMemory}
@@ -12,7 +11,7 @@ use Rattle.rb_script.specs.declared.edit.Edit.{Edit}
 use Rattle.rb_script.specs.declared.edit.Edit.TheVariants.{Insert, Replace, Remove, Expect, Accept}
 use Rattle.rb_script.specs.declared.limits.TheConstants.{MAX_SCRIPT, MAX_DIRECTIVES}
 use Rattle.rb_script.specs.Lines.{Line, text_of}
-use Rattle.rb_script.specs.Script.{PlainBlock, PlainScript, block_lines, block_text, text, expecting, with_outputs}
+use Rattle.rb_script.specs.Script.{PlainBlock, PlainScript, block_text, text, expecting, with_outputs}
 use Rattle.rb_script.specs.Reading.{capped}
 use Rattle.rb_script.specs.Valid.{IsBlock, IsScript}
 use Rattle.rb_script.specs.Shared.{IsKeptScript}
@@ -20,7 +19,7 @@ use Rattle.rb_script.specs.Edits.{unless, fitting, with_blocks, is_no_place, is_
 use Rattle.rb_script.specs.Refusals.{made_by}
 use Rattle.rb_script.proofs.ListLaws.{every-append, every-take, every-drop}
 use Rattle.rb_script.proofs.SharedLaws.{outputs_valid, outputs_count}
-use Rattle.rb_script.proofs.LengthLaws.{blocks_len, blocks-cons-length, text-append-length, text-length}
+use Rattle.rb_script.proofs.LengthLaws.{blocks_len, blocks-cons-length, blocks-append-length, text-length}
 
 -- ---- outcomes
 
@@ -141,9 +140,6 @@ fits_grown {made} r t h le same ok err = grown r made t (text_fits h le ∙ ap (
 -- these blocks in place of those from a place up to another
 abbrev pub part : List PlainBlock → ℕ → List PlainBlock → ℕ → List PlainBlock
 part bs from new to = take from bs ++ (new ++ drop to bs)
-
-blocks-append-length : (a b : List PlainBlock) → blocks_len (a ++ b) ≡ blocks_len a + blocks_len b
-blocks-append-length a b = ap (λ (ls : List Line). length (text_of ls)) (flat_map-append block_lines a b) ∙ text-append-length (flat_map block_lines a) (flat_map block_lines b)
 
 part-length : (bs new : List PlainBlock) (from to : ℕ) → blocks_len (part bs from new to) ≡ blocks_len (take from bs) + (blocks_len new + blocks_len (drop to bs))
 part-length bs new from to = blocks-append-length (take from bs) (new ++ drop to bs) ∙ ap (λ (n : ℕ). blocks_len (take from bs) + n) (blocks-append-length new (drop to bs))

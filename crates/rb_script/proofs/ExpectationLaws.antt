@@ -3,6 +3,7 @@ use Rattle.std.proofs.Common.{◌≡◌, true, false, cond, not, ◌&&◌, List,
 use Rattle.std.specs.List.{list_all}
 use Rattle.std.proofs.lemmas.Bool.{cases_Bool, and_parts, and_from, not-true, not-false}
 use Rattle.std.proofs.lemmas.List.{append-nil}
+use Rattle.std.proofs.lemmas.Option.{some_pair_parts}
 use Rattle.std.proofs.lemmas.Slice.Eq.{bytes_eq-Decides}
 use Rattle.rb_script.specs.Lines.{Line}
 use Rattle.rb_script.specs.Marks.{is_blank, is_plain, is_rule, rule}
@@ -38,18 +39,10 @@ pub record Pair (ls e more : List Line) : Type 0 where
 abbrev some_pair : List Line → List Line → Expectation
 some_pair e more = Some (e, more)
 
--- what is found is told by the pair
-some_is : (x y : List Line × List Line) → some_pair x.0 x.1 ≡ some_pair y.0 y.1 → x ≡ y
-some_is x y h = cc
-
--- a pair of results is told by its parts
-pub pair_is : (e more e' more' : List Line) → some_pair e more ≡ some_pair e' more' → (e ≡ e') × (more ≡ more')
-pair_is e more e' more' h = let both = some_is (e, more) (e', more') h in (ap (λ (p : List Line × List Line). p.0) both, ap (λ (p : List Line × List Line). p.1) both)
-
 -- the pair stands at the front
 pair_here : (line : Line) (ls e more : List Line) → is_rule line ≡ true → begins_rule ls ≡ true → some_pair [] (drop 1 ls) ≡ some_pair e more → Pair (line ∷ ls) e more
 pair_here line ls e more h g now =
-    let both = pair_is [] (drop 1 ls) e more now in
+    let both = some_pair_parts [] e (drop 1 ls) more now in
     let e-is = both.0 in
     let more-is = both.1 in
     subst (λ (x : List Line). Pair (line ∷ ls) x more) e-is (subst (λ (x : List Line). Pair (line ∷ ls) [] x) more-is (record {
@@ -67,7 +60,7 @@ pair_next line ls e more f p = record {
 -- the rest was found
 found_later : (line : Line) (found : Expectation) (e more : List Line) → with_line line found ≡ some_pair e more → (e' : List Line) × (found ≡ some_pair e' more) × (line ∷ e' ≡ e)
 found_later line None e more h = absurd cc
-found_later line (Some x) e more h = let both = pair_is (line ∷ x.0) x.1 e more h in (x.0, ap (λ (m : List Line). some_pair x.0 m) both.1, both.0)
+found_later line (Some x) e more h = let both = some_pair_parts (line ∷ x.0) e x.1 more h in (x.0, ap (λ (m : List Line). some_pair x.0 m) both.1, both.0)
 
 -- what stands before the first pair can be read back
 pub pair_sound : (ls e more : List Line) → to_pair ls ≡ Some (e, more) → Pair ls e more
@@ -130,7 +123,8 @@ unfolding plain_at
 plain_sound ls e rest first h =
     elim (cases_Bool (is_readable (while_of is_plain ls))) [
       | inl t ↦
-          let both = pair_is (while_of is_plain ls) (after_blank (after_while is_plain ls)) e rest (sym (ap (λ b. cond b (some_pair (while_of is_plain ls) (after_blank (after_while is_plain ls))) None) t) ∙ h) in
+          let both = some_pair_parts (while_of is_plain ls) e (after_blank (after_while is_plain ls)) rest
+          (sym (ap (λ b. cond b (some_pair (while_of is_plain ls) (after_blank (after_while is_plain ls))) None) t) ∙ h) in
           subst (λ (x : List Line). Expects ls x rest) both.0 (record {
             readable = t;
             expected = inl (record { first = first; none_blank = run_all is_plain ls; closed = plain_closed ls (after_while is_plain ls) rest refl both.1 });
@@ -139,7 +133,7 @@ plain_sound ls e rest first h =
     ]
 
 -- the plain form from its parts
-plain_parts : (ls e rest : List Line) → while_of is_plain ls ≡ e → after_blank (after_while is_plain ls) ≡ rest → is_readable e ≡ true → plain_at ls ≡ some_pair e rest
+pub plain_parts : (ls e rest : List Line) → while_of is_plain ls ≡ e → after_blank (after_while is_plain ls) ≡ rest → is_readable e ≡ true → plain_at ls ≡ some_pair e rest
 unfolding plain_at
 plain_parts ls e rest f g h =
     ap (λ b. cond b (some_pair (while_of is_plain ls) (after_blank (after_while is_plain ls))) None) (ap is_readable f ∙ h) ∙ ap (λ (l : List Line). some_pair l (after_blank (after_while is_plain ls))) f ∙ ap (λ (l : List Line). some_pair e l) g
@@ -157,7 +151,7 @@ plain_cut ls e rest all readable (inr b) =
 -- what was found before the blank line was taken
 then_is : (found : Expectation) (e rest : List Line) → then_blank found ≡ some_pair e rest → (more : List Line) × (found ≡ some_pair e more) × (after_blank more ≡ rest)
 then_is None e rest h = absurd cc
-then_is (Some x) e rest h = let both = pair_is x.0 (after_blank x.1) e rest h in (x.1, ap (λ (l : List Line). some_pair l x.1) both.0, both.1)
+then_is (Some x) e rest h = let both = some_pair_parts x.0 e (after_blank x.1) rest h in (x.1, ap (λ (l : List Line). some_pair l x.1) both.0, both.1)
 
 -- the expectation that is read is in the relation
 pub expectation_sound : (ls e rest : List Line) → expectation_at ls ≡ some_pair e rest → Expects ls e rest

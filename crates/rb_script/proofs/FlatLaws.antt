@@ -1,7 +1,7 @@
 -- Lines in one buffer.
 use Rattle.std.proofs.Common.{◌≡◌, ℕ, ◌+◌, ◌-◌, ◌≤◌, ◌<◌, List, [], ◌∷◌, ◌++◌, length, take, drop, get_or, refl, ap, sym, subst, ◌∙◌, append_assoc, zero, suc, length-append, arith}
-use Rattle.std.specs.Prelude.{slice_get, Option, Some, Result, Ok, Err, OnOk, OnErr}
-use Rattle.std.proofs.lemmas.List.{append-nil, take-append-drop, length-drop, length-take-le, take_at, drop_at, drop_more}
+use Rattle.std.specs.Prelude.{slice_get, Some, Result, Ok, Err, OnOk, OnErr}
+use Rattle.std.proofs.lemmas.List.{append-nil, take-append-drop, take_at, drop_at, drop_more}
 use Rattle.std.proofs.lemmas.Option.{slice_get-get_or}
 use Rattle.std.proofs.lemmas.List.Concat.{flat_map-append}
 use Rattle.rb_script.specs.Lines.{Line, line_text, text_of}
@@ -137,40 +137,16 @@ flat_between ends text from to flat order within =
           ∙ take_at (text_of m) (text_of r) (length (text_of m)) refl;
     }
 
--- a line stands there in the text, with its LF
-pub record LineAt (start end : ℕ) (text : List ℕ) (line : Line) : Type 0 where
-  pub order : start < end
-  pub within : end ≤ length text
-  pub part : take (end - start - 1) (drop start text) ≡ line
-
--- a line of flat lines
-pub flat_line : (ends text : List ℕ) (i : ℕ) → IsFlat ends text → i < length ends → (line : Line) × (slice_get (parted 0 ends text) i ≡ Some line) × LineAt (line_start 0 ends i) (get_or ends i 0) text line
-flat_line ends text i flat lt =
+-- the text of a line is the line with its LF
+pub flat_line : (ends text : List ℕ) (i : ℕ) → i < length ends → (line : Line) × (slice_get (parted 0 ends text) i ≡ Some line)
+    × (text_of (between i (i + 1) (parted 0 ends text)) ≡ line_text line)
+flat_line ends text i lt =
     let ls = parted 0 ends text in
-    let start = line_start 0 ends i in
-    let count = get_or ends i 0 - start in
     let line = get_or ls i [] in
     let there : i < length ls = omega (arith, parted_len 0 ends text) in
-    let at = flat_between ends text i (suc i) flat (omega arith) (omega arith) in
-    let one : between i (suc i) ls ≡ line ∷ [] = ap (λ (n : ℕ). take n (drop i ls)) (let e : suc i - i ≡ 1 = omega arith in e) ∙ ap (take 1) (drop_more ls i [] there) in
-    let cut : take count (drop start text) ≡ line_text line = at.part_is ∙ ap text_of one ∙ append-nil (line_text line) in
-    let rest = drop count (drop start text) in
-    let whole : drop start text ≡ line ++ 10 ∷ rest = sym (take-append-drop count (drop start text)) ∙ ap (λ (l : List ℕ). l ++ rest) cut ∙ append_assoc line (10 ∷ []) rest in
-    let short : count ≤ length (drop start text) = omega (arith, length-drop start text, at.within) in
-    let len : count ≡ length line + 1 = sym (length-take-le count (drop start text) short) ∙ ap length cut ∙ length-append line (10 ∷ []) in (
-      line,
-      slice_get-get_or ls i [] there,
-      record {
-        order = omega (arith, len);
-        within = at.within;
-        part = ap (take (count - 1)) whole ∙ take_at line (10 ∷ rest) (count - 1) (omega (arith, len));
-      },
-    )
-
-pub slice_is : (found : Option Line) (end start first : ℕ) (text : List ℕ) (line : Line) → found ≡ Some line → start ≡ first → LineAt first end text line → found ≡ Some (take (end - 1 - start) (drop start text))
-slice_is found end start first text line there e at =
-    let same : end - 1 - start ≡ end - first - 1 = omega arith in
-    there ∙ ap (λ (l : Line). Some l) (sym (ap (λ (n : ℕ). take n (drop start text)) same ∙ ap (λ (n : ℕ). take (end - first - 1) (drop n text)) e ∙ at.part))
+    let count : (i + 1) - i ≡ 1 = omega arith in
+    let one : between i (i + 1) ls ≡ line ∷ [] = ap (λ (n : ℕ). take n (drop i ls)) count ∙ ap (take 1) (drop_more ls i [] there) in
+    (line, slice_get-get_or ls i [] there, ap text_of one ∙ append-nil (line_text line))
 
 pub part_is : (start end first last : ℕ) (text part : List ℕ) → start ≡ first → end ≡ last → TextBetween first last text part → TextBetween start end text part
 part_is start end first last text part e f at = subst (λ (n : ℕ). TextBetween n end text part) (sym e) (subst (λ (n : ℕ). TextBetween first n text part) (sym f) at)

@@ -1,8 +1,9 @@
 -- Laws of lists in groups.
-use Rattle.std.proofs.Common.{◌≡◌, ℕ, suc, ◌+◌, ◌-◌, ◌<◌, ◌≤◌, List, [], ◌∷◌, ◌++◌, length, get_or, take, drop, reverse, Some, refl, ap, sym, subst, ◌∙◌, arith, zero-add, append_assoc, append-nil, length-append, inl, inr}
+use Rattle.std.proofs.Common.{◌≡◌, ℕ, ◌+◌, ◌-◌, ◌<◌, ◌≤◌, List, [], ◌∷◌, ◌++◌, length, get_or, take, drop, reverse, Some, refl, ap, sym, subst, ◌∙◌, arith, append_assoc, append-nil, length-append, inl, inr}
 use Rattle.std.specs.Prelude.{slice_get, slice_index}
 use Rattle.std.specs.declared.rc.Rc.{Rc}
 use Rattle.std.specs.declared.alloc.Global.{Global}
+use Rattle.std.proofs.Math.Seq.{take-append-add}
 use Rattle.std.proofs.lemmas.Bool.{cases_lt}
 use Rattle.std.proofs.lemmas.List.{take-append-drop, take_more, drop_more, drop-drop, drop-append-le, drop_at, take-append-le, take_all, take_rest, take-map, drop-map, map-append, get_or-map, length_push, get_or_push, get_or_append_left, get_or_read, nil_from_length, reverse-append}
 use Rattle.std.proofs.lemmas.List.Concat.{flat_map-append, get_or-flat_map}
@@ -11,12 +12,6 @@ use Rattle.rb_script.specs.Shared.{values}
 use Rattle.rb_script.specs.Groups.{ungrouped, before, AreStarts, StandsWithin, index_of, IsPlace}
 use Rattle.rb_script.specs.declared.place.Place.{Place}
 use Rattle.rb_script.proofs.SharedLaws.{values-length}
-
-take_past : {X : Type 0} → (xs ys : List X) (r : ℕ) → take (length xs + r) (xs ++ ys) ≡ xs ++ take r ys
-take_past {X} [] ys r = ap (λ (n : ℕ). take n ys) (zero-add r)
-take_past {X} (x ∷ xs) ys r =
-    let e : suc (length xs) + r ≡ suc (length xs + r) = omega arith in
-    ap (λ (n : ℕ). take n (x ∷ (xs ++ ys))) e ∙ ap (λ (l : List X). x ∷ l) (take_past xs ys r)
 
 -- ---- groups one after another
 
@@ -53,7 +48,7 @@ module _ {X : Type 0} (gs : List (List X)) (k : ℕ) (g : List X) (within : k < 
     -- what stands before a place of the group
     pub front_is : take (before gs k + r) (ungrouped gs) ≡ ungrouped (take k gs) ++ take r g
     front_is =
-        ap (take (before gs k + r)) whole ∙ take_past (ungrouped (take k gs)) (g ++ ungrouped (drop (k + 1) gs)) r
+        ap (take (before gs k + r)) whole ∙ take-append-add (ungrouped (take k gs)) (g ++ ungrouped (drop (k + 1) gs)) r
         ∙ ap (λ (l : List X). ungrouped (take k gs) ++ l) (take-append-le r g (ungrouped (drop (k + 1) gs)) r_within)
 
     -- and what stands behind it
@@ -177,10 +172,3 @@ grouped_more {T} blocks kept last groups next g all at kept_is last_is g_is next
 -- all of them
 pub grouped_all : {T : Type 0} (blocks : List (Rc T Global)) (groups turned : List (List T)) (all : List T) → length blocks ≡ 0 → turned ≡ reverse groups → values blocks ++ ungrouped (reverse groups) ≡ all → ungrouped turned ≡ all
 grouped_all {T} blocks groups turned all none e so_far = ap ungrouped e ∙ sym (ap (λ (l : List (Rc T Global)). values l ++ ungrouped (reverse groups)) (nil_from_length blocks none)) ∙ so_far
-
--- two groups in place of one
-pub halves : {T : Type 0} (blocks first rest : List (Rc T Global)) (groups one two : List (List T)) (g h : List T) (at : ℕ) → first ≡ take at blocks → rest ≡ drop at blocks → g ≡ values first → h ≡ values rest → one ≡ groups ++ g ∷ [] → two ≡ one ++ h ∷ []
-    → ungrouped two ≡ ungrouped groups ++ values blocks
-halves {T} blocks first rest groups one two g h at first_is rest_is g_is h_is one_is two_is =
-    ap ungrouped two_is ∙ ungrouped_end one h ∙ ap (λ (l : List T). l ++ h) (ap ungrouped one_is ∙ ungrouped_end groups g) ∙ append_assoc (ungrouped groups) g h
-    ∙ ap (λ (l : List T). ungrouped groups ++ l) (ap (λ (l : List T). l ++ h) g_is ∙ values_cut blocks first rest h at first_is rest_is h_is)

@@ -1,22 +1,21 @@
 -- The lines on which heads begin: what a loop has found of them, and that they are those of the blocks.
 use Rattle.std.proofs.Common.{◌≡◌, ℕ, ◌+◌, ◌<◌, List, [], ◌∷◌, ◌++◌, length, take, drop, get_or, Some, Result, Ok, Err, refl, ap, sym, subst, ◌∙◌, append_assoc, length-append, arith, inl, inr, ◌⊎◌}
-use Rattle.std.specs.Prelude.{slice_get, IfOk, IfErr}
+use Rattle.std.specs.Prelude.{slice_get, IfOk}
 use Rattle.std.proofs.lemmas.List.{append-nil, take-append-drop, length-take-le, drop_more, length_push, get_or_push, get_or_append_left}
 use Rattle.std.proofs.lemmas.Option.{slice_get_cases, slice_get_within, get_or_from_slice_get}
 use Rattle.std.proofs.lemmas.Grind.{same_number_lists}
 use Rattle.rb_script.specs.declared.fault.ScriptFault.{ScriptFault}
-use Rattle.rb_script.specs.declared.fault.ScriptFault.TheVariants as faults
 use Rattle.rb_script.specs.Lines.{Line, lines}
 use Rattle.rb_script.specs.Marks.{rule}
 use Rattle.rb_script.specs.Script.{PlainBlock, PlainScript}
 use Rattle.rb_script.specs.Reads.{ReadsPlain, ReadsDouble, ReadsBlock, ReadsSome, Reads}
-use Rattle.rb_script.specs.Results.{Fails, Gives}
+use Rattle.rb_script.specs.Results.{Gives}
 use Rattle.rb_script.specs.Blocks.{from_head}
 use Rattle.rb_script.specs.Reading.{read_of}
 use Rattle.rb_script.specs.HeadLines.{IsHeadLine, AreHeadLines, StandsOn}
-use Rattle.rb_script.proofs.ResultLaws.{done, ok_is, memory_is}
+use Rattle.rb_script.proofs.ResultLaws.{done, ok_is}
 use Rattle.rb_script.proofs.BlockLaws.{cut_lead, block_complete}
-use Rattle.rb_script.proofs.ScriptLaws.{read_sound, read_complete, reads_once}
+use Rattle.rb_script.proofs.ScriptLaws.{read_sound, reads_once}
 
 -- ---- the lines that were read stand before the rest
 
@@ -228,13 +227,3 @@ pub heads_of_script : {V : Type 0} (script : V → PlainScript) (items : V → L
 heads_of_script script items bytes (Ok read) is h s r =
     subst (λ (t : PlainScript). AreHeadLines 1 (lines bytes) t.blocks (items read)) (reads_once bytes (script read) s (read_sound bytes (script read) is) r) h
 heads_of_script script items bytes (Err e) is h s r = tt
-
--- a script is refused for want of memory alone
-pub only_memory : {V : Type 0} (script : V → PlainScript) (bytes : List ℕ) (result : Result V ScriptFault) → Gives script result (read_of bytes) → (s : PlainScript) → Reads bytes s → IfErr result (λ e. e ≡ faults.OutOfMemory)
-only_memory script bytes (Ok read) is s r = tt
-only_memory script bytes (Err e) is s r = memory_is e s (subst (λ (read : Result PlainScript ScriptFault). Fails e read) (read_complete bytes s r) is)
-
--- what is read is the script of the bytes
-pub found_script : {V : Type 0} (script : V → PlainScript) (bytes : List ℕ) (result : Result V ScriptFault) → Gives script result (read_of bytes) → IfOk result (λ read. Reads bytes (script read))
-found_script script bytes (Ok read) is = read_sound bytes (script read) is
-found_script script bytes (Err e) is = tt

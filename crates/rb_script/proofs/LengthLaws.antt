@@ -1,12 +1,11 @@
 -- How long texts are.
-use Rattle.std.proofs.Common.{◌≡◌, ℕ, ◌+◌, ◌^◌, ◌<◌, Bool, true, false, cond, List, [], ◌∷◌, ◌++◌, length, ap, sym, ◌∙◌, arith}
+use Rattle.std.proofs.Common.{◌≡◌, ℕ, ◌+◌, Bool, true, false, cond, List, [], ◌∷◌, ◌++◌, length, ap, sym, ◌∙◌, arith}
 use Rattle.std.specs.List.{flat_map}
 use Rattle.std.proofs.lemmas.List.{length-append}
 use Rattle.std.proofs.lemmas.List.Concat.{flat_map-append}
 use Rattle.rb_script.specs.Lines.{Line, line_text, text_of}
 use Rattle.rb_script.specs.Marks.{rule}
 use Rattle.rb_script.specs.Script.{PlainBlock, PlainScript, text, block_lines, block_text, shown, needs_double}
-use Rattle.rb_script.specs.Reading.{capped}
 
 -- a line with its LF, and the lines after it
 pub line-text-length : (line : Line) (rest : List Line) → length (text_of (line ∷ rest)) ≡ (length line + 1) + length (text_of rest)
@@ -30,13 +29,13 @@ blocks_len bs = length (text_of (flat_map block_lines bs))
 pub blocks-cons-length : (b : PlainBlock) (bs : List PlainBlock) → blocks_len (b ∷ bs) ≡ length (block_text b) + blocks_len bs
 blocks-cons-length b bs = text-append-length (block_lines b) (flat_map block_lines bs)
 
--- a sum that stops at its greatest value, one block further
-pub sum_more : (b : PlainBlock) (bs rest : List PlainBlock) (total next whole : ℕ) → bs ≡ b ∷ rest → next ≡ capped (total + capped (length (block_text b))) → capped (total + blocks_len bs) ≡ whole → capped (next + blocks_len rest) ≡ whole
-sum_more b bs rest total next whole e is so_far = let split = ap blocks_len e ∙ blocks-cons-length b rest in omega arith
+-- some blocks, and the blocks after them
+pub blocks-append-length : (a b : List PlainBlock) → blocks_len (a ++ b) ≡ blocks_len a + blocks_len b
+blocks-append-length a b = ap (λ (ls : List Line). length (text_of ls)) (flat_map-append block_lines a b) ∙ text-append-length (flat_map block_lines a) (flat_map block_lines b)
 
--- and with no block left
-pub sum_end : (bs : List PlainBlock) (total whole : ℕ) → bs ≡ [] → total < 2 ^ 64 → capped (total + blocks_len bs) ≡ whole → total ≡ whole
-sum_end bs total whole e fits so_far = let none = ap blocks_len e in omega arith
+-- some blocks, and one more
+pub blocks-push-length : (bs : List PlainBlock) (b : PlainBlock) → blocks_len (bs ++ b ∷ []) ≡ blocks_len bs + length (block_text b)
+blocks-push-length bs b = let split = blocks-append-length bs (b ∷ []) in let one = blocks-cons-length b [] in omega arith
 
 -- the text of a script: its blocks, and its tail
 pub text-length : (s : PlainScript) → length (text s) ≡ blocks_len s.blocks + length (text_of s.tail)

@@ -125,11 +125,6 @@ joined_next front blanks ls h =
     ap (λ x. cond x (body (front ++ 92 ∷ blanks) ++ 32 ∷ joined ls) (front ++ 92 ∷ blanks)) (continues_at front 92 blanks refl (blanks_complete blanks h))
     ∙ ap (λ (l : Line). l ++ 32 ∷ joined ls) (body_at front 92 blanks refl (blanks_complete blanks h))
 
--- also where nothing follows
-pub joined_nothing : (front blanks : Line) → AreBlanks blanks → joined ((front ++ 92 ∷ blanks) ∷ []) ≡ front ++ 32 ∷ []
-unfolding joined
-joined_nothing front blanks h = joined_next front blanks [] h
-
 -- the last line stands as it is
 pub joined_last : (line : Line) → continues line ≡ false → joined (line ∷ []) ≡ line
 unfolding joined

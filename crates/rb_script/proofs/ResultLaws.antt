@@ -61,7 +61,7 @@ early_through X Y (Some fault) e h = ap (λ (d : ScriptFault). failed {A = Y} d)
 -- ---- what a function answered, where reading gives what fits and nothing else
 
 -- a fault of an answer is want of memory
-pub memory_is : {X : Type 0} (e : ScriptFault) (x : X) → Fails e (done x) → e ≡ faults.OutOfMemory
+memory_is : {X : Type 0} (e : ScriptFault) (x : X) → Fails e (done x) → e ≡ faults.OutOfMemory
 memory_is faults.TooLong x h = absurd cc
 memory_is (faults.LineTooLong n) x h = absurd cc
 memory_is (faults.BadLine n) x h = absurd cc
@@ -72,17 +72,22 @@ memory_is faults.NotOneBlock x h = absurd cc
 memory_is (faults.TooManyArguments n) x h = absurd cc
 memory_is faults.OutOfMemory x h = refl
 
-module _ {X : Type 0} (Fits : X → Type 0) (read : Result X ScriptFault) (sound : (x : X) → read ≡ Ok x → Fits x) (complete : (x : X) → Fits x → read ≡ Ok x) where
+module _ {V X : Type 0} (view : V → X) (Fits : X → Type 0) (read : Result X ScriptFault) (sound : (x : X) → read ≡ Ok x → Fits x) (complete : (x : X) → Fits x → read ≡ Ok x) where
   -- what is answered fits
-  pub answer_fits : (result : Result X ScriptFault) → Gives {X = X} {Y = X} (λ x. x) result read → IfOk result Fits
-  answer_fits (Ok x) h = sound x h
+  pub answer_fits : (result : Result V ScriptFault) → Gives view result read → IfOk result (λ v. Fits (view v))
+  answer_fits (Ok v) h = sound (view v) h
   answer_fits (Err e) h = tt
 
   -- what fits is answered, unless memory ran out
-  pub fit_answered : (result : Result X ScriptFault) → Gives {X = X} {Y = X} (λ x. x) result read → (x : X) → Fits x → Gives {X = X} {Y = X} (λ x. x) result (Ok x)
-  fit_answered result h x fits = subst (λ (r : Result X ScriptFault). Gives {X = X} {Y = X} (λ x. x) result r) (complete x fits) h
+  pub fit_answered : (result : Result V ScriptFault) → Gives view result read → (x : X) → Fits x → Gives view result (Ok x)
+  fit_answered result h x fits = subst (λ (r : Result X ScriptFault). Gives view result r) (complete x fits) h
+
+  -- and is refused for want of memory alone
+  pub only_memory : (result : Result V ScriptFault) → Gives view result read → (x : X) → Fits x → IfErr result (λ e. e ≡ faults.OutOfMemory)
+  only_memory (Ok v) h x fits = tt
+  only_memory (Err e) h x fits = memory_is e x (fit_answered (Err e) h x fits)
 
   -- where a fault is answered nothing fits, unless memory ran out
-  pub none_fits : (result : Result X ScriptFault) → Gives {X = X} {Y = X} (λ x. x) result read → IfErr result (λ e. e ≢ faults.OutOfMemory → (x : X) → Fits x → ⊥)
-  none_fits (Ok x) h = tt
-  none_fits (Err e) h = λ ne x fits. ne (memory_is e x (subst (λ (r : Result X ScriptFault). Fails e r) (complete x fits) h))
+  pub none_fits : (result : Result V ScriptFault) → Gives view result read → IfErr result (λ e. e ≢ faults.OutOfMemory → (x : X) → Fits x → ⊥)
+  none_fits (Ok v) h = tt
+  none_fits (Err e) h = λ ne x fits. ne (only_memory (Err e) h x fits)

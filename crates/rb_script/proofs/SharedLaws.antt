@@ -1,13 +1,13 @@
 -- Edits of lists of blocks.
-use Rattle.std.proofs.Common.{◌≡◌, ℕ, ◌+◌, ◌-◌, ◌≤◌, ◌<◌, Bool, true, false, cond, not, ◌&&◌, List, [], ◌∷◌, ◌++◌, length, drop, get_or, Some, zero, suc, refl, ap, sym, subst, ◌∙◌, inl, inr, arith}
+use Rattle.std.proofs.Common.{◌≡◌, ℕ, ◌+◌, ◌-◌, ◌≤◌, ◌<◌, Bool, true, false, cond, not, ◌&&◌, List, [], ◌∷◌, ◌++◌, length, take, get_or, Some, zero, suc, refl, ap, sym, ◌∙◌, inl, inr, arith}
 use Rattle.std.specs.Prelude.{◌==◌, nat_le, slice_get}
-use Rattle.std.proofs.lemmas.Option.{slice_get_within, same_Some}
+use Rattle.std.proofs.lemmas.Option.{slice_get_within, get_or_from_slice_get, same_Some}
 use Rattle.std.specs.declared.rc.Rc.{Rc}
 use Rattle.std.specs.declared.alloc.Global.{Global}
 use Rattle.std.specs.List.{list_all, AllByRecursion, AppendsClones}
 use Rattle.std.proofs.lemmas.Bool.{cases_Bool, and_parts, and_from, not-true, leb-true, le-leb}
-use Rattle.std.proofs.lemmas.List.{drop_all, drop_more, map-append, length-map}
-use Rattle.std.proofs.Math.ListN.{get_or-map}
+use Rattle.std.proofs.lemmas.List.{take_all, map-append, length-map}
+use Rattle.std.proofs.lemmas.List.Folds.{list_all_more, list_all_at}
 use Rattle.rb_script.specs.declared.limits.TheConstants.{MAX_LINE}
 use Rattle.rb_script.specs.Lines.{Line, put_before, without_returns}
 use Rattle.rb_script.specs.Marks.{rule}
@@ -16,7 +16,7 @@ use Rattle.rb_script.specs.Reads.{is_readable}
 use Rattle.rb_script.specs.Valid.{IsLine, IsBlock}
 use Rattle.rb_script.specs.Edits.{ends_in_return, is_text_line, is_expectation}
 use Rattle.rb_script.specs.Shared.{values}
-use Rattle.rb_script.proofs.ListLaws.{drop_there, every-append, every-parts, every_told, same_read}
+use Rattle.rb_script.proofs.ListLaws.{every-append, every-parts, every_told, same_read}
 
 -- ---- lines that can be an expectation
 
@@ -109,51 +109,39 @@ expecting_valid b e h is =
 
 -- ---- testing items one after another
 
-module _ {X : Type 0} (test : X → Bool) (xs : List X) (i : ℕ) (x : X) (found : slice_get xs i ≡ Some x) where
-  tests_split : list_all test (drop i xs) ≡ (test x && list_all test (drop (i + 1) xs))
-  tests_split = ap (list_all test) (drop_there xs i x found)
-
-  -- one passed
-  pub tests_more : (total : Bool) → test x ≡ true → list_all test (drop i xs) ≡ total → list_all test (drop (i + 1) xs) ≡ total
-  tests_more total h so_far = sym (ap (λ t. t && list_all test (drop (i + 1) xs)) h) ∙ sym tests_split ∙ so_far
-
-  -- one failed
-  pub tests_not : (total : Bool) → test x ≡ false → list_all test (drop i xs) ≡ total → false ≡ total
-  tests_not total h so_far = sym (ap (λ t. t && list_all test (drop (i + 1) xs)) h) ∙ sym tests_split ∙ so_far
-
 -- where all pass, this one does
 pub test_there : {X : Type 0} (test : X → Bool) (xs : List X) (i : ℕ) (x : X) → slice_get xs i ≡ Some x → list_all test xs ≡ true → test x ≡ true
 test_there test [] i x found all = absurd (let within = slice_get_within [] i x found in omega (arith, within))
 test_there test (y ∷ xs) zero x found all = ap test (sym (same_Some y x found)) ∙ (and_parts (test y) (list_all test xs) all).0
 test_there test (y ∷ xs) (suc i) x found all = test_there test xs i x found (and_parts (test y) (list_all test xs) all).1
 
+module _ {X : Type 0} (test : X → Bool) (xs : List X) (i : ℕ) (x : X) (found : slice_get xs i ≡ Some x) where
+  within : i < length xs
+  within = slice_get_within xs i x found
+
+  same : test (get_or xs i x) ≡ test x
+  same = ap test (get_or_from_slice_get xs i x x found)
+
+  -- one more passed
+  pub tests_more : list_all test (take i xs) ≡ true → test x ≡ true → list_all test (take (i + 1) xs) ≡ true
+  tests_more so_far h = list_all_more test xs i x within ∙ and_from (list_all test (take i xs)) (test (get_or xs i x)) so_far (same ∙ h)
+
+  -- one failed
+  pub tests_not : test x ≡ false → list_all test xs ≡ false
+  tests_not h = list_all_at test xs i x within (same ∙ h)
+
 -- all passed
-pub tests_end : {X : Type 0} (test : X → Bool) (xs : List X) (i : ℕ) (total : Bool) → length xs ≤ i → list_all test (drop i xs) ≡ total → true ≡ total
-tests_end test xs i total le so_far = sym (ap (list_all test) (drop_all i xs le)) ∙ so_far
+pub tests_end : {X : Type 0} (test : X → Bool) (xs : List X) (i : ℕ) → length xs ≤ i → list_all test (take i xs) ≡ true → list_all test xs ≡ true
+tests_end test xs i le so_far = ap (list_all test) (sym (take_all i xs le)) ∙ so_far
 
 -- ---- blocks behind their pointers, one after another
 
 pub values-length : {T : Type 0} (ps : List (Rc T Global)) → length (values ps) ≡ length ps
 values-length {T} ps = length-map ps (λ (q : Rc T Global). q.value)
 
-module _ {T : Type 0} (ps : List (Rc T Global)) (i : ℕ) (p : Rc T Global) (lt : i < length ps) (is : p ≡ get_or ps i p) where
-  value_is : get_or (values ps) i p.value ≡ p.value
-  value_is = get_or-map (λ (q : Rc T Global). q.value) ps i p ∙ ap (λ (q : Rc T Global). q.value) (sym is)
-
-  some_value : i < length (values ps)
-  some_value = subst (λ (n : ℕ). i < n) (sym (values-length ps)) lt
-
-  -- the value at a place, and those after it
-  pub values_split : drop i (values ps) ≡ p.value ∷ drop (i + 1) (values ps)
-  values_split = drop_more (values ps) i p.value some_value ∙ ap (λ (v : T). v ∷ drop (i + 1) (values ps)) value_is
-
 -- clones of pointers were added
 pub shared_all : {T : Type 0} (old new more : List (Rc T Global)) → AppendsClones (λ p q. q.value ≡ p.value) old new more → values new ≡ values old ++ values more
 shared_all {T} old new more h = ap values h.1 ∙ map-append (λ (r : Rc T Global). r.value) old h.0 ∙ ap (λ (l : List T). values old ++ l) (same_read (λ (r : Rc T Global). r.value) more h.0 h.2)
-
--- no value is left
-pub values_none : {T : Type 0} (ps : List (Rc T Global)) (i : ℕ) → length ps ≤ i → drop i (values ps) ≡ []
-values_none ps i le = drop_all i (values ps) (subst (λ (n : ℕ). n ≤ i) (sym (values-length ps)) le)
 
 -- one more pointer, to this value
 pub pushed : {T : Type 0} (into next : List (Rc T Global)) (p : Rc T Global) (v : T) → next ≡ into ++ p ∷ [] → p.value ≡ v → values next ≡ values into ++ v ∷ []

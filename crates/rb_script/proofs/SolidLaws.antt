@@ -1,18 +1,19 @@
 -- Solid lines are an expectation, which stands in the plain form.
-use Rattle.std.proofs.Common.{◌≡◌, ◌≤◌, true, false, not, ◌&&◌, ◌||◌, List, [], ◌∷◌, refl, ap, arith}
+use Rattle.std.proofs.Common.{◌≡◌, ◌≤◌, true, false, not, ◌||◌, List, [], ◌∷◌, refl, ap, arith}
 use Rattle.std.specs.Prelude.{◌==◌}
 use Rattle.std.specs.List.{list_all, AllByRecursion}
-use Rattle.std.proofs.lemmas.Bool.{and_from, and_left, or_from, ne_eqb, false_from_ne_true}
+use Rattle.std.proofs.lemmas.Bool.{and_from, or_from, ne_eqb, false_from_ne_true}
 use Rattle.rb_script.specs.Lines.{Line}
 use Rattle.rb_script.specs.Marks.{is_blank, is_rule}
 use Rattle.rb_script.specs.Script.{needs_double}
-use Rattle.rb_script.specs.Reads.{is_readable, ends_or_rules}
+use Rattle.rb_script.specs.Reads.{is_readable}
 use Rattle.rb_script.specs.Valid.{IsLine}
 use Rattle.rb_script.specs.Edits.{ends_in_return, is_text_line, is_expectation}
 use Rattle.rb_script.specs.LineParts.{IsSolid}
 use Rattle.rb_script.proofs.ListLaws.{all_pass}
 use Rattle.rb_script.proofs.SharedLaws.{returns_kept, line_text_is}
 use Rattle.rb_script.proofs.ExpectationLaws.{rule_is}
+use Rattle.rb_script.proofs.ReadingLaws.{plain_readable}
 
 -- printable bytes hold no LF
 no_feed : (line : Line) → AllByRecursion (λ b. (32 ≤ b) × (b ≤ 126)) line → list_all (λ b. not (b == 10)) line ≡ true
@@ -33,20 +34,14 @@ solid_line line h = record { no_end = no_feed line h.printable; no_return = retu
 solid_rule : (line : Line) → IsSolid line → is_rule line ≡ false
 solid_rule line h = false_from_ne_true (is_rule line) (λ t. h.no_rule (rule_is line t))
 
--- so solid lines can be read back
-solid_readable : (ls : List Line) → AllByRecursion IsSolid ls → is_readable ls ≡ true
-solid_readable [] h = refl
-solid_readable (line ∷ ls) h =
-    and_from (not (is_rule line && ends_or_rules ls)) (is_readable ls) (ap not (and_left (is_rule line) (ends_or_rules ls) (solid_rule line h.0))) (solid_readable ls h.1)
-
 solid_lines : (ls : List Line) → AllByRecursion IsSolid ls → list_all is_text_line ls ≡ true
 solid_lines ls h = all_pass is_text_line IsSolid (λ line is. line_text_is line (solid_line line is)) ls h
 
--- and can be expected
-pub solid_expected : (ls : List Line) → AllByRecursion IsSolid ls → is_expectation ls ≡ true
-solid_expected ls h = and_from (is_readable ls) (list_all is_text_line ls) (solid_readable ls h) (solid_lines ls h)
-
--- in the plain form
+-- the plain form can show them
 pub solid_plain : (ls : List Line) → AllByRecursion IsSolid ls → needs_double ls ≡ false
 solid_plain [] h = refl
 solid_plain (line ∷ ls) h = or_from (is_blank line || is_rule line) (needs_double ls) (or_from (is_blank line) (is_rule line) h.0.some (solid_rule line h.0)) (solid_plain ls h.1)
+
+-- so they can be read back, and expected
+pub solid_expected : (ls : List Line) → AllByRecursion IsSolid ls → is_expectation ls ≡ true
+solid_expected ls h = and_from (is_readable ls) (list_all is_text_line ls) (plain_readable ls (solid_plain ls h)) (solid_lines ls h)

@@ -1,9 +1,8 @@
 //! Making an edit of a script.
 
 ghost use Rattle.std.specs.Prelude.{◌≡◌, ◌≤◌, ◌==◌, ◌∷◌, ◌++◌, [], true, not, length, take, drop, IfOk, OnOk, option_to_list};
-ghost use Rattle.std.specs.List.{list_all, flat_map};
-ghost use Rattle.rb_script.specs.Lines.{text_of};
-ghost use Rattle.rb_script.specs.Script.{block_lines, all_expecting, expecting};
+ghost use Rattle.std.specs.List.{list_all};
+ghost use Rattle.rb_script.specs.Script.{all_expecting, expecting};
 ghost use Rattle.rb_script.specs.Reading.{capped};
 ghost use Rattle.rb_script.specs.Shared.{values};
 ghost use Rattle.rb_script.specs.Edits.{ends_in_return, is_text_line, is_expectation};
@@ -184,8 +183,13 @@ impl Script {
         requires { length outputs.now ≡ length self.now.blocks }
         ensures { result ≡ capped (length (text (with_outputs self.now outputs.now))) }
     {
-        let tail = self.tail.text().len();
-        tail.saturating_add(text_len_with(&self.blocks, outputs))
+        let mut total = self.tail.text().len();
+        for i in 0..self.blocks.len() {
+            let block = self.blocks.at(i);
+            let output = outputs.at(i);
+            total = total.saturating_add(block.text_len_with(output));
+        }
+        total
     }
 
     // The script with these outputs as expectations.
@@ -245,20 +249,6 @@ fn shared(alloc: Global, new: Option<Block>) -> Result<Vec<Rc<Block>>, AllocErro
         pointers.push(Rc::new(alloc, block)?)?;
     }
     Ok(pointers)
-}
-
-/// How long the texts of the blocks are with these outputs as expectations.
-fn text_len_with(blocks: &Grouped<Block>, outputs: &Grouped<Lines>) -> usize
-    requires { length outputs.now ≡ length blocks.now }
-    ensures { result ≡ capped (length (text_of (flat_map block_lines (all_expecting blocks.now outputs.now)))) }
-{
-    let mut total: usize = 0;
-    for i in 0..blocks.len() {
-        let block = blocks.at(i);
-        let output = outputs.at(i);
-        total = total.saturating_add(block.text_len_with(output));
-    }
-    total
 }
 
 /// Each block with its output as its expectation. A block that expects its output already is shared.

@@ -251,15 +251,6 @@ fn append_line(
     Ok(())
 }
 
-// Writes the line with its LF.
-fn write_text<W: WrittenLine>(text: &mut LineText, line: &W) -> Result<(), AllocError>
-    ensures { OnOk result (text.new ≡ text.old ++ line_text (W.bytes line.now)) }
-{
-    line.add_to(text)?;
-    text.push(b'\n')?;
-    Ok(())
-}
-
 // Writes the line with its LF, and adds its end.
 fn write_line<W: WrittenLine>(
     text: &mut LineText,
@@ -269,7 +260,8 @@ fn write_line<W: WrittenLine>(
     ensures text { OnOk result (text.new ≡ text.old ++ line_text (W.bytes line.now)) }
     ensures ends { OnOk result (ends.new.items ≡ ends.old.items ++ length text.new ∷ []) }
 {
-    write_text(text, line)?;
+    line.add_to(text)?;
+    text.push(b'\n')?;
     ends.push(counted(text.len())?)?;
     Ok(())
 }
@@ -308,9 +300,8 @@ fn line_of<'a>(text: &'a [u8], ends: &[u32], i: usize) -> &'a [u8]
     requires line { i < length ends.now }
     ensures { slice_get (parted 0 ends.now text.now) i ≡ Some result.now }
 {
-    let start = start_of(ends, i) as usize;
-    let end = ends[i] as usize - 1;
-    &text[start..end]
+    let whole = text_part(text, ends, i, i + 1);
+    &whole[..whole.len() - 1]
 }
 
 // The text of the lines from one position up to another.

@@ -104,21 +104,7 @@ fn push_one<T: Drop>(
     Ok(())
 }
 
-/// Adds two groups, each of half of these items.
-fn push_halves<T: Drop>(
-    alloc: Global,
-    groups: &mut Vec<Group<T>>,
-    mut items: Vec<Rc<T>>,
-) -> Result<(), AllocError>
-    ensures { OnOk result (ungrouped groups.new.items ≡ ungrouped groups.old.items ++ values items.items) }
-{
-    let half = items.len() / 2;
-    let rest = items.split_off(half)?;
-    push_one(alloc, groups, items)?;
-    push_one(alloc, groups, rest)
-}
-
-/// Adds groups of these items: one, two where they are too many for one, and for more as many as a list that is made whole has.
+/// Adds groups of these items: one, or where they are too many for one as many as a list that is made whole has.
 fn push_groups<T: Drop>(
     alloc: Global,
     groups: &mut Vec<Group<T>>,
@@ -131,9 +117,6 @@ fn push_groups<T: Drop>(
     }
     if items.len() <= MOST {
         return push_one(alloc, groups, items);
-    }
-    if items.len() <= 2 * MOST {
-        return push_halves(alloc, groups, items);
     }
     groups.append(&mut in_groups(alloc, items)?)
 }

@@ -8,10 +8,7 @@ ghost use Rattle.rb_script.specs.Reads.{begins_lead, begins_rule, is_readable};
 ghost use Rattle.rb_script.specs.Results.{Fails, Gives};
 ghost use Rattle.rb_script.specs.Runs.{head_of, after_head};
 ghost use Rattle.rb_script.specs.Expectations.{after_blank, to_pair, then_blank, plain_at, expectation_at};
-ghost use Rattle.rb_script.specs.Parsed.{ParsesHead};
-ghost use Rattle.rb_script.specs.Joined.{joined};
-ghost use Rattle.rb_script.specs.Heads.{few_or, head_at};
-ghost use Rattle.rb_script.specs.Blocks.{below_head, block_at, blocks_at};
+ghost use Rattle.rb_script.specs.Blocks.{block_at, blocks_at};
 ghost use Rattle.rb_script.specs.Reading.{parts_of, is_one, block_of, long_line, no_long_line, capped, early_fault, read_of};
 ghost use Rattle.rb_script.specs.Found.{RunsTo, seen, pair_seen};
 ghost use Rattle.rb_script.specs.Flat.{between};
@@ -168,50 +165,6 @@ fn expectation(all: &SharedLines, start: usize) -> Result<Option<(Expected, usiz
     }
 }
 
-/// Where the tokens of the head stand that begins at this line, and the position behind it.
-fn head_tokens(
-    alloc: Global,
-    all: &SharedLines,
-    start: usize,
-    number: usize,
-) -> Result<(Tokens, usize), ScriptFault>
-    requires few { length all.now < 2 ^ 32 }
-    requires start { start ≤ length all.now }
-    requires lines { AllByRecursion IsLine (drop start all.now) }
-    requires head { begins_lead (drop start all.now) ≡ false }
-    ensures head { IfOk result (λ p. between start p.1 all.now ≡ head_of (drop start all.now)) }
-    ensures tokens { IfOk result (λ p. ParsesHead (between start p.1 all.now) (Ok p.0) (few_or number (head_at (joined (between start p.1 all.now))))) }
-    ensures rest { IfOk result (λ p. drop p.1 all.now ≡ after_head (drop start all.now)) }
-    ensures order { IfOk result (λ p. (start ≤ p.1) × (p.1 ≤ length all.now)) }
-    ensures failed { IfErr result (λ fault. Fails fault (few_or number (head_at (joined (head_of (drop start all.now)))))) }
-{
-    let end = head(all, start);
-    let head = LinePart::new(all, start, end)?;
-    let tokens = tokens_of(alloc, &head, number)?;
-    Ok((tokens, end))
-}
-
-/// What stands below the head that begins at this line: where the input ends, the expected lines, and the position behind them.
-fn below_head(
-    all: &SharedLines,
-    start: usize,
-    number: usize,
-) -> Result<(usize, Expected, usize), ScriptFault>
-    requires { start ≤ length all.now }
-    ensures gives { Gives (λ p. (between start p.0 all.now, p.1, drop p.2 all.now)) result (below_head (1 + length all.now) number (drop start all.now)) }
-    ensures order { IfOk result (λ p. (start ≤ p.0) × (p.0 ≤ length all.now)) }
-    ensures within { IfOk result (λ p. p.2 ≤ length all.now) }
-{
-    let separator = run(all, start, Run::Input);
-    if separator == all.len() {
-        return Err(ScriptFault::NoSeparator(number));
-    }
-    let Some((expected, after)) = expectation(all, separator + 1)? else {
-        return Err(ScriptFault::NotClosed(separator + 1));
-    };
-    Ok((separator, expected, after))
-}
-
 /// The block whose lead begins at one line and whose head begins at another, and the position behind it.
 fn block(
     alloc: Global,
@@ -231,20 +184,27 @@ fn block(
     ensures gives { Gives (λ p. (p.0.value, drop p.1 all.now)) result (block_at (1 + length all.now) (between from start all.now) (drop start all.now)) }
     ensures within { IfOk result (λ p. p.1 ≤ length all.now) }
 {
-    let (tokens, below) = head_tokens(alloc, all, start, number)?;
-    let (separator, expected, after) = below_head(all, below, number)?;
+    let below = head(all, start);
+    let tokens = tokens_of(alloc, &LinePart::new(all, start, below)?, number)?;
+    let separator = run(all, below, Run::Input);
+    if separator == all.len() {
+        return Err(ScriptFault::NoSeparator(number));
+    }
+    let Some((expected, after)) = expectation(all, separator + 1)? else {
+        return Err(ScriptFault::NotClosed(separator + 1));
+    };
     let front = Front::new(all, from, start, below, separator, tokens)?;
     let block = Rc::new(alloc, Block::new(front, expected))?;
     Ok((block, after))
 }
 
-/// The blocks with the lines on which their heads begin, the tail, and all lines.
+/// The blocks with the lines on which their heads begin, the tail, and how long the canonical text is.
 #[derive(Drop)]
 struct Parts {
     blocks: Vec<Rc<Block>>,
     heads: Vec<usize>,
     tail: LinePart,
-    all: SharedLines,
+    text_len: usize,
 }
 
 /// The blocks and the tail of the lines.
@@ -253,21 +213,21 @@ fn blocks(alloc: Global, all: &SharedLines) -> Result<Parts, ScriptFault>
     requires few { length all.now < 2 ^ 32 }
     ensures gives { Gives parts_view result (blocks_at MAX_DIRECTIVES (1 + length all.now) all.now) }
     ensures heads { IfOk result (λ p. AreHeadLines 1 all.now (parts_view p).blocks p.heads.items) }
-    ensures lines { IfOk result (λ p. p.all ≡ all.now) }
+    ensures len { IfOk result (λ p. p.text_len ≡ capped (length (text (parts_view p)))) }
 {
     let mut found = Vec::new(alloc);
     let mut heads = Vec::new(alloc);
+    let mut text_len: usize = 0;
     let mut at = 0;
     loop {
         let start = run(all, at, Run::Lead);
         if start == all.len() {
             let tail = LinePart::new(all, at, start)?;
-            let all = all.try_copy()?;
             return Ok(Parts {
+                text_len: text_len.saturating_add(tail.text().len()),
                 blocks: found,
                 heads,
                 tail,
-                all,
             });
         }
         if found.len() == MAX_DIRECTIVES {
@@ -275,6 +235,7 @@ fn blocks(alloc: Global, all: &SharedLines) -> Result<Parts, ScriptFault>
         }
         let number = start + 1;
         let (block, after) = block(alloc, all, at, start, number)?;
+        text_len = text_len.saturating_add(block.text_len());
         keep(&mut found, block)?;
         heads.push(number)?;
         at = after;
@@ -331,32 +292,22 @@ fn check_lines(bytes: &[u8]) -> Result<(), ScriptFault>
     Ok(())
 }
 
-/// The blocks and the tail of the bytes. What is too long is found before any growth. Their lines are kept once, and all
-/// that is read is a part of them.
+/// The lines of the bytes. What is too long is found before any growth. They are kept once, and all that is read is a part of them.
 #[tactic(auto, using(crate::proofs::ValidLaws::checked_lines), unfolding(crate::specs::Reading::parts_of))]
-fn read_parts(alloc: Global, bytes: &[u8]) -> Result<Parts, ScriptFault>
-    ensures exact { Gives parts_view result (parts_of bytes.now) }
-    ensures heads { IfOk result (λ p. AreHeadLines 1 (lines bytes.now) (parts_view p).blocks p.heads.items) }
-    ensures lines { IfOk result (λ p. p.all ≡ lines bytes.now) }
+fn short_lines(alloc: Global, bytes: &[u8]) -> Result<SharedLines, ScriptFault>
+    ensures lines { IfOk result (λ all. all ≡ lines bytes.now) }
+    ensures few { IfOk result (λ all. length all < 2 ^ 32) }
+    ensures valid { IfOk result (λ all. AllByRecursion IsLine all) }
+    ensures parts { IfOk result (λ all. parts_of bytes.now ≡ blocks_at MAX_DIRECTIVES (1 + length all) all) }
+    ensures failed { IfErr result (λ fault. Fails fault (parts_of bytes.now)) }
+    ensures passed { IfOk result (λ _. early_fault bytes.now ≡ None) }
     ensures early { IfSome (early_fault bytes.now) (λ fault. result ≡ Err fault) }
 {
     if bytes.len() > MAX_SCRIPT {
         return Err(ScriptFault::TooLong);
     }
     check_lines(bytes)?;
-    let all = SharedLines::new(alloc, FlatLines::of(alloc, bytes)?)?;
-    blocks(alloc, &all)
-}
-
-/// How long the canonical text is.
-fn text_len(parts: &Parts) -> usize
-    ensures { result ≡ capped (length (text (parts_view parts.now))) }
-{
-    let mut total = parts.tail.text().len();
-    for block in &parts.blocks {
-        total = total.saturating_add(block.text_len());
-    }
-    total
+    Ok(SharedLines::new(alloc, FlatLines::of(alloc, bytes)?)?)
 }
 
 /// The script of these blocks and this tail.
@@ -385,15 +336,15 @@ pub(crate) fn with_lines(alloc: Global, bytes: &[u8]) -> Result<ScriptWithLines,
     ensures heads { IfOk result (λ read. AreHeadLines 1 (lines bytes.now) read.script.blocks read.heads.items) }
     ensures early { IfSome (early_fault bytes.now) (λ fault. result ≡ Err fault) }
 {
-    let parts = read_parts(alloc, bytes)?;
-    let text_len = text_len(&parts);
-    if text_len > MAX_SCRIPT {
+    let all = short_lines(alloc, bytes)?;
+    let parts = blocks(alloc, &all)?;
+    if parts.text_len > MAX_SCRIPT {
         return Err(ScriptFault::TooLong);
     }
-    let script = whole(alloc, parts.blocks, parts.tail, text_len)?;
+    let script = whole(alloc, parts.blocks, parts.tail, parts.text_len)?;
     Ok(ScriptWithLines {
         script,
-        lines: Lines::whole(parts.all),
+        lines: Lines::whole(all),
         heads: parts.heads,
     })
 }
@@ -422,12 +373,13 @@ fn unshared(block: Rc<Block>) -> Result<Block, AllocError>
 /// The first fault of the parts as one block, if they have one.
 #[tactic(auto, unfolding(crate::specs::Reading::fits_text))]
 fn check_alone(parts: &Parts) -> Result<(), ScriptFault>
+    requires { parts.now.text_len ≡ capped (length (text (parts_view parts.now))) }
     ensures { result ≡ is_one (parts_view parts.now) }
 {
     if parts.blocks.len() != 1 || !parts.tail.is_empty() {
         return Err(ScriptFault::NotOneBlock);
     }
-    if text_len(parts) > MAX_SCRIPT {
+    if parts.text_len > MAX_SCRIPT {
         return Err(ScriptFault::TooLong);
     }
     Ok(())
@@ -449,7 +401,8 @@ pub(crate) fn one_block(alloc: Global, bytes: &[u8]) -> Result<Block, ScriptFaul
     ensures exact { Gives (λ b. b) result (block_of bytes.now) }
     ensures early { IfSome (early_fault bytes.now) (λ fault. result ≡ Err fault) }
 {
-    let parts = read_parts(alloc, bytes)?;
+    let all = short_lines(alloc, bytes)?;
+    let parts = blocks(alloc, &all)?;
     check_alone(&parts)?;
     last(parts.blocks)
 }

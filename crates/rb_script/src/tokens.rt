@@ -6,9 +6,8 @@ ghost use Rattle.rb_script.specs.Lines.{Line};
 ghost use Rattle.rb_script.specs.Valid.{IsLine};
 ghost use Rattle.rb_script.specs.Joined.{joined};
 ghost use Rattle.rb_script.specs.Directive.{PlainArgument};
-ghost use Rattle.rb_script.specs.Heads.{list_at, values_at, behind_key, argument_at, arguments_at, few_or, head_at};
+ghost use Rattle.rb_script.specs.Heads.{list_at, values_at, argument_at, arguments_at, few_or, head_at};
 ghost use Rattle.rb_script.specs.Parsed.{with_one, KeepsArgument, KeepsArguments, ParsesValues, ParsesArgument, ParsesArguments, ParsesHead};
-ghost use Rattle.rb_script.specs.Tokens.{token, IsPart};
 ghost use Rattle.rb_script.specs.declared.tokens.HeadFault.TheVariants.{OutOfMemory};
 
 use crate::argument::Argument;
@@ -113,17 +112,16 @@ fn values(alloc: Global, at: &mut HeadCursor<'_>) -> Result<Option<Vec<Span>>, H
     Ok(Some(found))
 }
 
-// The argument whose key was read.
-#[tactic(auto, unfolding(crate::specs::Heads::behind_key))]
-fn argument_of_key(
-    alloc: Global,
-    key: Span,
-    at: &mut HeadCursor<'_>,
-) -> Result<Option<Argument>, HeadFault>
-    requires { IsPart at.old.head key }
-    ensures gives { ParsesArgument at.old.head result at.new.left (behind_key (token at.old.head key) at.old.left) }
+// The argument at the front, or nothing where its values are too many.
+#[tactic(auto, unfolding(crate::specs::Heads::argument_at, crate::specs::Heads::behind_key))]
+fn argument(alloc: Global, at: &mut HeadCursor<'_>) -> Result<Option<Argument>, HeadFault>
+    ensures gives { ParsesArgument at.old.head result at.new.left (argument_at at.old.left) }
     ensures head { at.new.head ≡ at.old.head }
 {
+    let key = at.take(ByteClass::Word);
+    if key.start == key.end {
+        return Err(HeadFault::Bad);
+    }
     let Some(b'=') = at.peek() else {
         return Ok(Some(Argument {
             key,
@@ -143,19 +141,6 @@ fn argument_of_key(
         }
         None => Ok(None),
     }
-}
-
-// The argument at the front, or nothing where its values are too many.
-#[tactic(auto, unfolding(crate::specs::Heads::argument_at))]
-fn argument(alloc: Global, at: &mut HeadCursor<'_>) -> Result<Option<Argument>, HeadFault>
-    ensures gives { ParsesArgument at.old.head result at.new.left (argument_at at.old.left) }
-    ensures head { at.new.head ≡ at.old.head }
-{
-    let key = at.take(ByteClass::Word);
-    if key.start == key.end {
-        return Err(HeadFault::Bad);
-    }
-    argument_of_key(alloc, key, at)
 }
 
 // One argument more, or nothing where they are too many. The first takes no memory.

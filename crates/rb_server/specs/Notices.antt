@@ -3,7 +3,7 @@
 use Rattle.std.specs.Prelude.{ℕ, Bool, if◌then◌else◌, List, [], ◌++◌, Option, Some, None, codes, decimal}
 use Rattle.std.specs.List.{flat_map}
 use Rattle.serde_json.specs.Data.{Data}
-use Rattle.rb_json.specs.Escapes.{escaped}
+use Rattle.rb_text.specs.Json.{escaped}
 use Rattle.rb_rpc.specs.Messages.{frame}
 use Rattle.rb_rpc.specs.Params.{number_below, text_below}
 use Rattle.rb_server.specs.declared.client.Client.{Client}

@@ -8,7 +8,7 @@ ghost use Rattle.rb_server.specs.Notices.{head_text, list_publication, middle_te
 use crate::client::Client;
 use crate::service::Service;
 use crate::told::{Told, framed};
-use rb_json::{Piece, add_pieces};
+use rb_text::{Json, Piece, add_pieces};
 use std::alloc::{AllocError, Global};
 
 #[tactic(auto, unfolding(crate::specs::Notices::head_text))]
@@ -21,7 +21,7 @@ fn add_head(out: &mut Vec<u8>, uri: &[u8]) -> Result<(), AllocError>
             Piece::Bytes(
                 b"{\"jsonrpc\":\"2.0\",\"method\":\"textDocument/publishDiagnostics\",\"params\":{\"uri\":\"",
             ),
-            Piece::Escaped(uri),
+            Piece::Escaped(Json::Utf8, uri),
             Piece::Bytes(b"\""),
         ],
     )

@@ -6,8 +6,8 @@ ghost use Rattle.serde_json.specs.Written.{has_float};
 ghost use Rattle.rb_rpc.specs.Messages.{frame};
 ghost use Rattle.rb_server.specs.Questions.{body_text};
 
-use rb_json::{Piece, add_pieces};
 use rb_rpc::text_of;
+use rb_text::{Piece, add_pieces};
 use serde_json::Value;
 use std::alloc::{AllocError, Global};
 

@@ -5,6 +5,7 @@ use Rattle.std.specs.List.{flat_map}
 use Rattle.std.specs.Str.{bytes_eq}
 use Rattle.std.proofs.lemmas.List.{map-append}
 use Rattle.rb_script.specs.Lines.{Line}
+use Rattle.rb_text.proofs.AddedLaws as added
 use Rattle.rb_page.specs.Kept.{texts_of}
 use Rattle.rb_page.specs.Rows.{Row, next_text}
 use Rattle.rb_page.proofs.KeptLaws.{left_some}
@@ -37,12 +38,6 @@ new_of_all olds (r ∷ rs) = new_by (has_text olds (next_text r)) r (flat_map (n
 pub new_rows_are : (olds news : List Row) → new_texts (texts_of olds) (texts_of news) ≡ texts_of (new_rows olds news)
 new_rows_are olds news = sym (new_of_all (texts_of olds) news)
 
--- texts in two parts, rows, and texts in three
-in_two : (t0 t1 t2 x y : List Line) → t1 ≡ t0 ++ x → t2 ≡ t1 ++ y → t2 ≡ t0 ++ (x ++ y)
-in_two t0 t1 t2 x y e1 e2 = e2 ∙ ap (λ (l : List Line). l ++ y) e1 ∙ append_assoc t0 x y
-
+-- rows in two parts
 pub two_parts : (old mid new : List Line) (a b : List Row) → mid ≡ old ++ texts_of a → new ≡ mid ++ texts_of b → new ≡ old ++ texts_of (a ++ b)
-two_parts old mid new a b first second = in_two old mid new (texts_of a) (texts_of b) first second ∙ ap (λ (l : List Line). old ++ l) (sym (map-append next_text a b))
-
-pub three_parts : (t0 t1 t2 t3 x y z : List Line) → t1 ≡ t0 ++ x → t2 ≡ t1 ++ y → t3 ≡ t2 ++ z → t3 ≡ t0 ++ (x ++ (y ++ z))
-three_parts t0 t1 t2 t3 x y z e1 e2 e3 = in_two t0 t1 t3 x (y ++ z) e1 (in_two t1 t2 t3 y z e2 e3)
+two_parts old mid new a b first second = added.two_parts old mid new (texts_of a) (texts_of b) first second ∙ ap (λ (l : List Line). old ++ l) (sym (map-append next_text a b))

@@ -19,7 +19,7 @@ use Rattle.rb_machine.specs.Scenes.{lines_of}
 use Rattle.rb_steps.specs.Steps.{step, step_texts, steps_from, script_rows}
 use Rattle.rb_steps.specs.States.{state_rows}
 use Rattle.rb_steps.specs.Values.{GoOnShowingBytes, ShowBytes}
-use Rattle.rb_steps.proofs.KeepLaws.{three_parts}
+use Rattle.rb_text.proofs.AddedLaws.{three_parts}
 
 -- one directive more
 pub steps_more : (heads : List ℕ) (bs : List PlainBlock) (i line : ℕ) (b : PlainBlock) (c after : Cluster) → slice_get heads i ≡ Some line → slice_get bs i ≡ Some b → after ≡ (outcome c (directive_of b)).cluster

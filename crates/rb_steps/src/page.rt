@@ -2,10 +2,11 @@
 
 ghost use Rattle.std.specs.Prelude.{◌++◌, IsOk};
 ghost use Rattle.rb_script.specs.Writes.{Writes};
-ghost use Rattle.rb_steps.specs.Pages.{page_joined, parts_joined, rows_joined};
+ghost use Rattle.rb_steps.specs.Pages.{page_joined, rows_joined};
 
 use rb_page::{Cell, RowPlace, put_end, put_row, put_texts};
 use rb_script::{Lines, Sink, WriteFault};
+use rb_text::put_pieces;
 
 /// The format of the rows.
 pub const FORMAT: u64 = 1;
@@ -15,17 +16,6 @@ pub const FORMAT: u64 = 1;
 pub struct Frame<'a> {
     pub front: &'a [&'a [u8]],
     pub back: &'a [&'a [u8]],
-}
-
-// Writes parts of a text, one after another.
-fn put_parts<S: Sink>(sink: &mut S, parts: &[&[u8]]) -> Result<(), WriteFault>
-    ensures wrote { Writes result (S.held sink.old) (S.held sink.new) (parts_joined parts.now) }
-    ensures all { S.takes_all sink.old → IsOk result × S.takes_all sink.new }
-{
-    for part in parts {
-        sink.put(part)?;
-    }
-    Ok(())
 }
 
 /// Writes the text of the steps that these rows are, of a script of this name. Takes no memory. On a failure what went out is a
@@ -54,7 +44,7 @@ pub fn put_page<S: Sink>(
     ensures wrote { Writes result (S.held sink.old) (S.held sink.new) (page_joined frame.entry.front.now frame.entry.back.now name.now steps.now) }
     ensures all { S.takes_all sink.old → IsOk result × S.takes_all sink.new }
 {
-    put_parts(sink, frame.front)?;
+    put_pieces(sink, frame.front)?;
     put_steps(sink, name, steps)?;
-    put_parts(sink, frame.back)
+    put_pieces(sink, frame.back)
 }

@@ -1,5 +1,5 @@
 -- Which reasons of a script's outputs a check tells. (This project's.)
-use Rattle.std.specs.Prelude.{ℕ, ◌==◌, Bool, true, ◌&&◌, not, if◌then◌else◌, List, [], length}
+use Rattle.std.specs.Prelude.{◌==◌, Bool, true, ◌&&◌, not, if◌then◌else◌, List, [], length}
 use Rattle.rb_script.specs.Lines.{Line}
 use Rattle.rb_script.specs.Script.{PlainScript}
 use Rattle.rb_replay.specs.Report.{mismatches}

@@ -3,13 +3,12 @@
 ghost use Rattle.rb_script.specs.Reads.{Reads};
 
 use crate::report::{Ran, Report};
-use crate::system::{System, Text};
+use crate::subject::Subject;
+use crate::system::System;
 use rb_check::Failure;
-use rb_checked::{AcceptFault, Accepted, ShowFault, Wanted, accept as accepted, put_left_errors};
+use rb_checked::{AcceptFault, Accepted, Wanted, accept as accepted, put_left_errors};
 use rb_files::PathError;
 use rb_machine::Machine;
-use rb_replay::Session;
-use rb_script::WriteFault;
 use std::alloc::Global;
 use std::fs::Metadata;
 use std::io;
@@ -20,20 +19,19 @@ pub(crate) fn accept<M: Machine, S: System, W: Write + Drop, E: Write + Drop>(
     system: &S,
     wanted: Wanted<'_>,
     ran: Ran<'_>,
-    session: &Session<M>,
-    text: &Text,
+    subject: &Subject<'_, M>,
     report: &mut Report<W, E>,
 )
-    requires { Reads text.now.bytes.items session.now.script }
+    requires { Reads subject.now.text.now.bytes.items subject.now.session.now.script }
 {
     let alloc = system.alloc();
-    match accepted(alloc, session, &text.bytes, wanted) {
+    match accepted(alloc, subject.session, &subject.text.bytes, wanted) {
         Ok(made) => {
             if !made.left.is_empty() {
                 report.leave(ran.path, wanted.picked, &made.left);
-                tell_left(alloc, session, &text.bytes, ran.path, wanted, report);
+                tell_left(alloc, subject, wanted, report);
             }
-            keep(system, ran, &made, &text.seen, report);
+            keep(system, ran, &made, &subject.text.seen, report);
         }
         Err(fault) => fail(alloc, ran, fault, report),
     }
@@ -42,13 +40,11 @@ pub(crate) fn accept<M: Machine, S: System, W: Write + Drop, E: Write + Drop>(
 // Says which outputs are not accepted.
 fn tell_left<M: Machine, W: Write + Drop, E: Write + Drop>(
     alloc: Global,
-    session: &Session<M>,
-    bytes: &[u8],
-    path: &str,
+    subject: &Subject<'_, M>,
     wanted: Wanted<'_>,
     report: &mut Report<W, E>,
 )
-    requires { Reads bytes.now session.now.script }
+    requires { Reads subject.now.text.now.bytes.items subject.now.session.now.script }
 {
     if report.is_for_programs() {
         return;
@@ -56,12 +52,11 @@ fn tell_left<M: Machine, W: Write + Drop, E: Write + Drop>(
     let Some(sink) = report.sink() else {
         return;
     };
-    match put_left_errors(alloc, sink, session, bytes, path.as_bytes(), wanted) {
-        Ok(()) => report.wrote(Ok(())),
-        Err(ShowFault::Writing) => report.wrote(Err(WriteFault)),
-        Err(ShowFault::OutOfMemory) => {
-            report.fail(path.as_bytes(), PathError::alone(Failure::OutOfMemory));
-        }
+    let path = subject.path.as_bytes();
+    let bytes = subject.text.bytes.as_slice();
+    let shown = put_left_errors(alloc, sink, subject.session, bytes, path, wanted);
+    if let Err(error) = report.showed(shown) {
+        report.fail(path, error);
     }
 }
 

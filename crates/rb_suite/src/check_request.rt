@@ -1,9 +1,9 @@
 //! What is asked of a check.
 
+use crate::format::Format;
 use crate::target::Target;
 use rb_check::Colors;
 use rb_checked::Shown;
-use rb_formats::Format;
 
 /// What is asked for.
 #[derive(Clone, Copy)]

@@ -5,6 +5,8 @@ ghost use Rattle.rb_script.specs.Reads.{Reads};
 use crate::accepting::accept;
 use crate::check_request::CheckRequest;
 use crate::ending::{Ending, ending_of};
+use crate::format::Format;
+use crate::formatted::formatted;
 use crate::picking::{named_heads, picked_of};
 use crate::reasons::asked_reasons;
 use crate::report::{Ran, Report};
@@ -13,16 +15,18 @@ use crate::runner::Runner;
 use crate::subject::Subject;
 use crate::system::System;
 use rb_check::Failure;
-use rb_checked::{
-    Picked, ShowFault, Shown, Told, View, Wanted, Warning, is_quiet, put_checked, warnings,
-};
+use rb_checked::{Picked, Shown, Told, View, Wanted, Warning, is_quiet, put_checked, warnings};
 use rb_files::PathError;
-use rb_formats::{Format, formatted};
 use rb_machine::Machine;
 use rb_replay::{Session, StartFault};
-use rb_script::{Lines, WriteFault};
 use std::alloc::{AllocError, Global};
 use std::io::Write;
+
+// What was found, where people are shown nothing.
+const NOTHING: Told = Told {
+    first: None,
+    errors: 0,
+};
 
 /// Checks the script at the path: shows what differs, and accepts it where that is asked for.
 ///
@@ -56,7 +60,7 @@ pub(crate) fn check_script<T: Runner, S: System, W: Write + Drop, E: Write + Dro
     answer(system, asked, &subject, review, report)
 }
 
-// Shows what there is to show, and does with the outputs what is to be done.
+// Shows what there is to show, and does with the outputs what is to be done. Where nothing can be shown any more, nothing is looked for.
 fn answer<M: Machine, S: System, W: Write + Drop, E: Write + Drop>(
     system: &S,
     asked: &CheckRequest<'_>,
@@ -68,7 +72,13 @@ fn answer<M: Machine, S: System, W: Write + Drop, E: Write + Drop>(
 {
     let alloc = system.alloc();
     let has_warnings = warn(alloc, asked, subject, report)?;
-    let told = show(alloc, asked, subject, report)?;
+    let told = if is_quiet(subject.session, asked.shown) {
+        NOTHING
+    } else if let Some(format) = asked.format {
+        show_programs(alloc, format, subject, report)?
+    } else {
+        show_people(alloc, asked, subject, report)?
+    };
     let ran = Ran {
         path: subject.path,
         directives: subject.session.len(),
@@ -83,7 +93,7 @@ fn answer<M: Machine, S: System, W: Write + Drop, E: Write + Drop>(
         Ending::Accepted => {
             let errors = asked.accepts_errors;
             let wanted = Wanted { picked, errors };
-            accept(system, wanted, ran, subject.session, subject.text, report);
+            accept(system, wanted, ran, subject, report);
         }
         Ending::Reviewed => {
             return accept_reviewed(system, asked, ran, picked, subject, review, report);
@@ -126,7 +136,7 @@ fn accept_reviewed<M: Machine, S: System, W: Write + Drop, E: Write + Drop>(
         picked: Picked::Heads(said.as_slice()),
         errors: true,
     };
-    accept(system, wanted, ran, subject.session, subject.text, report);
+    accept(system, wanted, ran, subject, report);
     Ok(())
 }
 
@@ -163,8 +173,8 @@ fn shows_warnings(shown: Shown) -> bool {
     }
 }
 
-// Shows what there is to show of the script of the bytes. Where nothing can be shown any more, nothing is looked for.
-fn show<M: Machine, W: Write + Drop, E: Write + Drop>(
+// Shows people what there is to show of a script.
+fn show_people<M: Machine, W: Write + Drop, E: Write + Drop>(
     alloc: Global,
     asked: &CheckRequest<'_>,
     subject: &Subject<'_, M>,
@@ -172,61 +182,31 @@ fn show<M: Machine, W: Write + Drop, E: Write + Drop>(
 ) -> Result<Told, PathError>
     requires { Reads subject.now.text.now.bytes.items subject.now.session.now.script }
 {
+    let Some(sink) = report.sink() else {
+        return Ok(NOTHING);
+    };
     let view = View {
         path: subject.path.as_bytes(),
         colors: asked.colors,
         shown: asked.shown,
     };
-    let nothing = Told {
-        first: None,
-        errors: 0,
-    };
-    if is_quiet(subject.session, asked.shown) {
-        return Ok(nothing);
-    }
-    if let Some(format) = asked.format {
-        show_programs(alloc, format, subject, report)?;
-        return Ok(nothing);
-    }
-    let Some(sink) = report.sink() else {
-        return Ok(nothing);
-    };
-    match put_checked(
-        alloc,
-        sink,
-        subject.session,
-        &subject.text.bytes,
-        view,
-        subject.whys,
-    ) {
-        Ok(told) => {
-            report.wrote(Ok(()));
-            Ok(told)
-        }
-        Err(ShowFault::Writing) => {
-            report.wrote(Err(WriteFault));
-            Ok(nothing)
-        }
-        Err(ShowFault::OutOfMemory) => Err(PathError::alone(Failure::OutOfMemory)),
-    }
+    let bytes = subject.text.bytes.as_slice();
+    let shown = put_checked(alloc, sink, subject.session, bytes, view, subject.whys);
+    Ok(report.showed(shown)?.unwrap_or(NOTHING))
 }
 
-// Shows programs what there is to show of the script of the bytes.
+// Shows programs what there is to show of a script.
 fn show_programs<M: Machine, W: Write + Drop, E: Write + Drop>(
     alloc: Global,
     format: Format,
     subject: &Subject<'_, M>,
     report: &mut Report<W, E>,
-) -> Result<(), AllocError>
+) -> Result<Told, AllocError>
     requires { Reads subject.now.text.now.bytes.items subject.now.session.now.script }
 {
-    let text = formatted(
-        alloc,
-        format,
-        subject.session,
-        &subject.text.bytes,
-        subject.path.as_bytes(),
-    )?;
+    let bytes = subject.text.bytes.as_slice();
+    let path = subject.path.as_bytes();
+    let text = formatted(alloc, format, subject.session, bytes, path)?;
     report.put(&text);
-    Ok(())
+    Ok(NOTHING)
 }

@@ -9,7 +9,7 @@ use crate::progress::Progress;
 use crate::report::Report;
 use crate::review::Review;
 use crate::runner::Runner;
-use crate::system::{RuntimeSystem, System};
+use crate::system::RuntimeSystem;
 use rb_check::{Failure, Status};
 use rb_checked::Shown;
 use rb_files::{Found, PathError, find};
@@ -34,48 +34,18 @@ pub fn check<T: Runner, R: Files + Input + Print + Clock + AllocGlobal, E: Write
     ensures begins { IfErr result (λ error. error_kind error ≡ ErrorKind.OutOfMemory) }
 {
     let mut progress = Progress::from_now(rt, asked.wants_progress);
-    let mut report = Report::new(
-        rt.alloc(),
-        io::writer(rt),
-        errors,
-        asked.is_quiet,
-        asked.format,
-    )?;
+    let mut report = Report::new(rt.alloc(), io::writer(rt), errors, &asked)?;
     let found = find(rt, asked.targets, asked.filters);
     tell_lost(&found, &mut report);
+    let system = RuntimeSystem(rt);
     let scripts = found.scripts.as_slice();
-    if scripts.is_empty() {
-        report.fail(b"raftbench", PathError::alone(Failure::NoScripts));
-        return Ok(report.status());
-    }
-    check_each(
-        &RuntimeSystem(rt),
-        runner,
-        &asked,
-        scripts,
-        &mut progress,
-        &mut report,
-    );
-    let lists_differing = scripts.len() > 1 && asked.shown != Shown::Brief;
-    report.end(lists_differing, milliseconds(&progress, rt));
-    Ok(report.status())
-}
-
-// Checks one script after another, until a review is over, and tells of what failed.
-fn check_each<T: Runner, S: System, W: Write + Drop, E: Write + Drop>(
-    system: &S,
-    runner: &mut T,
-    asked: &CheckRequest<'_>,
-    scripts: &[String],
-    progress: &mut Progress,
-    report: &mut Report<W, E>,
-) {
     let mut review = Review::Each;
     for (done, path) in scripts.iter().enumerate() {
-        if system.is_due(progress) {
+        if progress.is_due(rt) {
             report.show_progress(done, scripts.len());
         }
-        let checked = check_script(system, runner, asked, path.as_str(), &mut review, report);
+        let path = path.as_str();
+        let checked = check_script(&system, runner, &asked, path, &mut review, &mut report);
         if let Err(error) = checked {
             report.fail(path.as_bytes(), error);
         }
@@ -83,14 +53,23 @@ fn check_each<T: Runner, S: System, W: Write + Drop, E: Write + Drop>(
             break;
         }
     }
+    if !scripts.is_empty() {
+        let lists_differing = scripts.len() > 1 && asked.shown != Shown::Brief;
+        report.end(lists_differing, milliseconds(&progress, rt));
+    }
+    Ok(report.status())
 }
 
+// Tells of what was not found.
 fn tell_lost<W: Write + Drop, E: Write + Drop>(found: &Found, report: &mut Report<W, E>) {
     for lost in &found.lost {
         report.fail(&lost.path, lost.error);
     }
     if found.is_cut {
         report.fail(b"raftbench", PathError::alone(Failure::OutOfMemory));
+    }
+    if found.scripts.is_empty() {
+        report.fail(b"raftbench", PathError::alone(Failure::NoScripts));
     }
 }
 

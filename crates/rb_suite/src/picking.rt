@@ -7,11 +7,9 @@ use crate::place::place_at;
 use crate::report::Report;
 use crate::subject::Subject;
 use crate::target::Target;
-use rb_check::Failure;
-use rb_checked::Picked;
+use rb_checked::{Picked, layout_of};
 use rb_files::PathError;
 use rb_machine::Machine;
-use rb_script::ScriptWithLines;
 use std::alloc::{AllocError, Global};
 use std::io;
 use std::io::Write;
@@ -26,11 +24,13 @@ pub(crate) fn named_heads<M: Machine, W: Write + Drop, E: Write + Drop>(
 ) -> Result<Option<Vec<usize>>, PathError>
     requires { Reads subject.now.text.now.bytes.items subject.now.session.now.script }
 {
-    if asked.accepts {
-        picked_heads(alloc, asked.targets, subject, report)
-    } else {
-        Ok(None)
+    if !asked.accepts {
+        return Ok(None);
     }
+    let Some(lines) = named_lines(alloc, asked.targets, subject.path)? else {
+        return Ok(None);
+    };
+    Ok(Some(heads_of(alloc, &lines, subject, report)?))
 }
 
 /// The directives of these heads; all of them, where there are none.
@@ -41,21 +41,6 @@ pub(crate) fn picked_of(heads: &Option<Vec<usize>>) -> Picked<'_> {
     }
 }
 
-fn picked_heads<M: Machine, W: Write + Drop, E: Write + Drop>(
-    alloc: Global,
-    targets: &[Target],
-    subject: &Subject<'_, M>,
-    report: &mut Report<W, E>,
-) -> Result<Option<Vec<usize>>, PathError>
-    requires { Reads subject.now.text.now.bytes.items subject.now.session.now.script }
-{
-    let lines = match named_lines(alloc, targets, subject.path)? {
-        Some(lines) => lines,
-        None => return Ok(None),
-    };
-    Ok(Some(heads_of(alloc, &lines, subject, report)?))
-}
-
 // The heads that the lines name.
 fn heads_of<M: Machine, W: Write + Drop, E: Write + Drop>(
     alloc: Global,
@@ -63,10 +48,8 @@ fn heads_of<M: Machine, W: Write + Drop, E: Write + Drop>(
     subject: &Subject<'_, M>,
     report: &mut Report<W, E>,
 ) -> Result<Vec<usize>, PathError> {
-    match ScriptWithLines::read(alloc, &subject.text.bytes) {
-        Ok(read) => heads_at(alloc, lines, &read.heads, subject, report),
-        Err(_) => Err(PathError::alone(Failure::OutOfMemory)),
-    }
+    let layout = layout_of(alloc, &subject.text.bytes)?;
+    heads_at(alloc, lines, &layout.heads, subject, report)
 }
 
 // The lines that are named of the script; none where all of it is.
@@ -75,42 +58,20 @@ fn named_lines(
     targets: &[Target],
     path: &str,
 ) -> Result<Option<Vec<usize>>, AllocError> {
-    if names_all(targets, path) {
-        return Ok(None);
+    let mut lines = Vec::new(alloc);
+    for target in targets {
+        if target.path.as_str() != path {
+            continue;
+        }
+        let Some(line) = target.line else {
+            return Ok(None);
+        };
+        lines.push(line)?;
     }
-    let lines = lines_of(alloc, targets, path)?;
     if lines.is_empty() {
         Ok(None)
     } else {
         Ok(Some(lines))
-    }
-}
-
-// Whether the script is named without a line.
-fn names_all(targets: &[Target], path: &str) -> bool {
-    for target in targets {
-        if target.path.as_str() == path && target.line.is_none() {
-            return true;
-        }
-    }
-    false
-}
-
-fn lines_of(alloc: Global, targets: &[Target], path: &str) -> Result<Vec<usize>, AllocError> {
-    let mut lines = Vec::new(alloc);
-    for target in targets {
-        if let Some(line) = line_in(target, path) {
-            lines.push(line)?;
-        }
-    }
-    Ok(lines)
-}
-
-fn line_in(target: &Target, path: &str) -> Option<usize> {
-    if target.path.as_str() == path {
-        target.line
-    } else {
-        None
     }
 }
 

@@ -7,13 +7,16 @@ ghost use Rattle.std.specs.Prelude.{◌≡◌, ◌≢◌, IfErr};
 ghost use Rattle.std.specs.IoError.{error_kind};
 ghost use Rattle.rb_suite.specs.Counts.{counted_as};
 
+use crate::check_request::CheckRequest;
+use crate::format::Format;
+use crate::kind::Kind;
+use crate::notices::notice;
 use rb_check::{
     Failure, Outcome, Status, Totals, doubt_sentence, failure_sentence, fault_line, put_accepted,
     put_brief, put_failure, put_refusal, put_totals, put_unaccepted, put_warning, sentence,
 };
-use rb_checked::{Picked, Told, Warning, is_picked};
+use rb_checked::{Picked, ShowFault, Told, Warning, is_picked};
 use rb_files::PathError;
-use rb_formats::{Format, Kind, notice};
 use rb_script::{ScriptFault, Sink, Through, WriteFault};
 use rb_text::put_number;
 use std::alloc::{AllocError, Global};
@@ -63,8 +66,7 @@ impl<W: Write + Drop, E: Write + Drop> Report<W, E> {
         alloc: Global,
         output: W,
         errors: E,
-        is_quiet: bool,
-        format: Option<Format>,
+        asked: &CheckRequest<'_>,
     ) -> io::Result<Report<W, E>>
         ensures { IfErr result (λ error. error_kind error ≡ ErrorKind.OutOfMemory) }
     {
@@ -72,10 +74,10 @@ impl<W: Write + Drop, E: Write + Drop> Report<W, E> {
             alloc,
             output: Through(BufWriter::new(alloc, output)?),
             errors: Through(BufWriter::new(alloc, errors)?),
-            format,
+            format: asked.format,
             totals: Totals::new(),
             differing: Vec::new(alloc),
-            is_lost: is_quiet,
+            is_lost: asked.is_quiet,
             shows_progress: false,
         })
     }
@@ -115,6 +117,28 @@ impl<W: Write + Drop, E: Write + Drop> Report<W, E> {
         let handed_on = self.output.0.flush();
         if (written.is_err() || handed_on.is_err()) && !self.is_lost {
             self.lose_output(&handed_on);
+        }
+    }
+
+    /// The same, of what is shown of a script; nothing was found of it, where it could not be written.
+    ///
+    /// # Errors
+    ///
+    /// Where memory was refused for it.
+    pub(crate) fn showed<F: Copy>(
+        &mut self,
+        shown: Result<F, ShowFault>,
+    ) -> Result<Option<F>, PathError> {
+        match shown {
+            Ok(found) => {
+                self.wrote(Ok(()));
+                Ok(Some(found))
+            }
+            Err(ShowFault::Writing) => {
+                self.wrote(Err(WriteFault));
+                Ok(None)
+            }
+            Err(ShowFault::OutOfMemory) => Err(PathError::alone(Failure::OutOfMemory)),
         }
     }
 

@@ -7,14 +7,12 @@ use crate::check_request::CheckRequest;
 use crate::report::Report;
 use crate::subject::Subject;
 use crate::system::System;
-use rb_check::Failure;
 use rb_checked::{
-    Layout, Picked, ShowFault, Shown, View, is_picked, is_unexpected, layout_of, put_one_mismatch,
+    Layout, Picked, Shown, View, is_picked, is_unexpected, layout_of, put_one_mismatch,
 };
 use rb_files::PathError;
 use rb_machine::Machine;
 use rb_replay::Session;
-use rb_script::WriteFault;
 use std::alloc::{AllocError, Global};
 use std::io::Write;
 
@@ -184,19 +182,17 @@ fn show<M: Machine, W: Write + Drop, E: Write + Drop>(
     let Some(sink) = report.sink() else {
         return Ok(());
     };
-    match put_one_mismatch(
+    let bytes = subject.text.bytes.as_slice();
+    let shown = put_one_mismatch(
         alloc,
         sink,
         subject.session,
-        &subject.text.bytes,
+        bytes,
         view,
         subject.whys,
         index,
-    ) {
-        Ok(()) => report.wrote(Ok(())),
-        Err(ShowFault::Writing) => report.wrote(Err(WriteFault)),
-        Err(ShowFault::OutOfMemory) => return Err(PathError::alone(Failure::OutOfMemory)),
-    }
+    );
+    report.showed(shown)?;
     Ok(())
 }
 

@@ -1,6 +1,5 @@
 //! What a check reaches of the system.
 
-use crate::progress::Progress;
 use crate::report::Report;
 use crate::review::{Heard, answer_of};
 use rb_check::Failure;
@@ -11,7 +10,6 @@ use std::alloc::Global;
 use std::fs::Metadata;
 use std::io::Write;
 use std::rt::Files;
-use std::time::Clock;
 
 /// The first bytes of a file, and what the system said of it when it was opened.
 #[derive(Drop)]
@@ -25,9 +23,6 @@ pub(crate) struct Text {
 pub(crate) trait System {
     /// Memory.
     fn alloc(&self) -> Global;
-
-    /// Whether it is time to show how far the work is.
-    fn is_due(&self, progress: &mut Progress) -> bool;
 
     /// The first bytes of a script's file, which is closed again.
     fn read(&self, path: &str) -> Result<Text, PathError>;
@@ -49,13 +44,9 @@ pub(crate) trait System {
 #[derive(Drop)]
 pub(crate) struct RuntimeSystem<'a, R>(pub(crate) &'a R);
 
-impl<'a, R: Files + Input + Clock + AllocGlobal> System for RuntimeSystem<'a, R> {
+impl<'a, R: Files + Input + AllocGlobal> System for RuntimeSystem<'a, R> {
     fn alloc(&self) -> Global {
         self.0.alloc()
-    }
-
-    fn is_due(&self, progress: &mut Progress) -> bool {
-        progress.is_due(self.0)
     }
 
     fn read(&self, path: &str) -> Result<Text, PathError> {

@@ -6,7 +6,6 @@
 #![tactic(auto)]
 
 mod laws;
-mod piece;
 mod reasons;
 mod texts;
 mod why;

@@ -6,11 +6,11 @@ ghost use Rattle.std.specs.Prelude.{◌≡◌, ◌++◌, codes, decimal, OnOk};
 ghost use Rattle.rb_texts.specs.States.{role_text};
 ghost use Rattle.rb_why.specs.Texts.{earlier_text, outdated_text, ignored_text, end_text, older_text, refused_text, reason_text, is_shown, reason_lines};
 
-use crate::piece::{Piece, add_pieces};
 use crate::why::{Reason, WhyIgnored, WhyRefused};
 use rb_level::Level;
 use rb_message::Role;
 use rb_script::Lines;
+use rb_text::{Piece, add_pieces};
 use std::alloc::AllocError;
 
 // Most lines are shorter, and a line that is longer takes more room.

@@ -1,9 +1,15 @@
-use Rattle.std.proofs.Common.{◌∙◌, ℕ, List, length, ap, sym, subst, arith}
+use Rattle.std.proofs.Common.{◌∙◌, ℕ, List, subst, arith}
 use Rattle.std.specs.Prelude.{slice_get, Some, ◌≡◌}
 use Rattle.rb_replay.specs.Run.{outputs}
 use Rattle.rb_offers.specs.Heads.{heads_of}
 use Rattle.rb_actions.proofs.ActionLaws.{edits_last, edits_more}
+use Rattle.rb_actions.proofs.FindingLaws.{stands_by}
 use Rattle.rb_actions.proofs.action.edits.Goals as goal
+
+pub add_one-requires-clause-stands : goal.add_one-requires-clause-stands
+add_one-requires-clause-stands g c =
+    stands_by c.args.layout.now.lines c.args.session.now.script.blocks c.args.layout.now.heads.items c.as_slice.result.now c.loop-i.i c.number_at-line.result c.block_at-block.result.now c.requires.heads c.as_slice.ensures.value
+    c.number_at-line.ensures c.block_at-block.ensures
 
 pub loop-i-preserved : goal.loop-i-preserved
 loop-i-preserved g c =
@@ -14,6 +20,5 @@ loop-i-preserved g c =
 
 pub returns : goal.returns
 returns g c =
-    let len : length (heads_of c.args.text.now c.args.session.now.script) ≡ length c.args.session.now.script.blocks = ap (λ (ns : List ℕ). length ns) (sym c.requires.heads_are) ∙ c.requires.count in
     edits_last c.args.encoding c.args.text.now c.args.span c.loop-i.later (heads_of c.args.text.now c.args.session.now.script) c.args.session.now.script.blocks (outputs c.args.session.now.script)
-    c.loop-i.i c.loop-i.out.items _ (omega (arith, c.loop-i-test.false, c.len-i-end.ensures.len, len)) c.loop-i.invariant
+    c.loop-i.i c.loop-i.out.items _ (omega (arith, c.loop-i-test.false, c.len-i-end.ensures.len)) c.loop-i.invariant

@@ -5,8 +5,14 @@ use Rattle.rb_replay.specs.Run.{outputs}
 use Rattle.rb_look.specs.Looks.{looked}
 use Rattle.rb_offers.specs.Heads.{heads_of}
 use Rattle.rb_actions.specs.Hovers.{shown}
+use Rattle.rb_actions.proofs.FindingLaws.{stands_by}
 use Rattle.rb_actions.proofs.HoverLaws.{hover_next, hover_none, hover_went}
 use Rattle.rb_actions.proofs.hover.add_line.Goals as goal
+
+pub extent_of-extent-requires : goal.extent_of-extent-requires
+extent_of-extent-requires g c =
+    stands_by c.args.layout.now.lines c.args.session.now.script.blocks c.args.layout.now.heads.items c.as_slice.result.now c.loop-i.i c.number_at-head.result c.block_at-block.result.now c.requires.layout.heads c.as_slice.ensures.value
+    c.number_at-head.ensures c.block_at-block.ensures
 
 pub loop-i-preserved : goal.loop-i-preserved
 loop-i-preserved g c = record {

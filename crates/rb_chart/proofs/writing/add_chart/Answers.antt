@@ -1,9 +1,10 @@
-use Rattle.std.proofs.Common.{◌≡◌, ◌∙◌, ℕ, List, ◌++◌, ap, append_assoc}
+use Rattle.std.proofs.Common.{◌≡◌, ◌∙◌, ℕ, List, ◌++◌, ap}
 use Rattle.std.specs.Prelude.{codes}
 use Rattle.std.specs.List.{flat_map}
 use Rattle.rb_chart.specs.Escapes.{escaped}
 use Rattle.rb_chart.specs.declared.shape.Shape.{Shape}
 use Rattle.rb_chart.specs.Charts.{PlainChart, chart_text, front_text, layers_text}
+use Rattle.rb_text.proofs.AddedLaws.{three_parts}
 use Rattle.rb_chart.proofs.writing.add_chart.Goals as goal
 
 abbrev plain : ℕ → ℕ → List ℕ → List ℕ → List Shape → List Shape → List Shape → List ℕ → PlainChart
@@ -23,16 +24,11 @@ parted style k width height title told words t d w under over texts u o x view p
     ∙ ap (λ (y : List Shape). front title told ++ layers words y o x) r ∙ ap (λ (y : List Shape). front title told ++ layers words under y x) s
     ∙ ap (λ (y : List Shape). front title told ++ layers words under over y) v ∙ ap (λ (c : PlainChart). chart_text style c) view
 
--- three parts behind what was there
-three : (t0 t1 t2 t3 x y z : List ℕ) → t1 ≡ t0 ++ x → t2 ≡ t1 ++ y → t3 ≡ t2 ++ z → t3 ≡ t0 ++ (x ++ (y ++ z))
-three t0 t1 t2 t3 x y z e1 e2 e3 =
-    e3 ∙ ap (λ (l : List ℕ). l ++ z) e2 ∙ append_assoc t1 y z ∙ ap (λ (l : List ℕ). l ++ (y ++ z)) e1 ∙ append_assoc t0 x (y ++ z)
-
 pub returns : goal.returns
 returns c =
     let k = c.chart.inside in
     let style = c.args.style.now in
-    three c.args.svg.now.items c.add_head.new.svg.items c.add_layers.new.svg.items _
+    three_parts c.args.svg.now.items c.add_head.new.svg.items c.add_layers.new.svg.items _
     (front_text style k.width k.height (flat_map escaped c.as_slice-title.result.now) (flat_map escaped c.as_slice-told.result.now))
     (layers_text c.as_slice-words.result.now c.as_slice-under.result.now c.as_slice-over.result.now c.as_slice-texts.result.now) (codes "</svg>\n")
     c.in_ok-add_head.ensures c.in_ok-add_layers.ensures c.in_ok-extend_from_slice.ensures.items

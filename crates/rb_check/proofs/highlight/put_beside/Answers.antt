@@ -1,3 +1,5 @@
+use Rattle.std.proofs.Common.{rules}
+use Rattle.rb_script.specs.Writes.{Writes}
 use Rattle.rb_check.specs.declared.colors.Colors.TheVariants.{On}
 use Rattle.rb_check.specs.Shown.{line_shown}
 use Rattle.rb_check.specs.Highlights.{Parts, highlighted_text, beside_text}
@@ -19,5 +21,5 @@ returns-clause-wrote g c =
     let other = c.args.other.now in
     let mark = c.end_mark.result.now in
     let p : Parts = record { front = c.parts_beside.result.0.now; differs = c.parts_beside.result.1.now; back = c.parts_beside.result.2.now } in
-    writes_along c.put_highlighted.result (g.S.Sink.held c.args.sink.now) (g.S.Sink.held c.put_highlighted.new.sink) (highlighted_text c.args.side p mark) (beside_text c.args.side line other)
-    (beside-highlighted c.args.side line other p mark c.parts_beside.ensures c.if-differs-line.false c.end_mark.ensures) c.put_highlighted.ensures.wrote
+    let wrote : Writes c.put_pieces.result (g.S.Sink.held c.args.sink.now) (g.S.Sink.held c.put_pieces.new.sink) (highlighted_text c.args.side p mark) = search rules in
+    writes_along _ _ _ _ _ (beside-highlighted c.args.side line other p mark c.parts_beside.ensures c.if-differs-line.false c.end_mark.ensures) wrote

@@ -1,10 +1,10 @@
-use Rattle.std.proofs.Common.{◌≡◌, ◌∙◌, ◌+◌, ℕ, List, Some, ap, sym}
+use Rattle.std.proofs.Common.{◌≡◌, ◌∙◌, ℕ, List, Some, ap, sym}
 use Rattle.std.specs.Prelude.{slice_get}
 use Rattle.rb_script.specs.Tokens.{plain}
 use Rattle.rb_text.proofs.SentLaws.{writes_along}
 use Rattle.rb_check.specs.Heads.{head_text}
 use Rattle.rb_check.specs.Whys.{reasons_in, told_mismatch}
-use Rattle.rb_checked.specs.Whys.{told_differing, told_at}
+use Rattle.rb_checked.specs.Whys.{told_differing}
 use Rattle.rb_checked.proofs.WhyLaws.{told-is}
 use Rattle.rb_checked.proofs.put.put_mismatch_at.Goals as goal
 
@@ -18,5 +18,5 @@ returns-clause-wrote g c =
     let line = c.number_at-line.result in
     let w = reasons_in c.why_at.result in
     let head : slice_get heads c.args.index ≡ Some line = sym (ap (λ (hs : List ℕ). slice_get hs c.args.index) c.as_slice.ensures.value) ∙ c.number_at-line.ensures in
-    let one : told_mismatch v.colors v.path.now line (head_text (plain c.directive.result)) c.expected.result.now o w c.hint_of.result.now ≡ told_differing v.colors v.path.now line b o w = cc in
+    let one : told_mismatch v.colors v.path.now line (head_text (plain c.directive.result)) c.expected-expected.result.now o w c.hint_of.result.now ≡ told_differing v.colors v.path.now line b o w = cc in
     writes_along _ _ _ _ _ (one ∙ told-is v.colors v.path.now c.args.whys.now heads s c.args.index line b o w head c.block_at-block.ensures c.output_at-output.ensures c.why_at.ensures) c.put_told_mismatch.ensures.wrote

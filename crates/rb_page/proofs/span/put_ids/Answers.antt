@@ -5,18 +5,18 @@ use Rattle.std.proofs.lemmas.List.Concat.{flat_map-append}
 use Rattle.rb_texts.specs.Configs.{ids_text}
 use Rattle.rb_texts.proofs.PieceLaws.{ids_text-nil, ids_text-cons}
 use Rattle.rb_page.specs.Commas.{comma_before}
-use Rattle.rb_page.specs.Escapes.{escaped}
+use Rattle.rb_text.specs.Json.{in_page}
 use Rattle.rb_text.proofs.SentLaws.{and_then, no_more, sent_all, sent_none, writes_along}
 use Rattle.rb_page.proofs.span.put_ids.Goals as goal
 
 -- the ids are the first and the others
-parted : (ids : List ℕ) (first : ℕ) (rest : List ℕ) → ids ≡ first ∷ rest → flat_map escaped (decimal first) ++ flat_map escaped (flat_map comma_before rest) ≡ flat_map escaped (ids_text ids)
-parted ids first rest e = sym (ap (λ (l : List ℕ). flat_map escaped l) (ap ids_text e ∙ ids_text-cons first rest) ∙ flat_map-append escaped (decimal first) (flat_map comma_before rest))
+parted : (ids : List ℕ) (first : ℕ) (rest : List ℕ) → ids ≡ first ∷ rest → flat_map in_page (decimal first) ++ flat_map in_page (flat_map comma_before rest) ≡ flat_map in_page (ids_text ids)
+parted ids first rest e = sym (ap (λ (l : List ℕ). flat_map in_page l) (ap ids_text e ∙ ids_text-cons first rest) ∙ flat_map-append in_page (decimal first) (flat_map comma_before rest))
 
 pub returns-in_default-clause-wrote : goal.returns-in_default-clause-wrote
 returns-in_default-clause-wrote g c =
-    let whole = flat_map escaped (ids_text c.args.ids.now) in
-    let none = ap (λ (l : List ℕ). flat_map escaped l) (ap ids_text (nil_from_length c.args.ids.now c.in_default.ensures.cases) ∙ ids_text-nil) in
+    let whole = flat_map in_page (ids_text c.args.ids.now) in
+    let none = ap (λ (l : List ℕ). flat_map in_page l) (ap ids_text (nil_from_length c.args.ids.now c.in_default.ensures.cases) ∙ ids_text-nil) in
     sent_all none (sent_none (g.S.Sink.held c.args.sink.now) whole whole refl)
 
 pub returns-in_err-put_digits-clause-wrote : goal.returns-in_err-put_digits-clause-wrote

@@ -4,7 +4,7 @@ use Rattle.std.specs.List.{flat_map}
 use Rattle.std.proofs.lemmas.Bool.{eqb-true, false≢true}
 use Rattle.std.proofs.lemmas.List.Concat.{flat_map-append}
 use Rattle.rb_texts.specs.Configs.{ids_text, part_text}
-use Rattle.rb_page.specs.Escapes.{escaped}
+use Rattle.rb_text.specs.Json.{in_page}
 use Rattle.rb_text.proofs.SentLaws.{and_then, no_more, sent_all, sent_none, writes_along}
 use Rattle.rb_page.proofs.span.put_part.Goals as goal
 
@@ -17,15 +17,15 @@ part_some name [] h = absurd (false≢true (sym h))
 part_some name (id ∷ ids) h = refl
 
 -- a part in the parts in which it goes out
-parted : (name ids : List ℕ) → (length ids == 0) ≡ false → flat_map escaped name ++ (flat_map escaped (ids_text ids) ++ flat_map escaped (codes ")")) ≡ flat_map escaped (part_text name ids)
+parted : (name ids : List ℕ) → (length ids == 0) ≡ false → flat_map in_page name ++ (flat_map in_page (ids_text ids) ++ flat_map in_page (codes ")")) ≡ flat_map in_page (part_text name ids)
 parted name ids h =
-    ap (λ (l : List ℕ). flat_map escaped name ++ l) (sym (flat_map-append escaped (ids_text ids) (codes ")"))) ∙ sym (flat_map-append escaped name (ids_text ids ++ codes ")"))
-    ∙ ap (λ (l : List ℕ). flat_map escaped l) (sym (part_some name ids h ∙ append_assoc name (ids_text ids) (codes ")")))
+    ap (λ (l : List ℕ). flat_map in_page name ++ l) (sym (flat_map-append in_page (ids_text ids) (codes ")"))) ∙ sym (flat_map-append in_page name (ids_text ids ++ codes ")"))
+    ∙ ap (λ (l : List ℕ). flat_map in_page l) (sym (part_some name ids h ∙ append_assoc name (ids_text ids) (codes ")")))
 
 pub returns-then-is_empty-clause-wrote : goal.returns-then-is_empty-clause-wrote
 returns-then-is_empty-clause-wrote g c =
-    let whole = flat_map escaped (part_text c.args.name.now c.args.ids.now) in
-    sent_all (ap (λ (l : List ℕ). flat_map escaped l) (part_none c.args.name.now c.args.ids.now (sym c.is_empty.ensures ∙ c.if-is_empty.true))) (sent_none (g.S.Sink.held c.args.sink.now) whole whole refl)
+    let whole = flat_map in_page (part_text c.args.name.now c.args.ids.now) in
+    sent_all (ap (λ (l : List ℕ). flat_map in_page l) (part_none c.args.name.now c.args.ids.now (sym c.is_empty.ensures ∙ c.if-is_empty.true))) (sent_none (g.S.Sink.held c.args.sink.now) whole whole refl)
 
 pub returns-in_err-put_escaped-clause-wrote : goal.returns-in_err-put_escaped-clause-wrote
 returns-in_err-put_escaped-clause-wrote g c =

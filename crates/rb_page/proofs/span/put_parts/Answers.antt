@@ -2,16 +2,16 @@ use Rattle.std.proofs.Common.{◌≡◌, ◌∙◌, ℕ, ◌+◌, ◌<◌, List,
 use Rattle.std.proofs.lemmas.List.{drop_more, drop_all}
 use Rattle.std.proofs.lemmas.List.Concat.{flat_map-append}
 use Rattle.std.specs.List.{flat_map}
-use Rattle.rb_page.specs.Escapes.{escaped}
+use Rattle.rb_text.specs.Json.{in_page}
 use Rattle.rb_text.proofs.SentLaws.{sent_piece, sent_along, sent_all, piece_exit}
 use Rattle.rb_page.proofs.span.put_parts.Goals as goal
 
 -- the part at a place, and those after it
 parted : {A : Type 0} (text : A → List ℕ) (xs : List A) (i : ℕ) (x : A) → i < length xs → x ≡ get_or xs i x
-    → flat_map escaped (flat_map text (drop i xs)) ≡ flat_map escaped (text x) ++ flat_map escaped (flat_map text (drop (i + 1) xs))
+    → flat_map in_page (flat_map text (drop i xs)) ≡ flat_map in_page (text x) ++ flat_map in_page (flat_map text (drop (i + 1) xs))
 parted {A} text xs i x within is =
-    ap (λ (l : List A). flat_map escaped (flat_map text l)) (drop_more xs i x within ∙ ap (λ (y : A). y ∷ drop (i + 1) xs) (sym is))
-    ∙ flat_map-append escaped (text x) (flat_map text (drop (i + 1) xs))
+    ap (λ (l : List A). flat_map in_page (flat_map text l)) (drop_more xs i x within ∙ ap (λ (y : A). y ∷ drop (i + 1) xs) (sym is))
+    ∙ flat_map-append in_page (text x) (flat_map text (drop (i + 1) xs))
 
 pub returns-in_err-put-clause-wrote : goal.returns-in_err-put-clause-wrote
 returns-in_err-put-clause-wrote g c =
@@ -27,4 +27,4 @@ loop-part-preserved g c =
     }
 
 pub returns-clause-wrote : goal.returns-clause-wrote
-returns-clause-wrote g c = sent_all (ap (λ (l : List _). flat_map escaped (flat_map g.P.Part.text l)) (drop_all c.loop-part.part-index c.args.parts.now (omega arith))) c.loop-part.invariant.sent
+returns-clause-wrote g c = sent_all (ap (λ (l : List _). flat_map in_page (flat_map g.P.Part.text l)) (drop_all c.loop-part.part-index c.args.parts.now (omega arith))) c.loop-part.invariant.sent

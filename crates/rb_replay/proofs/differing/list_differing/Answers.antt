@@ -1,7 +1,6 @@
-use Rattle.std.proofs.Common.{◌≡◌, ◌+◌, ◌-◌, ◌++◌, ◌∷◌, [], drop, take, arith, ap, sym, ◌∙◌, append_assoc, append-nil, ℕ, List}
+use Rattle.std.proofs.Common.{◌≡◌, ◌+◌, ◌-◌, ◌++◌, ◌∷◌, [], drop, take, arith, ap, ap₂, sym, ◌∙◌, append_assoc, append-nil, ℕ, List}
 use Rattle.std.proofs.lemmas.Grind.{common_steps}
 use Rattle.rb_replay.specs.Report.{differing, same_lines}
-use Rattle.rb_replay.proofs.RunLaws.{both}
 use Rattle.rb_replay.proofs.DifferingLaws.{differing_same, differing_other, differing_none}
 use Rattle.rb_replay.proofs.differing.list_differing.Goals as goal
 use Rattle.rb_replay.proofs.differing.list_differing.Goals.{then-not-is_same+in_ok-push, else-not-is_same}
@@ -13,7 +12,7 @@ loop-i-preserved c =
     let b = c.block_at-block.result.now in
     let o = c.at-output.result.now.value in
     let rest = differing (c.loop-i.i + 1 + 1) (drop (c.loop-i.i + 1) bs) (take (c.args.to - (c.loop-i.i + 1)) (drop (c.loop-i.i + 1) os)) in
-    let tested : same_lines c.block_at-block.result.now.expected c.at-output.result.now.value ≡ c.is_same.result = both same_lines (sym c.expected.ensures) (sym c.deref.ensures) ∙ sym c.is_same.ensures in
+    let tested : same_lines c.block_at-block.result.now.expected c.at-output.result.now.value ≡ c.is_same.result = ap₂ same_lines (sym c.expected.ensures) (sym c.deref.ensures) ∙ sym c.is_same.ensures in
     elim c.if-not-is_same.branch [
       | then-not-is_same+in_ok-push w ↦
           let grown : w.push.new.self.items ≡ c.loop-i.places.items ++ (c.loop-i.i + 1) ∷ [] = grind (arith, common_steps) in

@@ -1,4 +1,4 @@
-use Rattle.std.proofs.Common.{◌≡◌, ◌<◌, length, refl, arith}
+use Rattle.std.proofs.Common.{◌≡◌, length, refl, arith}
 use Rattle.std.proofs.lemmas.List.{ext_get_or}
 use Rattle.rb_script.specs.Directive.{no_argument}
 use Rattle.rb_script.specs.Tokens.{plain}

@@ -7,15 +7,15 @@ use Rattle.rb_script.proofs.edits.is_expectation.Goals as goal
 pub returns-then-not-is_text_line : goal.returns-then-not-is_text_line
 returns-then-not-is_text_line c =
     let ls = c.args.lines.now in
-    tests_not is_text_line ls c.loop-i.i c.line.result.now c.line.ensures (list_all is_text_line ls) (sym c.is_text_line.ensures ∙ c.if-not-is_text_line.true) c.loop-i.invariant
-    ∙ sym (ap (λ t. t && list_all is_text_line ls) (sym c.is_readable.ensures ∙ c.if-not-is_readable.false))
+    sym (ap (λ t. t && list_all is_text_line ls) (sym c.is_readable.ensures ∙ c.if-not-is_readable.false)
+    ∙ tests_not is_text_line ls c.loop-i.i c.line.result.now c.line.ensures (sym c.is_text_line.ensures ∙ c.if-not-is_text_line.true))
 
 pub loop-i-preserved : goal.loop-i-preserved
 loop-i-preserved c =
-    tests_more is_text_line c.args.lines.now c.loop-i.i c.line.result.now c.line.ensures (list_all is_text_line c.args.lines.now) (sym c.is_text_line.ensures ∙ c.if-not-is_text_line.false) c.loop-i.invariant
+    tests_more is_text_line c.args.lines.now c.loop-i.i c.line.result.now c.line.ensures c.loop-i.invariant (sym c.is_text_line.ensures ∙ c.if-not-is_text_line.false)
 
 pub returns : goal.returns
 returns c =
     let ls = c.args.lines.now in
-    tests_end is_text_line ls c.loop-i.i (list_all is_text_line ls) (omega arith) c.loop-i.invariant
-    ∙ sym (ap (λ t. t && list_all is_text_line ls) (sym c.is_readable.ensures ∙ c.if-not-is_readable.false))
+    sym (ap (λ t. t && list_all is_text_line ls) (sym c.is_readable.ensures ∙ c.if-not-is_readable.false)
+    ∙ tests_end is_text_line ls c.loop-i.i (omega arith) c.loop-i.invariant)

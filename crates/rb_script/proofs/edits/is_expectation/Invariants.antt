@@ -1,8 +1,8 @@
 -- The lines so far passed.
-use Rattle.std.proofs.Common.{◌≡◌, drop}
+use Rattle.std.proofs.Common.{◌≡◌, true, take}
 use Rattle.std.specs.List.{list_all}
 use Rattle.rb_script.specs.Edits.{is_text_line}
 use Rattle.rb_script.proofs.edits.is_expectation.Given as goal
 
 abbrev pub invariant-loop-i : goal.invariant-loop-i
-invariant-loop-i l = list_all is_text_line (drop l.i l.lines) ≡ list_all is_text_line l.lines
+invariant-loop-i l = list_all is_text_line (take l.i l.lines) ≡ true

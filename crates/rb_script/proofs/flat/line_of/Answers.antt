@@ -1,28 +1,18 @@
-use Rattle.std.proofs.Common.{arith}
-use Rattle.rb_script.proofs.FlatLaws.{flat_line, slice_is}
+use Rattle.std.proofs.Common.{◌≡◌, ◌-◌, ◌∷◌, [], length, length-append, take, Some, ap, sym, ◌∙◌, arith}
+use Rattle.std.proofs.lemmas.List.{take_at}
+use Rattle.rb_script.specs.Lines.{Line}
+use Rattle.rb_script.proofs.FlatLaws.{flat_line}
 use Rattle.rb_script.proofs.flat.line_of.Goals as goal
-
-pub overflow_sub-end : goal.overflow_sub-end
-overflow_sub-end c =
-    let found = flat_line c.args.ends.now c.args.text.now c.args.i c.requires.flat c.requires.line in
-    omega (arith, found.2.order)
 
 pub slice_bounds-result-count : goal.slice_bounds-result-count
 slice_bounds-result-count c =
-    let found = flat_line c.args.ends.now c.args.text.now c.args.i c.requires.flat c.requires.line in
-    omega (arith, found.2.order)
-
-pub slice_bounds-result-start : goal.slice_bounds-result-start
-slice_bounds-result-start c =
-    let found = flat_line c.args.ends.now c.args.text.now c.args.i c.requires.flat c.requires.line in
-    omega (arith, found.2.order, found.2.within)
-
-pub slice_bounds-result-end : goal.slice_bounds-result-end
-slice_bounds-result-end c =
-    let found = flat_line c.args.ends.now c.args.text.now c.args.i c.requires.flat c.requires.line in
-    omega (arith, found.2.order, found.2.within)
+    let found = flat_line c.args.ends.now c.args.text.now c.args.i c.requires.line in
+    omega (arith, ap length (c.text_part-whole.ensures ∙ found.2), length-append found.0 (10 ∷ []))
 
 pub returns : goal.returns
 returns c =
-    let found = flat_line c.args.ends.now c.args.text.now c.args.i c.requires.flat c.requires.line in
-    slice_is _ _ c.start_of-start.result _ _ found.0 found.1 c.start_of-start.ensures found.2
+    let found = flat_line c.args.ends.now c.args.text.now c.args.i c.requires.line in
+    let whole = c.text_part-whole.ensures ∙ found.2 in
+    let n = length c.text_part-whole.result.now - 1 in
+    let len : length found.0 ≡ n = omega (arith, ap length whole, length-append found.0 (10 ∷ [])) in
+    found.1 ∙ ap (λ (l : Line). Some l) (sym (ap (take n) whole ∙ take_at found.0 (10 ∷ []) n len))

@@ -1,4 +1,6 @@
-use Rattle.rb_script.proofs.LinePartLaws.{continues_sound, continues_complete, joined_next, joined_nothing, joined_last}
+use Rattle.std.proofs.Common.{[]}
+use Rattle.rb_script.specs.Joined.{joined}
+use Rattle.rb_script.proofs.LinePartLaws.{continues_sound, continues_complete, joined_next, joined_last}
 use Rattle.rb_script.proofs.laws.heads_are_joined.Goals as goal
 
 pub returns-clause-asks : goal.returns-clause-asks
@@ -8,7 +10,8 @@ pub returns-clause-next : goal.returns-clause-next
 returns-clause-next c = joined_next
 
 pub returns-clause-nothing : goal.returns-clause-nothing
-returns-clause-nothing c = joined_nothing
+unfolding joined
+returns-clause-nothing c = λ body blanks. joined_next body blanks []
 
 pub returns-clause-last : goal.returns-clause-last
 returns-clause-last c = joined_last

@@ -10,10 +10,12 @@ use Rattle.rb_script.specs.Valid.{IsLine}
 use Rattle.rb_script.specs.Flat.{between}
 use Rattle.rb_script.specs.Shared.{values}
 use Rattle.rb_script.specs.Results.{Fails}
-use Rattle.rb_script.specs.Script.{PlainBlock}
+use Rattle.rb_script.specs.Script.{PlainBlock, block_text}
+use Rattle.rb_script.specs.Reading.{capped}
 use Rattle.rb_script.specs.Blocks.{is_empty, from_head, blocks_at}
 use Rattle.rb_script.proofs.BlocksLaws.{with_blocks, blocks_more, blocks_fail, blocks_done, blocks_full, left_none, left_some, same_block, leads_of, begins_from, next_sound}
 use Rattle.rb_script.proofs.ValidLaws.{split_lines, block_valid}
+use Rattle.rb_script.proofs.LengthLaws.{blocks_len, blocks-push-length, text-length}
 use Rattle.rb_script.proofs.HeadLineLaws.{HeadsSoFar, one_more_head}
 use Rattle.rb_script.proofs.reading.blocks.Goals as goal
 
@@ -23,6 +25,11 @@ returns-then-start-len-clause-gives c =
     let ls = drop c.loop-alloc.at all in
     blocks_done MAX_DIRECTIVES (values c.loop-alloc.found.items) (vec_len c.loop-alloc.found) (1 + length all) ls _ c.loop-alloc.invariant.read (left_none all ls c.run-start.result c.run-start.ensures.rest (omega arith))
     ∙ ap (λ l. Ok (record { blocks = values c.loop-alloc.found.items; tail = l })) (sym (c.in_ok-tail.ensures ∙ c.run-start.ensures.run))
+
+pub returns-then-start-len-clause-len : goal.returns-then-start-len-clause-len
+returns-then-start-len-clause-len c =
+    let whole = text-length (record { blocks = values c.loop-alloc.found.items; tail = c.in_ok-tail.tail }) in
+    omega (arith, whole, ap length c.text.ensures, c.saturating_add.ensures, c.loop-alloc.invariant.len)
 
 pub returns-then-len-eq-MAX_DIRECTIVES-clause-gives : goal.returns-then-len-eq-MAX_DIRECTIVES-clause-gives
 returns-then-len-eq-MAX_DIRECTIVES-clause-gives c =
@@ -74,6 +81,10 @@ loop-alloc-preserved c =
     let line : (start + 1) + length (from_head ls) ≡ 1 + length all = omega (arith, ap length c.run-start.ensures.rest, length-drop start all) in
     let headed = one_more_head 1 all (values c.loop-alloc.found.items) ls c.loop-alloc.heads.items c.loop-alloc.invariant.heads c.in_ok-block.block.value after (start + 1) sound line in
     let pushed = c.in_ok-keep.ensures.items in
+    let so_far = values c.loop-alloc.found.items in
+    let block_len = c.text_len.ensures.len ∙ ap (λ (b : PlainBlock). capped (length (block_text b))) c.deref.ensures in
+    let longer : c.saturating_add-text_len.result ≡ capped (blocks_len (so_far ++ c.in_ok-block.block.value ∷ [])) =
+    omega (arith, c.loop-alloc.invariant.len, c.saturating_add-text_len.ensures, block_len, blocks-push-length so_far c.in_ok-block.block.value) in
     record {
       within = c.in_ok-block.ensures.within;
       read = ap (λ bs. with_blocks bs (blocks_at (MAX_DIRECTIVES - vec_len c.keep.new.found) (1 + length all) after)) pushed
@@ -81,6 +92,7 @@ loop-alloc-preserved c =
           ∙ blocks_more MAX_DIRECTIVES (values c.loop-alloc.found.items) (vec_len c.loop-alloc.found) (1 + length all) ls _ c.loop-alloc.invariant.read c.in_ok-block.block.value after (omega arith) some next;
       lines_left = (block_valid ls after c.in_ok-block.block.value c.loop-alloc.invariant.lines_left sound).1;
       few = omega (arith, c.in_ok-keep.ensures.len);
+      len = longer ∙ ap (λ (bs : List PlainBlock). capped (blocks_len bs)) (sym pushed);
       heads =
           subst (λ (bs : List PlainBlock). HeadsSoFar 1 all bs after c.push.new.self.items) (sym pushed)
           (subst (λ (ns : List ℕ). HeadsSoFar 1 all (values c.loop-alloc.found.items ++ c.in_ok-block.block.value ∷ []) after ns) (sym c.in_ok-push.ensures.items) headed);

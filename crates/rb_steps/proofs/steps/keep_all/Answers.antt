@@ -2,7 +2,7 @@ use Rattle.std.proofs.Common.{◌∷◌, []}
 use Rattle.std.specs.List.{flat_map}
 use Rattle.rb_page.specs.Kept.{texts_of}
 use Rattle.rb_steps.specs.Steps.{end_row, source_row, step_texts, steps}
-use Rattle.rb_steps.proofs.KeepLaws.{three_parts}
+use Rattle.rb_text.proofs.AddedLaws.{three_parts}
 use Rattle.rb_steps.proofs.steps.keep_all.Goals as goal
 
 pub returns-clause-texts : goal.returns-clause-texts

@@ -1,13 +1,13 @@
 use Rattle.std.proofs.Common.{decimal}
 use Rattle.std.specs.Prelude.{codes}
 use Rattle.std.specs.List.{flat_map}
-use Rattle.rb_page.specs.Escapes.{escaped}
+use Rattle.rb_text.specs.Json.{in_page}
 use Rattle.rb_text.proofs.SentLaws.{and_then, no_more}
 use Rattle.rb_page.proofs.span.U64Part.put.Goals as goal
 
 pub returns-in_err-put_escaped-clause-wrote : goal.returns-in_err-put_escaped-clause-wrote
 returns-in_err-put_escaped-clause-wrote g c =
-    no_more _ _ (flat_map escaped (codes ",")) (flat_map escaped (decimal c.args.self.now)) _ c.from_residual.ensures.0 c.in_err-put_escaped.ensures.wrote
+    no_more _ _ (flat_map in_page (codes ",")) (flat_map in_page (decimal c.args.self.now)) _ c.from_residual.ensures.0 c.in_err-put_escaped.ensures.wrote
 
 pub returns-clause-wrote : goal.returns-clause-wrote
-returns-clause-wrote g c = and_then _ _ _ (flat_map escaped (codes ",")) (flat_map escaped (decimal c.args.self.now)) _ c.in_ok-put_escaped.ensures.wrote c.put_digits.ensures.wrote
+returns-clause-wrote g c = and_then _ _ _ (flat_map in_page (codes ",")) (flat_map in_page (decimal c.args.self.now)) _ c.in_ok-put_escaped.ensures.wrote c.put_digits.ensures.wrote

@@ -1,4 +1,4 @@
-use Rattle.std.proofs.Common.{◌≡◌, arith, ◌++◌, ◌∷◌, [], ap, ◌∙◌, sym, get_or, take, append_assoc, List, ℕ}
+use Rattle.std.proofs.Common.{◌≡◌, arith, ◌++◌, ◌∷◌, [], ap, ap₂, ◌∙◌, sym, get_or, take, append_assoc, List, ℕ}
 use Rattle.std.proofs.lemmas.Option.{get_or_from_slice_get}
 use Rattle.rb_script.specs.Lines.{Line}
 use Rattle.rb_script.specs.Directive.{PlainDirective}
@@ -9,7 +9,7 @@ use Rattle.rb_script.proofs.SharedLaws.{pushed}
 use Rattle.rb_machine.specs.Cluster.{Cluster}
 use Rattle.rb_machine.specs.Outcome.{outcome}
 use Rattle.rb_replay.specs.Run.{outputs}
-use Rattle.rb_replay.proofs.RunLaws.{state_next, outputs_next, both}
+use Rattle.rb_replay.proofs.RunLaws.{state_next, outputs_next}
 use Rattle.rb_replay.proofs.run.Run.step.Goals as goal
 use Rattle.rb_replay.proofs.run.Run.step.Given.{Over}
 
@@ -28,12 +28,12 @@ returns-clause-run g c =
       outputs_on =
           ap (λ (os : List (List Line)). take c.args.self.now.from (outputs c.args.script.now) ++ os) grown
           ∙ sym (append_assoc (take c.args.self.now.from (outputs c.args.script.now)) (values c.args.self.now.outputs.items) (c.in_ok-next.lines ∷ []))
-          ∙ both (λ (os : List (List Line)) (l : List Line). os ++ l ∷ []) c.requires.run.outputs_on (c.in_ok-next.ensures.output ∙ both (λ (s : Cluster) (d : PlainDirective). (outcome s d).output) c.requires.machine (directive-is g c))
+          ∙ ap₂ (λ (os : List (List Line)) (l : List Line). os ++ l ∷ []) c.requires.run.outputs_on (c.in_ok-next.ensures.output ∙ ap₂ (λ (s : Cluster) (d : PlainDirective). (outcome s d).output) c.requires.machine (directive-is g c))
           ∙ sym (outputs_next c.args.script.now c.args.self.now.at c.block_at-block.result.now c.requires.there);
       states_are = c.requires.run.states_are;
     }
 
 pub returns-clause-machine : goal.returns-clause-machine
 returns-clause-machine g c =
-    c.in_ok-next.ensures.cluster ∙ both (λ (s : Cluster) (d : PlainDirective). (outcome s d).cluster) c.requires.machine (directive-is g c)
+    c.in_ok-next.ensures.cluster ∙ ap₂ (λ (s : Cluster) (d : PlainDirective). (outcome s d).cluster) c.requires.machine (directive-is g c)
     ∙ sym (state_next c.args.script.now c.args.self.now.at c.block_at-block.result.now c.requires.there)

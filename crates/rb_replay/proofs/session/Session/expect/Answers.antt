@@ -1,9 +1,9 @@
-use Rattle.std.proofs.Common.{◌≡◌, ◌-◌, ◌≤◌, ap, ◌∙◌, subst, length, arith}
+use Rattle.std.proofs.Common.{◌≡◌, ◌-◌, ◌≤◌, ap, subst, length, arith}
 use Rattle.rb_script.specs.declared.limits.TheConstants.{MAX_DIRECTIVES}
 use Rattle.rb_replay.specs.Run.{outputs}
-use Rattle.rb_replay.specs.Holding.{Holding, IsFresh}
+use Rattle.rb_replay.specs.Holding.{IsFresh}
 use Rattle.rb_replay.proofs.RunLaws.{length-outputs, lengths-same}
-use Rattle.rb_replay.proofs.FreshLaws.{fresh-same}
+use Rattle.rb_replay.proofs.FreshLaws.{fresh-same, held-outputs}
 use Rattle.rb_replay.proofs.session.Session.expect.Goals as goal
 
 pub invariant_of-self : goal.invariant_of-self
@@ -15,7 +15,7 @@ returns-clause-fresh g c = fresh-same c.args.self.now _ c.args.new c.in_ok-misma
 pub mended-requires : goal.mended-requires
 mended-requires g c =
     let fresh : IsFresh c.args.self.now = subst IsFresh c.self.view_is c.self.invariant in
-    let held : c.self.inside.outputs ≡ outputs c.args.self.now.script = ap (λ (h : Holding). h.outputs) c.self.view_is ∙ fresh.answered in
+    let held : c.self.inside.outputs ≡ outputs c.args.self.now.script = held-outputs c.self.view_is c.self.invariant in
     let one : c.args.place - (c.args.place - 1) ≡ 1 = omega (arith, c.requires.first) in
     let long : length c.args.new.blocks ≡ length c.args.self.now.script.blocks = lengths-same c.args.new c.args.self.now.script c.requires.same in
     let few : length c.args.self.now.script.blocks ≤ MAX_DIRECTIVES = fresh.few in

@@ -1,14 +1,13 @@
-use Rattle.std.proofs.Common.{◌≡◌, ◌+◌, ◌-◌, ◌≤◌, ◌++◌, ap, sym, ◌∙◌, ℕ, List, length, take, drop, map, subst, arith}
+use Rattle.std.proofs.Common.{◌≡◌, ◌+◌, ◌-◌, ◌≤◌, ◌++◌, ap, ap₂, sym, ◌∙◌, ℕ, List, length, take, drop, map, arith}
 use Rattle.std.specs.Prelude.{filter, nat_lt, nat_le}
 use Rattle.std.proofs.lemmas.List.{take_rest, length-drop, length-take-le}
 use Rattle.std.proofs.lemmas.List.Elements.{All-from_recursion}
 use Rattle.std.proofs.lemmas.Result.{IfOk-weaker}
 use Rattle.rb_script.specs.declared.limits.TheConstants.{MAX_DIRECTIVES}
 use Rattle.rb_replay.specs.Report.{mismatches, differing}
-use Rattle.rb_replay.specs.Holding.{Holding, IsFresh}
-use Rattle.rb_replay.proofs.RunLaws.{both}
 use Rattle.rb_replay.proofs.PartLaws.{all-rest}
 use Rattle.rb_replay.proofs.DifferingLaws.{mismatches-rising, mismatches-within, mended-differing}
+use Rattle.rb_replay.proofs.FreshLaws.{held-mismatches}
 use Rattle.rb_replay.proofs.session.Session.mended.Goals as goal
 
 pub list_differing-requires-clause-within : goal.list_differing-requires-clause-within
@@ -35,13 +34,12 @@ parts : (ms one three five : List ℕ) (front rest : ℕ) (a b : ℕ) (f : ℕ �
     → take front three ≡ filter (λ p. nat_lt p a) three → drop rest five ≡ filter (λ p. nat_le b p) five
     → take front one ++ (fresh ++ map f (take (length five - rest) (drop rest five))) ≡ filter (λ p. nat_lt p a) ms ++ (made ++ map f (filter (λ p. nat_le b p) ms))
 parts ms one three five front rest a b f fresh made first third fifth new fronts rests =
-    both (λ (x y : List ℕ). x ++ y) (ap (take front) (first ∙ sym third) ∙ fronts ∙ ap (filter (λ p. nat_lt p a)) third)
-    (both (λ (x y : List ℕ). x ++ map f y) new (take_rest five rest ∙ rests ∙ ap (filter (λ p. nat_le b p)) fifth))
+    ap₂ (λ (x y : List ℕ). x ++ y) (ap (take front) (first ∙ sym third) ∙ fronts ∙ ap (filter (λ p. nat_lt p a)) third)
+    (ap₂ (λ (x y : List ℕ). x ++ map f y) new (take_rest five rest ∙ rests ∙ ap (filter (λ p. nat_le b p)) fifth))
 
 pub returns : goal.returns
 returns g c =
-    let fresh : IsFresh c.args.self.now = subst IsFresh c.self.view_is c.self.invariant in
-    let held : c.self.inside.mismatches.items ≡ mismatches c.args.self.now.script = ap (λ (h : Holding). h.mismatches) c.self.view_is ∙ fresh.compared in
+    let held : c.self.inside.mismatches.items ≡ mismatches c.args.self.now.script = held-mismatches c.self.view_is c.self.invariant in
     let rests : drop c.count_below-rest.result c.deref-5.result.now ≡ filter (λ p. nat_le (c.args.old_stop + 1) p) c.deref-5.result.now =
     rw (c.deref-2.ensures.value ∙ sym c.deref-5.ensures.value) at c.count_below-rest.ensures.rest in
     IfOk-weaker c.joined.result _ _

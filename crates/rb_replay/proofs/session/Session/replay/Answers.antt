@@ -25,9 +25,9 @@ joined meaning f r inside room fresh held states same view ready =
 pub take_over-requires-clause-paired : goal.take_over-requires-clause-paired
 take_over-requires-clause-paired g c =
     let ready : IsReady g.M.Machine.meaning (change_by c.args.self.now c.args.new c.args.splice) c.args.self.now.kept c.in_ok-ready.ready = c.in_ok-ready.ensures.ready in
-    same-length g.M.Machine.meaning (state c.args.new) (take c.in_ok-ready.ready.rejoin.front c.make_room.new.kept.items ++ (c.in_ok-ready.ready.running.kept.items ++ drop c.in_ok-ready.ready.rejoin.rest c.make_room.new.kept.items)) c.in_ok-ready.ready.points.items
-    (joined g.M.Machine.meaning c.in_ok-ready.ready.rejoin.front c.in_ok-ready.ready.rejoin.rest c.self.inside.kept.items c.make_room.new.kept.items c.in_ok-ready.ready.running.kept.items c.args.self.now.kept (map (state c.args.new) c.in_ok-ready.ready.points.items)
-    c.in_ok-make_room.ensures.kept (ap (λ (h : Holding). h.kept) c.self.view_is) ready.states_are)
+    same-length g.M.Machine.meaning (state c.args.new) (take c.in_ok-ready.ready.rejoin.front c.reserve.new.self.items ++ (c.in_ok-ready.ready.running.kept.items ++ drop c.in_ok-ready.ready.rejoin.rest c.reserve.new.self.items)) c.in_ok-ready.ready.points.items
+    (joined g.M.Machine.meaning c.in_ok-ready.ready.rejoin.front c.in_ok-ready.ready.rejoin.rest c.self.inside.kept.items c.reserve.new.self.items c.in_ok-ready.ready.running.kept.items c.args.self.now.kept (map (state c.args.new) c.in_ok-ready.ready.points.items)
+    c.in_ok-reserve.ensures.items (ap (λ (h : Holding). h.kept) c.self.view_is) ready.states_are)
 
 fresh-now : (g : Over) (c : goal.After-take_over g) → IsFresh (record { script = c.args.new; spacing = c.self.inside.spacing; outputs = c.in_ok-ready.ready.outputs; mismatches = c.in_ok-ready.ready.mismatches.items; points = c.take_over.new.points.items; kept = map g.M.Machine.meaning c.take_over.new.kept.items })
 fresh-now g c =
@@ -37,8 +37,8 @@ fresh-now g c =
       answered = ready.outputs_are;
       compared = ready.mismatches_are;
       states = c.take_over.ensures.kept (state c.args.new)
-          (joined g.M.Machine.meaning c.in_ok-ready.ready.rejoin.front c.in_ok-ready.ready.rejoin.rest c.self.inside.kept.items c.make_room.new.kept.items c.in_ok-ready.ready.running.kept.items c.args.self.now.kept (map (state c.args.new) c.in_ok-ready.ready.points.items)
-          c.in_ok-make_room.ensures.kept (ap (λ (h : Holding). h.kept) c.self.view_is) ready.states_are);
+          (joined g.M.Machine.meaning c.in_ok-ready.ready.rejoin.front c.in_ok-ready.ready.rejoin.rest c.self.inside.kept.items c.reserve.new.self.items c.in_ok-ready.ready.running.kept.items c.args.self.now.kept (map (state c.args.new) c.in_ok-ready.ready.points.items)
+          c.in_ok-reserve.ensures.items (ap (λ (h : Holding). h.kept) c.self.view_is) ready.states_are);
       near = rw (c.take_over.ensures.points, ready.points_are, ← spacing, ready.spacing_is) (points-kept (change_by c.args.self.now c.args.new c.args.splice) ready.meeting c.requires.change ready.is_first);
       spaced = c.self.invariant.spaced;
       few = c.requires.few;
@@ -58,11 +58,11 @@ returns-clause-reuse g c =
       are_points = rw (c.take_over.ensures.points, ready.spacing_is, ready.points_are) refl;
     }
 
-pub returns-in_err-make_room-clause-refused : goal.returns-in_err-make_room-clause-refused
-returns-in_err-make_room-clause-refused g c =
+pub returns-in_err-reserve-clause-refused : goal.returns-in_err-reserve-clause-refused
+returns-in_err-reserve-clause-refused g c =
     let change = change_by c.args.self.now c.args.new c.args.splice in
     let ready : IsReady g.M.Machine.meaning (change_by c.args.self.now c.args.new c.args.splice) c.args.self.now.kept c.in_ok-ready.ready = c.in_ok-ready.ensures.ready in
     let own : IsCost change (stop change ready.meeting - start change) = record { meeting = ready.meeting; is_first = ready.is_first; is_cost = refl } in
-    on_err_always c.from_residual-in_err-make_room.result (λ n cost.
+    on_err_always c.from_residual-in_err-reserve.result (λ n cost.
     let same = cost-one change (stop change ready.meeting - start change) n own cost in
     omega (arith, same, c.in_ok-ready.ensures.counted, ready.from_is, ready.at_is))

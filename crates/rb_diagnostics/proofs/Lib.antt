@@ -1,4 +1,0 @@
-pub mod FindingLaws
-pub mod QuietLaws
-pub mod MismatchLaws
-pub mod CameLaws

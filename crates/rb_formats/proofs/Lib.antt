@@ -1,2 +1,0 @@
-pub mod FormatLaws
-pub mod LineLaws

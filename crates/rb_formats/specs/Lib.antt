@@ -1,5 +1,0 @@
-pub mod Escapes
-pub mod Pieces
-pub mod Objects
-pub mod Commands
-pub mod Formats

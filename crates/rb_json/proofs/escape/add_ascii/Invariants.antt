@@ -1,8 +1,0 @@
--- What is added so far, and what is left.
-use Rattle.std.proofs.Common.{◌≡◌, ◌++◌, drop}
-use Rattle.std.specs.List.{flat_map}
-use Rattle.rb_json.specs.Escapes.{ascii}
-use Rattle.rb_json.proofs.escape.add_ascii.Given as goal
-
-abbrev pub invariant-loop-b : goal.invariant-loop-b
-invariant-loop-b l = l.text.items ++ flat_map ascii (drop l.b-index l.bytes) ≡ l.initial.text.items ++ flat_map ascii l.bytes

@@ -1,0 +1,104 @@
+//! The steps of the script that some bytes are.
+
+ghost use Rattle.std.specs.Prelude.{◌≡◌, ◌≢◌, ◌≤◌, ◌^◌, Err, IfErr, IfOk, IfSome, length};
+ghost use Rattle.rb_script.specs.Script.{PlainScript};
+ghost use Rattle.rb_script.specs.Reads.{Reads};
+ghost use Rattle.rb_script.specs.Reading.{early_fault, read_of};
+ghost use Rattle.rb_replay.specs.Report.{mismatches};
+ghost use Rattle.rb_bench.specs.Faults.{TellsFault};
+ghost use Rattle.rb_bench.specs.Runs.{status_of};
+ghost use Rattle.rb_program.specs.Written.{AreRowsOf, AreStepsOf};
+
+use rb_bench::BenchFault;
+use rb_check::Status;
+use rb_checked::layout_of;
+use rb_cluster::{Cluster, Meter};
+use rb_machine::Machine;
+use rb_raftlog::SplitLog;
+use rb_replay::Session;
+use rb_script::Lines;
+use rb_steps::{Shown, steps_of};
+use std::alloc::{AllocError, Global};
+
+/// The rows of a script behind the first, each as a text, and the status that a report of it would have.
+#[derive(Drop)]
+pub(crate) struct ScriptSteps {
+    pub(crate) texts: Lines,
+    pub(crate) status: Status,
+}
+
+// The rows of the session's script, which the bytes are.
+fn rows<M: Shown>(alloc: Global, session: &Session<M>, bytes: &[u8]) -> Result<Lines, AllocError>
+    requires { Reads bytes.now session.now.script }
+    ensures { IfOk result (AreRowsOf bytes.now session.now.script) }
+{
+    let layout = layout_of(alloc, bytes)?;
+    let texts = steps_of(alloc, session, bytes, layout.heads.as_slice())?;
+    Ok(texts)
+}
+
+// The status of the mismatches.
+fn status<M: Machine>(session: &Session<M>) -> Status
+    ensures { result ≡ status_of (mismatches session.now.script) }
+{
+    if session.mismatches().is_empty() {
+        Status::Matched
+    } else {
+        Status::Mismatched
+    }
+}
+
+// What a session holds of the script of the bytes, as steps.
+fn found<M: Shown>(
+    alloc: Global,
+    session: &Session<M>,
+    bytes: &[u8],
+) -> Result<ScriptSteps, BenchFault>
+    requires { Reads bytes.now session.now.script }
+    ensures found { IfOk result (λ steps. AreStepsOf bytes.now steps.texts steps.status) }
+    ensures memory { IfErr result (λ fault. fault ≡ BenchFault.OutOfMemory) }
+{
+    match rows(alloc, session, bytes) {
+        Ok(texts) => Ok(ScriptSteps {
+            texts,
+            status: status(session),
+        }),
+        Err(_) => Err(BenchFault::OutOfMemory),
+    }
+}
+
+// Reads the script of the bytes, runs it once on such a machine, and gives its steps.
+fn steps_on<M: Shown>(
+    alloc: Global,
+    bytes: &[u8],
+    meter: &mut M::Meter,
+) -> Result<ScriptSteps, BenchFault>
+    requires { M.Meter.count_of meter.old ≤ 2 ^ 62 }
+    ensures read { IfOk result (λ steps. AreStepsOf bytes.now steps.texts steps.status) }
+    ensures only { (s : PlainScript) → Reads bytes.now s → IfErr result (λ fault. fault ≡ BenchFault.OutOfMemory) }
+    ensures refused { IfErr result (λ fault. TellsFault fault (read_of bytes.now)) }
+    ensures early { IfSome (early_fault bytes.now) (λ fault. result ≡ Err (BenchFault.Script fault)) }
+    ensures own { IfErr result (λ fault. (fault ≢ BenchFault.Io) × (fault ≢ BenchFault.Spacing)) }
+{
+    let session: Session<M> = Session::run_once(alloc, bytes, meter)?;
+    found(alloc, &session, bytes)
+}
+
+/// Reads the script of the bytes, runs it once, and gives its steps.
+///
+/// # Errors
+///
+/// `Script` where the bytes are no script, and `OutOfMemory`.
+pub(crate) fn read_steps(alloc: Global, bytes: &[u8]) -> Result<ScriptSteps, BenchFault>
+    ensures read { IfOk result (λ steps. AreStepsOf bytes.now steps.texts steps.status) }
+    // What is a script is refused for want of memory alone.
+    ensures only { (s : PlainScript) → Reads bytes.now s → IfErr result (λ fault. fault ≡ BenchFault.OutOfMemory) }
+    ensures refused { IfErr result (λ fault. TellsFault fault (read_of bytes.now)) }
+    // What is too long is found whether or not there is memory.
+    ensures early { IfSome (early_fault bytes.now) (λ fault. result ≡ Err (BenchFault.Script fault)) }
+    // Nothing else is read or written, and no spacing is looked at.
+    ensures own { IfErr result (λ fault. (fault ≢ BenchFault.Io) × (fault ≢ BenchFault.Spacing)) }
+{
+    let mut meter = Meter::new();
+    steps_on::<Cluster<SplitLog>>(alloc, bytes, &mut meter)
+}

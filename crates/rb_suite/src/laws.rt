@@ -1,0 +1,18 @@
+//! Laws of what programs are told.
+
+ghost use Rattle.std.specs.Prelude.{◌≡◌, ◌==◌, ◌&&◌, ℕ, true, not, nat_le, nat_lt, List};
+ghost use Rattle.std.specs.List.{flat_map, list_all};
+ghost use Rattle.rb_text.specs.Json.{ascii};
+ghost use Rattle.rb_suite.specs.Escapes.{in_message, in_property};
+
+/// What stands between quotes is of ASCII, without control characters: so an object is a line, whatever bytes a script has.
+pub fn objects_are_ascii()
+    ensures { (bytes : List ℕ) → list_all (λ (b : ℕ). nat_le 32 b && nat_lt b 128) (flat_map ascii bytes) ≡ true }
+{}
+
+/// A message has no end of a line, and the value of a property neither one nor what ends it: so a command is a line, and its properties are
+/// those that it is given.
+pub fn commands_are_lines()
+    ensures messages { (bytes : List ℕ) → list_all (λ (b : ℕ). not (b == 10) && not (b == 13)) (flat_map in_message bytes) ≡ true }
+    ensures properties { (bytes : List ℕ) → list_all (λ (b : ℕ). not (b == 10) && not (b == 13) && not (b == 58) && not (b == 44)) (flat_map in_property bytes) ≡ true }
+{}

@@ -1,0 +1,84 @@
+//! A directive as an object of JSON.
+
+ghost use Rattle.std.specs.Prelude.{◌≡◌, ◌++◌, OnOk};
+ghost use Rattle.rb_check.specs.Heads.{before_value};
+ghost use Rattle.rb_suite.specs.Objects.{object_front, object_text, quoted, strings_from};
+
+use rb_check::FileLine;
+use rb_script::Lines;
+use rb_text::{Json, Piece, add_pieces};
+use std::alloc::AllocError;
+
+// What stands before the line at an index.
+fn separator(index: usize) -> &'static [u8]
+    ensures { result.now ≡ before_value index }
+{
+    if index == 0 { b"" } else { b"," }
+}
+
+fn add_string(text: &mut Vec<u8>, index: usize, line: &[u8]) -> Result<(), AllocError>
+    ensures { OnOk result (text.new.items ≡ text.old.items ++ (before_value index ++ quoted line.now)) }
+{
+    add_pieces(
+        text,
+        &[
+            Piece::Bytes(separator(index)),
+            Piece::Bytes(b"\""),
+            Piece::Escaped(Json::Ascii, line),
+            Piece::Bytes(b"\""),
+        ],
+    )
+}
+
+// Adds the lines, each between quotes.
+fn add_strings(text: &mut Vec<u8>, lines: &Lines) -> Result<(), AllocError>
+    ensures { OnOk result (text.new.items ≡ text.old.items ++ strings_from 0 lines.now) }
+{
+    for i in 0..lines.len() {
+        add_string(text, i, lines.line(i))?;
+    }
+    Ok(())
+}
+
+fn add_front<'a>(
+    text: &mut Vec<u8>,
+    place: FileLine<'a>,
+    head: &'a [u8],
+    status: &'a [u8],
+) -> Result<(), AllocError>
+    ensures { OnOk result (text.new.items ≡ text.old.items ++ object_front place.entry.path.now place.entry.line head.now status.now) }
+{
+    add_pieces(
+        text,
+        &[
+            Piece::Bytes(b"{\"script\":\""),
+            Piece::Escaped(Json::Ascii, place.path),
+            Piece::Bytes(b"\",\"line\":"),
+            Piece::Number(place.line as u64),
+            Piece::Bytes(b",\"directive\":\""),
+            Piece::Escaped(Json::Ascii, head),
+            Piece::Bytes(b"\",\"status\":\""),
+            Piece::Bytes(status),
+            Piece::Bytes(b"\",\"expected\":["),
+        ],
+    )
+}
+
+/// Adds a directive with the lines that are expected of it and those that it gave, in a line.
+pub(crate) fn add_object(
+    text: &mut Vec<u8>,
+    place: FileLine<'_>,
+    head: &[u8],
+    status: &[u8],
+    expected: &Lines,
+    output: &Lines,
+) -> Result<(), AllocError>
+    ensures { OnOk result (text.new.items ≡ text.old.items ++ object_text place.entry.path.now place.entry.line head.now status.now expected.now output.now) }
+{
+    add_front(text, place, head, status)?;
+    add_strings(text, expected)?;
+    add_pieces(text, &[Piece::Bytes(b"],\"output\":[")])?;
+    add_strings(text, output)?;
+    add_pieces(text, &[Piece::Bytes(b"]}\n")])?;
+    Ok(())
+}
