@@ -111,15 +111,12 @@ module _ (end n : ℕ) (ls onwards : List Line) (e : onwards ≡ after_while is_
       λ on numbered. after_separator (faults.NoSeparator n) on >>= λ after. closed_or (faults.NotClosed (line_number end numbered)) (expectation_at after) >>= gathered (while_of is_input ls) in
       ap (λ (on : List Line). of on (after_while is_input ls)) (sym e ∙ first) ∙ ap (λ (numbered : List Line). of (line ∷ more) numbered) (sym e)
 
-  -- an expectation behind line m is not closed
-  pub below_open : (m : ℕ) (more : List Line) (line : Line) → m ≡ line_number end onwards → onwards ≡ line ∷ more → None ≡ expectation_at more → below_head end n ls ≡ Err (faults.NotClosed m)
-  below_open m more line is first none =
-      below_first more line first ∙ ap (λ (there : Expectation). closed_or (faults.NotClosed (line_number end onwards)) there >>= gathered (while_of is_input ls)) (sym none) ∙ ap (λ (k : ℕ). Err (faults.NotClosed k)) (sym is)
-
-  -- the input and the expectation are read
-  pub below_read : (input more expected next : List Line) (line : Line) → input ≡ while_of is_input ls → onwards ≡ line ∷ more → Some (expected, next) ≡ expectation_at more → below_head end n ls ≡ Ok (input, expected, next)
-  below_read input more expected next line inputs first some =
-      below_first more line first ∙ ap (λ (there : Expectation). closed_or (faults.NotClosed (line_number end onwards)) there >>= gathered (while_of is_input ls)) (sym some) ∙ ap (λ (i : List Line). Ok (i, expected, next)) (sym inputs)
+  -- the expectation behind line m is closed, or it isn't
+  pub below_closed : (m : ℕ) (more : List Line) (line : Line) (found : Result (List Line × List Line) ScriptFault) → m ≡ line_number end onwards → onwards ≡ line ∷ more
+      → closed_or (faults.NotClosed m) (expectation_at more) ≡ found → below_head end n ls ≡ (found >>= gathered (while_of is_input ls))
+  below_closed m more line found is first closed =
+      below_first more line first
+      ∙ ap (λ (r : Result (List Line × List Line) ScriptFault). r >>= gathered (while_of is_input ls)) (ap (λ (k : ℕ). closed_or (faults.NotClosed k) (expectation_at more)) (sym is) ∙ closed)
 
 -- ---- a block that is read is in the relation
 
@@ -208,7 +205,8 @@ block_complete end ls rest b r =
     let stops = ap not r.separates in
     let input = run_of is_input b.input (r.separator ∷ r.after) r.input stops in
     let onwards = after_run is_input b.input (r.separator ∷ r.after) r.input stops in
-    let below = below_read end n more (r.separator ∷ r.after) (sym onwards) b.input r.after b.expected rest r.separator (sym input) refl (sym (expectation_complete r.after b.expected rest r.readable r.expected)) in (
+    let expected = ap (closed_or (faults.NotClosed (line_number end (r.separator ∷ r.after)))) (expectation_complete r.after b.expected rest r.readable r.expected) in
+    let below = below_closed end n more (r.separator ∷ r.after) (sym onwards) _ r.after r.separator (Ok (b.expected, rest)) refl refl expected ∙ ap (λ (i : List Line). Ok (i, b.expected, rest)) input in (
       ap is_empty c.from_is ∙ c.some,
       ap (λ (l : List Line). block_at end l (from_head ls)) c.lead_is ∙ ap (λ (l : List Line). block_at end b.lead l) c.from_is
           ∙ block_below end n b.lead (b.head ++ more) b.head more refl (sym head.0) (sym head.1) (r.directive.name, r.directive.args) (directive_complete n b.head r.directive) (Ok (b.input, b.expected, rest)) below,

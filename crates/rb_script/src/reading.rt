@@ -8,7 +8,7 @@ ghost use Rattle.rb_script.specs.Reads.{begins_lead, begins_rule, is_readable};
 ghost use Rattle.rb_script.specs.Results.{Fails, Gives};
 ghost use Rattle.rb_script.specs.Runs.{head_of, after_head};
 ghost use Rattle.rb_script.specs.Expectations.{after_blank, to_pair, then_blank, plain_at, expectation_at};
-ghost use Rattle.rb_script.specs.Blocks.{block_at, blocks_at};
+ghost use Rattle.rb_script.specs.Blocks.{closed_or, block_at, blocks_at};
 ghost use Rattle.rb_script.specs.Reading.{parts_of, is_one, block_of, long_line, no_long_line, capped, early_fault, read_of};
 ghost use Rattle.rb_script.specs.Found.{RunsTo, seen, pair_seen};
 ghost use Rattle.rb_script.specs.Flat.{between};
@@ -37,7 +37,8 @@ use std::rc::Rc;
 
 // Positions of lines count from 0. Each of these goes from a position on, which may be behind the last line.
 
-/// Where the run of lines ends: before the first that isn't of it, or behind the last.
+/// Where the run of lines ends: before the first that isn't of it, or behind the last. Each caller names one kind, so each has its own code.
+#[inline(always)]
 fn run(all: &SharedLines, start: usize, kind: Run) -> usize
     requires { start ≤ length all.now }
     ensures { RunsTo (in_run kind) all.now start result }
@@ -153,16 +154,18 @@ fn double(all: &SharedLines, start: usize) -> Result<Option<(Expected, usize)>, 
     Ok(Some((expected, after_blank(all, after))))
 }
 
+/// The expectation that begins at this position, and the position behind it. Where it isn't closed, the fault has the line before it.
 #[tactic(auto, unfolding(crate::specs::Expectations::expectation_at))]
-fn expectation(all: &SharedLines, start: usize) -> Result<Option<(Expected, usize)>, AllocError>
+fn expectation(all: &SharedLines, start: usize) -> Result<(Expected, usize), ScriptFault>
     requires { start ≤ length all.now }
-    ensures found { IfOk result (λ found. seen all.now found ≡ expectation_at (drop start all.now)) }
-    ensures within { IfOk result (λ found. IfSome found (λ p. p.1 ≤ length all.now)) }
+    ensures found { Gives (λ p. (p.0, drop p.1 all.now)) result (closed_or (ScriptFault.NotClosed start) (expectation_at (drop start all.now))) }
+    ensures within { IfOk result (λ p. p.1 ≤ length all.now) }
 {
-    match after_rule(all, start) {
-        Some(after) => double(all, after),
-        None => plain(all, start),
-    }
+    let found = match after_rule(all, start) {
+        Some(after) => double(all, after)?,
+        None => plain(all, start)?,
+    };
+    found.ok_or(ScriptFault::NotClosed(start))
 }
 
 /// The block whose lead begins at one line and whose head begins at another, and the position behind it.
@@ -185,14 +188,12 @@ fn block(
     ensures within { IfOk result (λ p. p.1 ≤ length all.now) }
 {
     let below = head(all, start);
-    let tokens = tokens_of(alloc, &LinePart::new(all, start, below)?, number)?;
+    let tokens = tokens_of(alloc, all, start, below, number)?;
     let separator = run(all, below, Run::Input);
     if separator == all.len() {
         return Err(ScriptFault::NoSeparator(number));
     }
-    let Some((expected, after)) = expectation(all, separator + 1)? else {
-        return Err(ScriptFault::NotClosed(separator + 1));
-    };
+    let (expected, after) = expectation(all, separator + 1)?;
     let front = Front::new(all, from, start, below, separator, tokens)?;
     let block = Rc::new(alloc, Block::new(front, expected))?;
     Ok((block, after))

@@ -1,8 +1,9 @@
 //! The name and the arguments of a head.
 
-ghost use Rattle.std.specs.Prelude.{◌≡◌, ◌<◌, ◌^◌, ◌++◌, ◌∷◌, ℕ, List, [], length, IfOk, option_map};
+ghost use Rattle.std.specs.Prelude.{◌≡◌, ◌<◌, ◌≤◌, ◌^◌, ◌++◌, ◌∷◌, ℕ, List, [], length, IfOk, option_map};
 ghost use Rattle.std.specs.List.{AllByRecursion};
 ghost use Rattle.rb_script.specs.Lines.{Line};
+ghost use Rattle.rb_script.specs.Flat.{between};
 ghost use Rattle.rb_script.specs.Valid.{IsLine};
 ghost use Rattle.rb_script.specs.Joined.{joined};
 ghost use Rattle.rb_script.specs.Directive.{PlainArgument};
@@ -16,6 +17,7 @@ use crate::head_cursor::{ByteClass, HeadCursor};
 use crate::limits::{MAX_ARGUMENTS, MAX_VALUES};
 use crate::line_part::LinePart;
 use crate::marks::is_space;
+use crate::shared_lines::SharedLines;
 use crate::span::Span;
 use smallvec::SmallVec;
 use std::alloc::{AllocError, AllocFailed, Global};
@@ -197,19 +199,23 @@ fn arguments(
     }
 }
 
-/// Where the name and the arguments of the head that begins at this line stand.
+/// Where the name and the arguments stand in the head that is the lines from one position up to another. It begins at line `number`.
 #[tactic(auto, unfolding(crate::specs::Heads::head_at, crate::specs::Heads::word_head))]
 pub(crate) fn tokens_of(
     alloc: Global,
-    head: &LinePart,
+    all: &SharedLines,
+    start: usize,
+    end: usize,
     number: usize,
 ) -> Result<Tokens, ScriptFault>
-    requires there { 0 < length head.now }
-    requires few { length head.now < 2 ^ 32 }
-    requires lines { AllByRecursion IsLine head.now }
-    ensures gives { ParsesHead head.now result (few_or number (head_at (joined head.now))) }
+    requires there { start < end }
+    requires within { end ≤ length all.now }
+    requires few { end < 2 ^ 32 }
+    requires lines { AllByRecursion IsLine (between start end all.now) }
+    ensures gives { ParsesHead (between start end all.now) result (few_or number (head_at (joined (between start end all.now)))) }
 {
-    let mut at = HeadCursor::new(head);
+    let head = LinePart::new(all, start, end)?;
+    let mut at = HeadCursor::new(&head);
     at.skip(ByteClass::Space);
     let name = at.take(ByteClass::Word);
     if name.start == name.end {
