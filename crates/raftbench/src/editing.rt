@@ -1,7 +1,7 @@
 //! `raftbench lsp`: an editor over standard input and output.
 
 use rb_actions::lsp;
-use rb_line::Incoming;
+use rb_line::ReadSource;
 use rb_program::Refusal;
 use rb_script::Through;
 use rb_server::{ExitStatus, ServeFault};
@@ -9,7 +9,7 @@ use std::io;
 
 /// Serves an editor, and gives the program's status.
 pub(crate) fn serve_editor<R: Input + Print + AllocGlobal>(rt: &R) -> Result<u8, Refusal> {
-    let mut source = Incoming(rt.reader());
+    let mut source = ReadSource(rt.reader());
     let mut sink = Through(io::writer(rt));
     match lsp(rt.alloc(), &mut source, &mut sink) {
         Ok(ExitStatus::Done) => Ok(0),

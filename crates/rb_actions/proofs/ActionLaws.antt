@@ -14,7 +14,7 @@ use Rattle.rb_checked.specs.Errors.{is_unexpected}
 use Rattle.rb_checked.proofs.EachLaws.{each_all, each_more}
 use Rattle.rb_document.specs.declared.position.Encoding.{Encoding}
 use Rattle.rb_document.specs.declared.position.Range.{Range}
-use Rattle.rb_actions.specs.declared.extent.Span.{Span}
+use Rattle.rb_actions.specs.declared.extent.LineSpan.{LineSpan}
 use Rattle.rb_actions.specs.Layouts.{IsNoScript}
 use Rattle.rb_actions.specs.Extents.{extent_of}
 use Rattle.rb_actions.specs.Actions.{PlainEdit, actions, actions_of, all_but_new_errors, actions_text, comma_if, edit_of, edit_text, edits_of, is_accepted, is_wanted, listed, member_of, one_edit, span_of}
@@ -25,11 +25,11 @@ listed_more later true e es = ap (λ (x : Bool). (comma_if later ++ member_of e)
 listed_more later false e es = ap (λ (x : Bool). listed x es) (or-false later)
 
 -- that of a directive
-abbrev pub one_of : Encoding → List ℕ → Option Span → ℕ → PlainBlock → List Line → List PlainEdit
+abbrev pub one_of : Encoding → List ℕ → Option LineSpan → ℕ → PlainBlock → List Line → List PlainEdit
 one_of encoding text span line b output = if is_wanted span (lines text) line b output then edit_of encoding text (extent_of (lines text) line b) output ∷ [] else []
 
 -- the edit of one directive more went out, behind those so far
-pub edits_more : (encoding : Encoding) (text : List ℕ) (span : Option Span) (later : Bool) (heads : List ℕ) (bs : List PlainBlock) (os : List (List Line)) (i line : ℕ) (b : PlainBlock) (o : List Line) (out new total : List ℕ) (behind : Bool)
+pub edits_more : (encoding : Encoding) (text : List ℕ) (span : Option LineSpan) (later : Bool) (heads : List ℕ) (bs : List PlainBlock) (os : List (List Line)) (i line : ℕ) (b : PlainBlock) (o : List Line) (out new total : List ℕ) (behind : Bool)
     → slice_get heads i ≡ Some line → slice_get bs i ≡ Some b → slice_get os i ≡ Some o → new ≡ out ++ one_edit encoding text span later line b o → behind ≡ (later || is_wanted span (lines text) line b o)
     → out ++ listed later (of_each (one_of encoding text span) (drop i heads) (drop i bs) (drop i os)) ≡ total → new ++ listed behind (of_each (one_of encoding text span) (drop (i + 1) heads) (drop (i + 1) bs) (drop (i + 1) os)) ≡ total
 unfolding one_edit edit_text
@@ -45,7 +45,7 @@ edits_more encoding text span later heads bs os i line b o out new total behind 
     ∙ far
 
 -- all of them went out
-pub edits_last : (encoding : Encoding) (text : List ℕ) (span : Option Span) (later : Bool) (heads : List ℕ) (bs : List PlainBlock) (os : List (List Line)) (i : ℕ) (out total : List ℕ) → length bs ≤ i
+pub edits_last : (encoding : Encoding) (text : List ℕ) (span : Option LineSpan) (later : Bool) (heads : List ℕ) (bs : List PlainBlock) (os : List (List Line)) (i : ℕ) (out total : List ℕ) → length bs ≤ i
     → out ++ listed later (of_each (one_of encoding text span) (drop i heads) (drop i bs) (drop i os)) ≡ total → out ≡ total
 edits_last encoding text span later heads bs os i out total past far =
     let one = one_of encoding text span in

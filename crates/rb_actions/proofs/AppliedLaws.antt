@@ -16,7 +16,7 @@ use Rattle.rb_document.specs.Changes.{spliced}
 use Rattle.rb_document.specs.Tables.{feed_start, start_of}
 use Rattle.rb_document.proofs.PositionLaws.{place_returns}
 use Rattle.rb_actions.specs.declared.extent.Extent.{Extent}
-use Rattle.rb_actions.specs.declared.extent.Span.{Span}
+use Rattle.rb_actions.specs.declared.extent.LineSpan.{LineSpan}
 use Rattle.rb_actions.specs.Extents.{extent_of}
 use Rattle.rb_replay.specs.Run.{outputs}
 use Rattle.rb_offers.specs.Heads.{behind_block, heads_at, heads_of}
@@ -279,7 +279,7 @@ picked_len picks heads [] os = refl
 picked_len picks (line ∷ heads) (b ∷ bs) (output ∷ os) = ap (λ (k : ℕ). suc k) (picked_len picks heads bs os)
 picked_len picks heads bs os = refl
 
-pub edited_text : (encoding : Encoding) (bytes : List ℕ) (s : PlainScript) (span : Option Span) → Reads bytes s → AllByRecursion (λ output. AllByRecursion IsSolid output) (outputs s)
+pub edited_text : (encoding : Encoding) (bytes : List ℕ) (s : PlainScript) (span : Option LineSpan) → Reads bytes s → AllByRecursion (λ output. AllByRecursion IsSolid output) (outputs s)
     → ((n : ℕ) → begins (drop (feed_start n bytes) bytes) ≡ true) → AreShort (edits_made encoding bytes (edits_asked encoding bytes s span)) (with_wanted bytes s span)
     → Reads (edits_made encoding bytes (edits_asked encoding bytes s span)) (with_wanted bytes s span)
 edited_text encoding bytes s span reads solid begun short =

@@ -2,7 +2,7 @@
 use Rattle.std.proofs.Common.{◌≡◌, ◌∙◌, ℕ, zero, suc, ◌-◌, ◌<◌, ◌≤◌, Bool, true, false, List, [], ◌∷◌, ◌++◌, length, take, drop, map, refl, ap, sym, arith, append_assoc}
 use Rattle.std.specs.Prelude.{◌==◌, ◌&&◌, not, nat_le, if◌then◌else◌, slice_get}
 use Rattle.std.specs.List.{list_all, AllByRecursion}
-use Rattle.std.proofs.lemmas.Bool.{and_parts, not-true}
+use Rattle.std.proofs.lemmas.Bool.{and_parts}
 use Rattle.std.proofs.lemmas.Bool.Decides.{nat_tests}
 use Rattle.std.proofs.lemmas.List.{length-map, map-append, drop-map, drop_all, nil_from_length, take_all, take-map}
 use Rattle.rb_script.specs.Lines.{Line, cut, in_first, lines, text_of, without_returns}
@@ -14,6 +14,7 @@ use Rattle.rb_script.specs.Reads.{is_readable}
 use Rattle.rb_script.proofs.ListLaws.{every-append}
 use Rattle.rb_script.proofs.SharedLaws.{text_lines}
 use Rattle.rb_script.proofs.SolidLaws.{solid_expected}
+use Rattle.rb_script.proofs.TextLaws.{cut_line}
 use Rattle.rb_document.specs.Changes.{spliced}
 use Rattle.rb_document.specs.Tables.{feed_start}
 use Rattle.rb_actions.specs.declared.extent.Extent.{Extent}
@@ -158,14 +159,6 @@ open_before n (b ∷ t) more some unended all =
     ap (λ (l : List ℕ). cut (l ++ 10 ∷ more)) (take_all (feed_start n (b ∷ t)) (b ∷ t) (omega (arith, open_start n b t unended (omega (arith, all)))))
     ∙ open_lines b t more unended
     ∙ ap (λ (ls : List Line). ls ++ cut more) (sym (take_all n (cut (b ∷ t)) (omega (arith, all))))
-
--- a line with its LF is cut off
-cut_line : (line : Line) (bytes : List ℕ) → list_all (λ b. not (b == 10)) line ≡ true → cut (line ++ 10 ∷ bytes) ≡ line ∷ cut bytes
-unfolding cut
-cut_line [] bytes h = refl
-cut_line (b ∷ line) bytes h =
-    let p = and_parts (not (b == 10)) (list_all (λ x. not (x == 10)) line) h in
-    ap (λ (t : Bool). if t then [] ∷ cut (line ++ 10 ∷ bytes) else in_first b (cut (line ++ 10 ∷ bytes))) (not-true (b == 10) p.0) ∙ ap (in_first b) (cut_line line bytes p.1)
 
 -- ---- lines that are put in
 

@@ -20,7 +20,7 @@ use Rattle.rb_document.specs.Tables.{start_of}
 use Rattle.rb_offers.specs.Heads.{heads_of}
 use Rattle.rb_offers.specs.Texts.{range_member}
 use Rattle.rb_actions.specs.declared.extent.Extent.{Extent}
-use Rattle.rb_actions.specs.declared.extent.Span.{Span}
+use Rattle.rb_actions.specs.declared.extent.LineSpan.{LineSpan}
 use Rattle.rb_actions.specs.Layouts.{line_at}
 use Rattle.rb_actions.specs.Extents.{extent_of, has_line}
 
@@ -33,11 +33,11 @@ abbrev pub is_accepted : List Line → ℕ → PlainBlock → List Line → Bool
 is_accepted ls line b output = not (same_lines b.expected output || is_left all_but_new_errors ls line b output)
 
 -- whether a directive stands among some lines, or anywhere where none are given
-abbrev pub is_among : Option Span → Extent → Bool
+abbrev pub is_among : Option LineSpan → Extent → Bool
 is_among None e = not false
 is_among (Some span) e = has_line span.first span.last e
 
-unfoldable pub is_wanted : Option Span → List Line → ℕ → PlainBlock → List Line → Bool
+unfoldable pub is_wanted : Option LineSpan → List Line → ℕ → PlainBlock → List Line → Bool
 is_wanted span ls line b output = is_accepted ls line b output && is_among span (extent_of ls line b)
 
 -- ---- the edit of one expectation
@@ -91,7 +91,7 @@ abbrev pub comma_if : Bool → List ℕ
 comma_if later = if later then codes "," else []
 
 -- of a directive, if it is wanted
-unfoldable pub one_edit : Encoding → List ℕ → Option Span → Bool → ℕ → PlainBlock → List Line → List ℕ
+unfoldable pub one_edit : Encoding → List ℕ → Option LineSpan → Bool → ℕ → PlainBlock → List Line → List ℕ
 one_edit encoding text span later line b output =
     if is_wanted span (lines text) line b output
     then comma_if later ++ edit_text encoding text (extent_of (lines text) line b) (new_text text (lines text) (extent_of (lines text) line b) output)
@@ -112,22 +112,22 @@ listed later [] = []
 listed later (e ∷ es) = comma_if later ++ (member_of e ++ listed true es)
 
 -- those of an action
-abbrev pub edits_asked : Encoding → List ℕ → PlainScript → Option Span → List PlainEdit
+abbrev pub edits_asked : Encoding → List ℕ → PlainScript → Option LineSpan → List PlainEdit
 edits_asked encoding text s span = edits_in (is_wanted span (lines text)) encoding text (heads_of text s) s.blocks (outputs s)
 
 -- ---- actions
 
 -- what an action is called, and of which kind it is: it is of some lines, or of all
-unfoldable pub action_head : Option Span → List ℕ
+unfoldable pub action_head : Option LineSpan → List ℕ
 action_head (Some span) = codes "{\"title\":\"Expect what came\",\"kind\":\"quickfix\",\"edit\":{\"changes\":{\""
 action_head None = codes "{\"title\":\"Expect what came everywhere\",\"kind\":\"source\",\"edit\":{\"changes\":{\""
 
 -- an action of these edits
-unfoldable pub action_text : List ℕ → Option Span → List ℕ → List ℕ
+unfoldable pub action_text : List ℕ → Option LineSpan → List ℕ → List ℕ
 action_text uri span edits = action_head span ++ (flat_map escaped uri ++ (codes "\":[" ++ (edits ++ codes "]}}}")))
 
 -- if there are any
-abbrev pub action_if : List ℕ → Option Span → List ℕ → List ℕ
+abbrev pub action_if : List ℕ → Option LineSpan → List ℕ → List ℕ
 action_if uri span edits = if length edits == 0 then [] else action_text uri span edits
 
 -- a comma between two actions, of which the second is there where the first is
@@ -135,15 +135,15 @@ abbrev pub comma_behind : List ℕ → List ℕ
 comma_behind edits = if length edits == 0 then [] else codes ","
 
 -- with the edits of some lines, and those of all
-unfoldable pub actions_text : List ℕ → Span → List ℕ → List ℕ → List ℕ
+unfoldable pub actions_text : List ℕ → LineSpan → List ℕ → List ℕ → List ℕ
 actions_text uri span here all =
     codes "[" ++ (action_if uri (Some span) here ++ (comma_behind here ++ (action_if uri None all ++ codes "]")))
 
-abbrev pub edits_of : Encoding → List ℕ → PlainScript → Option Span → List ℕ
+abbrev pub edits_of : Encoding → List ℕ → PlainScript → Option LineSpan → List ℕ
 edits_of encoding text s span = listed false (edits_asked encoding text s span)
 
 -- the lines on which a range begins and ends
-abbrev pub span_of : Encoding → Range → List ℕ → Span
+abbrev pub span_of : Encoding → Range → List ℕ → LineSpan
 span_of encoding range text = record { first = line_at encoding range.start text; last = line_at encoding range.end text }
 
 -- of a text that is read so

@@ -1,6 +1,6 @@
 -- What is said of a line. (This project's.)
 use Rattle.std.specs.Prelude.{ℕ, List, Option}
-use Rattle.rb_actions.specs.declared.diagnostic.Kind.{Kind}
+use Rattle.rb_actions.specs.declared.diagnostic.DiagnosticKind.{DiagnosticKind}
 
 -- on which lines another output is expected, from the first to the one behind the last, which count from 0, and what is shown of what came
 pub record PlainCame : Type 0 where
@@ -11,6 +11,6 @@ pub record PlainCame : Type 0 where
 -- what is said of a line, which counts from 1, and what came there, where that is another output
 pub record PlainDiagnostic : Type 0 where
   pub line : ℕ
-  pub kind : Kind
+  pub kind : DiagnosticKind
   pub message : List ℕ
   pub came : Option PlainCame

@@ -7,7 +7,7 @@ use Rattle.rb_document.specs.declared.position.Encoding.{Encoding}
 use Rattle.rb_document.specs.Places.{offset}
 use Rattle.rb_document.specs.Changes.{spliced}
 use Rattle.rb_offers.specs.Heads.{heads_of}
-use Rattle.rb_actions.specs.declared.extent.Span.{Span}
+use Rattle.rb_actions.specs.declared.extent.LineSpan.{LineSpan}
 use Rattle.rb_actions.specs.Actions.{PlainEdit, Picks, is_wanted}
 
 -- the directives, of which each that is wanted expects its output
@@ -23,5 +23,5 @@ edits_made encoding text [] = text
 edits_made encoding text (e ∷ es) = spliced (offset encoding e.range.start text) (offset encoding e.range.end text) e.new (edits_made encoding text es)
 
 -- the script that they are to make
-abbrev pub with_wanted : List ℕ → PlainScript → Option Span → PlainScript
+abbrev pub with_wanted : List ℕ → PlainScript → Option LineSpan → PlainScript
 with_wanted text s span = record { blocks = with_picked (is_wanted span (lines text)) (heads_of text s) s.blocks (outputs s); tail = s.tail }

@@ -13,7 +13,7 @@ use Rattle.rb_check.specs.Diffs.{parts}
 use Rattle.rb_check.specs.Folds.{folded_text}
 use Rattle.rb_checked.specs.Checked.{of_each}
 use Rattle.rb_checked.specs.Errors.{first_line, is_error, is_unexpected}
-use Rattle.rb_actions.specs.declared.diagnostic.Kind.TheVariants.{Mismatch, ErrorOutput, NoScript}
+use Rattle.rb_actions.specs.declared.diagnostic.DiagnosticKind.TheVariants.{Mismatch, ErrorOutput, NoScript}
 use Rattle.rb_offers.specs.declared.block_lines.BlockLines.{BlockLines}
 use Rattle.rb_offers.specs.BlockLines.{block_lines}
 use Rattle.rb_offers.specs.Heads.{heads_of}

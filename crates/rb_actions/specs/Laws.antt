@@ -22,7 +22,7 @@ use Rattle.rb_server.specs.Laws.{IsPublished}
 use Rattle.rb_checked.specs.Accepting.{accepted_lines}
 use Rattle.rb_checked.specs.Errors.{is_error}
 use Rattle.rb_actions.specs.declared.extent.Extent.{Extent}
-use Rattle.rb_actions.specs.declared.extent.Span.{Span}
+use Rattle.rb_actions.specs.declared.extent.LineSpan.{LineSpan}
 use Rattle.rb_actions.specs.Extents.{extent_of}
 use Rattle.rb_actions.specs.Actions.{all_but_new_errors, edits_asked, form, is_accepted, lines_range}
 use Rattle.rb_actions.specs.Edits.{edits_made, with_wanted}
@@ -74,7 +74,7 @@ pub record AreShort (bytes : List ℕ) (s : PlainScript) : Type 0 where
 -- The text that an editor makes by an action's edits reads as the script in which each directive that is wanted expects what came of it, and the
 -- others what they did, where each line begins with a character, as in UTF-8, and the text doesn't become too long.
 abbrev pub EditedTextsRead : Type 0
-EditedTextsRead = (encoding : Encoding) (bytes : List ℕ) (s : PlainScript) (span : Option Span)
+EditedTextsRead = (encoding : Encoding) (bytes : List ℕ) (s : PlainScript) (span : Option LineSpan)
     → Reads bytes s → AllByRecursion (λ output. AllByRecursion IsSolid output) (outputs s) → ((n : ℕ) → begins (drop (feed_start n bytes) bytes) ≡ true)
     → AreShort (edits_made encoding bytes (edits_asked encoding bytes s span)) (with_wanted bytes s span)
     → Reads (edits_made encoding bytes (edits_asked encoding bytes s span)) (with_wanted bytes s span)

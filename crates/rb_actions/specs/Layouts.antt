@@ -10,10 +10,10 @@ use Rattle.rb_document.specs.declared.position.Position.{Position}
 use Rattle.rb_document.specs.Places.{offset}
 use Rattle.rb_document.specs.Tables.{IsTable}
 use Rattle.rb_offers.specs.Heads.{heads_of}
-use Rattle.rb_actions.specs.declared.layout.Layout.{Layout}
+use Rattle.rb_actions.specs.declared.layout.ScriptLayout.{ScriptLayout}
 
 -- the layout of bytes that are the script
-pub record IsLayout (encoding : Encoding) (bytes : List ℕ) (s : PlainScript) (layout : Layout) : Type 0 where
+pub record IsLayout (encoding : Encoding) (bytes : List ℕ) (s : PlainScript) (layout : ScriptLayout) : Type 0 where
   pub script_is : layout.script ≡ s
   pub lines_are : layout.lines ≡ lines bytes
   pub heads : AreHeadLines 1 layout.lines s.blocks layout.heads.items

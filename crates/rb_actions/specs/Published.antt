@@ -7,13 +7,13 @@ use Rattle.rb_text.specs.Json.{escaped}
 use Rattle.rb_document.specs.declared.position.Encoding.{Encoding}
 use Rattle.rb_document.specs.Tables.{start_of}
 use Rattle.rb_offers.specs.Texts.{list_text, range_member}
-use Rattle.rb_actions.specs.declared.diagnostic.Kind.{Kind}
-use Rattle.rb_actions.specs.declared.diagnostic.Kind.TheVariants.{Mismatch, ErrorOutput, NoScript}
+use Rattle.rb_actions.specs.declared.diagnostic.DiagnosticKind.{DiagnosticKind}
+use Rattle.rb_actions.specs.declared.diagnostic.DiagnosticKind.TheVariants.{Mismatch, ErrorOutput, NoScript}
 use Rattle.rb_actions.specs.Diagnostics.{PlainCame, PlainDiagnostic}
 use Rattle.rb_actions.specs.Findings.{diagnostics_of}
 
 -- how grave it is, and its code
-unfoldable pub kind_text : Kind → List ℕ
+unfoldable pub kind_text : DiagnosticKind → List ℕ
 kind_text Mismatch = codes ",\"severity\":1,\"code\":\"mismatch\",\"source\":\"raftbench\",\"message\":\""
 kind_text ErrorOutput = codes ",\"severity\":2,\"code\":\"error-output\",\"source\":\"raftbench\",\"message\":\""
 kind_text NoScript = codes ",\"severity\":1,\"code\":\"no-script\",\"source\":\"raftbench\",\"message\":\""

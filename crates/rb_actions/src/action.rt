@@ -10,8 +10,8 @@ ghost use Rattle.rb_offers.specs.BlockLines.{StandsIn};
 ghost use Rattle.rb_actions.specs.Layouts.{IsLayout};
 ghost use Rattle.rb_actions.specs.Actions.{action_head, action_if, action_text, actions, actions_text, comma_behind, comma_if, edit_text, edits_of, is_accepted, is_among, is_wanted, one_edit, span_of};
 
-use crate::extent::{Extent, Span, extent_of, has_line};
-use crate::layout::{Layout, layout_of, line_at};
+use crate::extent::{Extent, LineSpan, extent_of, has_line};
+use crate::layout::{ScriptLayout, layout_of, line_at};
 use crate::replacement::new_text;
 use crate::run::fresh_run;
 use rb_checked::{block_at, is_same, is_unexpected, number_at, output_at};
@@ -31,7 +31,7 @@ fn is_accepted(lines: &Lines, line: usize, block: &Block, output: &Lines) -> boo
 }
 
 // Whether a directive stands among these lines, or anywhere where none are given.
-fn is_among(span: Option<Span>, extent: Extent) -> bool
+fn is_among(span: Option<LineSpan>, extent: Extent) -> bool
     ensures { result ≡ is_among span extent }
 {
     match span {
@@ -41,7 +41,13 @@ fn is_among(span: Option<Span>, extent: Extent) -> bool
 }
 
 #[tactic(auto, unfolding(crate::specs::Actions::is_wanted))]
-fn is_wanted(span: Option<Span>, lines: &Lines, line: usize, block: &Block, output: &Lines) -> bool
+fn is_wanted(
+    span: Option<LineSpan>,
+    lines: &Lines,
+    line: usize,
+    block: &Block,
+    output: &Lines,
+) -> bool
     requires { StandsIn lines.now line block.now }
     ensures { result ≡ is_wanted span lines.now line block.now output.now }
 {
@@ -87,8 +93,8 @@ fn add_one(
     out: &mut Vec<u8>,
     encoding: Encoding,
     text: &[u8],
-    layout: &Layout,
-    span: Option<Span>,
+    layout: &ScriptLayout,
+    span: Option<LineSpan>,
     later: bool,
     line: usize,
     block: &Block,
@@ -116,8 +122,8 @@ fn edits<M: Machine>(
     encoding: Encoding,
     text: &[u8],
     session: &Session<M>,
-    layout: &Layout,
-    span: Option<Span>,
+    layout: &ScriptLayout,
+    span: Option<LineSpan>,
 ) -> Result<Vec<u8>, AllocError>
     requires { IsLayout encoding text.now session.now.script layout.now }
     ensures { IfOk result (λ edits. edits.items ≡ edits_of encoding text.now session.now.script span) }
@@ -136,7 +142,7 @@ fn edits<M: Machine>(
 }
 
 #[tactic(auto, unfolding(crate::specs::Actions::action_head))]
-fn action_head(span: Option<Span>) -> &'static [u8]
+fn action_head(span: Option<LineSpan>) -> &'static [u8]
     ensures { result.now ≡ action_head span }
 {
     match span {
@@ -153,7 +159,7 @@ fn action_head(span: Option<Span>) -> &'static [u8]
 fn add_action<'a>(
     out: &mut Vec<u8>,
     uri: &'a [u8],
-    span: Option<Span>,
+    span: Option<LineSpan>,
     edits: &'a [u8],
 ) -> Result<(), AllocError>
     ensures { OnOk result (out.new.items ≡ out.old.items ++ action_text uri.now span edits.now) }
@@ -171,7 +177,12 @@ fn add_action<'a>(
 }
 
 // Adds an action of these edits, if there are any.
-fn add_if(out: &mut Vec<u8>, uri: &[u8], span: Option<Span>, edits: &[u8]) -> Result<(), AllocError>
+fn add_if(
+    out: &mut Vec<u8>,
+    uri: &[u8],
+    span: Option<LineSpan>,
+    edits: &[u8],
+) -> Result<(), AllocError>
     ensures { OnOk result (out.new.items ≡ out.old.items ++ action_if uri.now span edits.now) }
 {
     if edits.is_empty() {
@@ -191,7 +202,7 @@ fn comma_behind(edits: &[u8]) -> &'static [u8]
 fn add_both(
     out: &mut Vec<u8>,
     uri: &[u8],
-    span: Span,
+    span: LineSpan,
     here: &[u8],
     all: &[u8],
 ) -> Result<(), AllocError>
@@ -204,10 +215,10 @@ fn add_both(
     out.extend_from_slice(b"]")
 }
 
-fn span_of(encoding: Encoding, range: Range, text: &[u8]) -> Span
+fn span_of(encoding: Encoding, range: Range, text: &[u8]) -> LineSpan
     ensures { result ≡ span_of encoding range text.now }
 {
-    Span {
+    LineSpan {
         first: line_at(encoding, range.start, text),
         last: line_at(encoding, range.end, text),
     }

@@ -5,7 +5,7 @@ use std::marker::Model;
 
 /// Why something is said.
 #[derive(Clone, Copy, Debug, PartialEq, Eq)]
-pub(crate) enum Kind {
+pub(crate) enum DiagnosticKind {
     /// A directive's output is not the expected one.
     Mismatch,
     /// It is the expected one and an error, and the script doesn't say that one is expected.
@@ -20,7 +20,7 @@ pub(crate) struct Diagnostic {
     /// The line, which counts from 1.
     pub(crate) line: usize,
     /// Why it is said.
-    pub(crate) kind: Kind,
+    pub(crate) kind: DiagnosticKind,
     /// What is said.
     pub(crate) message: Vec<u8>,
     /// What came, where that is another output than the expected one.

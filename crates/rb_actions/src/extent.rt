@@ -22,7 +22,7 @@ pub(crate) struct Extent {
 
 /// Some lines, from the first to the last, counted from 0.
 #[derive(Clone, Copy, Debug, PartialEq, Eq)]
-pub(crate) struct Span {
+pub(crate) struct LineSpan {
     pub(crate) first: usize,
     pub(crate) last: usize,
 }
@@ -43,7 +43,7 @@ pub(crate) fn extent_of(lines: &Lines, line: usize, block: &Block) -> Extent
 }
 
 /// Whether it has one of the lines.
-pub(crate) fn has_line(span: Span, extent: Extent) -> bool
+pub(crate) fn has_line(span: LineSpan, extent: Extent) -> bool
     ensures { result ≡ has_line span.first span.last extent }
 {
     extent.head <= span.last && span.first < extent.end

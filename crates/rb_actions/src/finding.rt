@@ -6,7 +6,7 @@ ghost use Rattle.rb_offers.specs.BlockLines.{StandsIn};
 ghost use Rattle.rb_actions.specs.Findings.{diff_message, error_output, finding, mismatch};
 
 use crate::came::came_of;
-use crate::diagnostic::{Diagnostic, Kind};
+use crate::diagnostic::{Diagnostic, DiagnosticKind};
 use rb_check::{Colors, Table, put_diff};
 use rb_checked::{first_line, is_unexpected};
 use rb_offers::BlockLines;
@@ -46,7 +46,7 @@ fn mismatch(
     let came = came_of(alloc, lines, output)?;
     Ok(Diagnostic {
         line,
-        kind: Kind::Mismatch,
+        kind: DiagnosticKind::Mismatch,
         message,
         came: Some(came),
     })
@@ -57,7 +57,7 @@ fn error_output(alloc: Global, line: usize, output: &Lines) -> Result<Diagnostic
 {
     Ok(Diagnostic {
         line,
-        kind: Kind::ErrorOutput,
+        kind: DiagnosticKind::ErrorOutput,
         message: Vec::from_slice(alloc, first_line(output))?,
         came: None,
     })

@@ -5,7 +5,7 @@ ghost use Rattle.rb_script.specs.HeadLines.{AreHeadLines};
 ghost use Rattle.rb_replay.specs.Run.{outputs};
 ghost use Rattle.rb_actions.specs.Findings.{before, findings, or_first, refused, stands_first};
 
-use crate::diagnostic::{Diagnostic, Kind};
+use crate::diagnostic::{Diagnostic, DiagnosticKind};
 use crate::finding::finding;
 use crate::quiet::is_quiet;
 use rb_check::{Table, fault_line, sentence};
@@ -99,7 +99,7 @@ fn refused(alloc: Global, fault: ScriptFault) -> Result<Diagnostic, AllocError>
 {
     Ok(Diagnostic {
         line: or_first(fault_line(fault)),
-        kind: Kind::NoScript,
+        kind: DiagnosticKind::NoScript,
         message: Vec::from_slice(alloc, sentence(fault))?,
         came: None,
     })

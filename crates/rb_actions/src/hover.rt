@@ -11,8 +11,8 @@ ghost use Rattle.rb_offers.specs.Heads.{heads_of};
 ghost use Rattle.rb_actions.specs.Layouts.{IsLayout, line_at};
 ghost use Rattle.rb_actions.specs.Hovers.{hover, hover_in, hover_text, shown};
 
-use crate::extent::{Extent, Span, extent_of, has_line};
-use crate::layout::{Layout, layout_of, line_at};
+use crate::extent::{Extent, LineSpan, extent_of, has_line};
+use crate::layout::{ScriptLayout, layout_of, line_at};
 use crate::run::fresh_run;
 use rb_checked::{block_at, number_at, output_at};
 use rb_document::{Encoding, LineTable, Position};
@@ -77,7 +77,7 @@ fn add_line<M: Nodes>(
     encoding: Encoding,
     text: &[u8],
     session: &Session<M>,
-    layout: &Layout,
+    layout: &ScriptLayout,
     line: usize,
     meter: &mut M::Meter,
 ) -> Result<(), AllocError>
@@ -85,7 +85,7 @@ fn add_line<M: Nodes>(
     requires meter { M.Meter.count_of meter.old ≤ 2 ^ 62 }
     ensures { OnOk result (out.new.items ≡ out.old.items ++ hover_in encoding text.now session.now.script line 0 (heads_of text.now session.now.script) session.now.script.blocks (outputs session.now.script)) }
 {
-    let span = Span {
+    let span = LineSpan {
         first: line,
         last: line,
     };

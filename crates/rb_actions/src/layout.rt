@@ -13,7 +13,7 @@ use std::alloc::{AllocError, Global};
 
 /// A script, its lines, those on which its heads begin, and where each begins for an editor.
 #[derive(Drop)]
-pub(crate) struct Layout {
+pub(crate) struct ScriptLayout {
     pub(crate) script: Script,
     pub(crate) lines: Lines,
     pub(crate) heads: Vec<usize>,
@@ -26,14 +26,14 @@ pub(crate) fn layout_of<M: Machine>(
     encoding: Encoding,
     _session: &Session<M>,
     bytes: &[u8],
-) -> Result<Layout, AllocError>
+) -> Result<ScriptLayout, AllocError>
     requires reads { Reads bytes.now _session.now.script }
     requires bounded { length bytes.now ≤ MAX_TEXT }
     ensures { IfOk result (λ layout. IsLayout encoding bytes.now _session.now.script layout) }
 {
     let table = LineTable::new(alloc, encoding, bytes)?;
     match ScriptWithLines::read(alloc, bytes) {
-        Ok(read) => Ok(Layout {
+        Ok(read) => Ok(ScriptLayout {
             script: read.script,
             lines: read.lines,
             heads: read.heads,

@@ -7,7 +7,7 @@ ghost use Rattle.rb_offers.specs.Texts.{list_text, listed, range_member};
 ghost use Rattle.rb_actions.specs.Published.{diagnostic_text, kind_text, message_text, place_text, related_if, related_text, shown_text};
 
 use crate::came::Came;
-use crate::diagnostic::{Diagnostic, Kind};
+use crate::diagnostic::{Diagnostic, DiagnosticKind};
 use rb_document::{Encoding, LineTable};
 use rb_offers::add_range_member;
 use rb_text::{Json, Piece, add_pieces};
@@ -15,17 +15,17 @@ use std::alloc::{AllocError, Global};
 
 // How grave it is, and its code.
 #[tactic(auto, unfolding(crate::specs::Published::kind_text))]
-fn kind_text(kind: Kind) -> &'static [u8]
+fn kind_text(kind: DiagnosticKind) -> &'static [u8]
     ensures { result.now ≡ kind_text kind }
 {
     match kind {
-        Kind::Mismatch => {
+        DiagnosticKind::Mismatch => {
             b",\"severity\":1,\"code\":\"mismatch\",\"source\":\"raftbench\",\"message\":\""
         }
-        Kind::ErrorOutput => {
+        DiagnosticKind::ErrorOutput => {
             b",\"severity\":2,\"code\":\"error-output\",\"source\":\"raftbench\",\"message\":\""
         }
-        Kind::NoScript => {
+        DiagnosticKind::NoScript => {
             b",\"severity\":1,\"code\":\"no-script\",\"source\":\"raftbench\",\"message\":\""
         }
     }

@@ -5,9 +5,9 @@ use Rattle.clap.specs.declared.builder.command.Command.{Command}
 use Rattle.clap.specs.declared.builder.command.Command.TheViews.{out-Command}
 use Rattle.clap.specs.declared.builder.action.ArgAction.TheVariants.{Append, SetTrue}
 use Rattle.rb_args.specs.declared.table.Line.{Line}
-use Rattle.rb_args.specs.declared.table.Row.{Row}
-use Rattle.rb_args.specs.declared.table.Form.{Form}
-use Rattle.rb_args.specs.declared.table.Form.TheVariants.{File, Name, Paths, Value, Values, Flag, Letter}
+use Rattle.rb_args.specs.declared.table.ArgumentRow.{ArgumentRow}
+use Rattle.rb_args.specs.declared.table.ArgumentForm.{ArgumentForm}
+use Rattle.rb_args.specs.declared.table.ArgumentForm.TheVariants.{File, Name, Paths, Value, Values, Flag, Letter}
 
 -- a value that stands by itself
 abbrev pub value_rule : Text → Rule
@@ -42,7 +42,7 @@ abbrev pub many_rule : Text → Rule
 many_rule name = record (option_rule name) { action = Some Append }
 
 -- how clap takes an argument of this name
-abbrev pub rule_in : Form → Text → Rule
+abbrev pub rule_in : ArgumentForm → Text → Rule
 rule_in File name = value_rule name
 rule_in Name name = value_rule name
 rule_in Paths name = record (value_rule name) { required = true; action = Some Append }
@@ -52,11 +52,11 @@ rule_in Flag name = flag_rule name
 rule_in (Letter letter) name = letter_rule letter name
 
 -- how clap takes the argument of a row
-abbrev pub rule_of_row : Row → Rule
+abbrev pub rule_of_row : ArgumentRow → Rule
 rule_of_row row = rule_in row.form row.name.now
 
 -- .. and the arguments of these rows
-abbrev pub with_rows : List Row → App → App
+abbrev pub with_rows : List ArgumentRow → App → App
 with_rows rows line = fold (λ a row. with_rule a (rule_of_row row)) line rows
 
 -- the subcommand of a line

@@ -5,7 +5,7 @@ ghost use Rattle.clap.specs.Words.{App, app_of, new_app, rule_of, with_rule, wit
 ghost use Rattle.clap.specs.declared.builder.command.Command.TheViews.{out-Command};
 ghost use Rattle.rb_args.specs.CommandLine.{IsMade, command_line, line_of, rule_of_row, with_version, flag_rule, option_rule, value_rule};
 
-use crate::table::{Form, LINES, Line, Row};
+use crate::table::{ArgumentForm, ArgumentRow, LINES, Line};
 use clap::{Arg, ArgAction, Command};
 use std::alloc::{AllocError, Global};
 
@@ -43,7 +43,7 @@ fn described<'a>(alloc: Global, name: &'a str, about: &'a str) -> Command<'a>
 }
 
 // What a command takes: a subcommand, or an argument.
-trait Part: Copy {
+trait CommandLinePart: Copy {
     // the command line with it
     ghost added: { App → Self → App };
 
@@ -52,7 +52,7 @@ trait Part: Copy {
         ensures { (out-Command command.entry).has_globals ≡ false → IsMade result (added (app_of command.entry) self) };
 }
 
-impl Part for Line {
+impl CommandLinePart for Line {
     ghost added = { λ app line. with_subcommand app (line_of line).top };
 
     fn added<'a>(self, alloc: Global, command: Command<'a>) -> Made<'a> {
@@ -60,7 +60,7 @@ impl Part for Line {
     }
 }
 
-impl Part for Row {
+impl CommandLinePart for ArgumentRow {
     ghost added = { λ app row. with_rule app (rule_of_row row) };
 
     fn added<'a>(self, alloc: Global, command: Command<'a>) -> Made<'a> {
@@ -69,7 +69,7 @@ impl Part for Row {
 }
 
 // These parts more.
-fn with_parts<'a, P: Part>(command: Made<'a>, alloc: Global, parts: &[P]) -> Made<'a>
+fn with_parts<'a, P: CommandLinePart>(command: Made<'a>, alloc: Global, parts: &[P]) -> Made<'a>
     ensures { (app : App) → IsMade command.entry app → IsMade result (fold P.added app parts.now) }
 {
     let mut made = command;
@@ -80,7 +80,7 @@ fn with_parts<'a, P: Part>(command: Made<'a>, alloc: Global, parts: &[P]) -> Mad
 }
 
 // One part more. It is made only where there was memory so far, so nothing of it is given back.
-fn with_part<'a, P: Part>(command: Made<'a>, alloc: Global, part: P) -> Made<'a>
+fn with_part<'a, P: CommandLinePart>(command: Made<'a>, alloc: Global, part: P) -> Made<'a>
     ensures { (app : App) → IsMade command.entry app → IsMade result (P.added app part) }
 {
     let command = command?;
@@ -115,21 +115,21 @@ fn helped_command<'a>(alloc: Global, line: Line) -> Command<'a>
 }
 
 // The argument of the row.
-fn argument<'a>(alloc: Global, row: Row) -> Arg<'a>
+fn argument<'a>(alloc: Global, row: ArgumentRow) -> Arg<'a>
     ensures rule { rule_of result ≡ rule_of_row row }
     ensures local { result.global ≡ false }
 {
     match row.form {
-        Form::File => value_argument(alloc, row.name, "FILE").hide(true),
-        Form::Name => value_argument(alloc, row.name, "NAME").help(row.help),
-        Form::Paths => value_argument(alloc, row.name, "PATH")
+        ArgumentForm::File => value_argument(alloc, row.name, "FILE").hide(true),
+        ArgumentForm::Name => value_argument(alloc, row.name, "NAME").help(row.help),
+        ArgumentForm::Paths => value_argument(alloc, row.name, "PATH")
             .required(true)
             .action(ArgAction::Append)
             .help(row.help),
-        Form::Value(value) => option_argument(alloc, row, value),
-        Form::Values(value) => option_argument(alloc, row, value).action(ArgAction::Append),
-        Form::Flag => flag_argument(alloc, row),
-        Form::Letter(letter) => flag_argument(alloc, row).short(letter),
+        ArgumentForm::Value(value) => option_argument(alloc, row, value),
+        ArgumentForm::Values(value) => option_argument(alloc, row, value).action(ArgAction::Append),
+        ArgumentForm::Flag => flag_argument(alloc, row),
+        ArgumentForm::Letter(letter) => flag_argument(alloc, row).short(letter),
     }
 }
 
@@ -142,7 +142,7 @@ fn value_argument<'a>(alloc: Global, name: &'a str, value: &'a str) -> Arg<'a>
 }
 
 // --NAME VALUE
-fn option_argument<'a>(alloc: Global, row: Row, value: &'a str) -> Arg<'a>
+fn option_argument<'a>(alloc: Global, row: ArgumentRow, value: &'a str) -> Arg<'a>
     ensures rule { rule_of result ≡ option_rule row.name.now }
     ensures local { result.global ≡ false }
 {
@@ -152,7 +152,7 @@ fn option_argument<'a>(alloc: Global, row: Row, value: &'a str) -> Arg<'a>
 }
 
 // --NAME
-fn flag_argument<'a>(alloc: Global, row: Row) -> Arg<'a>
+fn flag_argument<'a>(alloc: Global, row: ArgumentRow) -> Arg<'a>
     ensures rule { rule_of result ≡ flag_rule row.name.now }
     ensures local { result.global ≡ false }
 {

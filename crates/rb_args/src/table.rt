@@ -4,7 +4,7 @@
 
 /// How an argument is given.
 #[derive(Clone, Copy)]
-pub(crate) enum Form {
+pub(crate) enum ArgumentForm {
     /// FILE. The program itself says that it is missing, so to clap it isn't required; how it is used says that it is.
     File,
     /// NAME, which need not be given.
@@ -23,8 +23,8 @@ pub(crate) enum Form {
 
 /// An argument, and what help says of it.
 #[derive(Clone, Copy)]
-pub(crate) struct Row {
-    pub(crate) form: Form,
+pub(crate) struct ArgumentRow {
+    pub(crate) form: ArgumentForm,
     pub(crate) name: &'static str,
     pub(crate) help: &'static str,
 }
@@ -38,48 +38,48 @@ pub(crate) struct Line {
     pub(crate) usage: &'static str,
     /// What its FILE is.
     pub(crate) after: &'static str,
-    pub(crate) rows: &'static [Row],
+    pub(crate) rows: &'static [ArgumentRow],
 }
 
-const FILE: Row = Row {
-    form: Form::File,
+const FILE: ArgumentRow = ArgumentRow {
+    form: ArgumentForm::File,
     name: "file",
     help: "",
 };
 
 #[rattlefmt::skip]
-const EVERY: Row = Row { form: Form::Value("K"), name: "every", help: "Directives from one checkpoint to the next, 1 to 64 [default: 16]" };
+const EVERY: ArgumentRow = ArgumentRow { form: ArgumentForm::Value("K"), name: "every", help: "Directives from one checkpoint to the next, 1 to 64 [default: 16]" };
 
 #[rattlefmt::skip]
-const CHECK: [Row; 14] = [
-    Row { form: Form::Paths, name: "path", help: "Script, or folder whose *.txt and those of its folders are the scripts" },
-    Row { form: Form::Flag, name: "accept", help: "Writes the outputs that came into the scripts, but new errors; of FILE:LINE that of one directive" },
-    Row { form: Form::Flag, name: "accept-errors", help: "Accepts new errors too" },
-    Row { form: Form::Flag, name: "force", help: "Accepts outputs of a script that has warnings too" },
-    Row { form: Form::Flag, name: "review", help: "Asks about each output that differs, on a terminal, and accepts those that you say" },
-    Row { form: Form::Values("WORD"), name: "filter", help: "Keeps the paths that have WORD in them, or with !WORD those that don't; given several times, each holds" },
-    Row { form: Form::Letter('v'), name: "verbose", help: "Shows each directive with its output" },
-    Row { form: Form::Flag, name: "first", help: "Shows the first mismatch of each script alone" },
-    Row { form: Form::Flag, name: "brief", help: "Shows one line for each script that differs" },
-    Row { form: Form::Letter('q'), name: "quiet", help: "Shows nothing: the status tells whether all match" },
-    Row { form: Form::Flag, name: "why", help: "Tells why nothing came of a message, below the output that is shown" },
+const CHECK: [ArgumentRow; 14] = [
+    ArgumentRow { form: ArgumentForm::Paths, name: "path", help: "Script, or folder whose *.txt and those of its folders are the scripts" },
+    ArgumentRow { form: ArgumentForm::Flag, name: "accept", help: "Writes the outputs that came into the scripts, but new errors; of FILE:LINE that of one directive" },
+    ArgumentRow { form: ArgumentForm::Flag, name: "accept-errors", help: "Accepts new errors too" },
+    ArgumentRow { form: ArgumentForm::Flag, name: "force", help: "Accepts outputs of a script that has warnings too" },
+    ArgumentRow { form: ArgumentForm::Flag, name: "review", help: "Asks about each output that differs, on a terminal, and accepts those that you say" },
+    ArgumentRow { form: ArgumentForm::Values("WORD"), name: "filter", help: "Keeps the paths that have WORD in them, or with !WORD those that don't; given several times, each holds" },
+    ArgumentRow { form: ArgumentForm::Letter('v'), name: "verbose", help: "Shows each directive with its output" },
+    ArgumentRow { form: ArgumentForm::Flag, name: "first", help: "Shows the first mismatch of each script alone" },
+    ArgumentRow { form: ArgumentForm::Flag, name: "brief", help: "Shows one line for each script that differs" },
+    ArgumentRow { form: ArgumentForm::Letter('q'), name: "quiet", help: "Shows nothing: the status tells whether all match" },
+    ArgumentRow { form: ArgumentForm::Flag, name: "why", help: "Tells why nothing came of a message, below the output that is shown" },
     EVERY,
-    Row { form: Form::Value("WHEN"), name: "color", help: "Shows colours: auto (on a terminal), always or never [default: auto]" },
-    Row { form: Form::Value("FORMAT"), name: "format", help: "Writes what differs as text, json or github (workflow commands) [default: text]" },
+    ArgumentRow { form: ArgumentForm::Value("WHEN"), name: "color", help: "Shows colours: auto (on a terminal), always or never [default: auto]" },
+    ArgumentRow { form: ArgumentForm::Value("FORMAT"), name: "format", help: "Writes what differs as text, json or github (workflow commands) [default: text]" },
 ];
 
-const FILE_ALONE: [Row; 1] = [FILE];
+const FILE_ALONE: [ArgumentRow; 1] = [FILE];
 
-const FILE_AND_EVERY: [Row; 2] = [FILE, EVERY];
+const FILE_AND_EVERY: [ArgumentRow; 2] = [FILE, EVERY];
 
 #[rattlefmt::skip]
-const FILE_AND_UNTIL: [Row; 2] = [
+const FILE_AND_UNTIL: [ArgumentRow; 2] = [
     FILE,
-    Row { form: Form::Value("LINE"), name: "until", help: "Shows the directives up to the one at this line" },
+    ArgumentRow { form: ArgumentForm::Value("LINE"), name: "until", help: "Shows the directives up to the one at this line" },
 ];
 
 #[rattlefmt::skip]
-const NAME: [Row; 1] = [Row { form: Form::Name, name: "name", help: "Directive to show" }];
+const NAME: [ArgumentRow; 1] = [ArgumentRow { form: ArgumentForm::Name, name: "name", help: "Directive to show" }];
 
 const FILE_OR_INPUT: &str = "FILE is a script's file; - is standard input";
 

@@ -13,8 +13,8 @@ use Rattle.rb_bench.specs.Commands.{command_of}
 use Rattle.rb_line.specs.declared.source.InputFault.{InputFault}
 use Rattle.rb_line.specs.Given.{LosesLine, LosesLong, IsFirstLong}
 use Rattle.rb_bench.specs.declared.given_lines.GivenLines.{GivenLines}
-use Rattle.rb_bench.specs.declared.hear.Heard.{Heard}
-use Rattle.rb_bench.specs.declared.hear.Heard.TheVariants as heards
+use Rattle.rb_bench.specs.declared.hear.HeardCommand.{HeardCommand}
+use Rattle.rb_bench.specs.declared.hear.HeardCommand.TheVariants as heards
 use Rattle.rb_bench.specs.Talk.{is_long, given_count, asked, HasLong, IsCut}
 use Rattle.rb_bench.specs.Hearing.{IsGiven, HasTaken, Gathers, GathersOf, Hears, HearsOf}
 use Rattle.rb_bench.specs.Known.{IfKnown}
@@ -113,7 +113,7 @@ asked_long line ls all e h =
 pub cut_after : (line : Line) (ls all : List Line) → all ≡ line ∷ ls → is_long line ≡ false → list_any is_long ls ≡ false → length ls < given_count (command_of line) → IsCut all
 cut_after line ls all e short h lt = subst (λ (l : List Line). IsCut l) (sym e) (ap (λ t. t || list_any is_long ls) short ∙ h, omega arith)
 
-hears_lines : (heard : Heard) (line : Line) (ls more rest : List Line) → ls ≡ line ∷ more → is_long line ≡ false → Gathers (command_of line) heard more rest → Hears heard ls rest
+hears_lines : (heard : HeardCommand) (line : Line) (ls more rest : List Line) → ls ≡ line ∷ more → is_long line ≡ false → Gathers (command_of line) heard more rest → Hears heard ls rest
 hears_lines (heards.Command command given) line ls more rest e short (command_is, t) = record {
   line = line;
   given_lines = t.ls;
@@ -127,14 +127,14 @@ hears_lines heards.End line ls more rest e short h = absurd h
 hears_lines heards.LineTooLong line ls more rest e short h = asked_long line more ls e h
 hears_lines heards.CutOff line ls more rest e short (h, lt) = cut_after line more ls e short h lt
 
-hears_known : (before mid after : Option (List ℕ)) (heard : Heard) (line : Line) → LosesLine before mid line → length line ≤ MAX_LINE → GathersOf mid after (command_of line) heard → HearsOf before after heard
+hears_known : (before mid after : Option (List ℕ)) (heard : HeardCommand) (line : Line) → LosesLine before mid line → length line ≤ MAX_LINE → GathersOf mid after (command_of line) heard → HearsOf before after heard
 hears_known None mid after heard line l le h = tt
 hears_known (Some bytes) None after heard line l le h = absurd l
 hears_known (Some bytes) (Some more) None heard line l le h = absurd h
 hears_known (Some bytes) (Some more) (Some rest) heard line l le h = hears_lines heard line (lines bytes) (lines more) (lines rest) l (short_line line le) h
 
 -- after a line came what was gathered for it
-pub hears_after : (before mid after : Option (List ℕ)) (r : Result Heard InputFault) (command : Command) (held line : Line) → LosesLine before mid line → length line ≤ MAX_LINE → command ≡ command_of held → held ≡ line
+pub hears_after : (before mid after : Option (List ℕ)) (r : Result HeardCommand InputFault) (command : Command) (held line : Line) → LosesLine before mid line → length line ≤ MAX_LINE → command ≡ command_of held → held ≡ line
     → IfOk r (λ heard. GathersOf mid after command heard) → IfOk r (λ heard. HearsOf before after heard)
 hears_after before mid after (Err fault) command held line l le c e h = tt
 hears_after before mid after (Ok heard) command held line l le c e h =

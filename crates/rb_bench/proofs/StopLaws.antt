@@ -17,8 +17,8 @@ use Rattle.rb_line.specs.Taken.{AreWhole, StopsInLine, TakesWhole}
 use Rattle.rb_line.proofs.CutLaws.{lines_none, lines_whole, lines_of_whole, whole_both}
 use Rattle.rb_line.proofs.TakenLaws.{takes_then}
 use Rattle.rb_bench.specs.declared.given_lines.GivenLines.{GivenLines}
-use Rattle.rb_bench.specs.declared.hear.Heard.{Heard}
-use Rattle.rb_bench.specs.declared.hear.Heard.TheVariants as heards
+use Rattle.rb_bench.specs.declared.hear.HeardCommand.{HeardCommand}
+use Rattle.rb_bench.specs.declared.hear.HeardCommand.TheVariants as heards
 use Rattle.rb_check.specs.declared.status.Status.{Status}
 use Rattle.rb_bench.specs.declared.fault.BenchFault.{BenchFault}
 use Rattle.rb_bench.specs.Talk.{is_long, given_count, taken}
@@ -101,17 +101,17 @@ stops_after x y a b after command held line l le whole c e s =
     let came = subst (λ (m : Command). IfCame (left_of y b) after (Came (AreTooFew (given_count m)))) (c ∙ ap command_of e) s.came in
     record { going = took.going; came = came_after (left_of x a) (left_of y b) after line took.bytes l le took.are_whole took.taken came }
 
-pub heard_then : (r : Result Heard InputFault) (x y z : LineReader) (a b c : Option (List ℕ)) → TakesWhole x y a b → IfOk r (λ heard. TakesHeard heard y z b c) → IfOk r (λ heard. TakesHeard heard x z a c)
+pub heard_then : (r : Result HeardCommand InputFault) (x y z : LineReader) (a b c : Option (List ℕ)) → TakesWhole x y a b → IfOk r (λ heard. TakesHeard heard y z b c) → IfOk r (λ heard. TakesHeard heard x z a c)
 heard_then (Ok (heards.Command command given)) x y z a b c first h = takes_then x y z a b c first h
 heard_then r x y z a b c first h = tt
 
-heard_command : (heard : Heard) (x y : LineReader) (a b : Option (List ℕ)) → IsCommand heard → TakesHeard heard x y a b → TakesWhole x y a b
+heard_command : (heard : HeardCommand) (x y : LineReader) (a b : Option (List ℕ)) → IsCommand heard → TakesHeard heard x y a b → TakesWhole x y a b
 heard_command (heards.Command command given) x y a b is h = h
 heard_command heard x y a b is h = absurd is
 
 -- ---- turns
 
-pub turn_takes : (status : Option Status) (heard : Heard) (x y : LineReader) (a b : Option (List ℕ)) → (status ≡ None → IsCommand heard) → TakesHeard heard x y a b → TakesTurn status x y a b
+pub turn_takes : (status : Option Status) (heard : HeardCommand) (x y : LineReader) (a b : Option (List ℕ)) → (status ≡ None → IsCommand heard) → TakesHeard heard x y a b → TakesTurn status x y a b
 turn_takes None heard x y a b going h = heard_command heard x y a b (going refl) h
 turn_takes (Some status) heard x y a b going h = tt
 

@@ -11,8 +11,8 @@ use Rattle.rb_script.specs.Lines.{Line, lines}
 use Rattle.rb_bench.specs.declared.command.Command.{Command}
 use Rattle.rb_replay.specs.Holding.{Holding}
 use Rattle.rb_bench.specs.declared.given_lines.GivenLines.{GivenLines}
-use Rattle.rb_bench.specs.declared.hear.Heard.{Heard}
-use Rattle.rb_bench.specs.declared.hear.Heard.TheVariants as heards
+use Rattle.rb_bench.specs.declared.hear.HeardCommand.{HeardCommand}
+use Rattle.rb_bench.specs.declared.hear.HeardCommand.TheVariants as heards
 use Rattle.rb_bench.specs.Responses.{AnswersCommand}
 use Rattle.rb_bench.specs.Talk.{Exchange, taken, answer_of, Converses, Responds, Ends, Talks, Begins}
 use Rattle.rb_bench.specs.Serves.{WentOut, WentOutInPart, TalksOut}
@@ -36,21 +36,21 @@ exchanged h command given ls rest answer after heard answers =
       after_is = refl;
     }
 
-pub exchange_heard : (h : Holding) (heard : Heard) (command : Command) (given : GivenLines) (ls rest : List Line) (answer : List ℕ) (after : Holding) → heard ≡ heards.Command command given → Hears heard ls rest
+pub exchange_heard : (h : Holding) (heard : HeardCommand) (command : Command) (given : GivenLines) (ls rest : List Line) (answer : List ℕ) (after : Holding) → heard ≡ heards.Command command given → Hears heard ls rest
     → ((given_lines : List Line) → IsGiven given given_lines → (no_memory : Bool) × AnswersCommand h command given_lines no_memory answer after) → IsExchange h ls rest answer after
-exchange_heard h heard command given ls rest answer after e hears answers = exchanged h command given ls rest answer after (subst (λ (m : Heard). Hears m ls rest) e hears) answers
+exchange_heard h heard command given ls rest answer after e hears answers = exchanged h command given ls rest answer after (subst (λ (m : HeardCommand). Hears m ls rest) e hears) answers
 
 -- ---- a turn
 
 -- what was answered went out
-pub turned : (before left : Option (List ℕ)) (heard : Heard) (h after : Holding) (text : List ℕ) (status : Option Status) (old new : Option (List ℕ)) → HearsOf before left heard
+pub turned : (before left : Option (List ℕ)) (heard : HeardCommand) (h after : Holding) (text : List ℕ) (status : Option Status) (old new : Option (List ℕ)) → HearsOf before left heard
     → ((ls rest : List Line) → Hears heard ls rest → IsTurn h ls rest text after status) → Appends old new text → TurnsOut before left (Ok status) h after old new
 turned None left heard h after text status old new hears turns out = tt
 turned (Some bytes) None heard h after text status old new hears turns out = absurd hears
 turned (Some bytes) (Some rest) heard h after text status old new hears turns out = record { text = text; turn = turns (lines bytes) (lines rest) hears; went_out = out }
 
 -- a beginning of it
-pub turn_failed : (before left : Option (List ℕ)) (heard : Heard) (h after : Holding) (text : List ℕ) (status : Option Status) (fault : BenchFault) (old new : Option (List ℕ)) → HearsOf before left heard
+pub turn_failed : (before left : Option (List ℕ)) (heard : HeardCommand) (h after : Holding) (text : List ℕ) (status : Option Status) (fault : BenchFault) (old new : Option (List ℕ)) → HearsOf before left heard
     → ((ls rest : List Line) → Hears heard ls rest → IsTurn h ls rest text after status) → AppendsFront old new text → TurnsOut before left (Err fault) h after old new
 turn_failed None left heard h after text status fault old new hears turns out = tt
 turn_failed (Some bytes) None heard h after text status fault old new hears turns out = absurd hears

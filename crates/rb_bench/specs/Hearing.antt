@@ -7,8 +7,8 @@ use Rattle.rb_script.specs.Reading.{capped}
 use Rattle.rb_bench.specs.declared.command.Command.{Command}
 use Rattle.rb_bench.specs.Commands.{command_of}
 use Rattle.rb_bench.specs.declared.given_lines.GivenLines.{GivenLines}
-use Rattle.rb_bench.specs.declared.hear.Heard.{Heard}
-use Rattle.rb_bench.specs.declared.hear.Heard.TheVariants as heards
+use Rattle.rb_bench.specs.declared.hear.HeardCommand.{HeardCommand}
+use Rattle.rb_bench.specs.declared.hear.HeardCommand.TheVariants as heards
 use Rattle.rb_bench.specs.Talk.{is_long, given_count, wanted, HasLong, IsCut}
 use Rattle.rb_bench.specs.Known.{IfKnown}
 
@@ -26,21 +26,21 @@ pub record HasTaken (all rest : List Line) (count : ℕ) (given : GivenLines) : 
   pub is_given : IsGiven given ls
 
 -- a command came, and all of its lines
-abbrev pub IsCommand : Heard → Type 0
+abbrev pub IsCommand : HeardCommand → Type 0
 IsCommand (heards.Command command given) = ⊤
 IsCommand heards.End = ⊥
 IsCommand heards.LineTooLong = ⊥
 IsCommand heards.CutOff = ⊥
 
 -- what is heard behind the line of a command
-abbrev pub Gathers : Command → Heard → List Line → List Line → Type 0
+abbrev pub Gathers : Command → HeardCommand → List Line → List Line → Type 0
 Gathers command (heards.Command same given) ls rest = (same ≡ command) × HasTaken ls rest (given_count command) given
 Gathers command heards.End ls rest = ⊥
 Gathers command heards.LineTooLong ls rest = list_any is_long (take (given_count command) ls) ≡ true
 Gathers command heards.CutOff ls rest = (list_any is_long ls ≡ false) × (length ls < given_count command)
 
 -- the same of bytes that may not be known
-abbrev pub GathersOf : Option (List ℕ) → Option (List ℕ) → Command → Heard → Type 0
+abbrev pub GathersOf : Option (List ℕ) → Option (List ℕ) → Command → HeardCommand → Type 0
 GathersOf before after command heard = IfKnown before after (Gathers command heard)
 
 -- a command was heard, and its lines
@@ -54,12 +54,12 @@ pub record HearsCommand (command : Command) (given : GivenLines) (ls rest : List
   pub is_given : IsGiven given given_lines
 
 -- what is heard of lines, after which the rest is left
-abbrev pub Hears : Heard → List Line → List Line → Type 0
+abbrev pub Hears : HeardCommand → List Line → List Line → Type 0
 Hears (heards.Command command given) ls rest = HearsCommand command given ls rest
 Hears heards.End ls rest = ls ≡ []
 Hears heards.LineTooLong ls rest = HasLong ls
 Hears heards.CutOff ls rest = IsCut ls
 
 -- the same of bytes that may not be known
-abbrev pub HearsOf : Option (List ℕ) → Option (List ℕ) → Heard → Type 0
+abbrev pub HearsOf : Option (List ℕ) → Option (List ℕ) → HeardCommand → Type 0
 HearsOf before after heard = IfKnown before after (Hears heard)

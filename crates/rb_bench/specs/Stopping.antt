@@ -9,8 +9,8 @@ use Rattle.rb_line.specs.declared.line_reader.LineReader.{LineReader}
 use Rattle.rb_line.specs.Begun.{HasNoFeed}
 use Rattle.rb_line.specs.Left.{left_of}
 use Rattle.rb_line.specs.Taken.{AreWhole, TakesWhole}
-use Rattle.rb_bench.specs.declared.hear.Heard.{Heard}
-use Rattle.rb_bench.specs.declared.hear.Heard.TheVariants as heards
+use Rattle.rb_bench.specs.declared.hear.HeardCommand.{HeardCommand}
+use Rattle.rb_bench.specs.declared.hear.HeardCommand.TheVariants as heards
 use Rattle.rb_check.specs.declared.status.Status.{Status}
 use Rattle.rb_bench.specs.Talk.{is_long, IsCut, Begins}
 use Rattle.rb_bench.specs.Serves.{IsStarted}
@@ -45,7 +45,7 @@ pub record StopsBehind (holds : List Line → Type 0) (input : LineReader) (left
   pub came : IfCame (left_of input left) after (Came holds)
 
 -- a command was taken with the ends of all its lines, unless the end was met
-abbrev pub TakesHeard : Heard → LineReader → LineReader → Option (List ℕ) → Option (List ℕ) → Type 0
+abbrev pub TakesHeard : HeardCommand → LineReader → LineReader → Option (List ℕ) → Option (List ℕ) → Type 0
 TakesHeard (heards.Command command given) input later left after = TakesWhole input later left after
 TakesHeard heards.End input later left after = ⊤
 TakesHeard heards.LineTooLong input later left after = ⊤

@@ -9,7 +9,7 @@ ghost use Rattle.rb_bench.specs.Stopping.{AreTooFew, StopsBehind, TakesHeard};
 
 use crate::command::Command;
 use crate::given_lines::GivenLines;
-use crate::hear::Heard;
+use crate::hear::HeardCommand;
 use rb_line::{InputFault, LineReader, Next, Source};
 use std::alloc::Global;
 
@@ -29,7 +29,7 @@ pub(crate) fn gather<S: Source>(
     command: Command,
     input: &mut LineReader,
     source: &mut S,
-) -> Result<Heard, InputFault>
+) -> Result<HeardCommand, InputFault>
     ensures heard { IfOk result (λ heard. GathersOf (left_of input.old (S.left source.old)) (left_of input.new (S.left source.new)) command heard) }
     ensures takes { IfOk result (λ heard. TakesHeard heard input.old input.new (S.left source.old) (S.left source.new)) }
     ensures failed { OnErr result (StopsBehind (AreTooFew (given_count command)) input.old (S.left source.old) (S.left source.new)) }
@@ -43,10 +43,10 @@ pub(crate) fn gather<S: Source>(
     while taken < count {
         match input.next(source)? {
             Next::Line => given.add(input.line()),
-            Next::TooLong => return Ok(Heard::LineTooLong),
-            Next::End => return Ok(Heard::CutOff),
+            Next::TooLong => return Ok(HeardCommand::LineTooLong),
+            Next::End => return Ok(HeardCommand::CutOff),
         }
         taken += 1;
     }
-    Ok(Heard::Command(command, given))
+    Ok(HeardCommand::Command(command, given))
 }

@@ -14,7 +14,7 @@ use std::alloc::Global;
 
 /// What came in.
 #[derive(Drop)]
-pub(crate) enum Heard {
+pub(crate) enum HeardCommand {
     /// A command, and its lines.
     Command(Command, GivenLines),
     /// The end.
@@ -30,7 +30,7 @@ pub(crate) fn hear<S: Source>(
     alloc: Global,
     input: &mut LineReader,
     source: &mut S,
-) -> Result<Heard, InputFault>
+) -> Result<HeardCommand, InputFault>
     ensures heard { IfOk result (λ heard. HearsOf (left_of input.old (S.left source.old)) (left_of input.new (S.left source.new)) heard) }
     ensures takes { IfOk result (λ heard. TakesHeard heard input.old input.new (S.left source.old) (S.left source.new)) }
     // Where reading stops, no further command had come whole.
@@ -42,8 +42,8 @@ pub(crate) fn hear<S: Source>(
 {
     match input.next(source)? {
         Next::Line => {}
-        Next::TooLong => return Ok(Heard::LineTooLong),
-        Next::End => return Ok(Heard::End),
+        Next::TooLong => return Ok(HeardCommand::LineTooLong),
+        Next::End => return Ok(HeardCommand::End),
     }
     gather(alloc, command_of(input.line()), input, source)
 }

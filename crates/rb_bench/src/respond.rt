@@ -11,7 +11,7 @@ ghost use Rattle.rb_bench.specs.Turns.{IsTurn};
 
 use crate::command::{Command, Purpose};
 use crate::given_lines::GivenLines;
-use crate::hear::Heard;
+use crate::hear::HeardCommand;
 use crate::reply::Reply;
 use crate::running::{Mode, status};
 use crate::starting::BenchSession;
@@ -87,16 +87,16 @@ fn respond(alloc: Global, session: &mut BenchSession, command: Command, given: G
 pub(crate) fn reply_to(
     alloc: Global,
     session: &mut BenchSession,
-    heard: Heard,
+    heard: HeardCommand,
 ) -> (Reply, Option<Status>)
     ensures going { result.1 ≡ None → IsCommand heard }
     ensures turn { (ls rest : List Line) → Hears heard ls rest
         → IsTurn session.old ls rest (reply_text session.new result.0) session.new result.1 }
 {
     match heard {
-        Heard::Command(command, given) => (respond(alloc, session, command, given), None),
-        Heard::End => (Reply::Nothing, Some(status(session, Mode::Run))),
-        Heard::LineTooLong => (Reply::LineTooLong, Some(Status::Failed)),
-        Heard::CutOff => (Reply::CutOff, Some(Status::Failed)),
+        HeardCommand::Command(command, given) => (respond(alloc, session, command, given), None),
+        HeardCommand::End => (Reply::Nothing, Some(status(session, Mode::Run))),
+        HeardCommand::LineTooLong => (Reply::LineTooLong, Some(Status::Failed)),
+        HeardCommand::CutOff => (Reply::CutOff, Some(Status::Failed)),
     }
 }

@@ -5,8 +5,8 @@ use Rattle.rb_message.specs.declared.role.Role.{Role}
 use Rattle.rb_texts.specs.States.{role_text}
 use Rattle.rb_chart.specs.declared.look.Fate.{Fate}
 use Rattle.rb_chart.specs.declared.look.Fate.TheVariants as fates
-use Rattle.rb_chart.specs.declared.look.Kind.{Kind}
-use Rattle.rb_chart.specs.declared.look.Kind.TheVariants as kinds
+use Rattle.rb_chart.specs.declared.look.MessageLook.{MessageLook}
+use Rattle.rb_chart.specs.declared.look.MessageLook.TheVariants as kinds
 use Rattle.rb_chart.specs.declared.look.Look.{Look}
 use Rattle.rb_chart.specs.declared.look.Look.TheVariants as looks
 use Rattle.rb_chart.specs.declared.shape.Shape.{Shape}
@@ -15,7 +15,7 @@ use Rattle.rb_chart.specs.Escapes.{escaped}
 
 -- ---- classes
 
-abbrev pub kind_text : Kind → List ℕ
+abbrev pub kind_text : MessageLook → List ℕ
 kind_text kinds.Vote = codes "vote"
 kind_text kinds.Append = codes "append"
 kind_text kinds.Heartbeat = codes "heartbeat"
@@ -55,13 +55,13 @@ band_text role x y width height =
     ++ (codes "\" width=\"" ++ (decimal width ++ (codes "\" height=\"" ++ (decimal height ++ codes "\"/>\n")))))))))
 
 -- a message's line: along its label to where it bends, and from there to where it ends
-abbrev pub arrow_text : Kind → Fate → ℕ → ℕ → ℕ → ℕ → ℕ → List ℕ
+abbrev pub arrow_text : MessageLook → Fate → ℕ → ℕ → ℕ → ℕ → ℕ → List ℕ
 arrow_text kind fate x y bend to_x to_y =
     codes "<path class=\"arrow " ++ (kind_text kind ++ (codes " " ++ (fate_text fate ++ (codes "\" d=\"M" ++ (decimal x ++ (codes " " ++ (decimal y
     ++ (codes "H" ++ (decimal bend ++ (codes "L" ++ (decimal to_x ++ (codes " " ++ (decimal to_y ++ codes "\"/>\n")))))))))))))
 
 -- the line of a message to the node that sends it
-abbrev pub loop_text : Kind → Fate → ℕ → ℕ → ℕ → ℕ → List ℕ
+abbrev pub loop_text : MessageLook → Fate → ℕ → ℕ → ℕ → ℕ → List ℕ
 loop_text kind fate x y out to_y =
     codes "<path class=\"arrow " ++ (kind_text kind ++ (codes " " ++ (fate_text fate ++ (codes "\" d=\"M" ++ (decimal x ++ (codes " " ++ (decimal y
     ++ (codes "C" ++ (decimal out ++ (codes " " ++ (decimal y ++ (codes " " ++ (decimal out ++ (codes " " ++ (decimal to_y

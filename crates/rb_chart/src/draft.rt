@@ -6,7 +6,7 @@ ghost use Rattle.rb_chart.specs.Titles.{is_printable, title_text, until_text};
 
 use crate::chart::Chart;
 use crate::drafter::Drafter;
-use crate::event::{Event, event_of};
+use crate::event::{RowEvent, event_of};
 use crate::shown::shown;
 use rb_script::Lines;
 use rb_text::{Piece, add_pieces};
@@ -34,12 +34,12 @@ fn title_of(alloc: Global, name: &[u8], until: Option<u64>) -> Result<Vec<u8>, A
 }
 
 // Whether it is a directive whose head is below that line.
-fn is_below(event: Event<'_>, until: Option<u64>) -> bool {
+fn is_below(event: RowEvent<'_>, until: Option<u64>) -> bool {
     let Some(last) = until else {
         return false;
     };
     match event {
-        Event::Step { line } => last < line,
+        RowEvent::Step { line } => last < line,
         _ => false,
     }
 }

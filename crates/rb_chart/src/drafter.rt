@@ -5,7 +5,7 @@
 
 use crate::chart::Chart;
 use crate::columns::Columns;
-use crate::event::{Event, Mark, Message, Note};
+use crate::event::{Mark, Note, RowEvent, RowMessage};
 use crate::flight::{Ending, cross_of, line_of};
 use crate::labels::Label;
 use crate::look::Look;
@@ -16,8 +16,7 @@ use crate::shape::Shape;
 use crate::shown::shown;
 use crate::sizes::{ASIDE, MOST_HEAD, MOST_MARK, MOST_NOTE, least_right, middle};
 use crate::slots::Slots;
-use crate::source::Source;
-use crate::telling::End;
+use crate::source::ScriptSource;
 use rb_message::Role;
 use rb_text::{Piece, add_pieces};
 use std::alloc::{AllocError, Global};
@@ -37,7 +36,7 @@ const MARK_UP: u64 = 2;
 #[derive(Drop)]
 pub(crate) struct Drafter<'a> {
     alloc: Global,
-    source: Source<'a>,
+    source: ScriptSource<'a>,
     // whether the line before is one of a note
     is_in_note: bool,
     mail: Mail,
@@ -56,7 +55,7 @@ impl<'a> Drafter<'a> {
         let mail = Mail::new(alloc)?;
         Ok(Drafter {
             alloc,
-            source: Source::new(bytes),
+            source: ScriptSource::new(bytes),
             is_in_note: false,
             mail,
             columns: Columns::new(alloc),
@@ -69,36 +68,40 @@ impl<'a> Drafter<'a> {
     }
 
     /// Places what happened.
-    pub(crate) fn place(&mut self, chart: &mut Chart, event: Event<'_>) -> Result<(), AllocError> {
+    pub(crate) fn place(
+        &mut self,
+        chart: &mut Chart,
+        event: RowEvent<'_>,
+    ) -> Result<(), AllocError> {
         // Entries that become durable one after another have one mark.
-        if !matches!(event, Event::Saved { .. }) {
+        if !matches!(event, RowEvent::Saved { .. }) {
             self.end_saves(chart)?;
         }
         match event {
-            Event::Step { line } => self.begin(chart, line),
-            Event::Ready { id } => {
+            RowEvent::Step { line } => self.begin(chart, line),
+            RowEvent::Ready { id } => {
                 self.ready = id;
                 self.sent = 0;
                 Ok(())
             }
-            Event::Saved { index } => {
+            RowEvent::Saved { index } => {
                 self.save(index);
                 Ok(())
             }
-            Event::Hard { commit } => {
+            RowEvent::Hard { commit } => {
                 let ready = self.ready;
                 self.see_commit(chart, ready, commit)
             }
-            Event::Sent(message) => self.send(chart, &message),
-            Event::Delivered(message) => self.deliver(chart, &message),
-            Event::Dropped(message) => self.lose(chart, &message),
-            Event::GivenUp(message) => self.give_up(chart, &message),
-            Event::Started { id } => self.start(chart, id),
-            Event::Node { id, commit } => self.see_commit(chart, id, commit),
-            Event::Log { id, base } => self.see_base(chart, id, base),
-            Event::Told { id, mark } => self.tell(chart, id, mark),
-            Event::Noted(note) => self.note(chart, note),
-            Event::End => self.end(chart),
+            RowEvent::Sent(message) => self.send(chart, &message),
+            RowEvent::Delivered(message) => self.deliver(chart, &message),
+            RowEvent::Dropped(message) => self.lose(chart, &message),
+            RowEvent::GivenUp(message) => self.give_up(chart, &message),
+            RowEvent::Started { id } => self.start(chart, id),
+            RowEvent::Node { id, commit } => self.see_commit(chart, id, commit),
+            RowEvent::Log { id, base } => self.see_base(chart, id, base),
+            RowEvent::Told { id, mark } => self.tell(chart, id, mark),
+            RowEvent::Noted(note) => self.note(chart, note),
+            RowEvent::End => self.end(chart),
         }
     }
 
@@ -255,7 +258,7 @@ impl<'a> Drafter<'a> {
 
     // ---- messages
 
-    fn send(&mut self, chart: &mut Chart, message: &Message<'_>) -> Result<(), AllocError> {
+    fn send(&mut self, chart: &mut Chart, message: &RowMessage<'_>) -> Result<(), AllocError> {
         let y = self.slots.next();
         let place = chart.over.len();
         let line = line_of(message, y, Ending::Waiting);
@@ -274,7 +277,12 @@ impl<'a> Drafter<'a> {
         Ok(())
     }
 
-    fn label(&self, chart: &mut Chart, message: &Message<'_>, y: u64) -> Result<Label, AllocError> {
+    fn label(
+        &self,
+        chart: &mut Chart,
+        message: &RowMessage<'_>,
+        y: u64,
+    ) -> Result<Label, AllocError> {
         let words = message_words(self.alloc, message)?;
         chart.tell_sent(self.slots.line, message.from, message.to, words.as_slice())?;
         let aim = aim_words(self.alloc, message)?;
@@ -282,17 +290,17 @@ impl<'a> Drafter<'a> {
         Label::add(chart, message, y, aim.as_slice(), label.as_slice())
     }
 
-    fn deliver(&mut self, chart: &mut Chart, message: &Message<'_>) -> Result<(), AllocError> {
+    fn deliver(&mut self, chart: &mut Chart, message: &RowMessage<'_>) -> Result<(), AllocError> {
         let Some(flight) = self.mail.pop_first(message) else {
             return Ok(());
         };
         let ending = Ending::Delivered(self.slots.next());
         draw_anew(chart, message, flight, ending)?;
         flight.label.drop_aim(chart);
-        self.tell_end(chart, message, End::Delivered)
+        self.tell_end(chart, message, ending)
     }
 
-    fn lose(&mut self, chart: &mut Chart, message: &Message<'_>) -> Result<(), AllocError> {
+    fn lose(&mut self, chart: &mut Chart, message: &RowMessage<'_>) -> Result<(), AllocError> {
         let Some(flight) = self.mail.pop_first(message) else {
             return Ok(());
         };
@@ -303,10 +311,10 @@ impl<'a> Drafter<'a> {
             Ending::GivenUp
         };
         draw_anew(chart, message, flight, ending)?;
-        self.tell_end(chart, message, End::Dropped)
+        self.tell_end(chart, message, Ending::Dropped(end))
     }
 
-    fn give_up(&mut self, chart: &mut Chart, message: &Message<'_>) -> Result<(), AllocError> {
+    fn give_up(&mut self, chart: &mut Chart, message: &RowMessage<'_>) -> Result<(), AllocError> {
         if self.sent == 0 {
             self.send(chart, message)?;
         }
@@ -315,18 +323,18 @@ impl<'a> Drafter<'a> {
         };
         self.sent = self.sent.saturating_sub(1);
         draw_anew(chart, message, flight, Ending::GivenUp)?;
-        self.tell_end(chart, message, End::GivenUp)
+        self.tell_end(chart, message, Ending::GivenUp)
     }
 
     fn tell_end(
         &self,
         chart: &mut Chart,
-        message: &Message<'_>,
-        end: End,
+        message: &RowMessage<'_>,
+        ending: Ending,
     ) -> Result<(), AllocError> {
         let words = message_words(self.alloc, message)?;
         let line = self.slots.line;
-        chart.tell_end(line, message.from, message.to, words.as_slice(), end)
+        chart.tell_end(line, message.from, message.to, words.as_slice(), ending)
     }
 
     // Tells which messages are on their way.
@@ -354,7 +362,7 @@ impl<'a> Drafter<'a> {
             flight.from,
             flight.to,
             words.as_slice(),
-            End::OnItsWay,
+            Ending::Waiting,
         )
     }
 }
@@ -369,7 +377,7 @@ fn add_line_number(alloc: Global, chart: &mut Chart, line: u64, y: u64) -> Resul
 // Draws a message's line as it ends.
 fn draw_anew(
     chart: &mut Chart,
-    message: &Message<'_>,
+    message: &RowMessage<'_>,
     flight: Flight,
     ending: Ending,
 ) -> Result<(), AllocError> {

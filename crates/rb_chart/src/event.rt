@@ -1,13 +1,13 @@
 //! What happened, of which a row is read.
 
-use crate::names::{Name, name_of, role_of};
-use crate::row::{Row, name_and_cells, row_of};
+use crate::names::{RowName, name_of, role_of};
+use crate::row::{RowCells, name_and_cells, row_of};
 use rb_level::{MessageType, type_of};
 use rb_message::Role;
 
 /// What happened.
 #[derive(Clone, Copy)]
-pub(crate) enum Event<'a> {
+pub(crate) enum RowEvent<'a> {
     /// A directive begins, whose head is at this line.
     Step { line: u64 },
     /// What comes next is of this node's ready.
@@ -16,11 +16,11 @@ pub(crate) enum Event<'a> {
     Saved { index: u64 },
     /// The hard state of the ready's node has this commit.
     Hard { commit: u64 },
-    Sent(Message<'a>),
-    Delivered(Message<'a>),
-    Dropped(Message<'a>),
+    Sent(RowMessage<'a>),
+    Delivered(RowMessage<'a>),
+    Dropped(RowMessage<'a>),
     /// It is given up: too many are on their way.
-    GivenUp(Message<'a>),
+    GivenUp(RowMessage<'a>),
     Started { id: u64 },
     /// A node has this commit.
     Node { id: u64, commit: u64 },
@@ -36,7 +36,7 @@ pub(crate) enum Event<'a> {
 
 /// A message. Names and texts are as rows have them, between quotes.
 #[derive(Clone, Copy)]
-pub(crate) struct Message<'a> {
+pub(crate) struct RowMessage<'a> {
     pub(crate) from: u64,
     pub(crate) to: u64,
     pub(crate) message_type: MessageType,
@@ -114,10 +114,10 @@ pub(crate) enum Note<'a> {
     Error { text: &'a [u8] },
 }
 
-fn message_of<'a>(row: &Row<'a>) -> Option<Message<'a>> {
+fn message_of<'a>(row: &RowCells<'a>) -> Option<RowMessage<'a>> {
     let message_type = type_of(row.first)?;
     let numbers = &row.numbers;
-    Some(Message {
+    Some(RowMessage {
         from: numbers[0],
         to: numbers[1],
         message_type,
@@ -129,77 +129,77 @@ fn message_of<'a>(row: &Row<'a>) -> Option<Message<'a>> {
 }
 
 // What a node tells by a row of this name.
-fn mark_of<'a>(name: Name, row: &Row<'a>) -> Option<Mark<'a>> {
+fn mark_of<'a>(name: RowName, row: &RowCells<'a>) -> Option<Mark<'a>> {
     let second = row.numbers[1];
     let third = row.numbers[2];
     let text = row.first;
     let mark = match name {
-        Name::Became => Mark::Became {
+        RowName::Became => Mark::Became {
             role: role_of(text)?,
             term: second,
         },
-        Name::CannotCampaign => Mark::CannotCampaign { why: text },
-        Name::Vote => Mark::Vote {
+        RowName::CannotCampaign => Mark::CannotCampaign { why: text },
+        RowName::Vote => Mark::Vote {
             is_granted: second == 1,
             from: third,
             result_name: row.second,
         },
-        Name::Ignored => Mark::Ignored { type_name: text },
-        Name::DroppedProposal => Mark::DroppedProposal,
-        Name::Conflict => Mark::Conflict {
+        RowName::Ignored => Mark::Ignored { type_name: text },
+        RowName::DroppedProposal => Mark::DroppedProposal,
+        RowName::Conflict => Mark::Conflict {
             index: second,
             commit: third,
         },
-        Name::AppendsNothing => Mark::AppendsNothing,
-        Name::ReplacedChange => Mark::ReplacedChange {
+        RowName::AppendsNothing => Mark::AppendsNothing,
+        RowName::ReplacedChange => Mark::ReplacedChange {
             index: second,
             why: text,
         },
-        Name::Switched => Mark::Switched { config: text },
-        Name::RefusedChange => Mark::RefusedChange {
+        RowName::Switched => Mark::Switched { config: text },
+        RowName::RefusedChange => Mark::RefusedChange {
             index: second,
             fault: text,
         },
-        Name::Restored => Mark::Restored {
+        RowName::Restored => Mark::Restored {
             term: second,
             index: third,
         },
-        Name::TransferStarts => Mark::TransferStarts { to: second },
-        Name::TransferEnds => Mark::TransferEnds { to: second },
-        Name::LostQuorum => Mark::LostQuorum,
+        RowName::TransferStarts => Mark::TransferStarts { to: second },
+        RowName::TransferEnds => Mark::TransferEnds { to: second },
+        RowName::LostQuorum => Mark::LostQuorum,
         _ => return None,
     };
     Some(mark)
 }
 
 // What happened by a row of this name.
-fn named<'a>(name: Name, row: &Row<'a>) -> Option<Event<'a>> {
+fn named<'a>(name: RowName, row: &RowCells<'a>) -> Option<RowEvent<'a>> {
     let id = row.numbers[0];
     let event = match name {
-        Name::Step => Event::Step { line: id },
-        Name::Ready => Event::Ready { id },
-        Name::Hard => Event::Hard {
+        RowName::Step => RowEvent::Step { line: id },
+        RowName::Ready => RowEvent::Ready { id },
+        RowName::Hard => RowEvent::Hard {
             commit: row.numbers[2],
         },
-        Name::Save => Event::Saved { index: id },
-        Name::Sent => Event::Sent(message_of(row)?),
-        Name::Delivered => Event::Delivered(message_of(row)?),
-        Name::Dropped => Event::Dropped(message_of(row)?),
-        Name::NoRoom => Event::GivenUp(message_of(row)?),
-        Name::NoMessages => Event::Noted(Note::NoMessages),
-        Name::Stopped => Event::Noted(Note::Stopped { rounds: id }),
-        Name::Error => Event::Noted(Note::Error { text: row.first }),
-        Name::Started => Event::Started { id },
-        Name::Node => Event::Node {
+        RowName::Save => RowEvent::Saved { index: id },
+        RowName::Sent => RowEvent::Sent(message_of(row)?),
+        RowName::Delivered => RowEvent::Delivered(message_of(row)?),
+        RowName::Dropped => RowEvent::Dropped(message_of(row)?),
+        RowName::NoRoom => RowEvent::GivenUp(message_of(row)?),
+        RowName::NoMessages => RowEvent::Noted(Note::NoMessages),
+        RowName::Stopped => RowEvent::Noted(Note::Stopped { rounds: id }),
+        RowName::Error => RowEvent::Noted(Note::Error { text: row.first }),
+        RowName::Started => RowEvent::Started { id },
+        RowName::Node => RowEvent::Node {
             id,
             commit: row.numbers[4],
         },
-        Name::Log => Event::Log {
+        RowName::Log => RowEvent::Log {
             id,
             base: row.numbers[2],
         },
-        Name::End => Event::End,
-        _ => Event::Told {
+        RowName::End => RowEvent::End,
+        _ => RowEvent::Told {
             id,
             mark: mark_of(name, row)?,
         },
@@ -208,7 +208,7 @@ fn named<'a>(name: Name, row: &Row<'a>) -> Option<Event<'a>> {
 }
 
 /// What a row says that happened, from its text; `None` where a picture shows nothing of it.
-pub(crate) fn event_of(text: &[u8]) -> Option<Event<'_>> {
+pub(crate) fn event_of(text: &[u8]) -> Option<RowEvent<'_>> {
     let (name, cells) = name_and_cells(text)?;
     named(name_of(name)?, &row_of(cells))
 }

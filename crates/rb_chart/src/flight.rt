@@ -1,6 +1,6 @@
 //! The lines of messages: level along their labels, and from there to where they end.
 
-use crate::event::Message;
+use crate::event::RowMessage;
 use crate::look::Fate;
 use crate::names::kind_of;
 use crate::shape::Shape;
@@ -37,10 +37,20 @@ impl Ending {
             Ending::Dropped(_) | Ending::GivenUp => Fate::Lost,
         }
     }
+
+    /// What is told of the message.
+    pub(crate) fn words(self) -> &'static [u8] {
+        match self {
+            Ending::Waiting => b" is on its way",
+            Ending::Delivered(_) => b" is delivered",
+            Ending::Dropped(_) => b" is dropped",
+            Ending::GivenUp => b" is given up",
+        }
+    }
 }
 
 // Where the line of a message to the node itself stands.
-fn loop_x(message: &Message<'_>) -> u64 {
+fn loop_x(message: &RowMessage<'_>) -> u64 {
     middle(message.from).saturating_add(TO_BAND)
 }
 
@@ -51,7 +61,7 @@ fn loop_end(y: u64, ending: Ending) -> u64 {
     }
 }
 
-fn line_end(message: &Message<'_>, y: u64, ending: Ending) -> (u64, u64) {
+fn line_end(message: &RowMessage<'_>, y: u64, ending: Ending) -> (u64, u64) {
     let is_left = message.to < message.from;
     let bend = beside(middle(message.from), is_left, LEAD);
     let to = middle(message.to);
@@ -65,7 +75,7 @@ fn line_end(message: &Message<'_>, y: u64, ending: Ending) -> (u64, u64) {
 }
 
 /// The line of a message that is sent at `y`.
-pub(crate) fn line_of(message: &Message<'_>, y: u64, ending: Ending) -> Shape {
+pub(crate) fn line_of(message: &RowMessage<'_>, y: u64, ending: Ending) -> Shape {
     let kind = kind_of(message.message_type);
     let fate = ending.fate();
     if message.to == message.from {
@@ -94,7 +104,7 @@ pub(crate) fn line_of(message: &Message<'_>, y: u64, ending: Ending) -> Shape {
 }
 
 /// The cross where it is lost; `None` where it isn't.
-pub(crate) fn cross_of(message: &Message<'_>, y: u64, ending: Ending) -> Option<Shape> {
+pub(crate) fn cross_of(message: &RowMessage<'_>, y: u64, ending: Ending) -> Option<Shape> {
     let Fate::Lost = ending.fate() else {
         return None;
     };

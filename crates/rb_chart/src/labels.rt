@@ -1,7 +1,7 @@
 //! Labels of messages: along the level part of a line, and before them to whom the message is until an arrow tells it.
 
 use crate::chart::Chart;
-use crate::event::Message;
+use crate::event::RowMessage;
 use crate::look::Look;
 use crate::names::kind_of;
 use crate::shape::{Shape, words_at};
@@ -18,7 +18,7 @@ pub(crate) struct Label {
     to: usize,
 }
 
-fn label_look(message: &Message<'_>, is_left: bool) -> Look {
+fn label_look(message: &RowMessage<'_>, is_left: bool) -> Look {
     let kind = kind_of(message.message_type);
     if is_left {
         Look::LeftLabel(kind)
@@ -31,7 +31,7 @@ impl Label {
     /// Adds the label of a message that is sent at `y`.
     pub(crate) fn add(
         chart: &mut Chart,
-        message: &Message<'_>,
+        message: &RowMessage<'_>,
         y: u64,
         aim: &[u8],
         words: &[u8],

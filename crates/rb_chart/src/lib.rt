@@ -35,7 +35,7 @@ mod writing;
 pub use chart::Chart;
 pub use draft::chart_of;
 pub use laws::{words_have_no_brackets, words_read_back};
-pub use look::{Fate, Kind, Look};
+pub use look::{Fate, Look, MessageLook};
 pub use shape::Shape;
 pub use style::STYLE;
 pub use writing::svg_of;

@@ -5,7 +5,7 @@ ghost use Rattle.rb_chart.specs.Shapes.{fate_text, kind_text, look_text};
 
 /// What kind of message it is.
 #[derive(Clone, Copy)]
-pub enum Kind {
+pub enum MessageLook {
     /// Of elections.
     Vote,
     /// Of entries.
@@ -16,17 +16,17 @@ pub enum Kind {
     Proposal,
 }
 
-impl Kind {
+impl MessageLook {
     /// The class.
     pub(crate) fn name(self) -> &'static [u8]
         ensures { result.now ≡ kind_text self }
     {
         match self {
-            Kind::Vote => b"vote",
-            Kind::Append => b"append",
-            Kind::Heartbeat => b"heartbeat",
-            Kind::Snapshot => b"snapshot",
-            Kind::Proposal => b"proposal",
+            MessageLook::Vote => b"vote",
+            MessageLook::Append => b"append",
+            MessageLook::Heartbeat => b"heartbeat",
+            MessageLook::Snapshot => b"snapshot",
+            MessageLook::Proposal => b"proposal",
         }
     }
 
@@ -35,11 +35,11 @@ impl Kind {
         ensures { result.now ≡ kind_text self ++ codes " end" }
     {
         match self {
-            Kind::Vote => b"vote end",
-            Kind::Append => b"append end",
-            Kind::Heartbeat => b"heartbeat end",
-            Kind::Snapshot => b"snapshot end",
-            Kind::Proposal => b"proposal end",
+            MessageLook::Vote => b"vote end",
+            MessageLook::Append => b"append end",
+            MessageLook::Heartbeat => b"heartbeat end",
+            MessageLook::Snapshot => b"snapshot end",
+            MessageLook::Proposal => b"proposal end",
         }
     }
 }
@@ -88,9 +88,9 @@ pub enum Look {
     /// A log begins later.
     Installed,
     /// The label of a message that goes to the right.
-    Label(Kind),
+    Label(MessageLook),
     /// The label of a message that goes to the left.
-    LeftLabel(Kind),
+    LeftLabel(MessageLook),
 }
 
 impl Look {

@@ -3,7 +3,7 @@
 //! Of those to one node and of one type the earliest is always the one that is delivered or dropped, so they stand in a queue for each
 //! (docs/PAGE.md, "What a directive did").
 
-use crate::event::Message;
+use crate::event::RowMessage;
 use crate::labels::Label;
 use rb_level::MessageType;
 use std::alloc::{AllocError, Global};
@@ -48,7 +48,11 @@ impl Mail {
     }
 
     /// Adds a message that is sent.
-    pub(crate) fn push(&mut self, message: &Message<'_>, flight: Flight) -> Result<(), AllocError> {
+    pub(crate) fn push(
+        &mut self,
+        message: &RowMessage<'_>,
+        flight: Flight,
+    ) -> Result<(), AllocError> {
         let at = queue_of(message.to, message.message_type);
         if let Some(queue) = self.queues.get_mut(at) {
             queue.push_back(flight)?;
@@ -57,12 +61,12 @@ impl Mail {
     }
 
     /// Takes out the earliest of its kind.
-    pub(crate) fn pop_first(&mut self, message: &Message<'_>) -> Option<Flight> {
+    pub(crate) fn pop_first(&mut self, message: &RowMessage<'_>) -> Option<Flight> {
         self.pop(queue_of(message.to, message.message_type))
     }
 
     /// Takes out the last of its kind.
-    pub(crate) fn pop_last(&mut self, message: &Message<'_>) -> Option<Flight> {
+    pub(crate) fn pop_last(&mut self, message: &RowMessage<'_>) -> Option<Flight> {
         let at = queue_of(message.to, message.message_type);
         let Some(queue) = self.queues.get_mut(at) else {
             return None;

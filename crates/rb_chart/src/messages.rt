@@ -1,6 +1,6 @@
 //! Messages in few words: the type, the term, and what matters of what it says.
 
-use crate::event::Message;
+use crate::event::RowMessage;
 use crate::measure::cut;
 use crate::names::short_name;
 use crate::painting::fitted;
@@ -52,7 +52,11 @@ fn append_answer_words(alloc: Global, name: &[u8], said: [u64; 4]) -> Result<Vec
 }
 
 // What matters of what a message says, behind its name.
-fn words_behind(alloc: Global, message: &Message<'_>, name: &[u8]) -> Result<Vec<u8>, AllocError> {
+fn words_behind(
+    alloc: Global,
+    message: &RowMessage<'_>,
+    name: &[u8],
+) -> Result<Vec<u8>, AllocError> {
     let said = message.said;
     match message.message_type {
         MessageType::Vote | MessageType::PreVote => vote_words(alloc, name, said),
@@ -76,7 +80,10 @@ fn words_behind(alloc: Global, message: &Message<'_>, name: &[u8]) -> Result<Vec
 }
 
 /// A message's type, its term where it is of one, and what matters of what it says.
-pub(crate) fn message_words(alloc: Global, message: &Message<'_>) -> Result<Vec<u8>, AllocError> {
+pub(crate) fn message_words(
+    alloc: Global,
+    message: &RowMessage<'_>,
+) -> Result<Vec<u8>, AllocError> {
     let name = short_name(message.name);
     if message.term == 0 {
         return words_behind(alloc, message, name);
@@ -86,7 +93,7 @@ pub(crate) fn message_words(alloc: Global, message: &Message<'_>) -> Result<Vec<
 }
 
 /// What of that stands at its line: where there is no room for the term, the rest.
-pub(crate) fn label_words(alloc: Global, message: &Message<'_>) -> Result<Vec<u8>, AllocError> {
+pub(crate) fn label_words(alloc: Global, message: &RowMessage<'_>) -> Result<Vec<u8>, AllocError> {
     let words = message_words(alloc, message)?;
     if cut(words.as_slice(), MOST_LABEL).is_none() {
         return Ok(words);
@@ -96,7 +103,7 @@ pub(crate) fn label_words(alloc: Global, message: &Message<'_>) -> Result<Vec<u8
 }
 
 /// To whom a message is, as it stands before its label.
-pub(crate) fn aim_words(alloc: Global, message: &Message<'_>) -> Result<Vec<u8>, AllocError> {
+pub(crate) fn aim_words(alloc: Global, message: &RowMessage<'_>) -> Result<Vec<u8>, AllocError> {
     let pieces = [
         Piece::Bytes("→".as_bytes()),
         Piece::Number(message.to),

@@ -1,12 +1,12 @@
 //! What rows call the kinds of rows, of messages and of roles.
 
-use crate::look::Kind;
+use crate::look::MessageLook;
 use rb_level::MessageType;
 use rb_message::Role;
 
 /// The rows that a picture shows something of.
 #[derive(Clone, Copy)]
-pub(crate) enum Name {
+pub(crate) enum RowName {
     Step,
     Ready,
     Hard,
@@ -39,41 +39,41 @@ pub(crate) enum Name {
 }
 
 #[rattlefmt::skip]
-static NAMES: [(&[u8], Name); 30] = [
-    (b"step", Name::Step),
-    (b"ready", Name::Ready),
-    (b"hard", Name::Hard),
-    (b"save", Name::Save),
-    (b"send", Name::Sent),
-    (b"queue", Name::Sent),
-    (b"deliver", Name::Delivered),
-    (b"drop", Name::Dropped),
-    (b"no-room", Name::NoRoom),
-    (b"no-messages", Name::NoMessages),
-    (b"stopped", Name::Stopped),
-    (b"error", Name::Error),
-    (b"started", Name::Started),
-    (b"became", Name::Became),
-    (b"cannot-campaign", Name::CannotCampaign),
-    (b"vote", Name::Vote),
-    (b"ignored", Name::Ignored),
-    (b"dropped-proposal", Name::DroppedProposal),
-    (b"conflict", Name::Conflict),
-    (b"appends-nothing", Name::AppendsNothing),
-    (b"replaced-change", Name::ReplacedChange),
-    (b"switched", Name::Switched),
-    (b"refused-change", Name::RefusedChange),
-    (b"restored", Name::Restored),
-    (b"transfer-starts", Name::TransferStarts),
-    (b"transfer-ends", Name::TransferEnds),
-    (b"lost-quorum", Name::LostQuorum),
-    (b"node", Name::Node),
-    (b"log", Name::Log),
-    (b"end", Name::End),
+static NAMES: [(&[u8], RowName); 30] = [
+    (b"step", RowName::Step),
+    (b"ready", RowName::Ready),
+    (b"hard", RowName::Hard),
+    (b"save", RowName::Save),
+    (b"send", RowName::Sent),
+    (b"queue", RowName::Sent),
+    (b"deliver", RowName::Delivered),
+    (b"drop", RowName::Dropped),
+    (b"no-room", RowName::NoRoom),
+    (b"no-messages", RowName::NoMessages),
+    (b"stopped", RowName::Stopped),
+    (b"error", RowName::Error),
+    (b"started", RowName::Started),
+    (b"became", RowName::Became),
+    (b"cannot-campaign", RowName::CannotCampaign),
+    (b"vote", RowName::Vote),
+    (b"ignored", RowName::Ignored),
+    (b"dropped-proposal", RowName::DroppedProposal),
+    (b"conflict", RowName::Conflict),
+    (b"appends-nothing", RowName::AppendsNothing),
+    (b"replaced-change", RowName::ReplacedChange),
+    (b"switched", RowName::Switched),
+    (b"refused-change", RowName::RefusedChange),
+    (b"restored", RowName::Restored),
+    (b"transfer-starts", RowName::TransferStarts),
+    (b"transfer-ends", RowName::TransferEnds),
+    (b"lost-quorum", RowName::LostQuorum),
+    (b"node", RowName::Node),
+    (b"log", RowName::Log),
+    (b"end", RowName::End),
 ];
 
 /// What row it is, by its name.
-pub(crate) fn name_of(text: &[u8]) -> Option<Name> {
+pub(crate) fn name_of(text: &[u8]) -> Option<RowName> {
     for row in &NAMES {
         if row.0 == text {
             return Some(row.1);
@@ -88,18 +88,18 @@ pub(crate) fn short_name(name: &[u8]) -> &[u8] {
 }
 
 /// What kind of message one of this type is.
-pub(crate) fn kind_of(message_type: MessageType) -> Kind {
+pub(crate) fn kind_of(message_type: MessageType) -> MessageLook {
     match message_type {
         MessageType::Vote
         | MessageType::PreVote
         | MessageType::VoteResponse
         | MessageType::PreVoteResponse
-        | MessageType::TimeoutNow => Kind::Vote,
-        MessageType::Append | MessageType::AppendResponse => Kind::Append,
-        MessageType::Heartbeat | MessageType::HeartbeatResponse => Kind::Heartbeat,
-        MessageType::Snapshot => Kind::Snapshot,
+        | MessageType::TimeoutNow => MessageLook::Vote,
+        MessageType::Append | MessageType::AppendResponse => MessageLook::Append,
+        MessageType::Heartbeat | MessageType::HeartbeatResponse => MessageLook::Heartbeat,
+        MessageType::Snapshot => MessageLook::Snapshot,
         MessageType::Proposal | MessageType::TransferLeader | MessageType::Unreachable => {
-            Kind::Proposal
+            MessageLook::Proposal
         }
     }
 }

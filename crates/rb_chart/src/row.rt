@@ -9,14 +9,14 @@ const CELLS: usize = 16;
 
 /// The cells of a row behind its name: its numbers in order, and its first two texts, as they stand between quotes.
 #[derive(Clone, Copy)]
-pub(crate) struct Row<'a> {
+pub(crate) struct RowCells<'a> {
     pub(crate) numbers: [u64; NUMBERS],
     pub(crate) first: &'a [u8],
     pub(crate) second: &'a [u8],
 }
 
 #[derive(Clone, Copy)]
-enum Cell<'a> {
+enum RowCell<'a> {
     Number(u64),
     Text(&'a [u8]),
 }
@@ -40,22 +40,22 @@ fn number(bytes: &[u8]) -> (u64, &[u8]) {
 }
 
 // The next cell, which stands behind a comma, and what stands behind it.
-fn next_cell(rest: &[u8]) -> Option<(Cell<'_>, &[u8])> {
+fn next_cell(rest: &[u8]) -> Option<(RowCell<'_>, &[u8])> {
     match rest {
         [b',', b'"', inside @ ..] => {
             let (text, after) = until_quote(inside)?;
-            Some((Cell::Text(text), after))
+            Some((RowCell::Text(text), after))
         }
         [b',', b'0'..=b'9', ..] => {
             let (n, after) = number(&rest[1..]);
-            Some((Cell::Number(n), after))
+            Some((RowCell::Number(n), after))
         }
         _ => None,
     }
 }
 
 /// The row of these cells.
-pub(crate) fn row_of(cells: &[u8]) -> Row<'_> {
+pub(crate) fn row_of(cells: &[u8]) -> RowCells<'_> {
     let mut numbers = [0u64; NUMBERS];
     let mut count = 0;
     let mut first: &[u8] = &[];
@@ -64,14 +64,14 @@ pub(crate) fn row_of(cells: &[u8]) -> Row<'_> {
     let mut rest = cells;
     for _ in 0..CELLS {
         match next_cell(rest) {
-            Some((Cell::Number(n), after)) => {
+            Some((RowCell::Number(n), after)) => {
                 if count < NUMBERS {
                     numbers[count] = n;
                     count += 1;
                 }
                 rest = after;
             }
-            Some((Cell::Text(text), after)) => {
+            Some((RowCell::Text(text), after)) => {
                 if has_text {
                     second = text;
                 } else {
@@ -83,7 +83,7 @@ pub(crate) fn row_of(cells: &[u8]) -> Row<'_> {
             None => break,
         }
     }
-    Row {
+    RowCells {
         numbers,
         first,
         second,

@@ -6,7 +6,7 @@ ghost use Rattle.rb_chart.specs.Escapes.{escaped};
 ghost use Rattle.rb_chart.specs.Shapes.{arrow_text, band_text, loop_text, part_of, shape_text, shapes_text, words_text};
 
 use crate::escape::escaped;
-use crate::look::{Fate, Kind, Look};
+use crate::look::{Fate, Look, MessageLook};
 use rb_message::Role;
 use rb_page::role_name;
 use rb_text::{Piece, add_pieces};
@@ -29,7 +29,7 @@ pub enum Shape {
     },
     /// A message from one node to another: level from where it is sent to where it bends.
     Arrow {
-        kind: Kind,
+        kind: MessageLook,
         fate: Fate,
         x: u64,
         y: u64,
@@ -39,7 +39,7 @@ pub enum Shape {
     },
     /// A message of a node to itself, which goes as far as `out` from it.
     Loop {
-        kind: Kind,
+        kind: MessageLook,
         fate: Fate,
         x: u64,
         y: u64,
@@ -102,7 +102,7 @@ fn add_band(
 
 fn add_arrow(
     svg: &mut Vec<u8>,
-    kind: Kind,
+    kind: MessageLook,
     fate: Fate,
     x: u64,
     y: u64,
@@ -136,7 +136,7 @@ fn add_arrow(
 
 fn add_loop(
     svg: &mut Vec<u8>,
-    kind: Kind,
+    kind: MessageLook,
     fate: Fate,
     x: u64,
     y: u64,

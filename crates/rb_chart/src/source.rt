@@ -7,16 +7,16 @@ use rb_script::{
 
 /// What is left of a script's bytes, from the beginning of a line on.
 #[derive(Clone, Copy)]
-pub(crate) struct Source<'a> {
+pub(crate) struct ScriptSource<'a> {
     rest: &'a [u8],
     // the number of that line, from 1 on, and where in its block it stands
     line: u64,
-    part: Part,
+    part: SourcePart,
 }
 
 // The parts of a block, in which lines stand. (docs/SCRIPT-FORMAT.md)
 #[derive(Clone, Copy)]
-enum Part {
+enum SourcePart {
     Lead,
     Head,
     Input,
@@ -29,20 +29,20 @@ enum Part {
     BelowRule,
 }
 
-impl Part {
+impl SourcePart {
     // Where the line below a line stands, but for the first of a head.
-    fn below(self, line: &[u8]) -> Part {
+    fn below(self, line: &[u8]) -> SourcePart {
         match self {
-            Part::Lead => Part::Lead,
-            Part::Head if continues(line) => Part::Head,
-            Part::Input if is_separator(line) => Part::Below,
-            Part::Head | Part::Input => Part::Input,
-            Part::Below if is_rule(line) => Part::Double,
-            Part::Below | Part::Plain if is_blank(line) => Part::Lead,
-            Part::Below | Part::Plain => Part::Plain,
-            Part::BelowRule if is_rule(line) => Part::Lead,
-            Part::Double if is_rule(line) => Part::BelowRule,
-            Part::Double | Part::BelowRule => Part::Double,
+            SourcePart::Lead => SourcePart::Lead,
+            SourcePart::Head if continues(line) => SourcePart::Head,
+            SourcePart::Input if is_separator(line) => SourcePart::Below,
+            SourcePart::Head | SourcePart::Input => SourcePart::Input,
+            SourcePart::Below if is_rule(line) => SourcePart::Double,
+            SourcePart::Below | SourcePart::Plain if is_blank(line) => SourcePart::Lead,
+            SourcePart::Below | SourcePart::Plain => SourcePart::Plain,
+            SourcePart::BelowRule if is_rule(line) => SourcePart::Lead,
+            SourcePart::Double if is_rule(line) => SourcePart::BelowRule,
+            SourcePart::Double | SourcePart::BelowRule => SourcePart::Double,
         }
     }
 }
@@ -82,12 +82,12 @@ fn without_back(line: &[u8]) -> &[u8] {
     line.get(..end).unwrap_or(line)
 }
 
-impl<'a> Source<'a> {
-    pub(crate) fn new(bytes: &'a [u8]) -> Source<'a> {
-        Source {
+impl<'a> ScriptSource<'a> {
+    pub(crate) fn new(bytes: &'a [u8]) -> ScriptSource<'a> {
+        ScriptSource {
             rest: bytes,
             line: 1,
-            part: Part::Lead,
+            part: SourcePart::Lead,
         }
     }
 
@@ -108,14 +108,14 @@ impl<'a> Source<'a> {
 
     /// The line that is begun is the first of a head.
     pub(crate) fn begin_head(&mut self) {
-        self.part = Part::Head;
+        self.part = SourcePart::Head;
     }
 
     /// Goes on to the line below. Gives what the line says as a comment: nothing where it is none.
     pub(crate) fn next_comment(&mut self) -> &'a [u8] {
         let line = self.line();
         let words: &'a [u8] = match self.part {
-            Part::Lead => comment_words(line),
+            SourcePart::Lead => comment_words(line),
             _ => &[],
         };
         self.part = self.part.below(line);

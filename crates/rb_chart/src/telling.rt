@@ -1,28 +1,9 @@
 //! What a picture tells readers who can't see: the notes of the script, its directives, and a sentence for each thing that happens.
 
 use crate::chart::Chart;
+use crate::flight::Ending;
 use rb_text::{Piece, add_pieces};
 use std::alloc::AllocError;
-
-/// How a message ended, or that it hasn't.
-#[derive(Clone, Copy)]
-pub(crate) enum End {
-    Delivered,
-    Dropped,
-    GivenUp,
-    OnItsWay,
-}
-
-impl End {
-    fn words(self) -> &'static [u8] {
-        match self {
-            End::Delivered => b" is delivered",
-            End::Dropped => b" is dropped",
-            End::GivenUp => b" is given up",
-            End::OnItsWay => b" is on its way",
-        }
-    }
-}
 
 impl Chart {
     /// Tells something of the directive at a line.
@@ -97,7 +78,7 @@ impl Chart {
         from: u64,
         to: u64,
         words: &'a [u8],
-        end: End,
+        ending: Ending,
     ) -> Result<(), AllocError> {
         let sentence = [
             Piece::Bytes(words),
@@ -105,7 +86,7 @@ impl Chart {
             Piece::Number(from),
             Piece::Bytes(b" to node "),
             Piece::Number(to),
-            Piece::Bytes(end.words()),
+            Piece::Bytes(ending.words()),
         ];
         self.tell(line, &sentence)
     }

@@ -4,7 +4,7 @@ ghost use Rattle.std.specs.Prelude.{IsOk};
 ghost use Rattle.rb_script.specs.Writes.{Writes};
 ghost use Rattle.rb_check.specs.Counts.{accepted_text};
 
-use crate::piece::{Piece, noun, put_pieces};
+use crate::piece::{ReportPiece, noun, put_pieces};
 use rb_script::{Sink, WriteFault};
 
 /// Writes how many outputs now stand in a script: `PATH: accepted 2 outputs`. On a failure what went out is a beginning of the text.
@@ -16,11 +16,11 @@ pub fn put_accepted<S: Sink>(sink: &mut S, path: &[u8], outputs: usize) -> Resul
     put_pieces(
         sink,
         &[
-            Piece::Bytes(path),
-            Piece::Bytes(b": accepted "),
-            Piece::Number(count),
-            Piece::Bytes(noun(count, b" output", b" outputs")),
-            Piece::Bytes(b"\n"),
+            ReportPiece::Bytes(path),
+            ReportPiece::Bytes(b": accepted "),
+            ReportPiece::Number(count),
+            ReportPiece::Bytes(noun(count, b" output", b" outputs")),
+            ReportPiece::Bytes(b"\n"),
         ],
     )
 }

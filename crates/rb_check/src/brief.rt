@@ -4,7 +4,7 @@ ghost use Rattle.std.specs.Prelude.{IsOk};
 ghost use Rattle.rb_script.specs.Writes.{Writes};
 ghost use Rattle.rb_check.specs.Briefs.{brief_text};
 
-use crate::piece::{Piece, put_pieces};
+use crate::piece::{ReportPiece, put_pieces};
 use rb_script::{Sink, WriteFault};
 
 /// Writes how much of a script differs: `PATH: 5 of 17 differ, first at line 20`. On a failure what went out is a beginning of the text.
@@ -21,14 +21,14 @@ pub fn put_brief<S: Sink>(
     put_pieces(
         sink,
         &[
-            Piece::Bytes(path),
-            Piece::Bytes(b": "),
-            Piece::Number(mismatches as u64),
-            Piece::Bytes(b" of "),
-            Piece::Number(directives as u64),
-            Piece::Bytes(b" differ, first at line "),
-            Piece::Number(line as u64),
-            Piece::Bytes(b"\n"),
+            ReportPiece::Bytes(path),
+            ReportPiece::Bytes(b": "),
+            ReportPiece::Number(mismatches as u64),
+            ReportPiece::Bytes(b" of "),
+            ReportPiece::Number(directives as u64),
+            ReportPiece::Bytes(b" differ, first at line "),
+            ReportPiece::Number(line as u64),
+            ReportPiece::Bytes(b"\n"),
         ],
     )
 }

@@ -4,7 +4,7 @@ ghost use Rattle.std.specs.Prelude.{◌≡◌, IsOk};
 ghost use Rattle.rb_script.specs.Writes.{Writes};
 ghost use Rattle.rb_check.specs.Notices.{doubt_sentence, warning_text, unaccepted_text};
 
-use crate::piece::{Piece, put_pieces};
+use crate::piece::{ReportPiece, put_pieces};
 use rb_script::{Sink, WriteFault};
 
 /// Why a line looks like a slip.
@@ -45,12 +45,12 @@ pub fn put_warning<S: Sink>(
     put_pieces(
         sink,
         &[
-            Piece::Bytes(path),
-            Piece::Bytes(b":"),
-            Piece::Number(line as u64),
-            Piece::Bytes(b": warning: "),
-            Piece::Bytes(doubt_sentence(doubt)),
-            Piece::Bytes(b"\n"),
+            ReportPiece::Bytes(path),
+            ReportPiece::Bytes(b":"),
+            ReportPiece::Number(line as u64),
+            ReportPiece::Bytes(b": warning: "),
+            ReportPiece::Bytes(doubt_sentence(doubt)),
+            ReportPiece::Bytes(b"\n"),
         ],
     )
 }
@@ -63,8 +63,8 @@ pub fn put_unaccepted<S: Sink>(sink: &mut S, path: &[u8]) -> Result<(), WriteFau
     put_pieces(
         sink,
         &[
-            Piece::Bytes(path),
-            Piece::Bytes(
+            ReportPiece::Bytes(path),
+            ReportPiece::Bytes(
                 b": nothing was accepted, since it has warnings; --force accepts all the same\n",
             ),
         ],

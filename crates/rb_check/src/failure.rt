@@ -4,7 +4,7 @@ ghost use Rattle.std.specs.Prelude.{◌≡◌, IsOk};
 ghost use Rattle.rb_script.specs.Writes.{Writes};
 ghost use Rattle.rb_check.specs.Failures.{failure_sentence, failure_text};
 
-use crate::piece::{Piece, put_pieces};
+use crate::piece::{ReportPiece, put_pieces};
 use rb_script::{Sink, WriteFault};
 
 /// Why nothing came of a path.
@@ -64,10 +64,10 @@ pub fn put_failure<S: Sink>(sink: &mut S, path: &[u8], failure: Failure) -> Resu
     put_pieces(
         sink,
         &[
-            Piece::Bytes(path),
-            Piece::Bytes(b": "),
-            Piece::Bytes(failure_sentence(failure)),
-            Piece::Bytes(b"\n"),
+            ReportPiece::Bytes(path),
+            ReportPiece::Bytes(b": "),
+            ReportPiece::Bytes(failure_sentence(failure)),
+            ReportPiece::Bytes(b"\n"),
         ],
     )
 }

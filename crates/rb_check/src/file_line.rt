@@ -7,7 +7,7 @@ ghost use Rattle.rb_check.specs.Heads.{head_text};
 ghost use Rattle.rb_check.specs.Headings.{heading_text};
 
 use crate::head::put_head;
-use crate::piece::{Piece, put_pieces};
+use crate::piece::{ReportPiece, put_pieces};
 use rb_script::{DirectiveRef, Sink, WriteFault};
 
 /// A line of a file.
@@ -31,10 +31,10 @@ pub(crate) fn put_heading<'a, S: Sink>(
     put_pieces(
         sink,
         &[
-            Piece::Bytes(place.path),
-            Piece::Bytes(b":"),
-            Piece::Number(place.line as u64),
-            Piece::Bytes(b": "),
+            ReportPiece::Bytes(place.path),
+            ReportPiece::Bytes(b":"),
+            ReportPiece::Number(place.line as u64),
+            ReportPiece::Bytes(b": "),
         ],
     )?;
     put_head(sink, directive)

@@ -8,7 +8,7 @@ ghost use Rattle.rb_check.specs.Whys.{reasons_in, told_same};
 use crate::colors::Colors;
 use crate::line::put_told_lines;
 use crate::line_range::LineRange;
-use crate::piece::{Piece, noun, put_pieces};
+use crate::piece::{ReportPiece, noun, put_pieces};
 use crate::side::Side;
 use crate::why::Why;
 use rb_script::{Sink, WriteFault};
@@ -38,10 +38,10 @@ pub(crate) fn put_same<S: Sink>(
     put_pieces(
         sink,
         &[
-            Piece::Bytes(b"  .. "),
-            Piece::Number(folded),
-            Piece::Bytes(noun(folded, b" line", b" lines")),
-            Piece::Bytes(b"\n"),
+            ReportPiece::Bytes(b"  .. "),
+            ReportPiece::Number(folded),
+            ReportPiece::Bytes(noun(folded, b" line", b" lines")),
+            ReportPiece::Bytes(b"\n"),
         ],
     )?;
     let last = count - KEPT;

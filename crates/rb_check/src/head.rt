@@ -6,7 +6,7 @@ ghost use Rattle.rb_script.specs.Tokens.{plain};
 ghost use Rattle.rb_script.specs.Writes.{Writes};
 ghost use Rattle.rb_check.specs.Heads.{before_value, listed, values_text, argument_text, arguments_text, head_text};
 
-use crate::piece::{Piece, put_pieces};
+use crate::piece::{ReportPiece, put_pieces};
 use rb_script::{DirectiveRef, Sink, WriteFault};
 
 // What stands before the value at an index.
@@ -30,8 +30,8 @@ fn put_listed<S: Sink>(
         put_pieces(
             sink,
             &[
-                Piece::Bytes(before_value(i)),
-                Piece::Bytes(directive.value(argument, i)),
+                ReportPiece::Bytes(before_value(i)),
+                ReportPiece::Bytes(directive.value(argument, i)),
             ],
         )?;
     }
@@ -68,11 +68,15 @@ fn put_argument<S: Sink>(
 {
     let key = directive.key(argument);
     if !directive.has_equals(argument) {
-        return put_pieces(sink, &[Piece::Bytes(b" "), Piece::Bytes(key)]);
+        return put_pieces(sink, &[ReportPiece::Bytes(b" "), ReportPiece::Bytes(key)]);
     }
     put_pieces(
         sink,
-        &[Piece::Bytes(b" "), Piece::Bytes(key), Piece::Bytes(b"=")],
+        &[
+            ReportPiece::Bytes(b" "),
+            ReportPiece::Bytes(key),
+            ReportPiece::Bytes(b"="),
+        ],
     )?;
     put_values(sink, directive, argument)
 }

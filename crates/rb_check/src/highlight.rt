@@ -14,7 +14,7 @@ use crate::colors::Colors;
 use crate::end::End;
 use crate::line::{end_mark, put_line, put_told_lines};
 use crate::line_range::LineRange;
-use crate::piece::{Piece, put_pieces};
+use crate::piece::{ReportPiece, put_pieces};
 use crate::side::{Side, after, before};
 use crate::why::{Why, put_reason};
 use rb_script::{Sink, WriteFault};
@@ -76,15 +76,15 @@ fn put_beside<S: Sink>(
     put_pieces(
         sink,
         &[
-            Piece::Bytes(before(Colors::On, side)),
-            Piece::Bytes(front),
-            Piece::Bytes(b"\x1b[7m"),
-            Piece::Bytes(differs),
-            Piece::Bytes(b"\x1b[27m"),
-            Piece::Bytes(back),
-            Piece::Bytes(end_mark(line)),
-            Piece::Bytes(after(Colors::On, side)),
-            Piece::Bytes(b"\n"),
+            ReportPiece::Bytes(before(Colors::On, side)),
+            ReportPiece::Bytes(front),
+            ReportPiece::Bytes(b"\x1b[7m"),
+            ReportPiece::Bytes(differs),
+            ReportPiece::Bytes(b"\x1b[27m"),
+            ReportPiece::Bytes(back),
+            ReportPiece::Bytes(end_mark(line)),
+            ReportPiece::Bytes(after(Colors::On, side)),
+            ReportPiece::Bytes(b"\n"),
         ],
     )
 }

@@ -4,7 +4,7 @@ ghost use Rattle.std.specs.Prelude.{IsOk};
 ghost use Rattle.rb_script.specs.Writes.{Writes};
 ghost use Rattle.rb_check.specs.Hints.{hint_text};
 
-use crate::piece::{Piece, put_pieces};
+use crate::piece::{ReportPiece, put_pieces};
 use rb_script::{Sink, WriteFault};
 
 /// Writes which word was probably meant, on a line; nothing, where that is empty.
@@ -18,9 +18,9 @@ pub(crate) fn put_hint<S: Sink>(sink: &mut S, hint: &[u8]) -> Result<(), WriteFa
     put_pieces(
         sink,
         &[
-            Piece::Bytes(b"did you mean \""),
-            Piece::Bytes(hint),
-            Piece::Bytes(b"\"?\n"),
+            ReportPiece::Bytes(b"did you mean \""),
+            ReportPiece::Bytes(hint),
+            ReportPiece::Bytes(b"\"?\n"),
         ],
     )
 }

@@ -7,7 +7,7 @@ ghost use Rattle.rb_check.specs.Heads.{head_text};
 ghost use Rattle.rb_check.specs.Notices.{left_text};
 
 use crate::file_line::{FileLine, put_heading};
-use crate::piece::{Piece, put_pieces};
+use crate::piece::{ReportPiece, put_pieces};
 use rb_script::{DirectiveRef, Sink, WriteFault};
 
 /// Writes that a directive's error was not accepted: `PATH:LINE: HEAD: `, the error, and that. On a failure what went out is a beginning
@@ -25,9 +25,9 @@ pub fn put_left<S: Sink>(
     put_pieces(
         sink,
         &[
-            Piece::Bytes(b": "),
-            Piece::Bytes(error),
-            Piece::Bytes(b" was not accepted\n"),
+            ReportPiece::Bytes(b": "),
+            ReportPiece::Bytes(error),
+            ReportPiece::Bytes(b" was not accepted\n"),
         ],
     )
 }

@@ -8,7 +8,7 @@ ghost use Rattle.rb_check.specs.Whys.{reasons_in, told_lines};
 
 use crate::colors::Colors;
 use crate::line_range::LineRange;
-use crate::piece::{Piece, put_pieces};
+use crate::piece::{ReportPiece, put_pieces};
 use crate::side::{Side, after, before};
 use crate::why::{Why, put_told_line};
 use rb_script::{Sink, WriteFault, is_space};
@@ -56,11 +56,11 @@ pub(crate) fn put_line<S: Sink>(
     put_pieces(
         sink,
         &[
-            Piece::Bytes(before(colors, side)),
-            Piece::Bytes(line),
-            Piece::Bytes(end_mark(line)),
-            Piece::Bytes(after(colors, side)),
-            Piece::Bytes(b"\n"),
+            ReportPiece::Bytes(before(colors, side)),
+            ReportPiece::Bytes(line),
+            ReportPiece::Bytes(end_mark(line)),
+            ReportPiece::Bytes(after(colors, side)),
+            ReportPiece::Bytes(b"\n"),
         ],
     )
 }

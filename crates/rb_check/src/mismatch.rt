@@ -13,7 +13,7 @@ use crate::file_line::{FileLine, put_heading};
 use crate::hint::put_hint;
 use crate::line::put_told_lines;
 use crate::line_range::LineRange;
-use crate::piece::{Piece, put_pieces};
+use crate::piece::{ReportPiece, put_pieces};
 use crate::side::Side;
 use crate::table::Table;
 use crate::why::Why;
@@ -110,7 +110,11 @@ pub fn put_note<S: Sink>(
     put_heading(sink, place, directive)?;
     put_pieces(
         sink,
-        &[Piece::Bytes(b": "), Piece::Bytes(note), Piece::Bytes(b"\n")],
+        &[
+            ReportPiece::Bytes(b": "),
+            ReportPiece::Bytes(note),
+            ReportPiece::Bytes(b"\n"),
+        ],
     )?;
     put_hint(sink, hint)
 }

@@ -6,11 +6,11 @@ ghost use Rattle.rb_check.specs.Pieces.{count_text, noun, piece_text};
 
 use rb_script::{Sink, WriteFault};
 pub(crate) use rb_text::put_pieces;
-use rb_text::{Piece as Plain, WrittenPiece, put_number};
+use rb_text::{Piece, WrittenPiece, put_number};
 
 /// A piece of a text.
 #[derive(Clone, Copy)]
-pub(crate) enum Piece<'a> {
+pub(crate) enum ReportPiece<'a> {
     /// The bytes as they are.
     Bytes(&'a [u8]),
     /// A number in decimal digits.
@@ -26,14 +26,14 @@ pub(crate) fn noun<'a>(n: u64, one: &'a [u8], many: &'a [u8]) -> &'a [u8]
     if n == 1 { one } else { many }
 }
 
-impl WrittenPiece for Piece<'_> {
+impl WrittenPiece for ReportPiece<'_> {
     ghost text = { piece_text };
 
     fn put<S: Sink>(&self, sink: &mut S) -> Result<(), WriteFault> {
         match *self {
-            Piece::Bytes(bytes) => sink.put(bytes),
-            Piece::Number(n) => put_number(sink, n),
-            Piece::Count(n, word) => put_count(sink, n, word),
+            ReportPiece::Bytes(bytes) => sink.put(bytes),
+            ReportPiece::Number(n) => put_number(sink, n),
+            ReportPiece::Count(n, word) => put_count(sink, n, word),
         }
     }
 }
@@ -47,6 +47,6 @@ fn put_count<S: Sink>(sink: &mut S, n: u64, word: &[u8]) -> Result<(), WriteFaul
     }
     put_pieces(
         sink,
-        &[Plain::Bytes(b", "), Plain::Number(n), Plain::Bytes(word)],
+        &[Piece::Bytes(b", "), Piece::Number(n), Piece::Bytes(word)],
     )
 }

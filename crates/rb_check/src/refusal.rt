@@ -4,7 +4,7 @@ ghost use Rattle.std.specs.Prelude.{◌≡◌, IsOk};
 ghost use Rattle.rb_script.specs.Writes.{Writes};
 ghost use Rattle.rb_check.specs.Refusals.{sentence, fault_line, refusal_text};
 
-use crate::piece::{Piece, put_pieces};
+use crate::piece::{ReportPiece, put_pieces};
 use rb_script::{ScriptFault, Sink, WriteFault};
 
 /// What is wrong, and what usually causes it.
@@ -60,21 +60,21 @@ pub fn put_refusal<S: Sink>(sink: &mut S, path: &[u8], fault: ScriptFault) -> Re
         Some(line) => put_pieces(
             sink,
             &[
-                Piece::Bytes(path),
-                Piece::Bytes(b":"),
-                Piece::Number(line as u64),
-                Piece::Bytes(b": "),
-                Piece::Bytes(sentence),
-                Piece::Bytes(b"\n"),
+                ReportPiece::Bytes(path),
+                ReportPiece::Bytes(b":"),
+                ReportPiece::Number(line as u64),
+                ReportPiece::Bytes(b": "),
+                ReportPiece::Bytes(sentence),
+                ReportPiece::Bytes(b"\n"),
             ],
         ),
         None => put_pieces(
             sink,
             &[
-                Piece::Bytes(path),
-                Piece::Bytes(b": "),
-                Piece::Bytes(sentence),
-                Piece::Bytes(b"\n"),
+                ReportPiece::Bytes(path),
+                ReportPiece::Bytes(b": "),
+                ReportPiece::Bytes(sentence),
+                ReportPiece::Bytes(b"\n"),
             ],
         ),
     }

@@ -13,7 +13,7 @@ ghost use Rattle.rb_check.specs.Whys.{reasons_in, told_step, told_steps, told_ru
 use crate::file_line::{FileLine, put_heading};
 use crate::hint::put_hint;
 use crate::line::end_mark;
-use crate::piece::{Piece, put_pieces};
+use crate::piece::{ReportPiece, put_pieces};
 use crate::why::{Why, put_reason};
 use rb_script::{DirectiveRef, Lines, Sink, WriteFault};
 
@@ -63,11 +63,11 @@ fn put_step<S: Sink>(sink: &mut S, delivered: bool, line: &[u8]) -> Result<(), W
     put_pieces(
         sink,
         &[
-            Piece::Bytes(before_step(delivered, line)),
-            Piece::Bytes(b"  "),
-            Piece::Bytes(line),
-            Piece::Bytes(end_mark(line)),
-            Piece::Bytes(b"\n"),
+            ReportPiece::Bytes(before_step(delivered, line)),
+            ReportPiece::Bytes(b"  "),
+            ReportPiece::Bytes(line),
+            ReportPiece::Bytes(end_mark(line)),
+            ReportPiece::Bytes(b"\n"),
         ],
     )
 }

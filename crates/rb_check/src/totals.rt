@@ -6,7 +6,7 @@ ghost use Rattle.rb_check.specs.Counts.{nothing, one_run, one_refusal, one_failu
 
 use crate::failure::Failure;
 use crate::outcome::Outcome;
-use crate::piece::{Piece, noun, put_pieces};
+use crate::piece::{ReportPiece, noun, put_pieces};
 use crate::status::Status;
 use rb_script::{ScriptFault, Sink, WriteFault};
 
@@ -164,24 +164,24 @@ pub fn put_totals<S: Sink>(
     put_pieces(
         sink,
         &[
-            Piece::Number(totals.scripts),
-            Piece::Bytes(noun(totals.scripts, b" script, ", b" scripts, ")),
-            Piece::Number(totals.directives),
-            Piece::Bytes(noun(totals.directives, b" directive, ", b" directives, ")),
-            Piece::Number(totals.mismatches),
-            Piece::Bytes(noun(totals.mismatches, b" mismatch, ", b" mismatches, ")),
-            Piece::Number(totals.refused),
-            Piece::Bytes(b" refused"),
-            Piece::Count(totals.errors, noun(totals.errors, b" error", b" errors")),
-            Piece::Count(totals.accepted, b" accepted"),
-            Piece::Count(totals.failed, b" failed"),
-            Piece::Bytes(b", "),
-            Piece::Number(milliseconds / 1000),
-            Piece::Bytes(b"."),
-            Piece::Number(milliseconds / 100 % 10),
-            Piece::Number(milliseconds / 10 % 10),
-            Piece::Number(milliseconds % 10),
-            Piece::Bytes(b" s\n"),
+            ReportPiece::Number(totals.scripts),
+            ReportPiece::Bytes(noun(totals.scripts, b" script, ", b" scripts, ")),
+            ReportPiece::Number(totals.directives),
+            ReportPiece::Bytes(noun(totals.directives, b" directive, ", b" directives, ")),
+            ReportPiece::Number(totals.mismatches),
+            ReportPiece::Bytes(noun(totals.mismatches, b" mismatch, ", b" mismatches, ")),
+            ReportPiece::Number(totals.refused),
+            ReportPiece::Bytes(b" refused"),
+            ReportPiece::Count(totals.errors, noun(totals.errors, b" error", b" errors")),
+            ReportPiece::Count(totals.accepted, b" accepted"),
+            ReportPiece::Count(totals.failed, b" failed"),
+            ReportPiece::Bytes(b", "),
+            ReportPiece::Number(milliseconds / 1000),
+            ReportPiece::Bytes(b"."),
+            ReportPiece::Number(milliseconds / 100 % 10),
+            ReportPiece::Number(milliseconds / 10 % 10),
+            ReportPiece::Number(milliseconds % 10),
+            ReportPiece::Bytes(b" s\n"),
         ],
     )
 }

@@ -8,7 +8,7 @@ ghost use Rattle.rb_check.specs.Whys.{reasons_in, below, reason_at, told_line};
 
 use crate::colors::Colors;
 use crate::line::put_line;
-use crate::piece::{Piece, put_pieces};
+use crate::piece::{ReportPiece, put_pieces};
 use crate::side::Side;
 use rb_script::{Lines, Sink, WriteFault};
 
@@ -44,9 +44,9 @@ pub(crate) fn put_reason<S: Sink>(sink: &mut S, why: Why<'_>, at: usize) -> Resu
     put_pieces(
         sink,
         &[
-            Piece::Bytes(b"^ "),
-            Piece::Bytes(reason),
-            Piece::Bytes(b"\n"),
+            ReportPiece::Bytes(b"^ "),
+            ReportPiece::Bytes(reason),
+            ReportPiece::Bytes(b"\n"),
         ],
     )
 }

@@ -14,8 +14,8 @@ use Rattle.rb_script.specs.Reading.{directive_of}
 use Rattle.rb_replay.specs.Report.{same_lines}
 use Rattle.rb_check.specs.declared.doubt.Doubt.TheVariants.{InExpectation, InInput, Unread}
 use Rattle.rb_text.proofs.SentLaws.{drop-get}
-use Rattle.rb_checked.specs.declared.part.Part.{Part}
-use Rattle.rb_checked.specs.declared.part.Part.TheVariants.{Head, Input, Expected}
+use Rattle.rb_checked.specs.declared.part.BlockPart.{BlockPart}
+use Rattle.rb_checked.specs.declared.part.BlockPart.TheVariants.{Head, Input, Expected}
 use Rattle.rb_checked.specs.declared.warning.Warning.{Warning}
 use Rattle.rb_checked.specs.Doubts.{looks_like_directive, takes_input, is_called_rightly, next_part, doubt_of, one_warning, warnings_from, block_warnings, last_line, all_warnings}
 
@@ -32,7 +32,7 @@ pub warnings_done : (ls : List Line) (heads : List ℕ) (bs : List PlainBlock) (
 warnings_done ls heads bs os i past = ap (λ (ns : List ℕ). all_warnings ls ns (drop i bs) (drop i os)) (drop_all i heads past)
 
 -- one line more
-pub line_step : (takes : Bool) (output ls : List Line) (part : Part) (at left : ℕ) (line : Line) → 0 < left → line ≡ slice_index_or ls at []
+pub line_step : (takes : Bool) (output ls : List Line) (part : BlockPart) (at left : ℕ) (line : Line) → 0 < left → line ≡ slice_index_or ls at []
     → warnings_from takes output ls part at left ≡ one_warning (at + 1) (doubt_of takes output part line) ++ warnings_from takes output ls (next_part part line) (at + 1) (left - 1)
 line_step takes output ls part at zero line some is = absurd (omega (arith, some))
 line_step takes output ls part at (suc left) line some is =
@@ -40,7 +40,7 @@ line_step takes output ls part at (suc left) line some is =
     ap (λ (l : Line). one_warning (at + 1) (doubt_of takes output part l) ++ warnings_from takes output ls (next_part part l) (at + 1) left) (sym is)
     ∙ ap (λ (n : ℕ). one_warning (at + 1) (doubt_of takes output part line) ++ warnings_from takes output ls (next_part part line) (at + 1) n) less
 
-pub line_done : (takes : Bool) (output ls : List Line) (part : Part) (at left : ℕ) → left ≡ 0 → warnings_from takes output ls part at left ≡ []
+pub line_done : (takes : Bool) (output ls : List Line) (part : BlockPart) (at left : ℕ) → left ≡ 0 → warnings_from takes output ls part at left ≡ []
 line_done takes output ls part at zero none = refl
 line_done takes output ls part at (suc left) none = absurd (omega (arith, none))
 
@@ -69,7 +69,7 @@ expected_right false came ls n e = refl
 expected_right true true ls n e = refl
 expected_right true false ls n e = ap (λ (t : Bool). t && true) e
 
-doubt_right : (takes : Bool) (output : List Line) (part : Part) (line : Line) (ls : List Line) (n : ℕ) → slice_index_or ls (n - 1) [] ≡ line
+doubt_right : (takes : Bool) (output : List Line) (part : BlockPart) (line : Line) (ls : List Line) (n : ℕ) → slice_index_or ls (n - 1) [] ≡ line
     → list_all (is_called_rightly ls) (one_warning n (doubt_of takes output part line)) ≡ true
 doubt_right takes output Head line ls n is = refl
 doubt_right takes output Input line ls n is = input_right (is_separator line || is_lead line) (looks_like_directive line) takes ls n (ap looks_like_directive is)
@@ -78,7 +78,7 @@ doubt_right takes output Expected line ls n is = expected_right (looks_like_dire
 both_right : (ls : List Line) (xs ys : List Warning) → list_all (is_called_rightly ls) xs ≡ true → list_all (is_called_rightly ls) ys ≡ true → list_all (is_called_rightly ls) (xs ++ ys) ≡ true
 both_right ls xs ys a b = list_all-append (is_called_rightly ls) xs ys ∙ ap (λ (t : Bool). t && list_all (is_called_rightly ls) ys) a ∙ b
 
-warnings_right : (takes : Bool) (output ls : List Line) (part : Part) (at left : ℕ) → list_all (is_called_rightly ls) (warnings_from takes output ls part at left) ≡ true
+warnings_right : (takes : Bool) (output ls : List Line) (part : BlockPart) (at left : ℕ) → list_all (is_called_rightly ls) (warnings_from takes output ls part at left) ≡ true
 warnings_right takes output ls part at zero = refl
 warnings_right takes output ls part at (suc left) =
     let line : Line = slice_index_or ls at [] in

@@ -15,12 +15,12 @@ use Rattle.rb_directive.specs.Table.{is_name}
 use Rattle.rb_replay.specs.Report.{same_lines}
 use Rattle.rb_check.specs.declared.doubt.Doubt.{Doubt}
 use Rattle.rb_check.specs.declared.doubt.Doubt.TheVariants.{InExpectation, InInput, Unread}
-use Rattle.rb_checked.specs.declared.part.Part.{Part}
-use Rattle.rb_checked.specs.declared.part.Part.TheVariants.{Head, Input, Expected}
+use Rattle.rb_checked.specs.declared.part.BlockPart.{BlockPart}
+use Rattle.rb_checked.specs.declared.part.BlockPart.TheVariants.{Head, Input, Expected}
 use Rattle.rb_checked.specs.declared.warning.Warning.{Warning}
 
 -- what the line after a line of this part is
-abbrev pub next_part : Part → Line → Part
+abbrev pub next_part : BlockPart → Line → BlockPart
 next_part Head line = if continues line then Head else Input
 next_part Input line = if is_separator line then Expected else Input
 next_part Expected line = Expected
@@ -60,7 +60,7 @@ calls_nothing InInput = false
 calls_nothing InExpectation = false
 
 -- what is wrong with a line of a block, whose directive gave the output
-abbrev pub doubt_of : Bool → List Line → Part → Line → Option Doubt
+abbrev pub doubt_of : Bool → List Line → BlockPart → Line → Option Doubt
 doubt_of takes output Head line = None
 doubt_of takes output Input line = input_doubt takes line
 doubt_of takes output Expected line = expected_doubt output line
@@ -74,7 +74,7 @@ abbrev pub is_called_rightly : List Line → Warning → Bool
 is_called_rightly ls w = calls_nothing w.doubt || looks_like_directive (slice_index_or ls (w.line - 1) [])
 
 -- of so many lines from an index on, which counts from 0
-abbrev pub warnings_from : Bool → List Line → List Line → Part → ℕ → ℕ → List Warning
+abbrev pub warnings_from : Bool → List Line → List Line → BlockPart → ℕ → ℕ → List Warning
 warnings_from takes output ls part at zero = []
 warnings_from takes output ls part at (suc left) =
     one_warning (at + 1) (doubt_of takes output part (slice_index_or ls at [])) ++ warnings_from takes output ls (next_part part (slice_index_or ls at [])) (at + 1) left

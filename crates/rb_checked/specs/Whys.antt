@@ -1,6 +1,6 @@
 -- Why nothing came of messages, below the lines of the outputs that they belong to: what `check` shows of a script where reasons are asked for.
 -- (This project's.)
-use Rattle.std.specs.Prelude.{ℕ, ◌+◌, ◌-◌, Bool, true, false, ◌||◌, if◌then◌else◌, List, [], ◌∷◌, ◌++◌, length, map, take, drop, codes, slice_get, slice_index_or, unwrap_or}
+use Rattle.std.specs.Prelude.{ℕ, ◌+◌, ◌-◌, Bool, true, false, ◌||◌, if◌then◌else◌, List, [], ◌∷◌, ◌++◌, map, take, codes, slice_get, slice_index_or, unwrap_or}
 use Rattle.std.specs.Str.{bytes_eq}
 use Rattle.rb_script.specs.Lines.{Line}
 use Rattle.rb_script.specs.Directive.{PlainDirective}

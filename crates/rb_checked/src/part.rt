@@ -7,7 +7,7 @@ use rb_script::{continues, is_separator};
 
 /// What a line is in its block.
 #[derive(Clone, Copy, Debug, PartialEq, Eq)]
-pub(crate) enum Part {
+pub(crate) enum BlockPart {
     /// It is the first of the head, or one that the head asks for.
     Head,
     /// It is input, or the line `----` that ends it.
@@ -16,17 +16,17 @@ pub(crate) enum Part {
     Expected,
 }
 
-impl Part {
+impl BlockPart {
     /// What the line after it is.
-    pub(crate) fn after(self, line: &[u8]) -> Part
+    pub(crate) fn after(self, line: &[u8]) -> BlockPart
         ensures { result ≡ next_part self line.now }
     {
         match self {
-            Part::Head if continues(line) => Part::Head,
-            Part::Head => Part::Input,
-            Part::Input if is_separator(line) => Part::Expected,
-            Part::Input => Part::Input,
-            Part::Expected => Part::Expected,
+            BlockPart::Head if continues(line) => BlockPart::Head,
+            BlockPart::Head => BlockPart::Input,
+            BlockPart::Input if is_separator(line) => BlockPart::Expected,
+            BlockPart::Input => BlockPart::Input,
+            BlockPart::Expected => BlockPart::Expected,
         }
     }
 }

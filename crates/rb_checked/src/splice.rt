@@ -6,7 +6,7 @@
 ghost use Rattle.std.specs.Prelude.{◌≡◌, ◌≤◌, IfOk, length};
 
 use crate::answers::{block_at, number_at};
-use crate::part::Part;
+use crate::part::BlockPart;
 use crate::text::next_line;
 use rb_machine::Machine;
 use rb_replay::Session;
@@ -15,7 +15,7 @@ use std::alloc::{AllocError, Global};
 
 // What is made so far, and the bytes that are left, with the number of their first line.
 #[derive(Drop)]
-struct Splice<'a> {
+struct Splicing<'a> {
     made: Vec<u8>,
     rest: &'a [u8],
     line: usize,
@@ -54,7 +54,7 @@ fn needs_double(lines: &Lines) -> bool {
     false
 }
 
-impl<'a> Splice<'a> {
+impl<'a> Splicing<'a> {
     // The next line without its end is left out; none where there is none.
     fn skip(&mut self) -> Option<&'a [u8]> {
         match next_line(self.rest) {
@@ -95,9 +95,9 @@ impl<'a> Splice<'a> {
 
     // Copies from the first line of a head to the line `----` below it.
     fn copy_front(&mut self) -> Result<(), AllocError> {
-        let mut part = Part::Head;
+        let mut part = BlockPart::Head;
         for _ in 0..self.rest.len() {
-            if part == Part::Expected {
+            if part == BlockPart::Expected {
                 break;
             }
             match self.copy()? {
@@ -196,7 +196,7 @@ pub(crate) fn spliced<M: Machine>(
     requires heads { length heads.now ≡ length session.now.script.blocks }
     requires expected { length expected.now ≡ length session.now.script.blocks }
 {
-    let mut splice = Splice {
+    let mut splice = Splicing {
         made: Vec::with_capacity(alloc, bytes.len())?,
         rest: bytes,
         line: 1,

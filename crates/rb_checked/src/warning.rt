@@ -16,7 +16,7 @@ use crate::answers::{block_at, number_at, output_at};
 use crate::errors::is_lead;
 use crate::layout::{Layout, layout_of};
 use crate::names::begins_with_name;
-use crate::part::Part;
+use crate::part::BlockPart;
 use crate::put::is_same;
 use crate::text::is_same_text;
 use rb_check::Doubt;
@@ -103,15 +103,15 @@ fn doubt_of(
     alloc: Global,
     takes: bool,
     output: &Lines,
-    part: Part,
+    part: BlockPart,
     line: &[u8],
 ) -> Result<Option<Doubt>, AllocError>
     ensures { IfOk result (λ doubt. doubt ≡ doubt_of takes output.now part line.now) }
 {
     match part {
-        Part::Head => Ok(None),
-        Part::Input => input_doubt(alloc, takes, line),
-        Part::Expected => expected_doubt(alloc, output, line),
+        BlockPart::Head => Ok(None),
+        BlockPart::Input => input_doubt(alloc, takes, line),
+        BlockPart::Expected => expected_doubt(alloc, output, line),
     }
 }
 
@@ -150,9 +150,9 @@ fn push_from(
     count: usize,
 ) -> Result<(), AllocError>
     requires { start + count < 2 ^ 64 }
-    ensures { IfOk result (λ _. found.new.items ≡ found.old.items ++ warnings_from takes output.now text.now Part.Head start count) }
+    ensures { IfOk result (λ _. found.new.items ≡ found.old.items ++ warnings_from takes output.now text.now BlockPart.Head start count) }
 {
-    let mut part = Part::Head;
+    let mut part = BlockPart::Head;
     let mut at = start;
     let mut left = count;
     while left > 0 {

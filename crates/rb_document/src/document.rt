@@ -2,7 +2,7 @@
 
 ghost use Rattle.std.specs.Prelude.{◌≡◌, ◌≤◌, ◌<◌, length, IfOk, IfErr};
 ghost use Rattle.rb_document.specs.declared.limits.TheConstants.{MAX_TEXT};
-ghost use Rattle.rb_document.specs.declared.document.ChangeFault.{ChangeFault};
+ghost use Rattle.rb_document.specs.declared.document.TextFault.{TextFault};
 ghost use Rattle.rb_document.specs.Changes.{changed, spliced};
 
 use crate::limits::MAX_TEXT;
@@ -12,21 +12,21 @@ use std::marker::Model;
 
 /// Why a text isn't taken.
 #[derive(Clone, Copy, Debug, PartialEq, Eq)]
-pub enum ChangeFault {
+pub enum TextFault {
     /// It would have more than [`MAX_TEXT`] bytes.
     TooLong,
     /// Memory was refused.
     OutOfMemory,
 }
 
-impl From<AllocError> for ChangeFault {
+impl From<AllocError> for TextFault {
     ghost use Rattle.std.specs.Prelude.{◌≡◌};
-    ghost use Rattle.rb_document.specs.declared.document.ChangeFault.TheVariants.{OutOfMemory};
+    ghost use Rattle.rb_document.specs.declared.document.TextFault.TheVariants.{OutOfMemory};
 
     ghost from_gives = { λ _ e. e ≡ OutOfMemory };
 
-    fn from(_e: AllocError) -> ChangeFault {
-        ChangeFault::OutOfMemory
+    fn from(_e: AllocError) -> TextFault {
+        TextFault::OutOfMemory
     }
 }
 
@@ -51,7 +51,7 @@ impl Model for Document {
 impl Document {
     ghost use Rattle.std.specs.Prelude.{◌≡◌, ◌≤◌, ◌<◌, length, IfOk, IfErr, OnOk, OnErr};
     ghost use Rattle.rb_document.specs.declared.limits.TheConstants.{MAX_TEXT};
-    ghost use Rattle.rb_document.specs.declared.document.ChangeFault.{ChangeFault};
+    ghost use Rattle.rb_document.specs.declared.document.TextFault.{TextFault};
     ghost use Rattle.rb_document.specs.Changes.{changed_by};
 
     /// A document with this text.
@@ -59,12 +59,12 @@ impl Document {
     /// # Errors
     ///
     /// `TooLong` exactly where the text has more than [`MAX_TEXT`] bytes.
-    pub fn new(alloc: Global, text: &[u8]) -> Result<Document, ChangeFault>
+    pub fn new(alloc: Global, text: &[u8]) -> Result<Document, TextFault>
         ensures ok { IfOk result (λ document. document ≡ text.now) }
-        ensures long { IfErr result (λ fault. fault ≡ ChangeFault.TooLong → MAX_TEXT < length text.now) }
+        ensures long { IfErr result (λ fault. fault ≡ TextFault.TooLong → MAX_TEXT < length text.now) }
     {
         if text.len() > MAX_TEXT {
-            return Err(ChangeFault::TooLong);
+            return Err(TextFault::TooLong);
         }
         let text = Vec::from_slice(alloc, text)?;
         Ok(Document { alloc, text })
@@ -88,10 +88,10 @@ impl Document {
         encoding: Encoding,
         range: Option<Range>,
         new: &[u8],
-    ) -> Result<(), ChangeFault>
+    ) -> Result<(), TextFault>
         ensures ok { OnOk result (self.new ≡ changed_by encoding range new.now self.old) }
         ensures err { OnErr result (self.new ≡ self.old) }
-        ensures long { IfErr result (λ fault. fault ≡ ChangeFault.TooLong → MAX_TEXT < length (changed_by encoding range new.now self.old)) }
+        ensures long { IfErr result (λ fault. fault ≡ TextFault.TooLong → MAX_TEXT < length (changed_by encoding range new.now self.old)) }
     {
         let text = match range {
             Some(range) => changed(self.alloc, encoding, range, new, self.text.as_slice())?,
@@ -109,9 +109,9 @@ fn changed(
     range: Range,
     new: &[u8],
     text: &[u8],
-) -> Result<Vec<u8>, ChangeFault>
+) -> Result<Vec<u8>, TextFault>
     ensures ok { IfOk result (λ made. (made.items ≡ changed encoding range new.now text.now) × (length made.items ≤ MAX_TEXT)) }
-    ensures long { IfErr result (λ fault. fault ≡ ChangeFault.TooLong → MAX_TEXT < length (changed encoding range new.now text.now)) }
+    ensures long { IfErr result (λ fault. fault ≡ TextFault.TooLong → MAX_TEXT < length (changed encoding range new.now text.now)) }
 {
     let (from, to) = offsets(encoding, range, text);
     spliced(alloc, from, from.max(to), new, text)
@@ -124,14 +124,14 @@ fn spliced(
     to: usize,
     new: &[u8],
     text: &[u8],
-) -> Result<Vec<u8>, ChangeFault>
+) -> Result<Vec<u8>, TextFault>
     requires { (from ≤ length text.now) × (to ≤ length text.now) }
     ensures ok { IfOk result (λ made. (made.items ≡ spliced from to new.now text.now) × (length made.items ≤ MAX_TEXT)) }
-    ensures long { IfErr result (λ fault. fault ≡ ChangeFault.TooLong → MAX_TEXT < length (spliced from to new.now text.now)) }
+    ensures long { IfErr result (λ fault. fault ≡ TextFault.TooLong → MAX_TEXT < length (spliced from to new.now text.now)) }
 {
     let kept = from + (text.len() - to);
     if kept > MAX_TEXT || new.len() > MAX_TEXT - kept {
-        return Err(ChangeFault::TooLong);
+        return Err(TextFault::TooLong);
     }
     let mut made = Vec::with_capacity(alloc, kept + new.len())?;
     made.extend_from_slice(&text[..from])?;

@@ -42,7 +42,7 @@ pub(crate) struct FileId {
 
 /// What stands at a path.
 #[derive(Drop)]
-pub(crate) enum Entry {
+pub(crate) enum PathEntry {
     Folder(FolderId),
     File(FileId),
     /// A device, a pipe, a socket: why it is no script.
@@ -50,20 +50,20 @@ pub(crate) enum Entry {
 }
 
 /// What stands at the path, its links followed.
-pub(crate) fn entry_at<R: Files + AllocGlobal>(rt: &R, path: &str) -> Result<Entry, PathError>
+pub(crate) fn entry_at<R: Files + AllocGlobal>(rt: &R, path: &str) -> Result<PathEntry, PathError>
     ensures { IfErr result IsOfReading }
 {
     if let Some(failure) = no_file_at(rt, path) {
-        return Ok(Entry::Other(failure));
+        return Ok(PathEntry::Other(failure));
     }
     let target = followed(rt, path)?;
     let metadata = looked_at(rt, target.as_str())?;
     if metadata.is_dir() {
-        Ok(Entry::Folder(FolderId::of(&metadata)))
+        Ok(PathEntry::Folder(FolderId::of(&metadata)))
     } else if metadata.is_file() {
-        Ok(Entry::File(file_id(rt, target.as_str())?))
+        Ok(PathEntry::File(file_id(rt, target.as_str())?))
     } else {
-        Ok(Entry::Other(Failure::NoFile))
+        Ok(PathEntry::Other(Failure::NoFile))
     }
 }
 

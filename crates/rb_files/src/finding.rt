@@ -11,7 +11,7 @@ ghost use Rattle.rb_files.specs.Finds.{AreTold, IsFound, losses, paths_of};
 ghost use Rattle.rb_files.specs.Ignored.{ignored_by};
 ghost use Rattle.rb_files.specs.PathErrors.{IsOfReading};
 
-use crate::entry::{Entry, FileId, FolderId, entry_at};
+use crate::entry::{FileId, FolderId, PathEntry, entry_at};
 use crate::filter::is_kept;
 use crate::ignored::{IGNORED, ignored_by, ignored_in};
 use crate::listing::{Listing, listed};
@@ -147,20 +147,20 @@ impl Search {
         &mut self,
         rt: &R,
         next: Waiting,
-        entry: Entry,
+        entry: PathEntry,
         words: &[String],
     ) -> Result<(), AllocError>
         requires { IsFound words.now self.old.found }
         ensures { IsFound words.now self.new.found }
     {
         match entry {
-            Entry::Folder(id) => self.enter(rt, next.path, id),
-            Entry::File(id) if next.is_script => self.take(next.path, id, words),
-            Entry::File(_) => Ok(()),
-            Entry::Other(failure) if next.is_script => {
+            PathEntry::Folder(id) => self.enter(rt, next.path, id),
+            PathEntry::File(id) if next.is_script => self.take(next.path, id, words),
+            PathEntry::File(_) => Ok(()),
+            PathEntry::Other(failure) if next.is_script => {
                 self.lose(next.path, PathError::alone(failure))
             }
-            Entry::Other(_) => Ok(()),
+            PathEntry::Other(_) => Ok(()),
         }
     }
 

@@ -15,4 +15,4 @@ mod source;
 pub use line_buffer::{Fed, LineBuffer};
 pub use line_reader::{LineReader, Next};
 pub use reading::{ReadFault, read_up_to};
-pub use source::{Incoming, InputFault, Source};
+pub use source::{InputFault, ReadSource, Source};

@@ -42,9 +42,9 @@ pub trait Source {
 
 /// A `Read` as a source. Of a real one it isn't known when it fails.
 #[derive(Drop)]
-pub struct Incoming<R>(pub R);
+pub struct ReadSource<R>(pub R);
 
-impl<R: Read> Source for Incoming<R> {
+impl<R: Read> Source for ReadSource<R> {
     ghost left = { λ s. R.remaining s.0 };
 
     ghost asked = { λ _. None };

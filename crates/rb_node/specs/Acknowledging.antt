@@ -7,8 +7,8 @@ use Rattle.rb_tracker.specs.Progresses.{PlainProgress, paused, is_news, acked, f
 use Rattle.rb_tracker.specs.Trackers.{place, view_at}
 use Rattle.rb_message.specs.declared.kind.MessageKind.TheVariants as kind
 use Rattle.rb_message.specs.declared.message.Message.{Message}
-use Rattle.rb_node.specs.declared.sends.Mode.{Mode}
-use Rattle.rb_node.specs.declared.sends.Mode.TheVariants as mode
+use Rattle.rb_node.specs.declared.sends.SendReason.{SendReason}
+use Rattle.rb_node.specs.declared.sends.SendReason.TheVariants as mode
 use Rattle.rb_node.specs.Node.{PlainNode, Turn, with_node, ignored, posted}
 use Rattle.rb_node.specs.Sends.{viewed, sends, told_all}
 use Rattle.rb_node.specs.Leading.{can_commit}
@@ -24,13 +24,13 @@ abbrev pub handed_to : PlainNode → ℕ → ℕ → PlainNode
 handed_to n to i = if to == n.transferee && i == last n.log then posted n to kind.TimeoutNow else n
 
 -- where the commit moves it goes to all, else the sender gets what it has not
-unfoldable pub commit_or_sent : PlainNode → ℕ → Mode → PlainNode
+unfoldable pub commit_or_sent : PlainNode → ℕ → SendReason → PlainNode
 commit_or_sent n to how =
     let i = commit_of n.tracker in
     if can_commit n i then told_all (record n { commit = i }) else sends n to how
 
 -- one that was paused hears in any case, others hear news alone
-abbrev pub mode_after : Bool → Mode
+abbrev pub mode_after : Bool → SendReason
 mode_after true = mode.Tell
 mode_after false = mode.News
 

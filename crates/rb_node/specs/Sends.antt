@@ -12,18 +12,18 @@ use Rattle.rb_tracker.specs.declared.progress.ProgressState.{ProgressState}
 use Rattle.rb_tracker.specs.declared.progress.ProgressState.TheVariants as state
 use Rattle.rb_message.specs.declared.kind.MessageKind.{MessageKind}
 use Rattle.rb_message.specs.declared.kind.MessageKind.TheVariants as kind
-use Rattle.rb_node.specs.declared.sends.Mode.{Mode}
-use Rattle.rb_node.specs.declared.sends.Mode.TheVariants as mode
+use Rattle.rb_node.specs.declared.sends.SendReason.{SendReason}
+use Rattle.rb_node.specs.declared.sends.SendReason.TheVariants as mode
 use Rattle.rb_node.specs.declared.sends.Sending.{Sending}
 use Rattle.rb_node.specs.declared.sends.Sending.TheVariants as sending
 use Rattle.rb_node.specs.Node.{PlainNode, posted}
 
-abbrev pub is_news : Mode → Bool
+abbrev pub is_news : SendReason → Bool
 is_news mode.Tell = false
 is_news mode.News = true
 is_news mode.Ping = false
 
-abbrev pub is_ping : Mode → Bool
+abbrev pub is_ping : SendReason → Bool
 is_ping mode.Tell = false
 is_ping mode.News = false
 is_ping mode.Ping = true
@@ -46,7 +46,7 @@ abbrev pub is_window_full : PlainProgress → Bool
 is_window_full view = is_replicating view.state && is_full view.window
 
 -- what is sent, by the view: the first case that holds
-abbrev pub sending_of : LogValue → PlainProgress → Mode → Sending
+abbrev pub sending_of : LogValue → PlainProgress → SendReason → Sending
 sending_of log view how =
     if takes_nothing view then sending.Nothing
     else (if nat_lt (view.next - 1) log.base then sending.Snapshot
@@ -96,16 +96,16 @@ sends_by sending.Snapshot n i to = snapshot_to (view_at n.tracker.views i) n i t
 sends_by sending.Empty n i to = empty_to (view_at n.tracker.views i) n to
 sends_by sending.Entries n i to = entries_to (view_at n.tracker.views i) n i to
 
-abbrev pub sends_with : Option PlainProgress → PlainNode → ℕ → ℕ → Mode → PlainNode
+abbrev pub sends_with : Option PlainProgress → PlainNode → ℕ → ℕ → SendReason → PlainNode
 sends_with None n i to how = n
 sends_with (Some view) n i to how = sends_by (sending_of n.log view how) n i to
 
-abbrev pub sends_at : Option ℕ → PlainNode → ℕ → Mode → PlainNode
+abbrev pub sends_at : Option ℕ → PlainNode → ℕ → SendReason → PlainNode
 sends_at None n to how = n
 sends_at (Some i) n to how = sends_with (view_at n.tracker.views i) n i to how
 
 -- what is sent to a node: nothing to itself, and nothing where there is no view of it
-unfoldable pub sends : PlainNode → ℕ → Mode → PlainNode
+unfoldable pub sends : PlainNode → ℕ → SendReason → PlainNode
 sends n to how = if to == n.id then n else sends_at (place n.tracker.views to) n to how
 
 abbrev pub tells : PlainNode → List ℕ → PlainNode

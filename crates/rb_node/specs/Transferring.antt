@@ -6,7 +6,7 @@ use Rattle.rb_tracker.specs.Configs.{is_voter}
 use Rattle.rb_message.specs.declared.event.Event.TheVariants.{TransferStarts, TransferEnds}
 use Rattle.rb_message.specs.declared.kind.MessageKind.TheVariants as kind
 use Rattle.rb_message.specs.declared.message.Message.{Message}
-use Rattle.rb_node.specs.declared.sends.Mode.TheVariants as mode
+use Rattle.rb_node.specs.declared.sends.SendReason.TheVariants as mode
 use Rattle.rb_node.specs.Node.{PlainNode, Turn, told, with_node, ignored, posted, with_elapsed}
 use Rattle.rb_node.specs.Sends.{sends}
 

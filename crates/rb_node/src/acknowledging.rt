@@ -9,17 +9,21 @@ ghost use Rattle.rb_tracker.specs.Trackers.{view_at};
 ghost use Rattle.rb_node.specs.Node.{turn};
 ghost use Rattle.rb_node.specs.Acknowledging.{heard_of, handed_to, commit_or_sent, mode_after, accepted_news, accepted_with, accepted, refused_with, append_refused, lags, beat_answered_with, beat_answered};
 
-use crate::sends::Mode;
+use crate::sends::SendReason;
 use crate::state::State;
 use rb_message::{Event, Message, MessageKind};
 use rb_raftlog::RaftLog;
 use rb_tracker::{Progress, ProgressState};
 use std::alloc::AllocError;
 
-fn mode_after(paused: bool) -> Mode
+fn mode_after(paused: bool) -> SendReason
     ensures { result ≡ mode_after paused }
 {
-    if paused { Mode::Tell } else { Mode::News }
+    if paused {
+        SendReason::Tell
+    } else {
+        SendReason::News
+    }
 }
 
 impl<L: RaftLog> State<L> {
@@ -44,7 +48,7 @@ impl<L: RaftLog> State<L> {
 
     // Where the commit moves it goes to all, else the sender gets what it has not.
     #[tactic(auto, unfolding(crate::specs::Acknowledging::commit_or_sent))]
-    fn commit_or_send(&mut self, to: u64, mode: Mode) -> Result<(), AllocError>
+    fn commit_or_send(&mut self, to: u64, mode: SendReason) -> Result<(), AllocError>
         ensures { OnOk result (self.new ≡ commit_or_sent self.old to mode) }
     {
         let index = self.tracker.committed()?;
@@ -114,7 +118,7 @@ impl<L: RaftLog> State<L> {
             return self.ignore(message, events);
         }
         self.tracker.view_mut(place).refused(index, hint);
-        self.send(message.from, Mode::Tell)
+        self.send(message.from, SendReason::Tell)
     }
 
     // A follower refused what follows an index.
@@ -150,7 +154,7 @@ impl<L: RaftLog> State<L> {
         let lags = self.lags(self.tracker.progress(place));
         self.tracker.view_mut(place).resume();
         if lags {
-            return self.send(from, Mode::Ping);
+            return self.send(from, SendReason::Ping);
         }
         Ok(())
     }

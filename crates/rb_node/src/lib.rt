@@ -36,5 +36,5 @@ pub use limits::{ELECTION_TICKS, HEARTBEAT_TICKS, MAX_TICKS, limits_are};
 pub use node::Node;
 pub use options::Options;
 pub use ready::ReadyView;
-pub use sends::{Mode, Sending};
+pub use sends::{SendReason, Sending};
 pub use state::State;

@@ -18,7 +18,7 @@ use std::alloc::AllocError;
 
 /// Why something is sent.
 #[derive(Clone, Copy, PartialEq, Eq, Debug)]
-pub enum Mode {
+pub enum SendReason {
     /// To show how far the log and its commit are, also where there is no entry to send.
     Tell,
     /// To bring entries that were not sent, if there are any.
@@ -39,13 +39,13 @@ pub enum Sending {
     Entries,
 }
 
-impl Mode {
+impl SendReason {
     fn is_news(self) -> bool
         ensures { result ≡ is_news self }
     {
         match self {
-            Mode::News => true,
-            Mode::Tell | Mode::Ping => false,
+            SendReason::News => true,
+            SendReason::Tell | SendReason::Ping => false,
         }
     }
 
@@ -53,8 +53,8 @@ impl Mode {
         ensures { result ≡ is_ping self }
     {
         match self {
-            Mode::Ping => true,
-            Mode::Tell | Mode::News => false,
+            SendReason::Ping => true,
+            SendReason::Tell | SendReason::News => false,
         }
     }
 }
@@ -77,7 +77,7 @@ fn is_window_full(view: &Progress) -> bool
 
 impl<L: RaftLog> State<L> {
     // What a follower is sent, by the view of it: the first case that holds.
-    fn sending(&self, view: &Progress, mode: Mode) -> Sending
+    fn sending(&self, view: &Progress, mode: SendReason) -> Sending
         ensures { result ≡ sending_of self.now.log view.now mode }
     {
         if takes_nothing(view) {
@@ -169,7 +169,7 @@ impl<L: RaftLog> State<L> {
         Ok(())
     }
 
-    fn send_at(&mut self, place: usize, to: u64, mode: Mode) -> Result<(), AllocError>
+    fn send_at(&mut self, place: usize, to: u64, mode: SendReason) -> Result<(), AllocError>
         requires { place < length self.old.tracker.views }
         ensures { OnOk result (self.new ≡ sends_with (view_at self.old.tracker.views place) self.old place to mode) }
     {
@@ -183,7 +183,7 @@ impl<L: RaftLog> State<L> {
 
     // Sends what the view of a node asks for: nothing to itself, and nothing where there is no view.
     #[tactic(auto, unfolding(crate::specs::Sends::sends))]
-    pub(crate) fn send(&mut self, to: u64, mode: Mode) -> Result<(), AllocError>
+    pub(crate) fn send(&mut self, to: u64, mode: SendReason) -> Result<(), AllocError>
         ensures { OnOk result (self.new ≡ sends self.old to mode) }
     {
         if to == self.id {
@@ -199,7 +199,7 @@ impl<L: RaftLog> State<L> {
         ensures { OnOk result (self.new ≡ tells self.old ids.now) }
     {
         for id in ids {
-            self.send(*id, Mode::Tell)?;
+            self.send(*id, SendReason::Tell)?;
         }
         Ok(())
     }

@@ -7,7 +7,7 @@ ghost use Rattle.std.specs.Prelude.{◌≡◌, OnOk};
 ghost use Rattle.rb_node.specs.Node.{turn};
 ghost use Rattle.rb_node.specs.Transferring.{cannot_take_lead, older_ended, urged, transfer_started, transferred, transfer_ended};
 
-use crate::sends::Mode;
+use crate::sends::SendReason;
 use crate::state::State;
 use rb_message::{Event, Message, MessageKind};
 use rb_raftlog::RaftLog;
@@ -39,7 +39,7 @@ impl<L: RaftLog> State<L> {
         if self.tracker.match_of(target) == self.log.last_index() {
             return self.post(target, MessageKind::TimeoutNow);
         }
-        self.send(target, Mode::Tell)
+        self.send(target, SendReason::Tell)
     }
 
     fn start_transfer(&mut self, target: u64, events: &mut Vec<Event>) -> Result<(), AllocError>

@@ -23,7 +23,7 @@ use Rattle.rb_node.specs.Node.{PlainNode, Turn, message, with_node, told, with_e
 use Rattle.rb_node.specs.Proposing.{change_put, put_in, why_replaced, proposed, takes_none}
 use Rattle.rb_node.specs.Sends.{viewed}
 use Rattle.rb_node.specs.Transferring.{older_ended, urged, transfer_started, transferred, cannot_take_lead, transfer_ended}
-use Rattle.rb_node.specs.declared.sends.Mode.TheVariants as mode
+use Rattle.rb_node.specs.declared.sends.SendReason.TheVariants as mode
 use Rattle.rb_node_laws.proofs.Goes.{Ways}
 use Rattle.rb_node_laws.proofs.LeaderLaws.{leading_leads}
 use Rattle.rb_node_laws.proofs.MatchViewLaws.{of, place_here, heard_place}

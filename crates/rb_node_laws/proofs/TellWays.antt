@@ -18,8 +18,8 @@ use Rattle.rb_node.specs.Acknowledging.{commit_or_sent}
 use Rattle.rb_node.specs.Leading.{can_commit, checked_commit}
 use Rattle.rb_node.specs.Node.{PlainNode, posted, message}
 use Rattle.rb_node.specs.Sends.{append_of, snapshot_of, sending_of, takes_nothing, is_window_full, is_ping, is_news as tells_news, sends_by, snapshot_to, empty_to, entries_to, sends_with, sends_at, sends, tells, told_all}
-use Rattle.rb_node.specs.declared.sends.Mode.{Mode}
-use Rattle.rb_node.specs.declared.sends.Mode.TheVariants as mode
+use Rattle.rb_node.specs.declared.sends.SendReason.{SendReason}
+use Rattle.rb_node.specs.declared.sends.SendReason.TheVariants as mode
 use Rattle.rb_node.specs.declared.sends.Sending.{Sending}
 use Rattle.rb_node.specs.declared.sends.Sending.TheVariants as sending
 use Rattle.rb_node_laws.specs.Sound.{AreViewsOf}
@@ -133,7 +133,7 @@ Fits sending.Snapshot low = low ≡ true
 Fits sending.Empty low = low ≡ false
 Fits sending.Entries low = low ≡ false
 
-sending_fits : (log : LogValue) (view : PlainProgress) (how : Mode) → Fits (sending_of log view how) (nat_lt (view.next - 1) log.base)
+sending_fits : (log : LogValue) (view : PlainProgress) (how : SendReason) → Fits (sending_of log view how) (nat_lt (view.next - 1) log.base)
 sending_fits log view how =
     let P : Sending → Type 0 = λ s. Fits s (nat_lt (view.next - 1) log.base) in
     if_both P (takes_nothing view) _ _ (λ _. tt)
@@ -162,16 +162,16 @@ by_sending sending.Entries n at to view is fits other =
     (Then (append_sent n at to view es is past (rest_of_log n.log (view.next - 1) past) other)
     (One (Viewed x at view (sent view (last n.log)) is (sent_match view.state view (last n.log)) (λ _ g. sound_sent view (last n.log) g))))
 
-by_view : (o : Option PlainProgress) (n : PlainNode) (at to : ℕ) (how : Mode) → view_at n.tracker.views at ≡ o → (to ≡ n.id → ⊥)
+by_view : (o : Option PlainProgress) (n : PlainNode) (at to : ℕ) (how : SendReason) → view_at n.tracker.views at ≡ o → (to ≡ n.id → ⊥)
     → Way TellMove n (sends_with o n at to how)
 by_view None n at to how is other = One (Idle n n refl)
 by_view (Some view) n at to how is other = by_sending (sending_of n.log view how) n at to view is (sending_fits n.log view how) other
 
-by_place : (o : Option ℕ) (n : PlainNode) (to : ℕ) (how : Mode) → (to ≡ n.id → ⊥) → Way TellMove n (sends_at o n to how)
+by_place : (o : Option ℕ) (n : PlainNode) (to : ℕ) (how : SendReason) → (to ≡ n.id → ⊥) → Way TellMove n (sends_at o n to how)
 by_place None n to how other = One (Idle n n refl)
 by_place (Some at) n to how other = by_view (view_at n.tracker.views at) n at to how refl other
 
-pub sends_way : (n : PlainNode) (to : ℕ) (how : Mode) → Way TellMove n (sends n to how)
+pub sends_way : (n : PlainNode) (to : ℕ) (how : SendReason) → Way TellMove n (sends n to how)
 unfolding sends
 sends_way n to how =
     if_both (Way TellMove n) (to == n.id) _ _ (λ _. One (Idle n n refl)) (λ no. by_place (place n.tracker.views to) n to how (different to n.id no))
@@ -193,6 +193,6 @@ pub checked_way : (n : PlainNode) (ids : List ℕ) → Way TellMove n (checked_c
 unfolding checked_commit
 checked_way n ids = if_both (Way TellMove n) (can_commit n (commit_of n.tracker)) _ _ (λ can. commit_way n can) (λ _. tells_way n ids)
 
-pub commit_or_sent_way : (n : PlainNode) (to : ℕ) (how : Mode) → Way TellMove n (commit_or_sent n to how)
+pub commit_or_sent_way : (n : PlainNode) (to : ℕ) (how : SendReason) → Way TellMove n (commit_or_sent n to how)
 unfolding commit_or_sent
 commit_or_sent_way n to how = if_both (Way TellMove n) (can_commit n (commit_of n.tracker)) _ _ (λ can. commit_way n can) (λ _. sends_way n to how)

@@ -5,21 +5,21 @@ use Rattle.rb_text.specs.Json.{escaped}
 use Rattle.rb_document.specs.declared.position.Encoding.{Encoding}
 use Rattle.rb_document.specs.declared.position.Position.{Position}
 use Rattle.rb_document.specs.Places.{offset, position_of}
-use Rattle.rb_offers.specs.declared.offer.Kind.{Kind}
-use Rattle.rb_offers.specs.declared.offer.Kind.TheVariants as kinds
+use Rattle.rb_offers.specs.declared.offer.OfferKind.{OfferKind}
+use Rattle.rb_offers.specs.declared.offer.OfferKind.TheVariants as kinds
 use Rattle.rb_offers.specs.Above.{head_to}
 use Rattle.rb_offers.specs.Unfinished.{name_of, wanted_of}
 use Rattle.rb_offers.specs.Offers.{PlainOffer, offers}
 use Rattle.rb_offers.specs.Ids.{id_offers}
 use Rattle.rb_offers.specs.Texts.{list_text, range_text}
 
-abbrev pub kind_number : Kind → ℕ
+abbrev pub kind_number : OfferKind → ℕ
 kind_number kinds.Directive = 3
 kind_number kinds.Key = 10
 kind_number kinds.Value = 12
 
 -- what stands behind a word
-abbrev pub mark : Kind → List ℕ
+abbrev pub mark : OfferKind → List ℕ
 mark kinds.Directive = []
 mark kinds.Key = codes "="
 mark kinds.Value = []

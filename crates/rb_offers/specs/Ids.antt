@@ -4,8 +4,8 @@ use Rattle.std.specs.Prelude.{ℕ, Bool, false, nat_lt, if◌then◌else◌, Lis
 use Rattle.rb_script.specs.declared.limits.TheConstants.{MAX_ARGUMENTS}
 use Rattle.rb_directive.specs.Ids.{id_words, takes_id}
 use Rattle.rb_offers.specs.declared.ids.TheConstants.{IDS}
-use Rattle.rb_offers.specs.declared.unfinished.WantedKind.{WantedKind}
-use Rattle.rb_offers.specs.declared.unfinished.WantedKind.TheVariants as wanted_kinds
+use Rattle.rb_offers.specs.declared.unfinished.UnfinishedKind.{UnfinishedKind}
+use Rattle.rb_offers.specs.declared.unfinished.UnfinishedKind.TheVariants as wanted_kinds
 use Rattle.rb_offers.specs.Unfinished.{PlainWanted, name_of}
 use Rattle.rb_offers.specs.Offers.{PlainOffer, chosen, line_of}
 use Rattle.rb_offers.specs.Words.{arguments_of, words_before}
@@ -19,7 +19,7 @@ ids = map (λ i. i.now) IDS
 abbrev pub first_ids : ℕ → List (List ℕ)
 first_ids n = take n ids
 
-abbrev pub takes_ids_at : WantedKind → List ℕ → List ℕ → Bool
+abbrev pub takes_ids_at : UnfinishedKind → List ℕ → List ℕ → Bool
 takes_ids_at wanted_kinds.Name head key = false
 takes_ids_at wanted_kinds.Argument head key = nat_lt (words_before MAX_ARGUMENTS (arguments_of head)) (id_words (name_of head))
 takes_ids_at wanted_kinds.Value head key = takes_id (name_of head) key

@@ -8,7 +8,7 @@ use Rattle.rb_script.specs.Marks.{is_lead, continues}
 use Rattle.rb_text.specs.Numbers.{number_of}
 use Rattle.rb_offers.specs.declared.ids.TheConstants.{MAX_IDS}
 use Rattle.rb_offers.specs.declared.part.Part.{Part}
-use Rattle.rb_offers.specs.declared.part.Part.TheVariants.{Lead, Head, Input, First, Plain, Double, Closing}
+use Rattle.rb_offers.specs.declared.part.Part.TheVariants.{Lead, Head}
 use Rattle.rb_offers.specs.Above.{kept, line_begin, next}
 use Rattle.rb_offers.specs.Unfinished.{name_of}
 use Rattle.rb_offers.specs.Words.{arguments_of, first_word}

@@ -4,14 +4,14 @@ use Rattle.std.specs.List.{list_any}
 use Rattle.std.specs.Str.{bytes_eq}
 use Rattle.rb_help.specs.Manual.{Key, Page, keys, pages}
 use Rattle.rb_help.specs.Choices.{choices_of}
-use Rattle.rb_offers.specs.declared.offer.Kind.{Kind}
-use Rattle.rb_offers.specs.declared.offer.Kind.TheVariants as kinds
-use Rattle.rb_offers.specs.declared.unfinished.WantedKind.{WantedKind}
-use Rattle.rb_offers.specs.declared.unfinished.WantedKind.TheVariants as wanted_kinds
+use Rattle.rb_offers.specs.declared.offer.OfferKind.{OfferKind}
+use Rattle.rb_offers.specs.declared.offer.OfferKind.TheVariants as kinds
+use Rattle.rb_offers.specs.declared.unfinished.UnfinishedKind.{UnfinishedKind}
+use Rattle.rb_offers.specs.declared.unfinished.UnfinishedKind.TheVariants as wanted_kinds
 use Rattle.rb_offers.specs.Unfinished.{PlainWanted}
 
 pub record PlainOffer : Type 0 where
-  pub kind : Kind
+  pub kind : OfferKind
   pub word : List ℕ
   pub documentation : List ℕ
 
@@ -72,7 +72,7 @@ chosen prefix documentation cs = map (value_offer documentation) (filter (begins
 abbrev pub values : List ℕ → List ℕ → List ℕ → List PlainOffer
 values name key prefix = if takes name key then chosen prefix (line_of name) (choices_of key) else []
 
-abbrev pub offers_at : WantedKind → List ℕ → List ℕ → List ℕ → List PlainOffer
+abbrev pub offers_at : UnfinishedKind → List ℕ → List ℕ → List ℕ → List PlainOffer
 offers_at wanted_kinds.Name name key prefix = named prefix pages
 offers_at wanted_kinds.Argument name key prefix = options name prefix
 offers_at wanted_kinds.Value name key prefix = values name key prefix

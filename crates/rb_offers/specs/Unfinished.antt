@@ -9,8 +9,8 @@ use Rattle.rb_script.specs.Directive.{is_word, is_value, is_inside, is_gap, begi
 use Rattle.rb_script.specs.Heads.{begins_space}
 use Rattle.rb_offers.specs.declared.class.Class.{Class}
 use Rattle.rb_offers.specs.declared.class.Class.TheVariants as classes
-use Rattle.rb_offers.specs.declared.unfinished.WantedKind.{WantedKind}
-use Rattle.rb_offers.specs.declared.unfinished.WantedKind.TheVariants as wanted_kinds
+use Rattle.rb_offers.specs.declared.unfinished.UnfinishedKind.{UnfinishedKind}
+use Rattle.rb_offers.specs.declared.unfinished.UnfinishedKind.TheVariants as wanted_kinds
 
 -- the bytes of a class
 abbrev pub is_of : Class → ℕ → Bool
@@ -21,7 +21,7 @@ is_of classes.Inside b = is_inside b
 
 -- what a head ends in: what it is, the key of the option where it is a value, and what stands of it
 pub record PlainWanted : Type 0 where
-  pub kind : WantedKind
+  pub kind : UnfinishedKind
   pub key : List ℕ
   pub prefix : List ℕ
 

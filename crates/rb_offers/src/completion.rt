@@ -7,7 +7,7 @@ ghost use Rattle.rb_offers.specs.Texts.{listed};
 
 use crate::above::head_to;
 use crate::ids::add_ids;
-use crate::offer::{Kind, Offer, offers};
+use crate::offer::{Offer, OfferKind, offers};
 use crate::unfinished::{name_of, wanted_of};
 use crate::writing::add_range;
 use rb_document::{Encoding, Position, offset, position_of};
@@ -15,23 +15,23 @@ use rb_text::{Json, Piece, add_pieces};
 use std::alloc::{AllocError, Global};
 
 // What the protocol calls a word.
-fn kind_number(kind: Kind) -> u64
+fn kind_number(kind: OfferKind) -> u64
     ensures { result ≡ kind_number kind }
 {
     match kind {
-        Kind::Directive => 3,
-        Kind::Key => 10,
-        Kind::Value => 12,
+        OfferKind::Directive => 3,
+        OfferKind::Key => 10,
+        OfferKind::Value => 12,
     }
 }
 
 // What stands behind a word.
-fn mark(kind: Kind) -> &'static [u8]
+fn mark(kind: OfferKind) -> &'static [u8]
     ensures { result.now ≡ mark kind }
 {
     match kind {
-        Kind::Directive | Kind::Value => b"",
-        Kind::Key => b"=",
+        OfferKind::Directive | OfferKind::Value => b"",
+        OfferKind::Key => b"=",
     }
 }
 

@@ -7,7 +7,7 @@ ghost use Rattle.rb_offers.specs.Ids.{first_ids, id_offers, ids, takes_ids};
 
 use crate::nodes::nodes_at;
 use crate::offer::{Offer, add_chosen, line_of};
-use crate::unfinished::{Wanted, WantedKind, name_of};
+use crate::unfinished::{UnfinishedKind, UnfinishedWord, name_of};
 use crate::words::{arguments_of, words_before};
 use rb_directive::{id_words, takes_id};
 use rb_help::Known;
@@ -23,12 +23,12 @@ static IDS: [&[u8]; 32] = [
 ];
 
 // Whether a head can go on with an id, where this is what it ends in.
-fn takes_ids(head: &[u8], wanted: &Wanted<'_>) -> bool
+fn takes_ids(head: &[u8], wanted: &UnfinishedWord<'_>) -> bool
     ensures { result ≡ takes_ids head.now wanted.now }
 {
     match wanted.kind {
-        WantedKind::Argument => words_before(arguments_of(head)) < id_words(name_of(head)),
-        WantedKind::Value => takes_id(name_of(head), wanted.key),
+        UnfinishedKind::Argument => words_before(arguments_of(head)) < id_words(name_of(head)),
+        UnfinishedKind::Value => takes_id(name_of(head), wanted.key),
         _ => false,
     }
 }
@@ -73,7 +73,7 @@ pub(crate) fn add_ids(
     at: usize,
     text: &[u8],
     head: &[u8],
-    wanted: &Wanted<'_>,
+    wanted: &UnfinishedWord<'_>,
 ) -> Result<(), AllocError>
     requires { at ≤ length text.now }
     ensures { OnOk result (list.new.items ≡ list.old.items ++ id_offers at text.now head.now wanted.now) }

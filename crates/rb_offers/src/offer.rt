@@ -3,14 +3,14 @@
 ghost use Rattle.std.specs.Prelude.{◌≡◌, ◌++◌, IfOk, OnOk, map};
 ghost use Rattle.rb_offers.specs.Offers.{begins_with, chosen, has_key, if_kept, is_key, keyed, line_in, line_of, named, offers, options, takes};
 
-use crate::unfinished::{Wanted, WantedKind};
+use crate::unfinished::{UnfinishedKind, UnfinishedWord};
 use rb_help::{KEYS, Known, PAGES, choices_of};
 use std::alloc::{AllocError, Global};
 use std::marker::Model;
 
 /// What a word is.
 #[derive(Clone, Copy, Debug, PartialEq, Eq)]
-pub enum Kind {
+pub enum OfferKind {
     /// The name of a directive.
     Directive,
     /// The key of an option, which `=` follows.
@@ -22,7 +22,7 @@ pub enum Kind {
 /// A word that a head can go on with.
 #[derive(Drop)]
 pub(crate) struct Offer {
-    pub(crate) kind: Kind,
+    pub(crate) kind: OfferKind,
     pub(crate) word: Known,
     /// What the manual says of the directive.
     pub(crate) documentation: Known,
@@ -64,7 +64,7 @@ fn named(
     let mut list = Vec::new(alloc);
     for page in pages {
         let offer = Offer {
-            kind: Kind::Directive,
+            kind: OfferKind::Directive,
             word: page.0,
             documentation: page.1,
         };
@@ -136,7 +136,7 @@ fn keyed(
     let mut list = Vec::new(alloc);
     for row in keys {
         let offer = Offer {
-            kind: Kind::Key,
+            kind: OfferKind::Key,
             word: row.1,
             documentation,
         };
@@ -154,7 +154,7 @@ fn options(alloc: Global, name: &[u8], prefix: &[u8]) -> Result<Vec<Offer>, Allo
     let mut list = keyed(alloc, name, prefix, documentation, &KEYS)?;
     let every: Known = b"log-level";
     let offer = Offer {
-        kind: Kind::Key,
+        kind: OfferKind::Key,
         word: every,
         documentation,
     };
@@ -173,7 +173,7 @@ pub(crate) fn add_chosen(
 {
     for choice in choices {
         let offer = Offer {
-            kind: Kind::Value,
+            kind: OfferKind::Value,
             word: *choice,
             documentation,
         };
@@ -201,14 +201,14 @@ fn chosen(
 pub(crate) fn offers(
     alloc: Global,
     name: &[u8],
-    wanted: &Wanted<'_>,
+    wanted: &UnfinishedWord<'_>,
 ) -> Result<Vec<Offer>, AllocError>
     ensures { IfOk result (λ list. list.items ≡ offers name.now wanted.now) }
 {
     match wanted.kind {
-        WantedKind::Name => named(alloc, wanted.prefix, &PAGES),
-        WantedKind::Argument => options(alloc, name, wanted.prefix),
-        WantedKind::Value if takes(name, wanted.key) => chosen(
+        UnfinishedKind::Name => named(alloc, wanted.prefix, &PAGES),
+        UnfinishedKind::Argument => options(alloc, name, wanted.prefix),
+        UnfinishedKind::Value if takes(name, wanted.key) => chosen(
             alloc,
             wanted.prefix,
             line_of(name),

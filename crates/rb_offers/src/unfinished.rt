@@ -12,7 +12,7 @@ use std::marker::Model;
 
 /// What is being written.
 #[derive(Clone, Copy)]
-pub(crate) enum WantedKind {
+pub(crate) enum UnfinishedKind {
     /// The name of a directive.
     Name,
     /// An argument of a directive.
@@ -25,16 +25,16 @@ pub(crate) enum WantedKind {
 
 /// What a head ends in, which isn't finished yet.
 #[derive(Drop)]
-pub(crate) struct Wanted<'a> {
+pub(crate) struct UnfinishedWord<'a> {
     /// What it is.
-    pub(crate) kind: WantedKind,
+    pub(crate) kind: UnfinishedKind,
     /// The key of the option, where it is a value.
     pub(crate) key: &'a [u8],
     /// What stands of it.
     pub(crate) prefix: &'a [u8],
 }
 
-impl<'a> Model for Wanted<'a> {
+impl<'a> Model for UnfinishedWord<'a> {
     ghost use Rattle.rb_offers.specs.Unfinished.{PlainWanted};
 
     ghost Value = { PlainWanted };
@@ -43,11 +43,11 @@ impl<'a> Model for Wanted<'a> {
 }
 
 // What a head ends in that can't be gone on with.
-fn nothing<'a>() -> Wanted<'a>
+fn nothing<'a>() -> UnfinishedWord<'a>
     ensures { result ≡ nothing }
 {
-    Wanted {
-        kind: WantedKind::Nothing,
+    UnfinishedWord {
+        kind: UnfinishedKind::Nothing,
         key: b"",
         prefix: b"",
     }
@@ -87,7 +87,7 @@ fn last_piece(bytes: &[u8]) -> &[u8]
 }
 
 // What is left behind an argument, or the argument, where nothing is left.
-fn rest_or<'a>(wanted: Wanted<'a>, rest: &'a [u8]) -> Result<&'a [u8], Wanted<'a>>
+fn rest_or<'a>(wanted: UnfinishedWord<'a>, rest: &'a [u8]) -> Result<&'a [u8], UnfinishedWord<'a>>
     ensures { reach_of result ≡ rest_or wanted.entry rest.now }
 {
     if rest.is_empty() {
@@ -105,13 +105,13 @@ fn closed(rest: &[u8]) -> &[u8]
 }
 
 // Values up to the closing parenthesis.
-fn list_value<'a>(key: &'a [u8], bytes: &'a [u8]) -> Result<&'a [u8], Wanted<'a>>
+fn list_value<'a>(key: &'a [u8], bytes: &'a [u8]) -> Result<&'a [u8], UnfinishedWord<'a>>
     ensures { reach_of result ≡ list_value key.now bytes.now }
 {
     let rest = Class::Inside.after(bytes);
     if rest.is_empty() {
-        return Err(Wanted {
-            kind: WantedKind::Value,
+        return Err(UnfinishedWord {
+            kind: UnfinishedKind::Value,
             key,
             prefix: last_piece(bytes),
         });
@@ -120,14 +120,14 @@ fn list_value<'a>(key: &'a [u8], bytes: &'a [u8]) -> Result<&'a [u8], Wanted<'a>
 }
 
 // What stands behind the `=` of an option.
-fn value_at<'a>(key: &'a [u8], bytes: &'a [u8]) -> Result<&'a [u8], Wanted<'a>>
+fn value_at<'a>(key: &'a [u8], bytes: &'a [u8]) -> Result<&'a [u8], UnfinishedWord<'a>>
     ensures { reach_of result ≡ value_at key.now bytes.now }
 {
     if begins(b'(', bytes) {
         return list_value(key, &bytes[1..]);
     }
-    let wanted = Wanted {
-        kind: WantedKind::Value,
+    let wanted = UnfinishedWord {
+        kind: UnfinishedKind::Value,
         key,
         prefix: bytes,
     };
@@ -136,15 +136,15 @@ fn value_at<'a>(key: &'a [u8], bytes: &'a [u8]) -> Result<&'a [u8], Wanted<'a>>
 
 /// What is left behind the argument at the front, or where the head ends in it.
 #[tactic(auto, unfolding(crate::specs::Unfinished::argument_at))]
-pub(crate) fn argument_at(bytes: &[u8]) -> Result<&[u8], Wanted<'_>>
+pub(crate) fn argument_at(bytes: &[u8]) -> Result<&[u8], UnfinishedWord<'_>>
     ensures { reach_of result ≡ argument_at bytes.now }
 {
     let rest = Class::Word.after(bytes);
     if begins(b'=', rest) {
         return value_at(Class::Word.front(bytes), &rest[1..]);
     }
-    let wanted = Wanted {
-        kind: WantedKind::Argument,
+    let wanted = UnfinishedWord {
+        kind: UnfinishedKind::Argument,
         key: b"",
         prefix: bytes,
     };
@@ -152,7 +152,7 @@ pub(crate) fn argument_at(bytes: &[u8]) -> Result<&[u8], Wanted<'_>>
 }
 
 // What the arguments behind a name end in.
-fn in_arguments(bytes: &[u8]) -> Wanted<'_>
+fn in_arguments(bytes: &[u8]) -> UnfinishedWord<'_>
     ensures { result ≡ in_arguments MAX_ARGUMENTS bytes.now }
 {
     let mut left = bytes;
@@ -176,14 +176,14 @@ pub(crate) fn name_of(head: &[u8]) -> &[u8]
 }
 
 /// What an unfinished head ends in.
-pub(crate) fn wanted_of(head: &[u8]) -> Wanted<'_>
+pub(crate) fn wanted_of(head: &[u8]) -> UnfinishedWord<'_>
     ensures { result ≡ wanted_of head.now }
 {
     let name = Class::Space.after(head);
     let rest = Class::Word.after(name);
     if rest.is_empty() {
-        return Wanted {
-            kind: WantedKind::Name,
+        return UnfinishedWord {
+            kind: UnfinishedKind::Name,
             key: b"",
             prefix: name,
         };

@@ -1,11 +1,11 @@
 -- The text of rows is a text of JSON with these rows for its value.
 use Rattle.std.proofs.Common.{◌≡◌, ℕ, ◌+◌, ◌*◌, ◌%◌, ◌/◌, ◌<◌, Bool, true, false, List, [], ◌∷◌, ◌++◌, decimal, codes, refl, ap, sym, ◌∙◌, append_assoc, arith, inl, inr}
-use Rattle.std.specs.Prelude.{not, ◌&&◌, ◌==◌, nat_le, nat_lt, if◌then◌else◌}
+use Rattle.std.specs.Prelude.{◌&&◌, ◌==◌, if◌then◌else◌}
 use Rattle.std.specs.List.{flat_map, list_all}
 use Rattle.std.proofs.lemmas.Bool.{and_parts, ltb-true}
 use Rattle.rb_text.specs.declared.json.Json.TheVariants.{Page}
 use Rattle.rb_text.specs.Json.{is_no_mark, is_plain, numbered, in_page}
-use Rattle.rb_page.specs.Json.{IsParted, is_unescaped, IsNumbered, IsChar, AreChars, IsString, IsFurther, AreFurther, IsList, IsCell, IsRow, AreRows, is_byte, cell_has_bytes, has_bytes}
+use Rattle.rb_page.specs.Json.{is_unescaped, IsNumbered, IsChar, AreChars, IsString, IsFurther, AreFurther, IsCell, IsRow, AreRows, is_byte, cell_has_bytes, has_bytes}
 use Rattle.rb_page.specs.Rows.{PlainCell, number, text, Row, cell_text, row_text, next_text, rows_text}
 
 -- ---- texts

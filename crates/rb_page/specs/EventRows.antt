@@ -1,5 +1,5 @@
 -- What a node shows, as rows. (docs/PAGE.md; the events are this project's.)
-use Rattle.std.specs.Prelude.{ℕ, codes, List, [], ◌∷◌}
+use Rattle.std.specs.Prelude.{codes, [], ◌∷◌}
 use Rattle.rb_level.specs.MessageTypes.{type_text}
 use Rattle.rb_message.specs.declared.event.Event.{Event}
 use Rattle.rb_message.specs.declared.event.Event.TheVariants as events
@@ -7,7 +7,7 @@ use Rattle.rb_texts.specs.Configs.{config_text}
 use Rattle.rb_texts.specs.Events.{fault_text, no_campaign_text, replaced_text, votes_text}
 use Rattle.rb_texts.specs.States.{role_text}
 use Rattle.rb_page.specs.MessageRows.{flag}
-use Rattle.rb_page.specs.Rows.{PlainCell, number, text, Row, row}
+use Rattle.rb_page.specs.Rows.{number, text, Row, row}
 
 unfoldable pub event_row : Event → Row
 event_row (events.Started id term index config) = row (codes "started") (number id ∷ [])

@@ -1,6 +1,6 @@
 -- What a directive did, as rows: those of the items that it can show. What it shows of nodes that stand as they stood has none, since a page
 -- has what changed. (docs/PAGE.md)
-use Rattle.std.specs.Prelude.{ℕ, codes, List, [], ◌∷◌, length, drop}
+use Rattle.std.specs.Prelude.{ℕ, codes, List, [], ◌∷◌, drop}
 use Rattle.std.specs.List.{flat_map}
 use Rattle.rb_level.specs.declared.directive_error.DirectiveError.{DirectiveError}
 use Rattle.rb_message.specs.declared.hard_state.HardState.{HardState}
@@ -11,7 +11,7 @@ use Rattle.rb_texts.specs.Items.{PlainItem}
 use Rattle.rb_texts.specs.Items as items
 use Rattle.rb_page.specs.EventRows.{event_row}
 use Rattle.rb_page.specs.MessageRows.{message_row, verb_name}
-use Rattle.rb_page.specs.Rows.{PlainCell, number, text, Row, row, next_text}
+use Rattle.rb_page.specs.Rows.{number, text, Row, row, next_text}
 
 abbrev pub hard_row : HardState → Row
 hard_row h = row (codes "hard") (number h.term ∷ number h.vote ∷ number h.commit ∷ [])

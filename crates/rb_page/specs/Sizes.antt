@@ -1,5 +1,5 @@
 -- How much there is to say, counted by what is said. (This project's.)
-use Rattle.std.specs.Prelude.{ℕ, Bool, true, false, ◌+◌, ◌*◌, if◌then◌else◌, List, length, decimal}
+use Rattle.std.specs.Prelude.{ℕ, Bool, true, false, ◌+◌, ◌*◌, if◌then◌else◌, length, decimal}
 use Rattle.std.specs.List.{sum_by}
 use Rattle.rb_texts.specs.Items.{PlainItem}
 use Rattle.rb_texts.specs.Items as items

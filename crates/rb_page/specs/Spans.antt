@@ -4,10 +4,10 @@ use Rattle.std.specs.List.{flat_map}
 use Rattle.rb_texts.specs.Configs.{ids_text, part_text}
 use Rattle.rb_texts.specs.Entries.{change_word}
 use Rattle.rb_texts.specs.Quoted as quotes
-use Rattle.rb_page.specs.declared.span.Span.{Span}
-use Rattle.rb_page.specs.declared.span.Span.TheVariants as spans
+use Rattle.rb_page.specs.declared.span.TextSpan.{TextSpan}
+use Rattle.rb_page.specs.declared.span.TextSpan.TheVariants as spans
 
-abbrev pub span_text : Span → List ℕ
+abbrev pub span_text : TextSpan → List ℕ
 span_text (spans.Bytes bytes) = bytes.now
 span_text (spans.Number n) = decimal n
 span_text (spans.Inside bytes) = flat_map quotes.escaped bytes.now
@@ -15,5 +15,5 @@ span_text (spans.Ids ids) = ids_text ids.now
 span_text (spans.Part name ids) = part_text name.now ids.now
 span_text (spans.Words words) = flat_map change_word words.now
 
-abbrev pub spans_text : List Span → List ℕ
+abbrev pub spans_text : List TextSpan → List ℕ
 spans_text ss = flat_map span_text ss

@@ -11,7 +11,7 @@ ghost use Rattle.rb_page.specs.Rows.{cell_text, plain_cell, text};
 ghost use Rattle.rb_page.specs.Spans.{spans_text};
 
 use crate::names::transition_name;
-use crate::span::{Span, put_parts};
+use crate::span::{TextSpan, put_parts};
 use rb_change::{Transition, Word};
 use rb_raftlog::Body;
 use rb_script::{Sink, WriteFault};
@@ -45,17 +45,20 @@ impl WrittenPiece for Cell<'_> {
     fn put<S: Sink>(&self, sink: &mut S) -> Result<(), WriteFault> {
         match *self {
             Cell::Number(n) => put_pieces(sink, &[Piece::Bytes(b","), Piece::Number(n)]),
-            Cell::Text(bytes) => put_text(sink, &[Span::Bytes(bytes)]),
+            Cell::Text(bytes) => put_text(sink, &[TextSpan::Bytes(bytes)]),
             Cell::Body(body) => put_body(sink, body),
             Cell::Config(config) => put_config(sink, config),
             Cell::Quoting(front, word) => put_quoting(sink, front, word),
-            Cell::Counting(front, n) => put_text(sink, &[Span::Bytes(front), Span::Number(n)]),
+            Cell::Counting(front, n) => put_text(
+                sink,
+                &[TextSpan::Bytes(front), TextSpan::Number(n)],
+            ),
         }
     }
 }
 
 // Writes a cell whose text these parts make.
-fn put_text<S: Sink>(sink: &mut S, spans: &[Span<'_>]) -> Result<(), WriteFault>
+fn put_text<S: Sink>(sink: &mut S, spans: &[TextSpan<'_>]) -> Result<(), WriteFault>
     ensures wrote { Writes result (S.held sink.old) (S.held sink.new) (cell_text (text (spans_text spans.now))) }
     ensures all { S.takes_all sink.old → IsOk result × S.takes_all sink.new }
 {
@@ -72,10 +75,10 @@ fn put_quoting<'a, S: Sink>(sink: &mut S, front: &'a [u8], word: &'a [u8]) -> Re
     put_text(
         sink,
         &[
-            Span::Bytes(front),
-            Span::Bytes(b"\""),
-            Span::Inside(shown),
-            Span::Bytes(b"\""),
+            TextSpan::Bytes(front),
+            TextSpan::Bytes(b"\""),
+            TextSpan::Inside(shown),
+            TextSpan::Bytes(b"\""),
         ],
     )
 }
@@ -98,7 +101,11 @@ fn put_payload<S: Sink>(sink: &mut S, bytes: &[u8]) -> Result<(), WriteFault>
 {
     put_text(
         sink,
-        &[Span::Bytes(b"\""), Span::Inside(bytes), Span::Bytes(b"\"")],
+        &[
+            TextSpan::Bytes(b"\""),
+            TextSpan::Inside(bytes),
+            TextSpan::Bytes(b"\""),
+        ],
     )
 }
 
@@ -113,9 +120,9 @@ fn put_change<S: Sink>(
     put_text(
         sink,
         &[
-            Span::Bytes(b"change "),
-            Span::Bytes(transition_name(transition)),
-            Span::Words(words),
+            TextSpan::Bytes(b"change "),
+            TextSpan::Bytes(transition_name(transition)),
+            TextSpan::Words(words),
         ],
     )
 }
@@ -135,13 +142,13 @@ fn put_config<S: Sink>(sink: &mut S, config: &Config) -> Result<(), WriteFault>
     put_text(
         sink,
         &[
-            Span::Bytes(b"voters=("),
-            Span::Ids(config.incoming.as_slice()),
-            Span::Bytes(b")"),
-            Span::Part(b" outgoing=(", config.outgoing.as_slice()),
-            Span::Part(b" learners=(", config.learners.as_slice()),
-            Span::Part(b" next=(", config.next.as_slice()),
-            Span::Bytes(auto_name(config.auto)),
+            TextSpan::Bytes(b"voters=("),
+            TextSpan::Ids(config.incoming.as_slice()),
+            TextSpan::Bytes(b")"),
+            TextSpan::Part(b" outgoing=(", config.outgoing.as_slice()),
+            TextSpan::Part(b" learners=(", config.learners.as_slice()),
+            TextSpan::Part(b" next=(", config.next.as_slice()),
+            TextSpan::Bytes(auto_name(config.auto)),
         ],
     )
 }

@@ -20,7 +20,7 @@ use rb_text::{Json, hex_digit, put_escaped};
 
 /// A part of a text.
 #[derive(Clone, Copy)]
-pub(crate) enum Span<'a> {
+pub(crate) enum TextSpan<'a> {
     /// The bytes as they are.
     Bytes(&'a [u8]),
     /// A number in decimal digits.
@@ -36,7 +36,7 @@ pub(crate) enum Span<'a> {
 }
 
 /// A part of a text, which has a text of its own.
-pub(crate) trait Part {
+pub(crate) trait TextPart {
     ghost text: { Self → List ℕ };
 
     /// Writes the part, as it stands between quotes. On a failure a beginning of that went out.
@@ -46,7 +46,7 @@ pub(crate) trait Part {
 }
 
 /// Writes the parts, each as it stands between quotes.
-pub(crate) fn put_parts<S: Sink, P: Part>(sink: &mut S, parts: &[P]) -> Result<(), WriteFault>
+pub(crate) fn put_parts<S: Sink, P: TextPart>(sink: &mut S, parts: &[P]) -> Result<(), WriteFault>
     ensures wrote { Writes result (S.held sink.old) (S.held sink.new) (flat_map in_page (flat_map P.text parts.now)) }
     ensures all { S.takes_all sink.old → IsOk result × S.takes_all sink.new }
 {
@@ -56,17 +56,17 @@ pub(crate) fn put_parts<S: Sink, P: Part>(sink: &mut S, parts: &[P]) -> Result<(
     Ok(())
 }
 
-impl Part for Span<'_> {
+impl TextPart for TextSpan<'_> {
     ghost text = { span_text };
 
     fn put<S: Sink>(&self, sink: &mut S) -> Result<(), WriteFault> {
         match *self {
-            Span::Bytes(bytes) => put_escaped(sink, &Json::Page, bytes),
-            Span::Number(n) => put_digits(sink, n),
-            Span::Inside(bytes) => put_parts(sink, bytes),
-            Span::Ids(ids) => put_ids(sink, ids),
-            Span::Part(name, ids) => put_part(sink, name, ids),
-            Span::Words(words) => put_parts(sink, words),
+            TextSpan::Bytes(bytes) => put_escaped(sink, &Json::Page, bytes),
+            TextSpan::Number(n) => put_digits(sink, n),
+            TextSpan::Inside(bytes) => put_parts(sink, bytes),
+            TextSpan::Ids(ids) => put_ids(sink, ids),
+            TextSpan::Part(name, ids) => put_part(sink, name, ids),
+            TextSpan::Words(words) => put_parts(sink, words),
         }
     }
 }
@@ -95,7 +95,7 @@ fn numbered(b: u8) -> [u8; 4]
     [b'\\', b'x', hex_digit(b / 16), hex_digit(b % 16)]
 }
 
-impl Part for u8 {
+impl TextPart for u8 {
     ghost text = { quotes.escaped };
 
     fn put<S: Sink>(&self, sink: &mut S) -> Result<(), WriteFault> {
@@ -110,7 +110,7 @@ impl Part for u8 {
 // ---- ids
 
 // An id, after a comma.
-impl Part for u64 {
+impl TextPart for u64 {
     ghost text = { comma_before };
 
     fn put<S: Sink>(&self, sink: &mut S) -> Result<(), WriteFault> {
@@ -156,7 +156,7 @@ fn letter(kind: WordKind) -> &'static [u8]
     }
 }
 
-impl Part for Word {
+impl TextPart for Word {
     ghost text = { change_word };
 
     fn put<S: Sink>(&self, sink: &mut S) -> Result<(), WriteFault> {

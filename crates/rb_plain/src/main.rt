@@ -3,7 +3,7 @@
 #![tactic(auto)]
 
 use rb_cluster::{Cluster, Meter};
-use rb_line::{Incoming, read_up_to};
+use rb_line::{ReadSource, read_up_to};
 use rb_machine::Machine;
 use rb_raftlog::PlainLog;
 use rb_replay::Session;
@@ -56,7 +56,7 @@ fn is_run<M: Machine<Meter = Meter>, R: Print + AllocGlobal>(rt: &R, script: &[u
 }
 
 fn main(rt: HostRuntime) -> ExitCode {
-    let Ok(script) = read_up_to(rt.alloc(), &mut Incoming(rt.reader()), MAX_SCRIPT + 1) else {
+    let Ok(script) = read_up_to(rt.alloc(), &mut ReadSource(rt.reader()), MAX_SCRIPT + 1) else {
         return ExitCode::FAILURE;
     };
     if is_run::<Cluster<PlainLog>, HostRuntime>(&rt, &script) {

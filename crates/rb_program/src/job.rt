@@ -4,7 +4,7 @@ use crate::refusal::Refusal;
 use crate::running::{ended, opened};
 use rb_bench::{BenchFault, Outlet};
 use rb_check::Status;
-use rb_line::{Incoming, Source};
+use rb_line::{ReadSource, Source};
 use rb_script::Through;
 use std::alloc::Global;
 use std::io;
@@ -29,9 +29,9 @@ pub(crate) fn run_job<R: Files + Input + Print + AllocGlobal, J: Job>(
     job: &J,
 ) -> Result<Status, Refusal> {
     if file == "-" {
-        run_from(rt, &mut Incoming(rt.reader()), job)
+        run_from(rt, &mut ReadSource(rt.reader()), job)
     } else {
-        run_from(rt, &mut Incoming(opened(rt, file)?), job)
+        run_from(rt, &mut ReadSource(opened(rt, file)?), job)
     }
 }
 

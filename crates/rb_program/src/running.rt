@@ -4,7 +4,7 @@ use crate::job::{Job, run_from, run_job};
 use crate::refusal::Refusal;
 use rb_bench::{BenchFault, Mode, Outlet, run_over, serve};
 use rb_check::Status;
-use rb_line::{Incoming, Source, read_up_to};
+use rb_line::{ReadSource, Source, read_up_to};
 use rb_script::MAX_SCRIPT;
 use std::alloc::Global;
 use std::fs::File;
@@ -54,7 +54,7 @@ pub(crate) fn session<R: Files + Input + Print + AllocGlobal>(
         script: &script,
         every,
     };
-    run_from(rt, &mut Incoming(rt.reader()), &serving)
+    run_from(rt, &mut ReadSource(rt.reader()), &serving)
 }
 
 // A session on the script of these bytes.
@@ -78,7 +78,7 @@ impl<'a> Job for Serving<'a> {
 /// The first bytes of the file, which is closed again. Where standard input was closed, the file took its place: what is
 /// left of it must not be read for commands.
 pub(crate) fn script<R: Files + AllocGlobal>(rt: &R, file: &str) -> Result<Vec<u8>, Refusal> {
-    let mut source = Incoming(opened(rt, file)?);
+    let mut source = ReadSource(opened(rt, file)?);
     match read_up_to(rt.alloc(), &mut source, MAX_SCRIPT + 1) {
         Ok(bytes) => Ok(bytes),
         Err(fault) => Err(Refusal::from(fault)),

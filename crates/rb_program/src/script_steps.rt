@@ -17,7 +17,7 @@ use rb_machine::Machine;
 use rb_raftlog::SplitLog;
 use rb_replay::Session;
 use rb_script::Lines;
-use rb_steps::{Shown, steps_of};
+use rb_steps::{StepMachine, steps_of};
 use std::alloc::{AllocError, Global};
 
 /// The rows of a script behind the first, each as a text, and the status that a report of it would have.
@@ -28,7 +28,11 @@ pub(crate) struct ScriptSteps {
 }
 
 // The rows of the session's script, which the bytes are.
-fn rows<M: Shown>(alloc: Global, session: &Session<M>, bytes: &[u8]) -> Result<Lines, AllocError>
+fn rows<M: StepMachine>(
+    alloc: Global,
+    session: &Session<M>,
+    bytes: &[u8],
+) -> Result<Lines, AllocError>
     requires { Reads bytes.now session.now.script }
     ensures { IfOk result (AreRowsOf bytes.now session.now.script) }
 {
@@ -49,7 +53,7 @@ fn status<M: Machine>(session: &Session<M>) -> Status
 }
 
 // What a session holds of the script of the bytes, as steps.
-fn found<M: Shown>(
+fn found<M: StepMachine>(
     alloc: Global,
     session: &Session<M>,
     bytes: &[u8],
@@ -68,7 +72,7 @@ fn found<M: Shown>(
 }
 
 // Reads the script of the bytes, runs it once on such a machine, and gives its steps.
-fn steps_on<M: Shown>(
+fn steps_on<M: StepMachine>(
     alloc: Global,
     bytes: &[u8],
     meter: &mut M::Meter,

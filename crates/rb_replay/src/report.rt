@@ -17,11 +17,7 @@ fn put_marked<'p, S: Sink>(sink: &mut S, mark: &'p [u8], lines: &'p Lines) -> Re
     ensures all { S.takes_all sink.old → IsOk result × S.takes_all sink.new }
 {
     for i in 0..lines.len() {
-        let line = [
-            Piece::Bytes(mark),
-            Piece::Bytes(lines.line(i)),
-            Piece::Bytes(b"\n"),
-        ];
+        let line: [&[u8]; 3] = [mark, lines.line(i), b"\n"];
         put_pieces(sink, &line)?;
     }
     Ok(())

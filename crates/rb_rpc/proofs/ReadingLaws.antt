@@ -1,7 +1,7 @@
 -- What is known of all bytes from those that are held.
 use Rattle.std.proofs.Common.{◌≡◌, ℕ, List, [], ◌∷◌, ◌++◌, Bool, true, false, Option, Some, None, IfSome, if◌then◌else◌, ap, sym, subst, ◌∙◌, append_assoc, append-nil}
 use Rattle.std.specs.Io.KnownBytes.{Keeps, prepend_known}
-use Rattle.rb_rpc.specs.declared.message_reader.Next.{Next}
+use Rattle.rb_rpc.specs.declared.message_reader.NextMessage.{NextMessage}
 use Rattle.rb_rpc.specs.Messages.{HasNoMessage, NeverHasMessage}
 use Rattle.rb_rpc.specs.Reading.{GivesNext, end_of}
 
@@ -28,7 +28,7 @@ end_given None after (b ∷ held) body kept none = tt
 end_given (Some before) after (b ∷ held) body kept none = (subst HasNoMessage kept none, λ empty. let same : b ∷ held ≡ [] = kept ∙ empty in cc)
 
 -- what is given at the end
-pub end_known : (before known after : Option (List ℕ)) (has_ended : Bool) (held body : List ℕ) (given : Next) → has_ended ≡ true → Keeps before (known_of has_ended held known)
+pub end_known : (before known after : Option (List ℕ)) (has_ended : Bool) (held body : List ℕ) (given : NextMessage) → has_ended ≡ true → Keeps before (known_of has_ended held known)
     → HasNoMessage held → given ≡ (end_of held) → GivesNext given before after body
-end_known before known after true held body given ended kept none is = subst (λ (n : Next). GivesNext n before after body) (sym is) (end_given before after held body kept none)
+end_known before known after true held body given ended kept none is = subst (λ (n : NextMessage). GivesNext n before after body) (sym is) (end_given before after held body kept none)
 end_known before known after false held body given ended kept none is = cc

@@ -6,8 +6,8 @@ use Rattle.httparse.specs.Grammar.{Field, LineEnd, ReadsSection, print_section}
 use Rattle.httparse.specs.Spans.{name_and_value}
 use Rattle.rb_text.specs.Numbers.{number_of}
 use Rattle.rb_rpc.specs.declared.limits.TheConstants.{MAX_FIELDS, MAX_HEAD, MAX_BODY}
-use Rattle.rb_rpc.specs.declared.head.Found.{Found}
-use Rattle.rb_rpc.specs.declared.head.Found.TheVariants as found
+use Rattle.rb_rpc.specs.declared.head.Framed.{Framed}
+use Rattle.rb_rpc.specs.declared.head.Framed.TheVariants as found
 
 -- the field that tells the length of the body; case doesn't matter
 abbrev pub is_length_name : List ℕ → Bool
@@ -37,7 +37,7 @@ abbrev pub NeverHasMessage : List ℕ → Type 0
 NeverHasMessage bytes = (more : List ℕ) → HasNoMessage (bytes ++ more)
 
 -- what is found at the front of bytes
-abbrev pub Finds : List ℕ → Found → Type 0
+abbrev pub Finds : List ℕ → Framed → Type 0
 Finds bytes (found.Message start stop) =
     (start ≤ stop) × (stop ≤ length bytes) × IsMessage bytes (slice_range bytes start stop) (drop stop bytes)
 Finds bytes found.Partial = HasNoMessage bytes × (length bytes < MAX_HEAD + MAX_BODY)

@@ -2,8 +2,8 @@
 use Rattle.std.specs.Prelude.{◌≢◌, ℕ, List, [], ◌∷◌, Option, Some, None, IfSome, if◌then◌else◌, ⊤}
 use Rattle.std.specs.Io.KnownBytes.{prepend_known, IsAtEnd}
 use Rattle.rb_rpc.specs.declared.message_reader.MessageReader.{MessageReader}
-use Rattle.rb_rpc.specs.declared.message_reader.Next.{Next}
-use Rattle.rb_rpc.specs.declared.message_reader.Next.TheVariants as next
+use Rattle.rb_rpc.specs.declared.message_reader.NextMessage.{NextMessage}
+use Rattle.rb_rpc.specs.declared.message_reader.NextMessage.TheVariants as next
 use Rattle.rb_rpc.specs.Messages.{IsMessage, HasNoMessage, NeverHasMessage}
 
 -- the held bytes and then those of the source, where they are known; after the end those that are held
@@ -21,12 +21,12 @@ LosesMessage (Some all) None body = ⊥
 LosesMessage (Some all) (Some left) body = IsMessage all body left
 
 -- what is given at the end, with these bytes held
-abbrev pub end_of : List ℕ → Next
+abbrev pub end_of : List ℕ → NextMessage
 end_of [] = next.End
 end_of (b ∷ held) = next.CutOff
 
 -- What is given of the bytes that were left before, which leaves those after. Nothing here knows in what pieces they came.
-abbrev pub GivesNext : Next → Option (List ℕ) → Option (List ℕ) → List ℕ → Type 0
+abbrev pub GivesNext : NextMessage → Option (List ℕ) → Option (List ℕ) → List ℕ → Type 0
 GivesNext next.Message before after body = LosesMessage before after body
 GivesNext next.End before after body = IsAtEnd before
 GivesNext next.CutOff before after body = IfSome before (λ all. HasNoMessage all × (all ≢ []))

@@ -13,7 +13,7 @@ use rb_text::number_of;
 
 /// What stands at the front of bytes.
 #[derive(Clone, Copy, Debug, PartialEq, Eq)]
-pub enum Found {
+pub enum Framed {
     /// A message, whose body begins at the one place and ends at the other.
     Message(usize, usize),
     /// No message yet. What follows may make it one.
@@ -23,7 +23,7 @@ pub enum Found {
 }
 
 /// Looks for a message at the front of the bytes.
-pub fn message_at(bytes: &[u8]) -> Found
+pub fn message_at(bytes: &[u8]) -> Framed
     ensures { Finds bytes.now result }
 {
     let mut fields = [EMPTY_HEADER_SPAN; MAX_FIELDS];
@@ -33,12 +33,12 @@ pub fn message_at(bytes: &[u8]) -> Found
         }
         Ok(Status::Partial) => {
             if bytes.len() < MAX_HEAD {
-                Found::Partial
+                Framed::Partial
             } else {
-                Found::Bad
+                Framed::Bad
             }
         }
-        Err(_) => Found::Bad,
+        Err(_) => Framed::Bad,
     }
 }
 
@@ -63,19 +63,19 @@ fn told_length(bytes: &[u8], fields: &[HeaderSpan]) -> Option<u64>
 }
 
 // The body behind a head that ends there.
-fn body_at(bytes: &[u8], start: usize, told: Option<u64>) -> Found
+fn body_at(bytes: &[u8], start: usize, told: Option<u64>) -> Framed
     requires { IsHead bytes.now start told }
     ensures { Finds bytes.now result }
 {
     let Some(len) = told else {
-        return Found::Bad;
+        return Framed::Bad;
     };
     if start > MAX_HEAD || len > MAX_BODY as u64 {
-        return Found::Bad;
+        return Framed::Bad;
     }
     let len = len as usize;
     if bytes.len() - start < len {
-        return Found::Partial;
+        return Framed::Partial;
     }
-    Found::Message(start, start + len)
+    Framed::Message(start, start + len)
 }

@@ -19,10 +19,10 @@ mod reading;
 
 pub use answer::{ErrorCode, error_code, failure, success, text_of};
 pub use framing::framed;
-pub use head::{Found, message_at};
+pub use head::{Framed, message_at};
 pub use incoming::{Incoming, incoming_of};
 pub use laws::{framed_bodies_are_messages, messages_are_one};
 pub use limits::{MAX_BODY, MAX_CALLS, MAX_FIELDS, MAX_HEAD};
-pub use message_reader::{MessageReader, Next, ReadFault};
+pub use message_reader::{MessageFault, MessageReader, NextMessage};
 pub use params::{number_below, position_at, range_at, text_at, text_below};
 pub use reading::{ReadError, read};

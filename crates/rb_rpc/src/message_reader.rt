@@ -4,7 +4,7 @@ ghost use Rattle.std.specs.Prelude.{◌≡◌, ◌<◌, ◌≤◌, ℕ, List, Op
 ghost use Rattle.std.specs.Io.KnownBytes.{Keeps};
 ghost use Rattle.rb_rpc.specs.Reading.{GivesNext, body_of, end_of, left_of};
 
-use crate::head::{Found, message_at};
+use crate::head::{Framed, message_at};
 use rb_line::{InputFault, Source};
 use std::alloc::{AllocError, Global};
 
@@ -13,7 +13,7 @@ const CHUNK: usize = 16_384;
 
 /// What comes next from a source.
 #[derive(Clone, Copy, Debug, PartialEq, Eq)]
-pub enum Next {
+pub enum NextMessage {
     /// A message, whose body the `MessageReader` holds.
     Message,
     /// The end, behind the last message.
@@ -26,32 +26,32 @@ pub enum Next {
 
 /// Why nothing came.
 #[derive(Clone, Copy, Debug, PartialEq, Eq)]
-pub enum ReadFault {
+pub enum MessageFault {
     /// The source failed, or all calls of it were made.
     Input,
     /// Memory was refused.
     OutOfMemory,
 }
 
-impl From<InputFault> for ReadFault {
+impl From<InputFault> for MessageFault {
     ghost use Rattle.std.specs.Prelude.{◌≡◌};
-    ghost use Rattle.rb_rpc.specs.declared.message_reader.ReadFault.TheVariants.{Input};
+    ghost use Rattle.rb_rpc.specs.declared.message_reader.MessageFault.TheVariants.{Input};
 
     ghost from_gives = { λ _ e. e ≡ Input };
 
-    fn from(_e: InputFault) -> ReadFault {
-        ReadFault::Input
+    fn from(_e: InputFault) -> MessageFault {
+        MessageFault::Input
     }
 }
 
-impl From<AllocError> for ReadFault {
+impl From<AllocError> for MessageFault {
     ghost use Rattle.std.specs.Prelude.{◌≡◌};
-    ghost use Rattle.rb_rpc.specs.declared.message_reader.ReadFault.TheVariants.{OutOfMemory};
+    ghost use Rattle.rb_rpc.specs.declared.message_reader.MessageFault.TheVariants.{OutOfMemory};
 
     ghost from_gives = { λ _ e. e ≡ OutOfMemory };
 
-    fn from(_e: AllocError) -> ReadFault {
-        ReadFault::OutOfMemory
+    fn from(_e: AllocError) -> MessageFault {
+        MessageFault::OutOfMemory
     }
 }
 
@@ -82,17 +82,17 @@ impl MessageReader {
     /// # Errors
     ///
     /// At the first error of the source, where all calls were made, and where memory was refused. Bytes may be lost then.
-    pub fn next<S: Source>(&mut self, source: &mut S) -> Result<Next, ReadFault>
+    pub fn next<S: Source>(&mut self, source: &mut S) -> Result<NextMessage, MessageFault>
         ensures { IfOk result (λ next. GivesNext next (left_of self.old (S.left source.old)) (left_of self.new (S.left source.new)) (body_of self.new)) }
     {
         'reading: loop {
             match message_at(self.held.as_slice()) {
-                Found::Message(start, end) => {
+                Framed::Message(start, end) => {
                     self.take(start, end)?;
-                    return Ok(Next::Message);
+                    return Ok(NextMessage::Message);
                 }
-                Found::Bad => return Ok(Next::Bad),
-                Found::Partial => {}
+                Framed::Bad => return Ok(NextMessage::Bad),
+                Framed::Partial => {}
             }
             if self.has_ended {
                 return Ok(self.end());
@@ -124,24 +124,24 @@ impl MessageReader {
     }
 
     // What is given at the end.
-    fn end(&self) -> Next
+    fn end(&self) -> NextMessage
         ensures { result ≡ end_of self.now.held.items }
     {
         if self.held.is_empty() {
-            Next::End
+            NextMessage::End
         } else {
-            Next::CutOff
+            NextMessage::CutOff
         }
     }
 
     // Makes one more call, where one is left.
-    fn refill<S: Source>(&mut self, source: &mut S) -> Result<(), ReadFault>
+    fn refill<S: Source>(&mut self, source: &mut S) -> Result<(), MessageFault>
         requires going { self.old.has_ended ≡ false }
         ensures counted { OnOk result (self.new.calls < self.old.calls) }
         ensures left { OnOk result (Keeps (left_of self.old (S.left source.old)) (left_of self.new (S.left source.new))) }
     {
         if self.calls == 0 {
-            return Err(ReadFault::Input);
+            return Err(MessageFault::Input);
         }
         self.calls -= 1;
         let mut chunk = [0u8; CHUNK];

@@ -11,7 +11,7 @@ use Rattle.std.proofs.lemmas.Bool.{and_parts, not-false, not_from_true, leb-true
 use Rattle.std.proofs.lemmas.Bool.Decides.{nat_tests}
 use Rattle.rb_script.specs.declared.span.Span.{Span}
 use Rattle.rb_script.specs.declared.limits.TheConstants.{MAX_VALUES}
-use Rattle.rb_script.specs.declared.argument.Argument.{Argument}
+use Rattle.rb_script.specs.declared.argument.ArgumentSpans.{ArgumentSpans}
 use Rattle.rb_script.specs.declared.fault.ScriptFault.TheVariants as faults
 use Rattle.rb_script.specs.declared.tokens.HeadFault.{HeadFault}
 use Rattle.rb_script.specs.declared.tokens.HeadFault.TheVariants as head_faults
@@ -385,7 +385,7 @@ module _ (head : List Line) (number : ℕ) (bytes skipped rest : List ℕ) (name
       ∙ ap (λ t. cond t (named (token head name) (arguments_of rest)) None) (some_token head name part some)
 
   -- the kept tokens are those of the head
-  pub head_found : (args : SmallVec Argument) → ParsesArguments head (Ok (Some args)) (arguments_of rest) → ParsesHead head (Ok (record { name = name; args = args })) (few_or number (head_at bytes))
+  pub head_found : (args : SmallVec ArgumentSpans) → ParsesArguments head (Ok (Some args)) (arguments_of rest) → ParsesHead head (Ok (record { name = name; args = args })) (few_or number (head_at bytes))
   head_found args gives =
       let found : HeadThere = Some (token head name, gives.0) in
       let is : head_at bytes ≡ found = head_named ∙ ap (named (token head name)) gives.1 in (

@@ -2,13 +2,13 @@
 use Rattle.std.proofs.Common.{◌≡◌, ℕ, ◌<◌, List, length, map, get_or, ap, sym, subst, ◌∙◌, arith}
 use Rattle.std.proofs.lemmas.List.{length-map, get_or-map}
 use Rattle.std.proofs.lemmas.List.Elements.{All-from_recursion, All-get_or}
-use Rattle.rb_script.specs.declared.argument.Argument.{Argument}
+use Rattle.rb_script.specs.declared.argument.ArgumentSpans.{ArgumentSpans}
 use Rattle.rb_script.specs.Directive.{no_argument, plain_argument}
 use Rattle.rb_script.specs.Tokens.{SpannedArgument, SpannedDirective, argument_of, plain}
 use Rattle.rb_script.specs.Parsed.{spanned, AreParts}
 use Rattle.rb_script.specs.Told.{IsSpanned, no_spans, argument_at}
 
-module _ (d : SpannedDirective) (args : List Argument) (i : ℕ) (a : Argument) (same : map spanned args ≡ d.args) (lt : i < length (plain d).args) (is : a ≡ get_or args i a) where
+module _ (d : SpannedDirective) (args : List ArgumentSpans) (i : ℕ) (a : ArgumentSpans) (same : map spanned args ≡ d.args) (lt : i < length (plain d).args) (is : a ≡ get_or args i a) where
   within : i < length d.args
   within = omega (arith, lt, length-map d.args (argument_of d.head))
 

@@ -13,7 +13,7 @@ use Rattle.rb_script.proofs.ListLaws.{every-append, every_so}
 -- ---- lines
 
 -- a line with its LF is cut off
-cut_line : (line : Line) (bytes : List ℕ) → list_all (λ b. not (eqb b 10)) line ≡ true → cut (line ++ 10 ∷ bytes) ≡ line ∷ cut bytes
+pub cut_line : (line : Line) (bytes : List ℕ) → list_all (λ b. not (eqb b 10)) line ≡ true → cut (line ++ 10 ∷ bytes) ≡ line ∷ cut bytes
 unfolding cut
 cut_line [] bytes h = refl
 cut_line (b ∷ line) bytes h =

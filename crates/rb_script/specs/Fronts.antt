@@ -1,7 +1,7 @@
 -- What a block is made of. (This project's.)
 use Rattle.std.specs.Prelude.{◌≡◌, ℕ, ◌+◌, ◌^◌, ◌<◌, ◌≤◌, List, ◌++◌, length, map, Some}
 use Rattle.rb_script.specs.declared.span.Span.{Span}
-use Rattle.rb_script.specs.declared.argument.Argument.{Argument}
+use Rattle.rb_script.specs.declared.argument.ArgumentSpans.{ArgumentSpans}
 use Rattle.rb_script.specs.Lines.{Line, text_of}
 use Rattle.rb_script.specs.Flat.{between}
 use Rattle.rb_script.specs.Script.{PlainBlock, block_text}
@@ -22,7 +22,7 @@ pub record PlainFront : Type 0 where
   pub args : List SpannedArgument
 
 -- the lead, the head and the input begin at these places of the lines, and the input ends at the last
-abbrev pub front_of : List Line → ℕ → ℕ → ℕ → ℕ → Span → List Argument → PlainFront
+abbrev pub front_of : List Line → ℕ → ℕ → ℕ → ℕ → Span → List ArgumentSpans → PlainFront
 front_of all lead head input end name args = record { lead = between lead head all; head = between head input all; input = between input end all; name = name; args = map spanned args }
 
 -- one stands behind the other, and a `u32` counts the lines up to there

@@ -1,8 +1,8 @@
 -- The bytes of a text, in the value itself or in memory of their own. (This project's.)
 use Rattle.std.specs.Prelude.{List, ℕ}
-use Rattle.rb_script.specs.declared.line_text.Bytes.{Bytes}
-use Rattle.rb_script.specs.declared.line_text.Bytes.TheVariants.{Short, Long}
+use Rattle.rb_script.specs.declared.line_text.TextBytes.{TextBytes}
+use Rattle.rb_script.specs.declared.line_text.TextBytes.TheVariants.{Short, Long}
 
-abbrev pub kept_bytes : Bytes → List ℕ
+abbrev pub kept_bytes : TextBytes → List ℕ
 kept_bytes (Short short) = short
 kept_bytes (Long long) = long.items

@@ -2,8 +2,8 @@
 use Rattle.std.specs.Prelude.{ℕ, Bool, true, false, ◌==◌, ◌&&◌, ◌||◌, not, if◌then◌else◌, [], ◌∷◌, take, drop}
 use Rattle.std.specs.List.{list_all}
 use Rattle.std.specs.Str.{bytes_eq}
-use Rattle.rb_script.specs.declared.marks.Run.{Run}
-use Rattle.rb_script.specs.declared.marks.Run.TheVariants.{Lead, Input, Plain, Continued}
+use Rattle.rb_script.specs.declared.marks.LineKind.{LineKind}
+use Rattle.rb_script.specs.declared.marks.LineKind.TheVariants.{Lead, Input, Plain, Continued}
 use Rattle.rb_script.specs.Bytes.{tab, space, number_sign, hyphen, backslash}
 use Rattle.rb_script.specs.Lines.{Line}
 
@@ -49,7 +49,7 @@ abbrev pub is_plain : Line → Bool
 is_plain line = not (is_blank line)
 
 -- the lines of a run
-abbrev pub in_run : Run → Line → Bool
+abbrev pub in_run : LineKind → Line → Bool
 in_run Lead line = is_lead line
 in_run Input line = is_input line
 in_run Plain line = is_plain line

@@ -2,7 +2,7 @@
 use Rattle.std.specs.Prelude.{◌≡◌, ℕ, true, false, nat_le, if◌then◌else◌, List, [], ◌∷◌, ◌++◌, length, map, Option, Some, None, Result, Ok, Err}
 use Rattle.std.specs.List.{AllByRecursion}
 use Rattle.rb_script.specs.declared.span.Span.{Span}
-use Rattle.rb_script.specs.declared.argument.Argument.{Argument}
+use Rattle.rb_script.specs.declared.argument.ArgumentSpans.{ArgumentSpans}
 use Rattle.rb_script.specs.declared.tokens.Tokens.{Tokens}
 use Rattle.rb_script.specs.declared.tokens.HeadFault.{HeadFault}
 use Rattle.rb_script.specs.declared.tokens.HeadFault.TheVariants as head_faults
@@ -37,7 +37,7 @@ ParsesValues head (Err head_faults.OutOfMemory) left there = Unit {0}
 
 -- ---- arguments
 
-abbrev pub spanned : Argument → SpannedArgument
+abbrev pub spanned : ArgumentSpans → SpannedArgument
 spanned a = record { key = a.key; has_equals = a.has_equals; values = a.values.items }
 
 -- each token is a part of a line
@@ -45,21 +45,21 @@ abbrev pub AreParts : List Line → SpannedArgument → Type 0
 AreParts head a = IsPart head a.key × AllByRecursion (IsPart head) a.values
 
 -- the kept argument is this one, or this has too many values
-abbrev pub KeepsArgument : List Line → Option Argument → PlainArgument → Type 0
+abbrev pub KeepsArgument : List Line → Option ArgumentSpans → PlainArgument → Type 0
 KeepsArgument head None a = has_few_values a ≡ false
 KeepsArgument head (Some kept) a = (argument_of head (spanned kept) ≡ a) × (has_few_values a ≡ true) × AreParts head (spanned kept)
 
-abbrev pub ParsesArgument : List Line → Result (Option Argument) HeadFault → List ℕ → ArgumentThere → Type 0
+abbrev pub ParsesArgument : List Line → Result (Option ArgumentSpans) HeadFault → List ℕ → ArgumentThere → Type 0
 ParsesArgument head (Ok kept) left there = (a : PlainArgument) × (there ≡ Some (a, left)) × KeepsArgument head kept a
 ParsesArgument head (Err head_faults.Bad) left there = there ≡ None
 ParsesArgument head (Err head_faults.OutOfMemory) left there = Unit {0}
 
 -- the kept arguments are these, or these are too many
-abbrev pub KeepsArguments : List Line → Option (SmallVec Argument) → List PlainArgument → Type 0
+abbrev pub KeepsArguments : List Line → Option (SmallVec ArgumentSpans) → List PlainArgument → Type 0
 KeepsArguments head None args = are_few args ≡ false
 KeepsArguments head (Some kept) args = (map (λ a. argument_of head (spanned a)) kept.items ≡ args) × (are_few args ≡ true) × AllByRecursion (λ a. AreParts head (spanned a)) kept.items
 
-abbrev pub ParsesArguments : List Line → Result (Option (SmallVec Argument)) HeadFault → ArgumentsThere → Type 0
+abbrev pub ParsesArguments : List Line → Result (Option (SmallVec ArgumentSpans)) HeadFault → ArgumentsThere → Type 0
 ParsesArguments head (Ok kept) there = (args : List PlainArgument) × (there ≡ Some args) × KeepsArguments head kept args
 ParsesArguments head (Err head_faults.Bad) there = there ≡ None
 ParsesArguments head (Err head_faults.OutOfMemory) there = Unit {0}

@@ -5,16 +5,16 @@ use std::alloc::{AllocError, Global};
 use std::default::MadeWith;
 
 /// Where the key and the values of an argument stand.
-pub(crate) struct Argument {
+pub(crate) struct ArgumentSpans {
     pub(crate) key: Span,
     pub(crate) has_equals: bool,
     pub(crate) values: Vec<Span>,
 }
 
 // Written out, so that giving one back is a call wherever it is owned, and is proved here alone.
-impl Drop for Argument {
+impl Drop for ArgumentSpans {
     fn drop(self) {
-        let Argument {
+        let ArgumentSpans {
             key: _,
             has_equals: _,
             values: _,
@@ -23,9 +23,9 @@ impl Drop for Argument {
 }
 
 // What a short list of arguments holds where it has none.
-impl MadeWith<Global> for Argument {
-    fn made_with(alloc: Global) -> Argument {
-        Argument {
+impl MadeWith<Global> for ArgumentSpans {
+    fn made_with(alloc: Global) -> ArgumentSpans {
+        ArgumentSpans {
             key: Span {
                 line: 0,
                 start: 0,
@@ -38,14 +38,14 @@ impl MadeWith<Global> for Argument {
 }
 
 // A clone has values in memory of its own.
-impl Clone for Argument {
+impl Clone for ArgumentSpans {
     ghost use Rattle.std.specs.Prelude.{◌≡◌};
     ghost use Rattle.rb_script.specs.Parsed.{spanned};
 
     ghost is_clone = { λ a b. spanned b ≡ spanned a };
 
-    fn clone(&self) -> Result<Argument, AllocError> {
-        Ok(Argument {
+    fn clone(&self) -> Result<ArgumentSpans, AllocError> {
+        Ok(ArgumentSpans {
             key: self.key,
             has_equals: self.has_equals,
             values: Vec::from_slice(*self.values.allocator(), self.values.as_slice())?,

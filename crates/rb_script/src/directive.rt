@@ -1,6 +1,6 @@
 //! A directive, as it stands in a block.
 
-use crate::argument::Argument;
+use crate::argument::ArgumentSpans;
 use crate::front::Front;
 use crate::span::Span;
 use std::marker::Model;
@@ -109,7 +109,7 @@ impl<'a> DirectiveRef<'a> {
     }
 
     // Where the tokens of argument `i` stand.
-    fn argument(&self, i: usize) -> &'a Argument
+    fn argument(&self, i: usize) -> &'a ArgumentSpans
         requires { i < length (plain self.now).args }
         ensures same { spanned result.now ≡ argument_at self.now i }
         ensures plain { argument_of self.now.head (spanned result.now) ≡ plain_argument (plain self.now) i }

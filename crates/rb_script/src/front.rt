@@ -1,6 +1,6 @@
 //! What stands above an expectation.
 
-use crate::argument::Argument;
+use crate::argument::ArgumentSpans;
 use crate::marks::RULE_LINE;
 use crate::shared_lines::SharedLines;
 use crate::span::Span;
@@ -22,7 +22,7 @@ pub(crate) struct Front {
     input: u32,
     end: u32,
     name: Span,
-    args: SmallVec<Argument, 1>,
+    args: SmallVec<ArgumentSpans, 1>,
 }
 
 // Written out, so that giving one back is a call wherever it is owned, and is proved here alone.
@@ -124,7 +124,7 @@ impl Front {
     }
 
     /// Where the arguments stand in the head.
-    pub(crate) fn arguments(&self) -> &[Argument]
+    pub(crate) fn arguments(&self) -> &[ArgumentSpans]
         ensures { map spanned result.now ≡ self.now.args }
     {
         self.args.as_slice()

@@ -13,7 +13,7 @@ const ROOM: usize = 104;
 
 /// The text of lines. A short one takes no memory.
 pub struct LineText {
-    kept: Bytes,
+    kept: TextBytes,
     // where memory comes from
     alloc: Global,
 }
@@ -26,7 +26,7 @@ impl Drop for LineText {
 }
 
 /// Where the bytes of a text are kept.
-pub(crate) enum Bytes {
+pub(crate) enum TextBytes {
     /// In the value itself.
     Short(ShortText),
     /// In memory of their own.
@@ -34,10 +34,10 @@ pub(crate) enum Bytes {
 }
 
 // Written out, so that giving one back is a call wherever it is owned, and is proved here alone.
-impl Drop for Bytes {
+impl Drop for TextBytes {
     fn drop(self) {
         match self {
-            Bytes::Short(_) | Bytes::Long(_) => {}
+            TextBytes::Short(_) | TextBytes::Long(_) => {}
         }
     }
 }
@@ -57,7 +57,7 @@ impl LineText {
         ensures { result ≡ [] }
     {
         LineText {
-            kept: Bytes::Short(ShortText::new()),
+            kept: TextBytes::Short(ShortText::new()),
             alloc,
         }
     }
@@ -70,7 +70,7 @@ impl LineText {
             return Ok(LineText::new(alloc));
         }
         Ok(LineText {
-            kept: Bytes::Long(Vec::with_capacity(alloc, room)?),
+            kept: TextBytes::Long(Vec::with_capacity(alloc, room)?),
             alloc,
         })
     }
@@ -95,8 +95,8 @@ impl LineText {
         ensures { result ≡ length self.now }
     {
         match &self.kept {
-            Bytes::Short(short) => short.len(),
-            Bytes::Long(long) => long.len(),
+            TextBytes::Short(short) => short.len(),
+            TextBytes::Long(long) => long.len(),
         }
     }
 
@@ -106,8 +106,8 @@ impl LineText {
         ensures { result.now ≡ self.now }
     {
         match &self.kept {
-            Bytes::Short(short) => short.as_slice(),
-            Bytes::Long(long) => long.as_slice(),
+            TextBytes::Short(short) => short.as_slice(),
+            TextBytes::Long(long) => long.as_slice(),
         }
     }
 
@@ -141,11 +141,11 @@ impl LineText {
     pub(crate) fn clear(&mut self)
         ensures { self.new ≡ [] }
     {
-        self.kept = Bytes::Short(ShortText::new());
+        self.kept = TextBytes::Short(ShortText::new());
     }
 }
 
-impl Bytes {
+impl TextBytes {
     ghost use Rattle.std.specs.Prelude.{◌≡◌, [], ◌∷◌, ◌++◌, OnOk, OnErr};
     ghost use Rattle.rb_script.specs.Lines.{line_text};
     ghost use Rattle.rb_script.specs.LineTexts.{kept_bytes};
@@ -156,11 +156,11 @@ impl Bytes {
         ensures err { OnErr result (kept_bytes self.new ≡ kept_bytes self.old) }
     {
         match self {
-            Bytes::Long(long) => {
+            TextBytes::Long(long) => {
                 long.push(byte)?;
                 Ok(())
             }
-            Bytes::Short(short) => {
+            TextBytes::Short(short) => {
                 if short.len() < SHORT {
                     short.push(byte);
                     Ok(())
@@ -177,8 +177,8 @@ impl Bytes {
         ensures err { OnErr result (kept_bytes self.new ≡ kept_bytes self.old) }
     {
         match self {
-            Bytes::Long(long) => long.extend_from_slice(bytes),
-            Bytes::Short(short) => {
+            TextBytes::Long(long) => long.extend_from_slice(bytes),
+            TextBytes::Short(short) => {
                 if bytes.len() <= SHORT - short.len() {
                     short.extend_from_slice(bytes);
                     Ok(())
@@ -197,11 +197,11 @@ impl Bytes {
         ensures err { OnErr result (kept_bytes self.new ≡ kept_bytes self.old) }
     {
         match self {
-            Bytes::Short(short) => {
-                *self = Bytes::Long(longer(alloc, short, bytes)?);
+            TextBytes::Short(short) => {
+                *self = TextBytes::Long(longer(alloc, short, bytes)?);
                 Ok(())
             }
-            Bytes::Long(long) => long.extend_from_slice(bytes),
+            TextBytes::Long(long) => long.extend_from_slice(bytes),
         }
     }
 
@@ -210,16 +210,16 @@ impl Bytes {
         ensures err { OnErr result (kept_bytes self.new ≡ kept_bytes self.old) }
     {
         match self {
-            Bytes::Short(short) => {
+            TextBytes::Short(short) => {
                 if line.len() < SHORT - short.len() {
                     short.extend_from_slice(line);
                     short.push(b'\n');
                 } else {
-                    *self = Bytes::Long(longer_line(alloc, short, line)?);
+                    *self = TextBytes::Long(longer_line(alloc, short, line)?);
                 }
                 Ok(())
             }
-            Bytes::Long(long) => add_line(long, line),
+            TextBytes::Long(long) => add_line(long, line),
         }
     }
 }

@@ -26,7 +26,7 @@ use crate::grouped::Grouped;
 use crate::limits::{MAX_DIRECTIVES, MAX_LINE, MAX_SCRIPT};
 use crate::line_part::LinePart;
 use crate::lines::{Lines, next_line};
-use crate::marks::{Run, is_blank, is_rule};
+use crate::marks::{LineKind, is_blank, is_rule};
 use crate::script::Script;
 use crate::shared_lines::SharedLines;
 use crate::tokens::{Tokens, tokens_of};
@@ -39,7 +39,7 @@ use std::rc::Rc;
 
 /// Where the run of lines ends: before the first that isn't of it, or behind the last. Each caller names one kind, so each has its own code.
 #[inline(always)]
-fn run(all: &SharedLines, start: usize, kind: Run) -> usize
+fn run(all: &SharedLines, start: usize, kind: LineKind) -> usize
     requires { start ≤ length all.now }
     ensures { RunsTo (in_run kind) all.now start result }
 {
@@ -58,7 +58,7 @@ fn head(all: &SharedLines, start: usize) -> usize
     ensures run { between start result all.now ≡ head_of (drop start all.now) }
     ensures rest { drop result all.now ≡ after_head (drop start all.now) }
 {
-    let last = run(all, start, Run::Continued);
+    let last = run(all, start, LineKind::Continued);
     if last == all.len() {
         return last;
     }
@@ -113,7 +113,7 @@ fn plain(all: &SharedLines, start: usize) -> Result<Option<(Expected, usize)>, A
     ensures found { IfOk result (λ found. seen all.now found ≡ plain_at (drop start all.now)) }
     ensures within { IfOk result (λ found. IfSome found (λ p. p.1 ≤ length all.now)) }
 {
-    let end = run(all, start, Run::Plain);
+    let end = run(all, start, LineKind::Plain);
     let part = Lines::part(all, start, end)?;
     let expected = Expected::new(part);
     if expected.is_readable() {
@@ -189,7 +189,7 @@ fn block(
 {
     let below = head(all, start);
     let tokens = tokens_of(alloc, all, start, below, number)?;
-    let separator = run(all, below, Run::Input);
+    let separator = run(all, below, LineKind::Input);
     if separator == all.len() {
         return Err(ScriptFault::NoSeparator(number));
     }
@@ -221,7 +221,7 @@ fn blocks(alloc: Global, all: &SharedLines) -> Result<Parts, ScriptFault>
     let mut text_len: usize = 0;
     let mut at = 0;
     loop {
-        let start = run(all, at, Run::Lead);
+        let start = run(all, at, LineKind::Lead);
         if start == all.len() {
             let tail = LinePart::new(all, at, start)?;
             return Ok(Parts {

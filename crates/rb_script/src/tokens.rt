@@ -11,7 +11,7 @@ ghost use Rattle.rb_script.specs.Heads.{list_at, values_at, argument_at, argumen
 ghost use Rattle.rb_script.specs.Parsed.{with_one, KeepsArgument, KeepsArguments, ParsesValues, ParsesArgument, ParsesArguments, ParsesHead};
 ghost use Rattle.rb_script.specs.declared.tokens.HeadFault.TheVariants.{OutOfMemory};
 
-use crate::argument::Argument;
+use crate::argument::ArgumentSpans;
 use crate::fault::ScriptFault;
 use crate::head_cursor::{ByteClass, HeadCursor};
 use crate::limits::{MAX_ARGUMENTS, MAX_VALUES};
@@ -27,7 +27,7 @@ use std::alloc::{AllocError, AllocFailed, Global};
 pub(crate) struct Tokens {
     pub(crate) name: Span,
     // most heads have one argument
-    pub(crate) args: SmallVec<Argument, 1>,
+    pub(crate) args: SmallVec<ArgumentSpans, 1>,
 }
 
 /// Why a part of a head can't be read.
@@ -116,7 +116,7 @@ fn values(alloc: Global, at: &mut HeadCursor<'_>) -> Result<Option<Vec<Span>>, H
 
 // The argument at the front, or nothing where its values are too many.
 #[tactic(auto, unfolding(crate::specs::Heads::argument_at, crate::specs::Heads::behind_key))]
-fn argument(alloc: Global, at: &mut HeadCursor<'_>) -> Result<Option<Argument>, HeadFault>
+fn argument(alloc: Global, at: &mut HeadCursor<'_>) -> Result<Option<ArgumentSpans>, HeadFault>
     ensures gives { ParsesArgument at.old.head result at.new.left (argument_at at.old.left) }
     ensures head { at.new.head ≡ at.old.head }
 {
@@ -125,7 +125,7 @@ fn argument(alloc: Global, at: &mut HeadCursor<'_>) -> Result<Option<Argument>, 
         return Err(HeadFault::Bad);
     }
     let Some(b'=') = at.peek() else {
-        return Ok(Some(Argument {
+        return Ok(Some(ArgumentSpans {
             key,
             has_equals: false,
             values: Vec::new(alloc),
@@ -135,7 +135,7 @@ fn argument(alloc: Global, at: &mut HeadCursor<'_>) -> Result<Option<Argument>, 
     match values(alloc, at)? {
         Some(mut values) => {
             values.shrink_to_fit();
-            Ok(Some(Argument {
+            Ok(Some(ArgumentSpans {
                 key,
                 has_equals: true,
                 values,
@@ -147,9 +147,9 @@ fn argument(alloc: Global, at: &mut HeadCursor<'_>) -> Result<Option<Argument>, 
 
 // One argument more, or nothing where they are too many. The first takes no memory.
 fn with_one_more(
-    found: Option<SmallVec<Argument, 1>>,
-    argument: Argument,
-) -> Result<Option<SmallVec<Argument, 1>>, AllocError>
+    found: Option<SmallVec<ArgumentSpans, 1>>,
+    argument: ArgumentSpans,
+) -> Result<Option<SmallVec<ArgumentSpans, 1>>, AllocError>
     ensures { IfOk result (λ r. option_map (λ v. v.items) r ≡ with_one MAX_ARGUMENTS (option_map (λ v. v.items) found) argument) }
 {
     match found {
@@ -163,9 +163,9 @@ fn with_one_more(
 
 // One argument more, or nothing where they or its values are too many.
 fn with_argument(
-    found: Option<SmallVec<Argument, 1>>,
-    argument: Option<Argument>,
-) -> Result<Option<SmallVec<Argument, 1>>, AllocError>
+    found: Option<SmallVec<ArgumentSpans, 1>>,
+    argument: Option<ArgumentSpans>,
+) -> Result<Option<SmallVec<ArgumentSpans, 1>>, AllocError>
     ensures { IfOk result (λ r. (head : List Line) (so_far : List PlainArgument) (a : PlainArgument) →
         KeepsArguments head found so_far → KeepsArgument head argument a → KeepsArguments head r (so_far ++ a ∷ [])) }
 {
@@ -179,7 +179,7 @@ fn with_argument(
 fn arguments(
     alloc: Global,
     at: &mut HeadCursor<'_>,
-) -> Result<Option<SmallVec<Argument, 1>>, HeadFault>
+) -> Result<Option<SmallVec<ArgumentSpans, 1>>, HeadFault>
     ensures gives { ParsesArguments at.old.head result (arguments_at (length at.old.left) at.old.left) }
 {
     let mut found = Some(SmallVec::new(alloc));

@@ -14,7 +14,7 @@ use crate::method::Method;
 use crate::phase::Phase;
 use crate::question::question_told;
 use crate::service::Service;
-use crate::told::{Told, framed_answer};
+use crate::told::{ToldText, framed_answer};
 use rb_rpc::{ErrorCode, failure, success};
 use serde_json::Value;
 use std::alloc::{AllocError, Global};
@@ -96,7 +96,7 @@ pub(crate) fn answer_told<V: Service>(
     method: Method,
     params: Option<&Value>,
     id: &Value,
-) -> Result<Told, AllocError>
+) -> Result<ToldText, AllocError>
     requires { has_float (view id.now) ≡ false }
     ensures { IfOk result (λ told. told.out.items ≡ frame (body_in V.meaning told.has_no_memory documents.now phase method (option_map (λ v. view v.now) params.entry) (view id.now))) }
 {
@@ -110,7 +110,7 @@ pub(crate) fn answer_told<V: Service>(
             params,
             id,
         ),
-        _ => Ok(Told::whole(own_answer(alloc, phase, method, params, id)?)),
+        _ => Ok(ToldText::whole(own_answer(alloc, phase, method, params, id)?)),
     }
 }
 

@@ -6,7 +6,7 @@ ghost use Rattle.serde_json.specs.View.{items_of, view};
 ghost use Rattle.rb_server.specs.Changes.{changed_all, changed_once, fitting, is_unfit, text_after, with_changes};
 
 use crate::method::Method;
-use rb_document::{ChangeFault, Document, Encoding};
+use rb_document::{Document, Encoding, TextFault};
 use rb_rpc::{range_at, text_at, text_below};
 use serde_json::Value;
 use std::alloc::{AllocError, Global};
@@ -21,8 +21,8 @@ fn opened(alloc: Global, text: &[u8]) -> Result<Option<Document>, AllocError>
             let _len = document.text().len();
             Ok(Some(document))
         }
-        Err(ChangeFault::TooLong) => Ok(None),
-        Err(ChangeFault::OutOfMemory) => Err(AllocError),
+        Err(TextFault::TooLong) => Ok(None),
+        Err(TextFault::OutOfMemory) => Err(AllocError),
     }
 }
 
@@ -57,8 +57,8 @@ fn change_once(
             let _len = document.text().len();
             Ok(true)
         }
-        Err(ChangeFault::TooLong) => Ok(false),
-        Err(ChangeFault::OutOfMemory) => Err(AllocError),
+        Err(TextFault::TooLong) => Ok(false),
+        Err(TextFault::OutOfMemory) => Err(AllocError),
     }
 }
 

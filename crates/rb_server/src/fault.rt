@@ -1,6 +1,6 @@
 //! Why a server ends before its end.
 
-use rb_rpc::ReadFault;
+use rb_rpc::MessageFault;
 use rb_script::WriteFault;
 use std::alloc::AllocError;
 
@@ -35,11 +35,11 @@ impl From<WriteFault> for ServeFault {
     }
 }
 
-impl From<ReadFault> for ServeFault {
-    fn from(e: ReadFault) -> ServeFault {
+impl From<MessageFault> for ServeFault {
+    fn from(e: MessageFault) -> ServeFault {
         match e {
-            ReadFault::Input => ServeFault::Io,
-            ReadFault::OutOfMemory => ServeFault::OutOfMemory,
+            MessageFault::Input => ServeFault::Io,
+            MessageFault::OutOfMemory => ServeFault::OutOfMemory,
         }
     }
 }

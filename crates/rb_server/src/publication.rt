@@ -7,7 +7,7 @@ ghost use Rattle.rb_server.specs.Notices.{head_text, list_publication, middle_te
 
 use crate::client::Client;
 use crate::service::Service;
-use crate::told::{Told, framed};
+use crate::told::{ToldText, framed};
 use rb_text::{Json, Piece, add_pieces};
 use std::alloc::{AllocError, Global};
 
@@ -101,22 +101,22 @@ pub(crate) fn publication<V: Service>(
     uri: &[u8],
     version: Option<u64>,
     text: Option<&[u8]>,
-) -> Result<Told, AllocError>
+) -> Result<ToldText, AllocError>
     requires { IfSome text (λ text. length text.now ≤ MAX_TEXT) }
     ensures { IfOk result (λ told. told.out.items ≡ frame (publication V.meaning told.has_no_memory client uri.now version (option_map (λ text. text.now) text.entry))) }
 {
     let Some(text) = text else {
         service.forget(uri);
-        return Ok(Told::whole(with_list(alloc, uri, version, b"[]")?));
+        return Ok(ToldText::whole(with_list(alloc, uri, version, b"[]")?));
     };
     match diagnosed(alloc, service, client, uri, version, text) {
-        Ok(out) => Ok(Told {
+        Ok(out) => Ok(ToldText {
             out,
             has_no_memory: false,
         }),
         Err(AllocError) => {
             service.forget(uri);
-            Ok(Told {
+            Ok(ToldText {
                 out: with_list(alloc, uri, version, no_memory_list())?,
                 has_no_memory: true,
             })

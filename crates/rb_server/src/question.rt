@@ -13,7 +13,7 @@ use crate::documents::Documents;
 use crate::method::Question;
 use crate::query::{Query, asked_of};
 use crate::service::Service;
-use crate::told::{Told, framed, framed_answer};
+use crate::told::{ToldText, framed, framed_answer};
 use rb_document::Encoding;
 use rb_rpc::{ErrorCode, failure, text_below, text_of};
 use serde_json::Value;
@@ -35,24 +35,24 @@ fn refused(
 
 // Refuses what isn't what the method takes.
 #[tactic(auto, unfolding(crate::specs::Questions::unfit))]
-fn unfit(alloc: Global, id: &Value) -> Result<Told, AllocError>
+fn unfit(alloc: Global, id: &Value) -> Result<ToldText, AllocError>
     requires { has_float (view id.now) ≡ false }
     ensures { IfOk result (λ told. told.out.items ≡ frame (body_text (unfit (view id.now)))) }
 {
     let code = ErrorCode::InvalidParams;
     let out = refused(alloc, id, code, "the method takes other params")?;
-    Ok(Told::whole(out))
+    Ok(ToldText::whole(out))
 }
 
 // Refuses what is asked of a document that isn't open.
 #[tactic(auto, unfolding(crate::specs::Questions::not_open))]
-fn not_open(alloc: Global, id: &Value) -> Result<Told, AllocError>
+fn not_open(alloc: Global, id: &Value) -> Result<ToldText, AllocError>
     requires { has_float (view id.now) ≡ false }
     ensures { IfOk result (λ told. told.out.items ≡ frame (body_text (not_open (view id.now)))) }
 {
     let code = ErrorCode::InvalidParams;
     let out = refused(alloc, id, code, "the document isn't open")?;
-    Ok(Told::whole(out))
+    Ok(ToldText::whole(out))
 }
 
 // Refuses a request for whose answer memory was refused.
@@ -107,17 +107,17 @@ fn of_text<V: Service>(
     uri: &[u8],
     text: &[u8],
     id: &Value,
-) -> Result<Told, AllocError>
+) -> Result<ToldText, AllocError>
     requires plain { has_float (view id.now) ≡ false }
     requires bounded { length text.now ≤ MAX_TEXT }
     ensures { IfOk result (λ told. told.out.items ≡ frame (of_text V.meaning told.has_no_memory encoding asked uri.now (view id.now) (Some text.now))) }
 {
     match answered(alloc, service, encoding, asked, uri, text, id) {
-        Ok(out) => Ok(Told {
+        Ok(out) => Ok(ToldText {
             out,
             has_no_memory: false,
         }),
-        Err(AllocError) => Ok(Told {
+        Err(AllocError) => Ok(ToldText {
             out: no_memory_for(alloc, id)?,
             has_no_memory: true,
         }),
@@ -133,7 +133,7 @@ fn of_document<V: Service>(
     asked: Query,
     uri: &[u8],
     id: &Value,
-) -> Result<Told, AllocError>
+) -> Result<ToldText, AllocError>
     requires { has_float (view id.now) ≡ false }
     ensures { IfOk result (λ told. told.out.items ≡ frame (of_text V.meaning told.has_no_memory encoding asked uri.now (view id.now) (text_of uri.now documents.now))) }
 {
@@ -152,7 +152,7 @@ pub(crate) fn question_told<V: Service>(
     question: Question,
     params: Option<&Value>,
     id: &Value,
-) -> Result<Told, AllocError>
+) -> Result<ToldText, AllocError>
     requires { has_float (view id.now) ≡ false }
     ensures { IfOk result (λ told. told.out.items ≡ frame (question_body V.meaning told.has_no_memory encoding documents.now question (option_map (λ v. view v.now) params.entry) (view id.now))) }
 {

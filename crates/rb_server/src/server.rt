@@ -21,7 +21,7 @@ use crate::method::{Method, is_of_documents, method_of};
 use crate::phase::{ExitStatus, Phase, status_of};
 use crate::publication::publication;
 use crate::service::Service;
-use crate::told::{Told, framed_answer};
+use crate::told::{ToldText, framed_answer};
 use rb_rpc::{Incoming, incoming_of, number_below, text_below};
 use serde_json::Value;
 use std::alloc::{AllocError, Global};
@@ -59,18 +59,18 @@ impl Server {
 
 /// What goes out for a message, whether memory was refused for what it asks of a text, and how the server ends, if it does.
 #[derive(Drop)]
-pub(crate) struct Heard {
+pub(crate) struct ServerReply {
     pub(crate) out: Vec<u8>,
     pub(crate) has_no_memory: bool,
     pub(crate) over: Option<ExitStatus>,
 }
 
 // Nothing goes out.
-fn silent(alloc: Global, over: Option<ExitStatus>) -> Heard
+fn silent(alloc: Global, over: Option<ExitStatus>) -> ServerReply
     ensures out { result.out.items ≡ [] }
     ensures over { result.over ≡ over }
 {
-    Heard {
+    ServerReply {
         out: Vec::new(alloc),
         has_no_memory: false,
         over,
@@ -86,7 +86,7 @@ fn hear_request<V: Service>(
     id: &Value,
     method: Method,
     params: Option<&Value>,
-) -> Result<Heard, AllocError>
+) -> Result<ServerReply, AllocError>
     requires { has_float (view id.now) ≡ false }
     ensures out { IfOk result (λ heard. heard.out.items ≡ sent (Some (answer_body V.meaning heard.has_no_memory server.old method (option_map (λ v. view v.now) params.entry) (view id.now)))) }
     ensures over { IfOk result (λ heard. heard.over ≡ None) }
@@ -102,7 +102,7 @@ fn hear_request<V: Service>(
         id,
     )?;
     server.phase = after(server.phase, method, params);
-    Ok(Heard {
+    Ok(ServerReply {
         out: told.out,
         has_no_memory: told.has_no_memory,
         over: None,
@@ -118,7 +118,7 @@ fn notice<V: Service>(
     method: Method,
     params: &Value,
     uri: &[u8],
-) -> Result<Told, AllocError>
+) -> Result<ToldText, AllocError>
     ensures documents { OnOk result (documents.new ≡ kept uri.now (text_after client.encoding method (view params.now) (text_of uri.now documents.old)) (closed uri.now documents.old)) }
     ensures out { IfOk result (λ told. told.out.items ≡ frame (publication V.meaning told.has_no_memory client uri.now (number_below (codes "textDocument") (codes "version") (view params.now)) (text_of uri.now documents.new))) }
 {
@@ -136,22 +136,22 @@ fn take_notice<V: Service>(
     server: &mut Server,
     method: Method,
     params: Option<&Value>,
-) -> Result<Told, AllocError>
+) -> Result<ToldText, AllocError>
     ensures phase { server.new.phase ≡ server.old.phase }
     ensures documents { OnOk result (server.new.documents ≡ documents_after (notice_of server.old.phase method (option_map (λ v. view v.now) params.entry)) server.old.documents) }
     ensures out { IfOk result (λ told. told.out.items ≡ notice_text V.meaning told.has_no_memory (notice_of server.old.phase method (option_map (λ v. view v.now) params.entry)) server.new.documents) }
 {
     let Phase::Running(client) = server.phase else {
-        return Ok(Told::whole(Vec::new(alloc)));
+        return Ok(ToldText::whole(Vec::new(alloc)));
     };
     let Some(params) = params else {
-        return Ok(Told::whole(Vec::new(alloc)));
+        return Ok(ToldText::whole(Vec::new(alloc)));
     };
     if !is_of_documents(method) {
-        return Ok(Told::whole(Vec::new(alloc)));
+        return Ok(ToldText::whole(Vec::new(alloc)));
     }
     let Some(uri) = text_below(params, "textDocument", "uri") else {
-        return Ok(Told::whole(Vec::new(alloc)));
+        return Ok(ToldText::whole(Vec::new(alloc)));
     };
     notice(
         alloc,
@@ -171,7 +171,7 @@ fn hear_notification<V: Service>(
     server: &mut Server,
     method: Method,
     params: Option<&Value>,
-) -> Result<Heard, AllocError>
+) -> Result<ServerReply, AllocError>
     ensures out { IfOk result (λ heard. heard.out.items ≡ published V.meaning heard.has_no_memory server.old method (option_map (λ v. view v.now) params.entry)) }
     ensures turned { IfOk result (λ heard. turned_of heard.over server.new ≡ noticed_by server.old method (option_map (λ v. view v.now) params.entry)) }
 {
@@ -179,7 +179,7 @@ fn hear_notification<V: Service>(
         return Ok(silent(alloc, Some(status_of(server.phase))));
     }
     let told = take_notice(alloc, service, server, method, params)?;
-    Ok(Heard {
+    Ok(ServerReply {
         out: told.out,
         has_no_memory: told.has_no_memory,
         over: None,
@@ -193,7 +193,7 @@ pub(crate) fn hear<V: Service>(
     service: &mut V,
     server: &mut Server,
     message: &Value,
-) -> Result<Heard, AllocError>
+) -> Result<ServerReply, AllocError>
     ensures out { IfOk result (λ heard. heard.out.items ≡ told_of V.meaning heard.has_no_memory server.old (said (view message.now))) }
     ensures turned { IfOk result (λ heard. turned_of heard.over server.new ≡ turned_by server.old (said (view message.now))) }
 {
@@ -205,7 +205,7 @@ pub(crate) fn hear<V: Service>(
             hear_notification(alloc, service, server, method_of(method), params)
         }
         Incoming::Response => Ok(silent(alloc, None)),
-        Incoming::Invalid => Ok(Heard {
+        Incoming::Invalid => Ok(ServerReply {
             out: framed_answer(alloc, &no_message(alloc)?)?,
             has_no_memory: false,
             over: None,

@@ -14,7 +14,7 @@ use crate::phase::ExitStatus;
 use crate::server::{Server, hear, refused};
 use crate::service::Service;
 use rb_line::Source;
-use rb_rpc::{MAX_CALLS, MessageReader, Next, ReadError, read};
+use rb_rpc::{MAX_CALLS, MessageReader, NextMessage, ReadError, read};
 use rb_script::Sink;
 use serde_json::Value;
 use std::alloc::Global;
@@ -61,10 +61,10 @@ fn turn<V: Service, S: Source, W: Sink>(
     ensures failed { OnErr result (TurnBreaks V.meaning server.old (left_of reader.old (S.left source.old)) (W.held sink.old) (W.held sink.new)) }
 {
     match reader.next(source)? {
-        Next::Message => respond(alloc, service, server, reader.body(), sink),
-        Next::End => Ok(Some(ExitStatus::Closed)),
-        Next::CutOff => Ok(Some(ExitStatus::CutOff)),
-        Next::Bad => Ok(Some(ExitStatus::NoMessage)),
+        NextMessage::Message => respond(alloc, service, server, reader.body(), sink),
+        NextMessage::End => Ok(Some(ExitStatus::Closed)),
+        NextMessage::CutOff => Ok(Some(ExitStatus::CutOff)),
+        NextMessage::Bad => Ok(Some(ExitStatus::NoMessage)),
     }
 }
 

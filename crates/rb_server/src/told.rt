@@ -13,19 +13,19 @@ use std::alloc::{AllocError, Global};
 
 /// What goes out, and whether memory was refused for what is asked of a text, so that it says so.
 #[derive(Drop)]
-pub(crate) struct Told {
+pub(crate) struct ToldText {
     pub(crate) out: Vec<u8>,
     pub(crate) has_no_memory: bool,
 }
 
-impl Told {
+impl ToldText {
     ghost use Rattle.std.specs.Prelude.{◌≡◌};
 
     /// This goes out, for which there was memory.
-    pub(crate) fn whole(out: Vec<u8>) -> Told
+    pub(crate) fn whole(out: Vec<u8>) -> ToldText
         ensures { result.out.items ≡ out.items }
     {
-        Told {
+        ToldText {
             out,
             has_no_memory: false,
         }

@@ -22,5 +22,5 @@ pub use laws::{
     what_is_not_written_stood, what_stands_still_has_no_row,
 };
 pub use page::{FORMAT, Frame, put_page, put_steps};
-pub use shown::Shown;
+pub use shown::StepMachine;
 pub use steps::steps_of;

@@ -13,7 +13,7 @@ use rb_script::{Block, Lines};
 use std::alloc::{AllocError, Global};
 
 /// A machine that shows what a directive does, and what stands after it that didn't stand so before.
-pub trait Shown: Machine {
+pub trait StepMachine: Machine {
     /// Runs a directive on a copy: the machine after it, and what it prints.
     fn after(&self, block: &Block) -> Result<(Self, Lines), AllocError>
         ensures machine { IfOk result (λ done. Self.meaning done.0 ≡ (outcome (Self.meaning self.now) (directive_of block.now)).cluster) }

@@ -11,7 +11,7 @@ ghost use Rattle.rb_steps.specs.Values.{ShowBytes};
 
 use crate::node::keep_states;
 use crate::script::keep_script;
-use crate::shown::Shown;
+use crate::shown::StepMachine;
 use rb_cluster::{Cluster, Meter};
 use rb_machine::Machine;
 use rb_page::keep_texts;
@@ -65,7 +65,7 @@ fn keep_changes<L: RaftLog>(
     Ok(())
 }
 
-impl<L: RaftLog> Shown for Cluster<L> {
+impl<L: RaftLog> StepMachine for Cluster<L> {
     fn after(&self, block: &Block) -> Result<(Cluster<L>, Lines), AllocError> {
         run(self, block)
     }
@@ -85,7 +85,7 @@ impl<L: RaftLog> Shown for Cluster<L> {
 }
 
 // Adds the rows of a directive, after which a machine stands so, and which printed this.
-fn keep_rows<M: Shown>(
+fn keep_rows<M: StepMachine>(
     alloc: Global,
     texts: &mut Lines,
     machine: &M,
@@ -107,7 +107,7 @@ fn keep_rows<M: Shown>(
 }
 
 /// Adds the rows of a directive, and gives the machine after it.
-pub(crate) fn keep_step<M: Shown>(
+pub(crate) fn keep_step<M: StepMachine>(
     alloc: Global,
     texts: &mut Lines,
     machine: &M,

@@ -8,7 +8,7 @@ ghost use Rattle.rb_page.specs.Kept.{texts_of};
 ghost use Rattle.rb_steps.specs.Steps.{end_row, source_row, step_texts, steps, steps_texts};
 ghost use Rattle.rb_steps.specs.Values.{GoOnShowingBytes};
 
-use crate::shown::Shown;
+use crate::shown::StepMachine;
 use crate::step::keep_step;
 use rb_machine::Machine;
 use rb_page::{Cell, keep_row};
@@ -34,7 +34,7 @@ fn number_at(numbers: &[usize], index: usize) -> usize
 }
 
 // Adds the rows of the directives.
-fn keep_directives<M: Shown>(
+fn keep_directives<M: StepMachine>(
     alloc: Global,
     texts: &mut Lines,
     session: &Session<M>,
@@ -73,7 +73,7 @@ fn keep_source(texts: &mut Lines, bytes: &[u8]) -> Result<(), AllocError>
 }
 
 // Adds the rows of a session's script behind the first.
-fn keep_all<M: Shown>(
+fn keep_all<M: StepMachine>(
     alloc: Global,
     texts: &mut Lines,
     session: &Session<M>,
@@ -92,7 +92,7 @@ fn keep_all<M: Shown>(
 
 /// The rows of a session's script behind the first, each as a text, where these are its bytes and the lines on which its heads begin. After each
 /// directive what is shown of a node's content is bytes.
-pub fn steps_of<M: Shown>(
+pub fn steps_of<M: StepMachine>(
     alloc: Global,
     session: &Session<M>,
     bytes: &[u8],

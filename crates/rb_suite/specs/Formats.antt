@@ -8,8 +8,8 @@ use Rattle.rb_checked.specs.Checked.{head_of, of_each}
 use Rattle.rb_checked.specs.Errors.{first_line, is_unexpected}
 use Rattle.rb_suite.specs.declared.format.Format.{Format}
 use Rattle.rb_suite.specs.declared.format.Format.TheVariants.{Json, Github}
-use Rattle.rb_suite.specs.declared.kind.Kind.{Kind}
-use Rattle.rb_suite.specs.declared.kind.Kind.TheVariants as kinds
+use Rattle.rb_suite.specs.declared.kind.NoticeKind.{NoticeKind}
+use Rattle.rb_suite.specs.declared.kind.NoticeKind.TheVariants as kinds
 use Rattle.rb_suite.specs.Objects.{object_text, notice_object}
 use Rattle.rb_suite.specs.Commands.{command_text, difference_text}
 
@@ -38,20 +38,20 @@ script_text format ls path heads s = directives_text format ls path heads s.bloc
 
 -- ---- what else is told of a script
 
-abbrev pub status_of : Kind → List ℕ
+abbrev pub status_of : NoticeKind → List ℕ
 status_of kinds.Refused = codes "refused"
 status_of kinds.Failed = codes "failed"
 status_of kinds.Warning = codes "warning"
 status_of kinds.Left = codes "left"
 status_of kinds.Accepted = codes "accepted"
 
-abbrev pub command_of : Kind → List ℕ
+abbrev pub command_of : NoticeKind → List ℕ
 command_of kinds.Refused = codes "error"
 command_of kinds.Failed = codes "error"
 command_of kinds.Warning = codes "warning"
 command_of kinds.Left = codes "warning"
 command_of kinds.Accepted = codes "notice"
 
-abbrev pub notice_text : Format → List ℕ → Option ℕ → Kind → List ℕ → List ℕ
+abbrev pub notice_text : Format → List ℕ → Option ℕ → NoticeKind → List ℕ → List ℕ
 notice_text Json path line kind message = notice_object path line (status_of kind) message
 notice_text Github path line kind message = command_text (command_of kind) path line (codes "raftbench") message

@@ -4,7 +4,7 @@ ghost use Rattle.rb_script.specs.Reads.{Reads};
 
 use crate::accepting::accept;
 use crate::check_request::CheckRequest;
-use crate::ending::{Ending, ending_of};
+use crate::ending::{CheckEnding, ending_of};
 use crate::format::Format;
 use crate::formatted::formatted;
 use crate::picking::{named_heads, picked_of};
@@ -88,14 +88,14 @@ fn answer<M: Machine, S: System, W: Write + Drop, E: Write + Drop>(
     let heads = named_heads(alloc, asked, subject, report)?;
     let picked = picked_of(&heads);
     match ending_of(asked, has_warnings, ran.mismatches) {
-        Ending::Kept => report.ran(alloc, ran),
-        Ending::Refused => report.refuse_to_accept(alloc, ran),
-        Ending::Accepted => {
+        CheckEnding::Kept => report.ran(alloc, ran),
+        CheckEnding::Refused => report.refuse_to_accept(alloc, ran),
+        CheckEnding::Accepted => {
             let errors = asked.accepts_errors;
             let wanted = Wanted { picked, errors };
             accept(system, wanted, ran, subject, report);
         }
-        Ending::Reviewed => {
+        CheckEnding::Reviewed => {
             return accept_reviewed(system, asked, ran, picked, subject, review, report);
         }
     }

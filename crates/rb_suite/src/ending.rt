@@ -7,7 +7,7 @@ use crate::check_request::CheckRequest;
 
 /// What is done with the outputs of a script.
 #[derive(Clone, Copy)]
-pub(crate) enum Ending {
+pub(crate) enum CheckEnding {
     /// They are shown, and no more: nothing is to be accepted, or none differs.
     Kept,
     /// None is accepted, since the script has warnings.
@@ -19,16 +19,20 @@ pub(crate) enum Ending {
 }
 
 /// What is done with the outputs of a script, of which so many differ.
-pub(crate) fn ending_of(asked: &CheckRequest<'_>, has_warnings: bool, mismatches: usize) -> Ending
+pub(crate) fn ending_of(
+    asked: &CheckRequest<'_>,
+    has_warnings: bool,
+    mismatches: usize,
+) -> CheckEnding
     ensures { result ≡ ending_of asked.now has_warnings mismatches }
 {
     if !asked.accepts || mismatches == 0 {
-        Ending::Kept
+        CheckEnding::Kept
     } else if has_warnings && !asked.is_forced {
-        Ending::Refused
+        CheckEnding::Refused
     } else if asked.reviews {
-        Ending::Reviewed
+        CheckEnding::Reviewed
     } else {
-        Ending::Accepted
+        CheckEnding::Accepted
     }
 }

@@ -5,7 +5,7 @@ ghost use Rattle.rb_suite.specs.Formats.{command_of, status_of};
 
 /// What is told of a script beside its directives.
 #[derive(Clone, Copy, Debug, PartialEq, Eq)]
-pub(crate) enum Kind {
+pub(crate) enum NoticeKind {
     /// It is no script.
     Refused,
     /// It could not be read, or not be written.
@@ -18,17 +18,17 @@ pub(crate) enum Kind {
     Accepted,
 }
 
-impl Kind {
+impl NoticeKind {
     /// Its word in JSON.
     pub(crate) fn status(self) -> &'static [u8]
         ensures { result.now ≡ status_of self }
     {
         match self {
-            Kind::Refused => b"refused",
-            Kind::Failed => b"failed",
-            Kind::Warning => b"warning",
-            Kind::Left => b"left",
-            Kind::Accepted => b"accepted",
+            NoticeKind::Refused => b"refused",
+            NoticeKind::Failed => b"failed",
+            NoticeKind::Warning => b"warning",
+            NoticeKind::Left => b"left",
+            NoticeKind::Accepted => b"accepted",
         }
     }
 
@@ -37,9 +37,9 @@ impl Kind {
         ensures { result.now ≡ command_of self }
     {
         match self {
-            Kind::Refused | Kind::Failed => b"error",
-            Kind::Warning | Kind::Left => b"warning",
-            Kind::Accepted => b"notice",
+            NoticeKind::Refused | NoticeKind::Failed => b"error",
+            NoticeKind::Warning | NoticeKind::Left => b"warning",
+            NoticeKind::Accepted => b"notice",
         }
     }
 }

@@ -6,7 +6,7 @@ ghost use Rattle.rb_suite.specs.Objects.{notice_object};
 
 use crate::command::add_command;
 use crate::format::Format;
-use crate::kind::Kind;
+use crate::kind::NoticeKind;
 use crate::piece::CommandPiece;
 use rb_text::{Json, Piece, add_pieces};
 use std::alloc::{AllocError, Global};
@@ -56,7 +56,7 @@ fn add_notice(
     format: Format,
     path: &[u8],
     line: Option<usize>,
-    kind: Kind,
+    kind: NoticeKind,
     message: &[u8],
 ) -> Result<(), AllocError>
     ensures { OnOk result (text.new.items ≡ text.old.items ++ notice_text format path.now line kind message.now) }
@@ -80,7 +80,7 @@ pub fn notice(
     format: Format,
     path: &[u8],
     line: Option<usize>,
-    kind: Kind,
+    kind: NoticeKind,
     message: &[u8],
 ) -> Result<Vec<u8>, AllocError>
     ensures { IfOk result (λ made. made.items ≡ notice_text format path.now line kind message.now) }

@@ -5,7 +5,7 @@ ghost use Rattle.std.specs.IoError.{error_kind};
 
 use crate::check_request::CheckRequest;
 use crate::checking::check_script;
-use crate::progress::Progress;
+use crate::progress::ProgressClock;
 use crate::report::Report;
 use crate::review::Review;
 use crate::runner::Runner;
@@ -33,7 +33,7 @@ pub fn check<T: Runner, R: Files + Input + Print + Clock + AllocGlobal, E: Write
     ensures right { IfOk result (λ status. status ≢ Status.BadUsage) }
     ensures begins { IfErr result (λ error. error_kind error ≡ ErrorKind.OutOfMemory) }
 {
-    let mut progress = Progress::from_now(rt, asked.wants_progress);
+    let mut progress = ProgressClock::from_now(rt, asked.wants_progress);
     let mut report = Report::new(rt.alloc(), io::writer(rt), errors, &asked)?;
     let found = find(rt, asked.targets, asked.filters);
     tell_lost(&found, &mut report);
@@ -73,6 +73,6 @@ fn tell_lost<W: Write + Drop, E: Write + Drop>(found: &Found, report: &mut Repor
     }
 }
 
-fn milliseconds<C: Clock>(progress: &Progress, clock: &C) -> u64 {
+fn milliseconds<C: Clock>(progress: &ProgressClock, clock: &C) -> u64 {
     u64::try_from(progress.elapsed(clock).as_millis()).unwrap_or(u64::MAX)
 }

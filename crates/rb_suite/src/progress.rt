@@ -9,7 +9,7 @@ const MILLISECONDS_APART: u64 = 100;
 
 /// When it is time to show how far a check is.
 #[derive(Clone, Copy)]
-pub(crate) struct Progress {
+pub(crate) struct ProgressClock {
     // None where the clock can't be read
     start: Option<Instant>,
     // how long after the start it is next due
@@ -17,10 +17,10 @@ pub(crate) struct Progress {
     is_wanted: bool,
 }
 
-impl Progress {
+impl ProgressClock {
     /// Of work that starts now. It is never due where it isn't wanted.
-    pub(crate) fn from_now<C: Clock>(clock: &C, is_wanted: bool) -> Progress {
-        Progress {
+    pub(crate) fn from_now<C: Clock>(clock: &C, is_wanted: bool) -> ProgressClock {
+        ProgressClock {
             start: Instant::now(clock).ok(),
             next: Duration::from_millis(FIRST_MILLISECONDS),
             is_wanted,

@@ -9,7 +9,7 @@ ghost use Rattle.rb_suite.specs.Counts.{counted_as};
 
 use crate::check_request::CheckRequest;
 use crate::format::Format;
-use crate::kind::Kind;
+use crate::kind::NoticeKind;
 use crate::notices::notice;
 use rb_check::{
     Failure, Outcome, Status, Totals, doubt_sentence, failure_sentence, fault_line, put_accepted,
@@ -154,7 +154,7 @@ impl<W: Write + Drop, E: Write + Drop> Report<W, E> {
     }
 
     // Tells programs something of a script beside its directives.
-    fn notify(&mut self, path: &[u8], line: Option<usize>, kind: Kind, message: &[u8]) {
+    fn notify(&mut self, path: &[u8], line: Option<usize>, kind: NoticeKind, message: &[u8]) {
         let Some(format) = self.format else {
             return;
         };
@@ -224,7 +224,12 @@ impl<W: Write + Drop, E: Write + Drop> Report<W, E> {
         if self.is_for_programs() {
             let noun = if accepted == 1 { "output" } else { "outputs" };
             match format!(in self.alloc; "accepted {accepted} {noun}") {
-                Ok(text) => self.notify(path.as_bytes(), None, Kind::Accepted, text.as_bytes()),
+                Ok(text) => self.notify(
+                    path.as_bytes(),
+                    None,
+                    NoticeKind::Accepted,
+                    text.as_bytes(),
+                ),
                 Err(_) => self.fail_for_memory(path.as_bytes()),
             }
             return;
@@ -240,7 +245,7 @@ impl<W: Write + Drop, E: Write + Drop> Report<W, E> {
         for line in left {
             if is_picked(picked, *line) {
                 let message = b"this new error was not accepted; --accept-errors accepts it too";
-                self.notify(path.as_bytes(), Some(*line), Kind::Left, message);
+                self.notify(path.as_bytes(), Some(*line), NoticeKind::Left, message);
             }
         }
     }
@@ -255,7 +260,7 @@ impl<W: Write + Drop, E: Write + Drop> Report<W, E> {
     pub(crate) fn tell_expected(&mut self, path: &str, line: usize) {
         let message = b"there is nothing to accept: the output is the expected one";
         if self.is_for_programs() {
-            return self.notify(path.as_bytes(), Some(line), Kind::Left, message);
+            return self.notify(path.as_bytes(), Some(line), NoticeKind::Left, message);
         }
         if self.is_open() {
             let written = put_note(&mut self.output, path.as_bytes(), line, message);
@@ -273,7 +278,7 @@ impl<W: Write + Drop, E: Write + Drop> Report<W, E> {
     fn warn_of(&mut self, path: &[u8], warning: Warning) {
         if self.is_for_programs() {
             let message = doubt_sentence(warning.doubt);
-            return self.notify(path, Some(warning.line), Kind::Warning, message);
+            return self.notify(path, Some(warning.line), NoticeKind::Warning, message);
         }
         if self.is_open() {
             let written = put_warning(&mut self.output, path, warning.line, warning.doubt);
@@ -291,7 +296,7 @@ impl<W: Write + Drop, E: Write + Drop> Report<W, E> {
         if self.is_for_programs() {
             let message =
                 b"nothing was accepted, since it has warnings; --force accepts all the same";
-            return self.notify(path.as_bytes(), None, Kind::Left, message);
+            return self.notify(path.as_bytes(), None, NoticeKind::Left, message);
         }
         if self.is_open() {
             let written = put_unaccepted(&mut self.output, path.as_bytes());
@@ -329,7 +334,7 @@ impl<W: Write + Drop, E: Write + Drop> Report<W, E> {
             return self.notify(
                 path.as_bytes(),
                 fault_line(fault),
-                Kind::Refused,
+                NoticeKind::Refused,
                 sentence(fault),
             );
         }
@@ -345,7 +350,12 @@ impl<W: Write + Drop, E: Write + Drop> Report<W, E> {
         self.clear();
         let _ = self.tell(path, error);
         let _ = self.errors.0.flush();
-        self.notify(path, None, Kind::Failed, failure_sentence(error.failure));
+        self.notify(
+            path,
+            None,
+            NoticeKind::Failed,
+            failure_sentence(error.failure),
+        );
     }
 
     fn tell(&mut self, path: &[u8], error: PathError) -> Result<(), WriteFault> {

@@ -43,7 +43,7 @@ pub(crate) enum Answer {
 
 /// What came from the terminal.
 #[derive(Clone, Copy)]
-pub(crate) enum Heard {
+pub(crate) enum HeardAnswer {
     Answer(Answer),
     /// Something else.
     Else,
@@ -227,11 +227,11 @@ fn ask<S: System, W: Write + Drop, E: Write + Drop>(
             break;
         }
         match system.hear() {
-            Heard::Answer(answer) => return answer,
-            Heard::Else => {
+            HeardAnswer::Answer(answer) => return answer,
+            HeardAnswer::Else => {
                 report.say(HELP);
             }
-            Heard::End => break,
+            HeardAnswer::End => break,
         }
     }
     Answer::Quit

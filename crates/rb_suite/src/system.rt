@@ -1,10 +1,10 @@
 //! What a check reaches of the system.
 
 use crate::report::Report;
-use crate::review::{Heard, answer_of};
+use crate::review::{HeardAnswer, answer_of};
 use rb_check::Failure;
 use rb_files::{Beside, PathError, opened, replace};
-use rb_line::{Incoming, ReadFault, read_up_to};
+use rb_line::{ReadFault, ReadSource, read_up_to};
 use rb_script::MAX_SCRIPT;
 use std::alloc::Global;
 use std::fs::Metadata;
@@ -37,7 +37,7 @@ pub(crate) trait System {
     ) -> Result<(), PathError>;
 
     /// What comes from the terminal.
-    fn hear(&self) -> Heard;
+    fn hear(&self) -> HeardAnswer;
 }
 
 /// What a runtime gives of it.
@@ -51,7 +51,7 @@ impl<'a, R: Files + Input + AllocGlobal> System for RuntimeSystem<'a, R> {
 
     fn read(&self, path: &str) -> Result<Text, PathError> {
         let (file, seen) = opened(self.0, path)?;
-        match read_up_to(self.0.alloc(), &mut Incoming(file), MAX_SCRIPT + 1) {
+        match read_up_to(self.0.alloc(), &mut ReadSource(file), MAX_SCRIPT + 1) {
             Ok(bytes) => Ok(Text { bytes, seen }),
             Err(ReadFault::Io) => Err(PathError::alone(Failure::NotRead)),
             Err(ReadFault::OutOfMemory) => Err(PathError::alone(Failure::OutOfMemory)),
@@ -69,14 +69,14 @@ impl<'a, R: Files + Input + AllocGlobal> System for RuntimeSystem<'a, R> {
         put(&mut place, text, report)
     }
 
-    fn hear(&self) -> Heard {
+    fn hear(&self) -> HeardAnswer {
         let mut line = String::new(self.0.alloc());
         match self.0.read_line(&mut line) {
             Ok(count) if count > 0 => match answer_of(line.as_str()) {
-                Some(answer) => Heard::Answer(answer),
-                None => Heard::Else,
+                Some(answer) => HeardAnswer::Answer(answer),
+                None => HeardAnswer::Else,
             },
-            _ => Heard::End,
+            _ => HeardAnswer::End,
         }
     }
 }

@@ -6,7 +6,7 @@
 ghost use Rattle.std.specs.Prelude.{◌≡◌, ◌++◌, OnOk};
 ghost use Rattle.rb_texts.specs.Configs.{config_text, part_text};
 
-use crate::piece::{Piece, add_bytes, add_pieces, shown_if};
+use crate::piece::{LinePiece, add_bytes, add_pieces, shown_if};
 use rb_script::LineText;
 use rb_tracker::Config;
 use std::alloc::AllocError;
@@ -15,9 +15,9 @@ pub(crate) fn add_config(line: &mut LineText, config: &Config) -> Result<(), All
     ensures { OnOk result (line.new ≡ line.old ++ config_text config.now) }
 {
     let voters = [
-        Piece::Bytes(b"voters=("),
-        Piece::Ids(config.incoming.as_slice()),
-        Piece::Bytes(b")"),
+        LinePiece::Bytes(b"voters=("),
+        LinePiece::Ids(config.incoming.as_slice()),
+        LinePiece::Bytes(b")"),
     ];
     add_pieces(line, &voters)?;
     add_part(line, b" outgoing=(", config.outgoing.as_slice())?;
@@ -33,6 +33,10 @@ fn add_part<'a>(line: &mut LineText, name: &'a [u8], ids: &'a [u64]) -> Result<(
     if ids.is_empty() {
         return Ok(());
     }
-    let pieces = [Piece::Bytes(name), Piece::Ids(ids), Piece::Bytes(b")")];
+    let pieces = [
+        LinePiece::Bytes(name),
+        LinePiece::Ids(ids),
+        LinePiece::Bytes(b")"),
+    ];
     add_pieces(line, &pieces)
 }

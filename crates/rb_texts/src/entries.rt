@@ -7,7 +7,7 @@ ghost use Rattle.std.specs.Prelude.{◌≡◌, ◌++◌, codes, OnOk};
 ghost use Rattle.std.specs.List.{flat_map};
 ghost use Rattle.rb_texts.specs.Entries.{transition_text, letter, change_word, body_text, entry_text};
 
-use crate::piece::{Piece, add_bytes, add_pieces, add_place, add_quoted};
+use crate::piece::{LinePiece, add_bytes, add_pieces, add_place, add_quoted};
 use rb_change::{Transition, Word, WordKind};
 use rb_raftlog::{Body, Entry};
 use rb_script::LineText;
@@ -38,9 +38,9 @@ fn add_word(line: &mut LineText, word: &Word) -> Result<(), AllocError>
     ensures { OnOk result (line.new ≡ line.old ++ change_word word.now) }
 {
     let pieces = [
-        Piece::Bytes(b" "),
-        Piece::Bytes(letter(word.kind)),
-        Piece::Number(word.id),
+        LinePiece::Bytes(b" "),
+        LinePiece::Bytes(letter(word.kind)),
+        LinePiece::Number(word.id),
     ];
     add_pieces(line, &pieces)
 }
@@ -58,8 +58,8 @@ fn add_change(line: &mut LineText, transition: Transition, words: &[Word]) -> Re
     ensures { OnOk result (line.new ≡ line.old ++ (codes "change " ++ transition_text transition ++ flat_map change_word words.now)) }
 {
     let pieces = [
-        Piece::Bytes(b"change "),
-        Piece::Bytes(transition_name(transition)),
+        LinePiece::Bytes(b"change "),
+        LinePiece::Bytes(transition_name(transition)),
     ];
     add_pieces(line, &pieces)?;
     add_words(line, words)

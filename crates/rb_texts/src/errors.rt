@@ -5,7 +5,7 @@
 ghost use Rattle.std.specs.Prelude.{◌≡◌, ◌++◌, OnOk};
 ghost use Rattle.rb_texts.specs.Errors.{error_text, word_text};
 
-use crate::piece::{Piece, add_bytes, add_pieces};
+use crate::piece::{LinePiece, add_bytes, add_pieces};
 use rb_level::DirectiveError;
 use rb_script::LineText;
 use std::alloc::AllocError;
@@ -31,7 +31,7 @@ pub(crate) fn add_error(line: &mut LineText, error: &DirectiveError<'_>) -> Resu
             add_word(line, b"error: missing argument ", name.bytes())
         }
         DirectiveError::NoSuchNode(id) => {
-            add_pieces(line, &[Piece::Field(b"error: no node ", *id)])
+            add_pieces(line, &[LinePiece::Field(b"error: no node ", *id)])
         }
         DirectiveError::TooManyNodes => add_bytes(line, b"error: too many nodes"),
         DirectiveError::IndexTooLow => add_bytes(line, b"error: index must be above 1"),
@@ -49,5 +49,5 @@ fn add_word<'a>(line: &mut LineText, text: &'a [u8], word: &'a [u8]) -> Result<(
     ensures { OnOk result (line.new ≡ line.old ++ (text.now ++ word_text word.now)) }
 {
     let shown = &word[..word.len().min(WORD_SHOWN)];
-    add_pieces(line, &[Piece::Bytes(text), Piece::Quoted(shown)])
+    add_pieces(line, &[LinePiece::Bytes(text), LinePiece::Quoted(shown)])
 }

@@ -9,7 +9,7 @@ ghost use Rattle.rb_texts.specs.Events.{event_level, level_text, no_campaign_tex
 
 use crate::configs::add_config;
 use crate::messages::answer_name;
-use crate::piece::{Piece, add_bytes, add_pieces};
+use crate::piece::{LinePiece, add_bytes, add_pieces};
 use crate::states::role_name;
 use rb_level::{Level, MessageType};
 use rb_message::{Event, Role, WhyNoCampaign, WhyReplaced};
@@ -101,7 +101,7 @@ fn fault_name(fault: ChangeFault) -> &'static [u8]
 fn add_node_text<'a>(line: &mut LineText, id: u64, text: &'a [u8]) -> Result<(), AllocError>
     ensures { OnOk result (line.new ≡ line.old ++ (decimal id ++ text.now)) }
 {
-    add_pieces(line, &[Piece::Number(id), Piece::Bytes(text)])
+    add_pieces(line, &[LinePiece::Number(id), LinePiece::Bytes(text)])
 }
 
 // Adds the id of a node, a text of it, and a reason or a name.
@@ -115,7 +115,11 @@ fn add_named<'a>(
 {
     add_pieces(
         line,
-        &[Piece::Number(id), Piece::Bytes(text), Piece::Bytes(name)],
+        &[
+            LinePiece::Number(id),
+            LinePiece::Bytes(text),
+            LinePiece::Bytes(name),
+        ],
     )
 }
 
@@ -123,7 +127,7 @@ fn add_named<'a>(
 fn add_counted<'a>(line: &mut LineText, id: u64, text: &'a [u8], n: u64) -> Result<(), AllocError>
     ensures { OnOk result (line.new ≡ line.old ++ (decimal id ++ text.now ++ decimal n)) }
 {
-    add_pieces(line, &[Piece::Number(id), Piece::Field(text, n)])
+    add_pieces(line, &[LinePiece::Number(id), LinePiece::Field(text, n)])
 }
 
 fn add_started(
@@ -136,10 +140,10 @@ fn add_started(
     ensures { OnOk result (line.new ≡ line.old ++ started_text id term index config.now) }
 {
     let pieces = [
-        Piece::Number(id),
-        Piece::Bytes(b" started at "),
-        Piece::Place(term, index),
-        Piece::Bytes(b" with "),
+        LinePiece::Number(id),
+        LinePiece::Bytes(b" started at "),
+        LinePiece::Place(term, index),
+        LinePiece::Bytes(b" with "),
     ];
     add_pieces(line, &pieces)?;
     add_config(line, config)
@@ -149,10 +153,10 @@ fn add_became(line: &mut LineText, id: u64, role: Role, term: u64) -> Result<(),
     ensures { OnOk result (line.new ≡ line.old ++ became_text id role term) }
 {
     let pieces = [
-        Piece::Number(id),
-        Piece::Bytes(b" became "),
-        Piece::Bytes(role_name(role)),
-        Piece::Field(b" at term ", term),
+        LinePiece::Number(id),
+        LinePiece::Bytes(b" became "),
+        LinePiece::Bytes(role_name(role)),
+        LinePiece::Field(b" at term ", term),
     ];
     add_pieces(line, &pieces)
 }
@@ -169,14 +173,14 @@ fn add_vote_counted(
     ensures { OnOk result (line.new ≡ line.old ++ vote_counted_text id message_type granted from votes) }
 {
     let pieces = [
-        Piece::Number(id),
-        Piece::Bytes(b" has "),
-        Piece::Bytes(message_type.text()),
-        Piece::Bytes(b" "),
-        Piece::Bytes(answer_name(granted)),
-        Piece::Field(b" from ", from),
-        Piece::Bytes(b": "),
-        Piece::Bytes(votes_name(votes)),
+        LinePiece::Number(id),
+        LinePiece::Bytes(b" has "),
+        LinePiece::Bytes(message_type.text()),
+        LinePiece::Bytes(b" "),
+        LinePiece::Bytes(answer_name(granted)),
+        LinePiece::Field(b" from ", from),
+        LinePiece::Bytes(b": "),
+        LinePiece::Bytes(votes_name(votes)),
     ];
     add_pieces(line, &pieces)
 }
@@ -190,10 +194,10 @@ fn add_ignored(
     ensures { OnOk result (line.new ≡ line.old ++ ignored_text id message_type from) }
 {
     let pieces = [
-        Piece::Number(id),
-        Piece::Bytes(b" ignored "),
-        Piece::Bytes(message_type.text()),
-        Piece::Field(b" from ", from),
+        LinePiece::Number(id),
+        LinePiece::Bytes(b" ignored "),
+        LinePiece::Bytes(message_type.text()),
+        LinePiece::Field(b" from ", from),
     ];
     add_pieces(line, &pieces)
 }
@@ -202,9 +206,9 @@ fn add_conflict(line: &mut LineText, id: u64, index: u64, commit: u64) -> Result
     ensures { OnOk result (line.new ≡ line.old ++ conflict_text id index commit) }
 {
     let pieces = [
-        Piece::Number(id),
-        Piece::Field(b" conflict at ", index),
-        Piece::Field(b", commit ", commit),
+        LinePiece::Number(id),
+        LinePiece::Field(b" conflict at ", index),
+        LinePiece::Field(b", commit ", commit),
     ];
     add_pieces(line, &pieces)
 }
@@ -219,10 +223,10 @@ fn add_replaced(
     ensures { OnOk result (line.new ≡ line.old ++ replaced_change_text id index why) }
 {
     let pieces = [
-        Piece::Number(id),
-        Piece::Field(b" replaced change at ", index),
-        Piece::Bytes(b" by an empty entry: "),
-        Piece::Bytes(replaced_name(why)),
+        LinePiece::Number(id),
+        LinePiece::Field(b" replaced change at ", index),
+        LinePiece::Bytes(b" by an empty entry: "),
+        LinePiece::Bytes(replaced_name(why)),
     ];
     add_pieces(line, &pieces)
 }
@@ -236,10 +240,10 @@ fn add_refused(
     ensures { OnOk result (line.new ≡ line.old ++ refused_change_text id index fault) }
 {
     let pieces = [
-        Piece::Number(id),
-        Piece::Field(b" refused change at ", index),
-        Piece::Bytes(b": "),
-        Piece::Bytes(fault_name(fault)),
+        LinePiece::Number(id),
+        LinePiece::Field(b" refused change at ", index),
+        LinePiece::Bytes(b": "),
+        LinePiece::Bytes(fault_name(fault)),
     ];
     add_pieces(line, &pieces)
 }
@@ -255,9 +259,9 @@ fn add_restored(line: &mut LineText, id: u64, term: u64, index: u64) -> Result<(
     ensures { OnOk result (line.new ≡ line.old ++ (decimal id ++ codes " restored snapshot " ++ place_text term index)) }
 {
     let pieces = [
-        Piece::Number(id),
-        Piece::Bytes(b" restored snapshot "),
-        Piece::Place(term, index),
+        LinePiece::Number(id),
+        LinePiece::Bytes(b" restored snapshot "),
+        LinePiece::Place(term, index),
     ];
     add_pieces(line, &pieces)
 }

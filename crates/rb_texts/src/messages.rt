@@ -9,7 +9,9 @@ ghost use Rattle.rb_texts.specs.Messages.{answer_text, vote_text, append_text, r
 
 use crate::entries::add_body;
 use crate::item::Verb;
-use crate::piece::{Piece, add_bytes, add_field, add_numbered, add_pieces, add_place, shown_if};
+use crate::piece::{
+    LinePiece, add_bytes, add_field, add_numbered, add_pieces, add_place, shown_if,
+};
 use rb_message::{Append, Message, MessageKind};
 use rb_raftlog::{Body, Snapshot};
 use rb_script::LineText;
@@ -41,9 +43,9 @@ fn add_vote(
     ensures { OnOk result (line.new ≡ line.old ++ vote_text last_term last_index transfer) }
 {
     let pieces = [
-        Piece::Bytes(b" last="),
-        Piece::Place(last_term, last_index),
-        Piece::Bytes(shown_if(transfer, b" transfer")),
+        LinePiece::Bytes(b" last="),
+        LinePiece::Place(last_term, last_index),
+        LinePiece::Bytes(shown_if(transfer, b" transfer")),
     ];
     add_pieces(line, &pieces)
 }
@@ -51,7 +53,10 @@ fn add_vote(
 fn add_answer(line: &mut LineText, granted: bool) -> Result<(), AllocError>
     ensures { OnOk result (line.new ≡ line.old ++ (codes " " ++ answer_text granted)) }
 {
-    let pieces = [Piece::Bytes(b" "), Piece::Bytes(answer_name(granted))];
+    let pieces = [
+        LinePiece::Bytes(b" "),
+        LinePiece::Bytes(answer_name(granted)),
+    ];
     add_pieces(line, &pieces)
 }
 
@@ -68,8 +73,8 @@ fn add_refusal(line: &mut LineText, refused: u64, hint: u64) -> Result<(), Alloc
     ensures { OnOk result (line.new ≡ line.old ++ refusal_text refused hint) }
 {
     let pieces = [
-        Piece::Field(b" refused=", refused),
-        Piece::Field(b" hint=", hint),
+        LinePiece::Field(b" refused=", refused),
+        LinePiece::Field(b" hint=", hint),
     ];
     add_pieces(line, &pieces)
 }
@@ -78,8 +83,8 @@ fn add_snapshot(line: &mut LineText, snapshot: &Snapshot) -> Result<(), AllocErr
     ensures { OnOk result (line.new ≡ line.old ++ (codes " snapshot=" ++ place_text snapshot.now.term snapshot.now.index)) }
 {
     let pieces = [
-        Piece::Bytes(b" snapshot="),
-        Piece::Place(snapshot.term, snapshot.index),
+        LinePiece::Bytes(b" snapshot="),
+        LinePiece::Place(snapshot.term, snapshot.index),
     ];
     add_pieces(line, &pieces)
 }

@@ -13,7 +13,7 @@ use std::alloc::AllocError;
 
 /// A piece of a line.
 #[derive(Clone, Copy)]
-pub(crate) enum Piece<'a> {
+pub(crate) enum LinePiece<'a> {
     /// The bytes as they are.
     Bytes(&'a [u8]),
     /// A number in decimal digits.
@@ -52,7 +52,7 @@ fn add_byte(line: &mut LineText, byte: u8) -> Result<(), AllocError>
 }
 
 /// Adds the pieces to the line.
-pub(crate) fn add_pieces(line: &mut LineText, pieces: &[Piece<'_>]) -> Result<(), AllocError>
+pub(crate) fn add_pieces(line: &mut LineText, pieces: &[LinePiece<'_>]) -> Result<(), AllocError>
     ensures { OnOk result (line.new ≡ line.old ++ pieces_text pieces.now) }
 {
     for piece in pieces {
@@ -61,16 +61,16 @@ pub(crate) fn add_pieces(line: &mut LineText, pieces: &[Piece<'_>]) -> Result<()
     Ok(())
 }
 
-fn add_piece(line: &mut LineText, piece: Piece<'_>) -> Result<(), AllocError>
+fn add_piece(line: &mut LineText, piece: LinePiece<'_>) -> Result<(), AllocError>
     ensures { OnOk result (line.new ≡ line.old ++ piece_text piece.entry) }
 {
     match piece {
-        Piece::Bytes(bytes) => add_bytes(line, bytes),
-        Piece::Number(n) => add_number(line, n),
-        Piece::Field(name, n) => add_field(line, name, n),
-        Piece::Place(term, index) => add_place(line, term, index),
-        Piece::Quoted(bytes) => add_quoted(line, bytes),
-        Piece::Ids(ids) => add_ids(line, ids),
+        LinePiece::Bytes(bytes) => add_bytes(line, bytes),
+        LinePiece::Number(n) => add_number(line, n),
+        LinePiece::Field(name, n) => add_field(line, name, n),
+        LinePiece::Place(term, index) => add_place(line, term, index),
+        LinePiece::Quoted(bytes) => add_quoted(line, bytes),
+        LinePiece::Ids(ids) => add_ids(line, ids),
     }
 }
 

@@ -8,7 +8,7 @@ ghost use Rattle.rb_texts.specs.Items.{plain_node};
 ghost use Rattle.rb_texts.specs.States.{role_text, node_text, hard_state_text, log_text, progress_state_text, under_way_text, progress_text};
 
 use crate::item::{LogLine, NodeLine};
-use crate::piece::{Piece, add_bytes, add_field, add_pieces, shown_if};
+use crate::piece::{LinePiece, add_bytes, add_field, add_pieces, shown_if};
 use rb_message::{HardState, Role};
 use rb_script::LineText;
 use rb_tracker::{Progress, ProgressState};
@@ -29,17 +29,17 @@ pub(crate) fn add_node(line: &mut LineText, node: &NodeLine<'_>) -> Result<(), A
     ensures { OnOk result (line.new ≡ line.old ++ node_text (plain_node node.now)) }
 {
     let pieces = [
-        Piece::Number(node.id),
-        Piece::Bytes(b" "),
-        Piece::Bytes(role_name(node.role)),
-        Piece::Field(b" term=", node.term),
-        Piece::Field(b" vote=", node.vote),
-        Piece::Field(b" lead=", node.lead),
-        Piece::Field(b" commit=", node.commit),
-        Piece::Field(b" applied=", node.applied),
-        Piece::Field(b" content=", node.content_len as u64),
-        Piece::Bytes(b":"),
-        Piece::Quoted(node.content_end),
+        LinePiece::Number(node.id),
+        LinePiece::Bytes(b" "),
+        LinePiece::Bytes(role_name(node.role)),
+        LinePiece::Field(b" term=", node.term),
+        LinePiece::Field(b" vote=", node.vote),
+        LinePiece::Field(b" lead=", node.lead),
+        LinePiece::Field(b" commit=", node.commit),
+        LinePiece::Field(b" applied=", node.applied),
+        LinePiece::Field(b" content=", node.content_len as u64),
+        LinePiece::Bytes(b":"),
+        LinePiece::Quoted(node.content_end),
     ];
     add_pieces(line, &pieces)
 }
@@ -56,11 +56,11 @@ pub(crate) fn add_log(line: &mut LineText, log: &LogLine) -> Result<(), AllocErr
     ensures { OnOk result (line.new ≡ line.old ++ log_text log.now) }
 {
     let pieces = [
-        Piece::Bytes(b"base="),
-        Piece::Place(log.base_term, log.base),
-        Piece::Field(b" durable=", log.durable),
-        Piece::Field(b" commit=", log.commit),
-        Piece::Field(b" applied=", log.applied),
+        LinePiece::Bytes(b"base="),
+        LinePiece::Place(log.base_term, log.base),
+        LinePiece::Field(b" durable=", log.durable),
+        LinePiece::Field(b" commit=", log.commit),
+        LinePiece::Field(b" applied=", log.applied),
     ];
     add_pieces(line, &pieces)
 }
@@ -82,7 +82,10 @@ fn add_under_way(line: &mut LineText, view: &Progress) -> Result<(), AllocError>
     match view.state() {
         ProgressState::Probe => add_bytes(line, shown_if(view.waiting(), b" waiting")),
         ProgressState::Replicate => Ok(()),
-        ProgressState::Snapshot => add_pieces(line, &[Piece::Field(b" snapshot=", view.pending())]),
+        ProgressState::Snapshot => add_pieces(
+            line,
+            &[LinePiece::Field(b" snapshot=", view.pending())],
+        ),
     }
 }
 
@@ -90,15 +93,15 @@ pub(crate) fn add_progress(line: &mut LineText, id: u64, view: &Progress) -> Res
     ensures { OnOk result (line.new ≡ line.old ++ progress_text id view.now) }
 {
     let pieces = [
-        Piece::Number(id),
-        Piece::Bytes(b" "),
-        Piece::Bytes(progress_state_name(view.state())),
-        Piece::Bytes(b" match="),
-        Piece::Number(view.matched()),
-        Piece::Bytes(b" next="),
-        Piece::Number(view.next()),
-        Piece::Bytes(b" inflight="),
-        Piece::Number(view.window().len() as u64),
+        LinePiece::Number(id),
+        LinePiece::Bytes(b" "),
+        LinePiece::Bytes(progress_state_name(view.state())),
+        LinePiece::Bytes(b" match="),
+        LinePiece::Number(view.matched()),
+        LinePiece::Bytes(b" next="),
+        LinePiece::Number(view.next()),
+        LinePiece::Bytes(b" inflight="),
+        LinePiece::Number(view.window().len() as u64),
     ];
     add_pieces(line, &pieces)?;
     add_under_way(line, view)?;

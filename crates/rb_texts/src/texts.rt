@@ -12,7 +12,7 @@ use crate::errors::add_error;
 use crate::events::{add_event, event_level};
 use crate::item::{Item, Verb};
 use crate::messages::{add_message, verb_name};
-use crate::piece::{Piece, add_bytes, add_numbered, add_pieces, shown_if};
+use crate::piece::{LinePiece, add_bytes, add_numbered, add_pieces, shown_if};
 use crate::states::{add_hard_state, add_log, add_node, add_progress};
 use rb_level::Level;
 use rb_message::Message;
@@ -61,7 +61,10 @@ fn add_counted<'a>(
 ) -> Result<(), AllocError>
     ensures { OnOk result (line.new ≡ line.old ++ (before.now ++ decimal n ++ after.now)) }
 {
-    add_pieces(line, &[Piece::Field(before, n), Piece::Bytes(after)])
+    add_pieces(
+        line,
+        &[LinePiece::Field(before, n), LinePiece::Bytes(after)],
+    )
 }
 
 fn add_snapshot(line: &mut LineText, term: u64, index: u64) -> Result<(), AllocError>
@@ -69,7 +72,10 @@ fn add_snapshot(line: &mut LineText, term: u64, index: u64) -> Result<(), AllocE
 {
     add_pieces(
         line,
-        &[Piece::Bytes(b"  snapshot "), Piece::Place(term, index)],
+        &[
+            LinePiece::Bytes(b"  snapshot "),
+            LinePiece::Place(term, index),
+        ],
     )
 }
 

@@ -1,5 +1,5 @@
 -- Lemmas on how far a quorum holds the log: what stands in the middle of the sorted indexes is what a count of holders says
-use Rattle.std.proofs.Common.{◌≡◌, ℕ, zero, suc, ◌+◌, ◌-◌, ◌*◌, ◌/◌, ◌<◌, ◌≤◌, Bool, true, false, cond, ◌&&◌, ◌||◌, List, [], ◌∷◌, length, get_or, drop, map, max, min, Option, Some, refl, ap, sym, ◌∙◌, arith, if◌then◌else◌, nat_le, nat_lt, nat_eq, ◌==◌, inl, inr}
+use Rattle.std.proofs.Common.{◌≡◌, ℕ, zero, suc, ◌+◌, ◌-◌, ◌*◌, ◌/◌, ◌<◌, ◌≤◌, Bool, true, false, cond, ◌&&◌, ◌||◌, List, [], ◌∷◌, length, get_or, drop, map, max, min, Option, Some, refl, sym, ◌∙◌, arith, if◌then◌else◌, nat_le, nat_lt, nat_eq, ◌==◌, inl, inr}
 use Rattle.std.proofs.lemmas.List.{append-nil, drop_all, length-map}
 use Rattle.std.proofs.Math.Seq.{take-length}
 use Rattle.std.specs.List.{count_by, refill}

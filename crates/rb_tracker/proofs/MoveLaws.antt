@@ -1,19 +1,18 @@
 -- What words do to members, and what further answers do to votes
-use Rattle.std.proofs.Common.{◌≡◌, ◌↔◌, ◌⊎◌, inl, inr, ℕ, ◌+◌, ◌*◌, ◌<◌, ◌≤◌, Bool, true, false, not, ◌&&◌, ◌||◌, cond, List, [], ◌∷◌, length, refl, ap, sym, subst, ◌∙◌, arith, if◌then◌else◌, nat_lt, ◌==◌, Result, Ok}
+use Rattle.std.proofs.Common.{◌≡◌, ◌↔◌, ◌⊎◌, inl, inr, ℕ, ◌+◌, ◌*◌, ◌<◌, ◌≤◌, Bool, true, false, not, ◌&&◌, ◌||◌, List, [], ◌∷◌, refl, ap, sym, subst, ◌∙◌, arith, if◌then◌else◌, ◌==◌, Ok}
 use Rattle.std.proofs.lemmas.Bool.{ne_eqb, cases_Bool, and_parts, and_from, or_parts, or_left, or_right, not-true, false_from_ne_true, true_from_ne_false, false≢true}
 use Rattle.std.proofs.lemmas.Bool.Decides.{Decides-or}
-use Rattle.rb_tracker.specs.Sets.{has, with_id, without, union}
+use Rattle.rb_tracker.specs.Sets.{has, with_id, without}
 use Rattle.rb_tracker.specs.Configs.{voters}
 use Rattle.rb_tracker.specs.Quorum.{most, both}
-use Rattle.rb_tracker.specs.Changes.{with_voter, with_learner, as_learner, without_member, done_by, done, simple, entering, enter_joint, left, leave_joint, IsConfig}
+use Rattle.rb_tracker.specs.Changes.{as_learner, done_by, simple, entering, enter_joint, leave_joint, IsConfig}
 use Rattle.rb_tracker.specs.Ballots.{has_answered, answered, is_won, is_open, vote_result, IsOnce}
 use Rattle.rb_tracker.specs.Moves.{Moves, IsLeft, answered_all, grants_of}
 use Rattle.rb_tracker.specs.declared.config.Config.{Config}
 use Rattle.rb_tracker.specs.declared.votes.Votes.{Votes}
 use Rattle.rb_tracker.specs.declared.votes.VoteResult.{VoteResult}
-use Rattle.rb_tracker.specs.declared.votes.VoteResult.TheVariants.{Won, Lost, Pending}
+use Rattle.rb_tracker.specs.declared.votes.VoteResult.TheVariants.{Won, Lost}
 use Rattle.rb_change.specs.declared.change.Word.{Word}
-use Rattle.rb_change.specs.declared.change.WordKind.{WordKind}
 use Rattle.rb_change.specs.declared.change.WordKind.TheVariants as kind
 use Rattle.rb_tracker.proofs.SetLaws.{if_both, self_id, same_id}
 use Rattle.rb_tracker.proofs.ChangeLaws.{has_with_id, has_without, has_union, enter_ok, simple_ok, leave_ok, done_keeps}

@@ -1,10 +1,10 @@
 -- Lemmas on sets of ids, as ascending lists
-use Rattle.std.proofs.Common.{◌≡◌, ℕ, suc, ◌+◌, ◌<◌, Bool, true, false, not, cond, List, [], ◌∷◌, ◌++◌, filter, refl, ap, sym, subst, ◌∙◌, arith, add-one, append_assoc, if◌then◌else◌, nat_lt, ◌==◌}
+use Rattle.std.proofs.Common.{◌≡◌, ℕ, ◌+◌, ◌<◌, Bool, true, false, not, cond, List, [], ◌∷◌, ◌++◌, filter, refl, ap, sym, subst, ◌∙◌, arith, add-one, append_assoc, if◌then◌else◌, nat_lt, ◌==◌}
 use Rattle.std.specs.List.{insert}
 use Rattle.std.specs.List.Retain.{RetainsInTurn}
 use Rattle.std.proofs.lemmas.List.{append-nil}
 use Rattle.std.proofs.lemmas.Bool.Decides.{nat_tests}
-use Rattle.rb_tracker.specs.Sets.{has, with_id, without, rank, union, set_of, AreAbove, IsAscending}
+use Rattle.rb_tracker.specs.Sets.{has, with_id, rank, union, set_of, AreAbove, IsAscending}
 
 -- what holds in both branches
 pub if_both : {X : Type 0} (P : X → Type 0) (b : Bool) (x y : X) → (b ≡ true → P x) → (b ≡ false → P y) → P (if b then x else y)

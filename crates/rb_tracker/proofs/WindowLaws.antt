@@ -1,5 +1,5 @@
 -- Lemmas on windows, and on the views that have them
-use Rattle.std.proofs.Common.{◌≡◌, ℕ, zero, suc, ◌+◌, ◌<◌, ◌≤◌, ◌^◌, ◌-◌, Bool, true, List, [], ◌∷◌, ◌++◌, length, take, filter, slice_get, Some, refl, ap, sym, ◌∙◌, arith, nat_lt, length-append}
+use Rattle.std.proofs.Common.{◌≡◌, ℕ, ◌+◌, ◌<◌, ◌≤◌, ◌^◌, ◌-◌, Bool, true, List, [], ◌∷◌, ◌++◌, length, take, filter, slice_get, Some, refl, ap, sym, ◌∙◌, arith, nat_lt, length-append}
 use Rattle.std.proofs.lemmas.Bool.Decides.{nat_tests}
 use Rattle.std.proofs.lemmas.List.{take_more}
 use Rattle.std.proofs.lemmas.Option.{slice_get_within, get_or_from_slice_get}
@@ -8,7 +8,7 @@ use Rattle.rb_tracker.specs.Sets.{AreAbove, AreBelow, IsAscending}
 use Rattle.rb_tracker.specs.Windows.{PlainWindow, freed}
 use Rattle.rb_tracker.specs.Progresses.{IsProgress}
 use Rattle.rb_tracker.specs.declared.progress.ProgressState.{ProgressState}
-use Rattle.rb_tracker.specs.declared.progress.ProgressState.TheVariants.{Probe, Replicate, Snapshot}
+use Rattle.rb_tracker.specs.declared.progress.ProgressState.TheVariants.{Replicate}
 use Rattle.rb_tracker.proofs.SetLaws.{if_both, above_lower}
 
 below_higher : (high higher : ℕ) (xs : List ℕ) → high ≤ higher → AreBelow high xs → AreBelow higher xs

@@ -35,7 +35,7 @@ use Rattle.rb_node.specs.Campaigns.{why_no_campaign, campaigned_unless, campaign
 use Rattle.rb_node.specs.Votes.{can_vote_for, count_of, counted, decided, pre_decided}
 use Rattle.rb_node.specs.Following.{heard, with_appended, after_log, append_taken, new_snapshot_taken, snapshot_taken, proposal_passed, transfer_passed}
 use Rattle.rb_node.specs.Leading.{is_log_full, appended, appended_change, leading, led}
-use Rattle.rb_node.specs.declared.sends.Mode.TheVariants as mode
+use Rattle.rb_node.specs.declared.sends.SendReason.TheVariants as mode
 use Rattle.rb_node.specs.Sends.{sends, viewed}
 use Rattle.rb_node.specs.Acknowledging.{accepted_at, accepted, refused_with, refused_at, append_refused, beat_answered_at, beat_answered}
 use Rattle.rb_node.specs.Proposing.{why_replaced, change_put, put_in, takes_none, proposed}

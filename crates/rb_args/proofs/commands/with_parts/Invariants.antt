@@ -5,4 +5,4 @@ use Rattle.rb_args.specs.CommandLine.{IsMade}
 use Rattle.rb_args.proofs.commands.with_parts.Given as goal
 
 abbrev pub invariant-loop-part : goal.invariant-loop-part
-invariant-loop-part g l = (app : App) → IsMade l.initial.made app → IsMade l.made (fold g.P.Part.added app (take l.part-index l.parts))
+invariant-loop-part g l = (app : App) → IsMade l.initial.made app → IsMade l.made (fold g.P.CommandLinePart.added app (take l.part-index l.parts))

@@ -1,6 +1,6 @@
 use Rattle.std.proofs.Common.{refl, arith}
 use Rattle.std.proofs.lemmas.Result.{err_from_is_err_and}
-use Rattle.rb_line.proofs.AskedLaws.{goes_none, goes_then, goes_stops, going_stops, goes_enough}
+use Rattle.rb_line.proofs.AskedLaws.{goes_none, goes_then, goes_stops, goes_enough}
 use Rattle.rb_line.proofs.TakenLaws.{takes_then}
 use Rattle.rb_line.proofs.TakenLaws.{takes_none as whole_none}
 use Rattle.rb_bench.proofs.StopLaws.{stops_short}

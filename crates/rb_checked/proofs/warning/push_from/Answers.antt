@@ -1,6 +1,6 @@
-use Rattle.std.proofs.Common.{◌∙◌, ℕ, ◌+◌, ◌-◌, ◌<◌, ◌++◌, refl, ap, arith}
-use Rattle.rb_checked.specs.declared.part.Part.{Part}
-use Rattle.rb_checked.specs.declared.part.Part.TheVariants.{Head}
+use Rattle.std.proofs.Common.{◌∙◌, ℕ, ◌+◌, ◌-◌, ◌<◌, ◌++◌, ap, arith}
+use Rattle.rb_checked.specs.declared.part.BlockPart.{BlockPart}
+use Rattle.rb_checked.specs.declared.part.BlockPart.TheVariants.{Head}
 use Rattle.rb_checked.specs.Doubts.{next_part, doubt_of, one_warning, warnings_from}
 use Rattle.rb_checked.proofs.DoubtLaws.{line_step, line_done}
 use Rattle.rb_checked.proofs.EachLaws.{more, done}
@@ -9,13 +9,13 @@ use Rattle.rb_checked.proofs.warning.push_from.Goals as goal
 pub loop-left-preserved : goal.loop-left-preserved
 loop-left-preserved c =
     let from = warnings_from c.args.takes c.args.output.now c.args.text.now in
-    let part : Part = c.loop-left.part in
+    let part : BlockPart = c.loop-left.part in
     let at : ℕ = c.loop-left.at in
     let left : ℕ = c.loop-left.left in
     let line = c.line_at-line.result.now in
     let some : 0 < left = c.loop-left-test.true in
     record {
-      all = ap (λ (p : Part). c.push_warning.new.found.items ++ from p (at + 1) (left - 1)) c.after-part.ensures
+      all = ap (λ (p : BlockPart). c.push_warning.new.found.items ++ from p (at + 1) (left - 1)) c.after-part.ensures
           ∙ more c.loop-left.found.items (one_warning (at + 1) (doubt_of c.args.takes c.args.output.now part line)) (from (next_part part line) (at + 1) (left - 1)) (from part at left) c.push_warning.new.found.items
           (c.args.found.now.items ++ from Head c.args.start c.args.count)
           (c.in_ok-push_warning.ensures ∙ ap (λ d. c.loop-left.found.items ++ one_warning (at + 1) d) c.in_ok-doubt.ensures)

@@ -1,6 +1,6 @@
 -- Those so far, and those of the lines that are left.
 use Rattle.std.proofs.Common.{◌≡◌, ◌+◌, ◌++◌}
-use Rattle.rb_checked.specs.declared.part.Part.TheVariants.{Head}
+use Rattle.rb_checked.specs.declared.part.BlockPart.TheVariants.{Head}
 use Rattle.rb_checked.specs.Doubts.{warnings_from}
 use Rattle.rb_checked.proofs.warning.push_from.Given as goal
 

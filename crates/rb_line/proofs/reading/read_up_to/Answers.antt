@@ -1,7 +1,7 @@
-use Rattle.std.proofs.Common.{ℕ, ◌+◌, List, ◌++◌, sym, subst, length, length-append, arith}
+use Rattle.std.proofs.Common.{ℕ, ◌+◌, List, ◌++◌, sym, subst, length-append, arith}
 use Rattle.std.proofs.lemmas.Result.{err_from_is_err_and}
 use Rattle.std.specs.Io.KnownBytes.{Consumes}
-use Rattle.std.proofs.KnownBytes.{Consumes-nil, Consumes-trans}
+use Rattle.std.proofs.KnownBytes.{Consumes-trans}
 use Rattle.rb_line.proofs.AskedLaws.{asked_more, asked_reading, fails_then}
 use Rattle.rb_line.proofs.ReadLaws.{stops}
 use Rattle.rb_line.proofs.reading.read_up_to.Goals as goal

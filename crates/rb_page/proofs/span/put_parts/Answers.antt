@@ -15,16 +15,16 @@ parted {A} text xs i x within is =
 
 pub returns-in_err-put-clause-wrote : goal.returns-in_err-put-clause-wrote
 returns-in_err-put-clause-wrote g c =
-    let next = parted g.P.Part.text c.args.parts.now c.loop-part.part-index c.part-item.result c.loop-part-test.true c.part-item.is in
+    let next = parted g.P.TextPart.text c.args.parts.now c.loop-part.part-index c.part-item.result c.loop-part-test.true c.part-item.is in
     piece_exit c.from_residual.result (g.S.Sink.held c.put.new.sink) _ _ c.from_residual.ensures.0 (sent_along next c.loop-part.invariant.sent) c.in_err-put.ensures.wrote
 
 pub loop-part-preserved : goal.loop-part-preserved
 loop-part-preserved g c =
-    let next = parted g.P.Part.text c.args.parts.now c.loop-part.part-index c.part-item.result c.loop-part-test.true c.part-item.is in
+    let next = parted g.P.TextPart.text c.args.parts.now c.loop-part.part-index c.part-item.result c.loop-part-test.true c.part-item.is in
     record {
       sent = sent_piece (g.S.Sink.held c.put.new.sink) _ _ (sent_along next c.loop-part.invariant.sent) c.in_ok-put.ensures.wrote;
       takes = λ t. (c.in_ok-put.ensures.all (c.loop-part.invariant.takes t)).1;
     }
 
 pub returns-clause-wrote : goal.returns-clause-wrote
-returns-clause-wrote g c = sent_all (ap (λ (l : List _). flat_map in_page (flat_map g.P.Part.text l)) (drop_all c.loop-part.part-index c.args.parts.now (omega arith))) c.loop-part.invariant.sent
+returns-clause-wrote g c = sent_all (ap (λ (l : List _). flat_map in_page (flat_map g.P.TextPart.text l)) (drop_all c.loop-part.part-index c.args.parts.now (omega arith))) c.loop-part.invariant.sent

@@ -1,6 +1,6 @@
 //! A reader that fails, and long texts.
 
-use rb_line::Incoming;
+use rb_line::ReadSource;
 use std::alloc::Global;
 use std::io;
 use std::io::{Error, ErrorKind, Read};
@@ -17,8 +17,8 @@ pub struct FailingReader<'a> {
 
 impl<'a> FailingReader<'a> {
     /// As a source.
-    pub fn new(rest: &'a [u8], most: usize, fails_at: usize) -> Incoming<FailingReader<'a>> {
-        Incoming(FailingReader {
+    pub fn new(rest: &'a [u8], most: usize, fails_at: usize) -> ReadSource<FailingReader<'a>> {
+        ReadSource(FailingReader {
             rest,
             most,
             calls: 0,

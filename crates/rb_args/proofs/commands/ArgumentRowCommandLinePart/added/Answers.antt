@@ -1,7 +1,7 @@
 use Rattle.std.proofs.Common.{◌∙◌, ◌||◌, ap, ap₂}
 use Rattle.std.proofs.lemmas.Result.{IfOk-weaker}
 use Rattle.clap.specs.Words.{app_of, with_rule}
-use Rattle.rb_args.proofs.commands.RowPart.added.Goals as goal
+use Rattle.rb_args.proofs.commands.ArgumentRowCommandLinePart.added.Goals as goal
 
 pub returns : goal.returns
 returns c = λ local.

@@ -3,7 +3,7 @@ use Rattle.std.specs.Prelude.{codes}
 use Rattle.std.specs.List.{flat_map}
 use Rattle.rb_text.specs.Json.{in_page}
 use Rattle.rb_text.proofs.SentLaws.{and_then, no_more}
-use Rattle.rb_page.proofs.span.U64Part.put.Goals as goal
+use Rattle.rb_page.proofs.span.U64TextPart.put.Goals as goal
 
 pub returns-in_err-put_escaped-clause-wrote : goal.returns-in_err-put_escaped-clause-wrote
 returns-in_err-put_escaped-clause-wrote g c =

@@ -5,7 +5,7 @@ use Rattle.std.proofs.lemmas.List.Concat.{flat_map-append}
 use Rattle.rb_text.specs.Json.{in_page}
 use Rattle.rb_text.proofs.SentLaws.{and_then, no_more, writes_along}
 use Rattle.rb_texts.specs.Entries.{letter}
-use Rattle.rb_page.proofs.span.WordPart.put.Goals as goal
+use Rattle.rb_page.proofs.span.WordTextPart.put.Goals as goal
 
 -- the letter and the id, as they go out
 parted : (front word : List ℕ) (id : ℕ) → front ≡ word → flat_map in_page front ++ flat_map in_page (decimal id) ≡ flat_map in_page (word ++ decimal id)
