@@ -1,9 +1,8 @@
 """What the measures share: the built program, runs of it that are watched, sessions that answer, and scripts."""
-import importlib.machinery
-import importlib.util
 import os
 import subprocess
 import time
+from typing import Any
 
 TOP = os.path.dirname(os.path.dirname(os.path.abspath(__file__)))
 PROGRAM = os.path.join(TOP, "crates", "raftbench", "out", "raftbench")
@@ -23,7 +22,7 @@ def compiled(room: str, name: str) -> str:
     return path
 
 
-def watched_run(watched: str, words: list[str], **how) -> tuple[int, int, int]:
+def watched_run(watched: str, words: list[str], **how: Any) -> tuple[int, int, int]:
     """The nanoseconds of a run of the program, its peak memory in KiB and its status."""
     how = {"input": b"", "stdout": subprocess.PIPE, "check": True, **how}
     took, memory, status = map(int, subprocess.run([watched, PROGRAM, *words], **how).stdout.split())
@@ -44,23 +43,15 @@ def record(path: str, script: bytes) -> bytes:
     return recorded
 
 
-def start_session(path: str, *words: str) -> subprocess.Popen:
+def start_session(path: str, *words: str) -> subprocess.Popen[bytes]:
     return subprocess.Popen([PROGRAM, "session", path, *words], stdin=subprocess.PIPE, stdout=subprocess.PIPE)
 
 
-def ask(session: subprocess.Popen, command: bytes) -> tuple[bytes, int]:
+def ask(session: subprocess.Popen[bytes], command: bytes) -> tuple[bytes, int]:
     """The session's answer of one line, and the nanoseconds until it came."""
     start = time.perf_counter_ns()
+    assert session.stdin and session.stdout
     session.stdin.write(command)
     session.stdin.flush()
     answer = session.stdout.readline()
     return answer, time.perf_counter_ns() - start
-
-
-def loaded(*names: str):
-    """What a script of the repository declares, which has no ending."""
-    path = os.path.join(TOP, *names)
-    loader = importlib.machinery.SourceFileLoader("_".join(names), path)
-    module = importlib.util.module_from_spec(importlib.util.spec_from_loader(loader.name, loader))
-    loader.exec_module(module)
-    return module

@@ -1,7 +1,10 @@
 """Scripts and edits that look random, from a seed. A script begins with one of some openings, so that leaders, joint
 configurations, snapshots and broken clusters are met often, and goes on with any directives, some of which are wrong.
 """
+from __future__ import annotations
+
 import random
+from typing import Sequence, Union
 
 from .directives import LEVELS, TYPES
 
@@ -17,19 +20,28 @@ WRONG_HEADS = [
 ]
 ODD_BYTES = ["\xff\x80", '"', "\\x", "~!", "a/b", "'", "\x01", "\x7f", "#", "----", "{}", "\xe9"]
 
+# A directive's head, and its input lines.
+Thrown = tuple[str, list[str]]
+# One without input lines may be its head alone.
+Piece = Union[Thrown, str]
+
+
+def thrown_of(piece: Piece) -> Thrown:
+    return (piece, []) if isinstance(piece, str) else piece
+
 
 class Dice(random.Random):
     """Throws directives for a cluster of which it knows little: how many nodes there should be, and who may lead."""
 
-    def __init__(self, seed):
+    def __init__(self, seed: object) -> None:
         super().__init__(seed)
         self.nodes, self.favourite, self.index = 0, 1, 10
         self.full_chance = 0.006
 
-    def some(self, chance):
+    def some(self, chance: float) -> bool:
         return self.random() < chance
 
-    def id(self):
+    def id(self) -> int:
         """The id of a node, often of the one that may lead; now and then there is none."""
         if self.some(0.02):
             return self.choice([self.nodes + 1, 32, 16, 33, 0])
@@ -37,17 +49,17 @@ class Dice(random.Random):
             return self.favourite
         return self.randint(1, max(1, self.nodes))
 
-    def ids(self, most=3):
+    def ids(self, most: int = 3) -> list[int]:
         return [self.id() for _ in range(self.randint(1, most))]
 
-    def list_of(self, items):
+    def list_of(self, items: Sequence[object]) -> str:
         if len(items) == 1 and self.some(0.5):
             return str(items[0])
         return "(" + self.choice([",", ", ", " "]).join(map(str, items)) + ")"
 
     # Directives: the head, and the input
 
-    def add_nodes(self):
+    def add_nodes(self) -> str:
         count = self.choice([1, 1, 1, 2, 3])
         self.nodes = min(32, self.nodes + count)
         if self.some(0.3):
@@ -60,7 +72,7 @@ class Dice(random.Random):
             text += f" learners={self.list_of(learners)}"
         return text + f" index={self.index + self.choice([0, 0, 0, 1, 2, 3])}" + self.options_of_nodes(self.some(0.15))
 
-    def options_of_nodes(self, has_content=False):
+    def options_of_nodes(self, has_content: bool = False) -> str:
         text = f" content={self.payload()}" if has_content else ""
         if self.some(0.15):
             return text + " prevote=true checkquorum=true"
@@ -71,27 +83,27 @@ class Dice(random.Random):
             text += f" inflight={self.choice([1, 1, 2, 3, 256])}"
         return text
 
-    def campaign(self):
+    def campaign(self) -> str:
         id = self.id()
         self.favourite = id if 1 <= id <= self.nodes else self.favourite
         return f"campaign {id}"
 
-    def payload(self):
+    def payload(self) -> str:
         if self.some(0.04):
             return self.choice("pq") * self.choice([40, 200, 1024, 1025])
         return self.choice(["a", "b", "x", "abc", "zz9"]) if self.some(0.85) else self.choice(ODD_BYTES)
 
-    def propose(self):
+    def propose(self) -> str:
         return f"propose {self.id()} {self.payload()}"
 
-    def words(self):
+    def words(self) -> list[str]:
         count, most = self.choice([0, 1, 1, 1, 2, 2, 3, 5]), max(2, self.nodes)
         words = [f"{self.choice('vvllrru')}{self.choice(['', '', '0'])}{self.randint(1, most)}" for _ in range(count)]
         if self.some(0.03):
             words.append(self.choice(["x1", "v", "v0", "v33", "v1x", "V1", "vv1", "\xff", "l" * 70, "u00000000001"]))
         return words
 
-    def propose_conf_change(self):
+    def propose_conf_change(self) -> Thrown:
         text = f"propose-conf-change {self.id()}"
         if self.some(0.5):
             text += f" transition={self.choice(['auto', 'explicit', 'implicit'])}"
@@ -101,10 +113,10 @@ class Dice(random.Random):
         cut = self.randint(0, len(words))
         return text, [line for line in (" ".join(words[:cut]), "\t".join(words[cut:])) if line or self.some(0.1)]
 
-    def process_ready(self):
+    def process_ready(self) -> str:
         return "process-ready " + " ".join(map(str, self.ids()))
 
-    def deliver_msgs(self):
+    def deliver_msgs(self) -> str:
         text = "deliver-msgs"
         if self.some(0.9):
             text += " " + " ".join(map(str, self.ids()))
@@ -114,7 +126,7 @@ class Dice(random.Random):
             text += f" drop={self.list_of([self.id() for _ in range(self.choice([0, 1, 1, 2]))])}"
         return text
 
-    def stabilize(self):
+    def stabilize(self) -> str:
         text = "stabilize"
         if self.some(0.4):
             text += " " + " ".join(map(str, self.ids()))
@@ -122,49 +134,49 @@ class Dice(random.Random):
             text += f" rounds={self.choice([1, 1, 2, 3, 5])}"
         return text
 
-    def quiet_stabilize(self):
+    def quiet_stabilize(self) -> str:
         return "stabilize log-level=none"
 
-    def tick_election(self):
+    def tick_election(self) -> str:
         return f"tick-election {self.id()}"
 
-    def tick_heartbeat(self):
+    def tick_heartbeat(self) -> str:
         return f"tick-heartbeat {self.id()}"
 
-    def set_timeout(self):
+    def set_timeout(self) -> str:
         return f"set-randomized-election-timeout {self.id()} timeout={self.choice([1, 2, 4, 5, 1000])}"
 
-    def transfer_leadership(self):
+    def transfer_leadership(self) -> str:
         ends = [f"from={self.id()}", f"to={self.id()}"]
         self.shuffle(ends)
         return "transfer-leadership " + " ".join(ends)
 
-    def forget_leader(self):
+    def forget_leader(self) -> str:
         return f"forget-leader {self.id()}"
 
-    def report_unreachable(self):
+    def report_unreachable(self) -> str:
         return f"report-unreachable {self.id()} {self.id()}"
 
-    def send_snapshot(self):
+    def send_snapshot(self) -> str:
         return f"send-snapshot {self.id()} {self.id()}"
 
-    def compact(self):
+    def compact(self) -> str:
         return f"compact {self.id()} {self.index + self.choice([-1, 0, 1, 1, 2, 2, 3, 4, 6, 10, 30])}"
 
-    def log_level(self):
+    def log_level(self) -> str:
         name = self.choice(LEVELS + ["debug"] * 6)
         return f"log-level {self.choice([name, name.upper(), name.title()])}"
 
-    def raft_log(self):
+    def raft_log(self) -> str:
         return f"raft-log {self.id()}"
 
-    def status(self):
+    def status(self) -> str:
         return f"status {self.id()}"
 
-    def raft_state(self):
+    def raft_state(self) -> str:
         return "raft-state"
 
-    def wrong(self):
+    def wrong(self) -> Thrown:
         """A directive, usually with something wrong in it."""
         if self.some(0.25):
             return self.choice(WRONG_HEADS), []
@@ -191,14 +203,15 @@ class Dice(random.Random):
 
     # What makes sense only together: lists of heads
 
-    def together(self):
+    def together(self) -> list[Piece]:
         names = ["cut_off", "installed", "handed_over", "raced", "lost", "refused", "stepped_down"]
-        return getattr(self, self.choice(names))(self.favourite, self.id())
+        pieces: list[Piece] = getattr(self, self.choice(names))(self.favourite, self.id())
+        return pieces
 
-    def others(self, *left_out):
+    def others(self, *left_out: int) -> str:
         return " ".join(str(id) for id in range(1, self.nodes + 1) if id not in left_out) or "1"
 
-    def cut_off(self, leader, behind):
+    def cut_off(self, leader: int, behind: int) -> list[str]:
         """A follower misses what its leader commits and compacts, and gets a snapshot."""
         steps = [f"propose {leader} y", f"stabilize {self.others(behind)}", f"deliver-msgs drop=({behind})"]
         steps += [f"compact {leader} {self.index + self.choice([1, 2, 2, 3])}", f"report-unreachable {leader} {behind}", f"tick-heartbeat {leader}"]
@@ -206,12 +219,12 @@ class Dice(random.Random):
         steps += [f"deliver-msgs {leader} type=MsgHeartbeatResp", f"status {leader}", f"process-ready {leader}", f"deliver-msgs {behind}"]
         return steps + self.choice([[], [f"campaign {behind}"], [f"propose {leader} z", "stabilize"]])
 
-    def installed(self, leader, to):
+    def installed(self, leader: int, to: int) -> list[str]:
         """A node gets a snapshot, and something happens before it says that it has."""
         steps = [f"propose {leader} y", f"stabilize {self.others(to)}", f"deliver-msgs drop=({to})", f"send-snapshot {leader} {to}"]
         return [*steps, f"deliver-msgs {to} type=MsgSnap", self.choice([f"campaign {to}", f"tick-election {to}"]), f"process-ready {to}"]
 
-    def handed_over(self, leader, to):
+    def handed_over(self, leader: int, to: int) -> list[str]:
         """Leadership is handed over, and who is to have it may be doing something else already."""
         steps = [f"transfer-leadership from={leader} to={to}", f"process-ready {leader}"]
         wins = [f"campaign {to}", f"process-ready {to}", f"deliver-msgs {self.others(to)}", f"process-ready {self.others(to)}"]
@@ -220,36 +233,35 @@ class Dice(random.Random):
         told = self.choice([f"deliver-msgs {to} type=MsgTimeoutNow"] * 2 + [f"deliver-msgs type=MsgTimeoutNow drop=({to})"])
         return [*steps, told, f"deliver-msgs {to}", "stabilize"]
 
-    def raced(self, one, other):
+    def raced(self, one: int, other: int) -> list[str]:
         """Two candidates at once."""
         steps = [f"campaign {one}", f"campaign {other}", f"process-ready {one} {other}", f"deliver-msgs {other} {one}"]
         return steps + [self.choice(["stabilize", f"process-ready {one}", f"process-ready {other} {one}"]), f"deliver-msgs {one}"]
 
-    def lost(self, leader, _):
+    def lost(self, leader: int, _: int) -> list[str]:
         """All messages of some types are lost."""
         others, everyone = self.others(leader), self.others()
         steps = [f"tick-heartbeat {leader}", f"process-ready {leader}", f"deliver-msgs {others}", f"process-ready {others}"]
         return [*steps, f"deliver-msgs type={self.list_of(self.sample(TYPES, 4))} drop={self.list_of(everyone.split())}"]
 
-    def refused(self, leader, behind):
+    def refused(self, leader: int, behind: int) -> list[str]:
         """Nodes that know more than a candidate say no to it."""
         others = self.others(behind)
         steps = [self.propose(), f"process-ready {leader}", f"stabilize {others}", f"forget-leader {others.split()[0]}"]
         steps += [f"deliver-msgs drop=({behind})", f"campaign {behind}", f"process-ready {behind}"]
         return [*steps, f"deliver-msgs {others}", f"process-ready {others}", f"deliver-msgs {behind}"]
 
-    def stepped_down(self, leader, _):
+    def stepped_down(self, leader: int, _: int) -> list[str]:
         """A leader gets answers when it leads no more."""
         others = self.others(leader)
         steps = [f"tick-heartbeat {leader}", f"process-ready {leader}", f"deliver-msgs {others}", f"process-ready {others}"]
         return [*steps, f"tick-election {leader}", f"tick-election {leader}", f"campaign {leader}", f"deliver-msgs {leader}"]
 
-    def any_directive(self):
+    def any_directive(self) -> Thrown:
         names, weights = zip(*WEIGHTS.items())
-        thrown = getattr(self, self.choices(names, weights)[0])()
-        return thrown if isinstance(thrown, tuple) else (thrown, [])
+        return thrown_of(getattr(self, self.choices(names, weights)[0])())
 
-    def directive(self):
+    def directive(self) -> Thrown:
         """A head and its input lines."""
         head, given = self.wrong() if self.some(0.05) else self.any_directive()
         if self.some(0.02):
@@ -258,21 +270,21 @@ class Dice(random.Random):
             head += f" log-level={self.choice(LEVELS).upper() if self.some(0.2) else self.choice(LEVELS)}"
         return head, given if given or self.some(0.98) else ["an input that nothing looks at"]
 
-    def quiet_directive(self):
+    def quiet_directive(self) -> Thrown:
         """One that usually leaves the cluster as it is."""
         return self.choice([self.raft_state, self.raft_log, self.status, self.stabilize, self.log_level])(), []
 
     # Openings: lists of heads with their inputs
 
-    def opening(self):
+    def opening(self) -> list[Thrown]:
         if self.some(self.full_chance):
             return [(head, []) for head in self.open_full()]
         kind = self.choice(["usual"] * 4 + ["grown", "grown", "joined", "joined", "contradicted", "overtaken", "many", "odd", "none"])
         if kind == "none":
             return []
-        return [step if isinstance(step, tuple) else (step, []) for step in getattr(self, "open_" + kind)()]
+        return [thrown_of(piece) for piece in getattr(self, "open_" + kind)()]
 
-    def open_usual(self):
+    def open_usual(self) -> list[str]:
         count = self.choice([1, 2, 3, 3, 3, 4, 5])
         self.nodes = count
         known = list(range(1, count + 1))
@@ -287,21 +299,21 @@ class Dice(random.Random):
             steps += [f"campaign {self.favourite}", self.choice(["stabilize log-level=none", f"stabilize {self.favourite}", "stabilize rounds=3"])]
         return steps
 
-    def open_full(self):
+    def open_full(self) -> list[str]:
         """As many pending messages as there may be, or a few less."""
         steps = self.open_usual()
         return [*steps, *["send-snapshot 1 32 log-level=none"] * (4096 - self.randint(0, 20)), self.stabilize()]
 
-    def open_grown(self):
+    def open_grown(self) -> list[Piece]:
         """A leader, nodes in no configuration yet, and a change that takes some of them in."""
         steps = self.open_usual()
         self.nodes += 2
         change = self.propose_conf_change()
         return [*steps, "add-nodes 2" + self.options_of_nodes(), "stabilize log-level=none", change, self.choice(["stabilize", self.process_ready()])]
 
-    def open_joined(self):
+    def open_joined(self) -> list[Piece]:
         """Clusters that know nothing of one another, and what each has committed."""
-        steps = []
+        steps: list[Piece] = []
         for _ in range(self.choice([2, 2, 3])):
             self.nodes += 1
             voters = [self.nodes] if self.some(0.8) else self.sample(range(1, self.nodes + 1), 1)
@@ -316,7 +328,7 @@ class Dice(random.Random):
                 steps += [self.send_snapshot(), self.stabilize()]
         return steps
 
-    def open_many(self):
+    def open_many(self) -> list[Piece]:
         """Many nodes, in one configuration or a joint one."""
         self.nodes = self.choice([7, 9, 16, 32])
         half = ",".join(map(str, range(1, self.nodes // 2 + 1)))
@@ -324,19 +336,20 @@ class Dice(random.Random):
         words = [f"{self.choice('vvlr')}{id}" for id in WHOLE[1:self.nodes]]
         return [*steps, (f"propose-conf-change 1 transition={self.choice(['auto', 'explicit'])}", words), "stabilize log-level=none"]
 
-    def open_contradicted(self):
+    def open_contradicted(self) -> list[Piece]:
         """A node takes in the log of a leader of another cluster: what changes there may not change here."""
         self.nodes, self.favourite, at = 3, 3, self.index
         mine = self.choice([f"add-nodes 1 voters=(1) index={at + 2}", f"add-nodes 1 index={at + 2}", f"add-nodes 1 voters=(1) index={at}"])
-        steps = [mine, f"add-nodes 1 voters=(2) index={at}", "campaign 2", "stabilize 2"]
+        steps: list[Piece] = [mine, f"add-nodes 1 voters=(2) index={at}", "campaign 2", "stabilize 2"]
         steps += [("propose-conf-change 2 transition=explicit", ["v1"]), "stabilize 2"]
-        installed = ["send-snapshot 2 1", "deliver-msgs 1 type=MsgSnap", "process-ready 1"]
-        steps += self.choice([[], installed, ["stabilize", ("propose-conf-change 2", [])]])
+        installed: list[Piece] = ["send-snapshot 2 1", "deliver-msgs 1 type=MsgSnap", "process-ready 1"]
+        left: list[Piece] = ["stabilize", ("propose-conf-change 2", [])]
+        steps += self.choice([[], installed, left])
         steps += [f"add-nodes 1 voters=(3) index={at + 2}", "deliver-msgs drop=(1,2)", "campaign 3", "campaign 3", "campaign 3", "stabilize 3"]
         change = "propose-conf-change 3" + self.choice(["", " transition=explicit", " transition=implicit"])
         return [*steps, (change, ["v1"]), "stabilize 3", "stabilize", "stabilize"]
 
-    def open_overtaken(self):
+    def open_overtaken(self) -> list[str]:
         """What a leader told a node to do comes when that node campaigns or leads already."""
         self.nodes, options = 3, self.choice(["", "", " prevote=true", " prevote=true checkquorum=true"])
         steps = [f"add-nodes 3 voters=(1,2,3) index={self.index}{options}", "campaign 1", "stabilize"]
@@ -345,17 +358,18 @@ class Dice(random.Random):
         steps += self.choice([[], ["campaign 2"], ["campaign 2", *asked, *asked]])
         return [*steps, self.choice(["deliver-msgs 2 type=MsgTimeoutNow", "deliver-msgs 2", "deliver-msgs drop=2"])]
 
-    def open_odd(self):
+    def open_odd(self) -> list[str]:
         """Nodes that each have a configuration of their own, and begin where they like."""
         return [self.add_nodes() for _ in range(self.randint(1, 4))]
 
     # Scripts
 
-    def block(self, step, expected=None):
+    def block(self, step: Thrown, expected: list[str] | None = None) -> bytes:
         """The text of a block, in one of the many ways in which it may be written."""
         head, given = step
-        expected = self.choice([[], [], ["ok"], ["ok"], ["1", "2"], ["a", "", "b"]]) if expected is None else expected
-        lines = []
+        some: list[list[str]] = [[], [], ["ok"], ["ok"], ["1", "2"], ["a", "", "b"]]
+        expected = self.choice(some) if expected is None else expected
+        lines: list[str] = []
         if self.some(0.15):
             lines += self.choice([[""], ["# a comment"], ["", "  # one", "\t"]])
         if self.some(0.1) and " " in head:
@@ -368,15 +382,15 @@ class Dice(random.Random):
         end = "\r\n" if self.some(0.03) else "\n"
         return "".join(line + end for line in "\n".join(lines).split("\n")).encode("latin-1")
 
-    def steps(self, count):
+    def steps(self, count: int) -> list[Thrown]:
         steps = self.opening()
         while len(steps) < count:
-            steps += [(head, []) for head in self.together()] if self.some(0.08) else [self.directive()]
+            steps += [thrown_of(piece) for piece in self.together()] if self.some(0.08) else [self.directive()]
         return steps
 
     # Long logs
 
-    def grown(self):
+    def grown(self) -> list[str]:
         """A leader takes many entries. All hold them, or some, or nobody saves them; another may lead then, whose log takes their place."""
         leader, other = self.favourite, self.choice([id for id in range(1, self.nodes + 1) if id != self.favourite])
         steps = [f"propose {leader} {self.choice('xyz')} log-level=none"] * self.randint(1, 70)
@@ -389,20 +403,22 @@ class Dice(random.Random):
             steps += [f"campaign {other} log-level=none", "stabilize log-level=none"]
         return steps
 
-    def cut_short(self):
+    def cut_short(self) -> list[str]:
         """Somebody's log is compacted, or not, and is looked at."""
         id = self.id()
         return [f"compact {id} {self.index + self.randint(-1, 300)} log-level=none"] * self.some(0.5) + ["raft-state", f"raft-log {id}"]
 
-    def long_script(self, count):
+    def long_script(self, count: int) -> bytes:
         """A script in which three nodes have logs of more than a page."""
         self.nodes, self.favourite = 3, 1
         steps = [f"add-nodes 3 voters=(1,2,3) index={self.index}" + self.options_of_nodes(), "campaign 1", "stabilize log-level=none"]
         for _ in range(count):
-            steps += [*self.grown(), *self.cut_short(), *self.choice([[], self.together(), ["stabilize log-level=none"]])]
+            steps += [*self.grown(), *self.cut_short()]
+            ends: list[list[Piece]] = [[], self.together(), ["stabilize log-level=none"]]
+            steps += [thrown_of(piece)[0] for piece in self.choice(ends)]
         return "".join(f"{head}\n----\n\n" for head in [*steps, "raft-log 1", "raft-log 2", "raft-log 3"]).encode()
 
-    def script(self, count):
+    def script(self, count: int) -> bytes:
         tail = self.choice(["", "", "", "# the end\n", "\n\n", "#"])
         return b"".join(map(self.block, self.steps(count))) + tail.encode()
 

@@ -2,114 +2,108 @@
 docs/NODE.md and docs/DIRECTIVES.md, which are Ongaro's thesis and the documentation of etcd's raft: it shows what a node does
 in the plainest way, as slowly as it likes.
 """
-import collections
-from typing import NamedTuple
+from __future__ import annotations
+
+from typing import Any, NamedTuple, Sequence
 
 from .config import Change, ChangeFault, Config, both, changed, commit_of, vote_result
+from .records import Body, Entry, Event, Hard, Message, Numbered, Options, Read, Ready, Snapshot
 from .texts import config_text
 
 TIMEOUT = 3
 GREATEST_TIMEOUT = 1000
 TERM_LIMIT = INDEX_LIMIT = 2_000_000_000
-# How often a message of each type met a node of each role.
-MET = collections.Counter()
 
 
-class Entry(NamedTuple):
-    term: int
-    body: object  # bytes, or a Change
+class Disk(NamedTuple):
+    """What a node has saved: its hard state, and a log behind a snapshot, whose entries are the first `length` of a list that only grows."""
 
-
-class Snapshot(NamedTuple):
-    index: int
-    term: int
+    hard: Hard
+    base: int
+    base_term: int
     content: bytes
     config: Config
+    entries: Sequence[Entry]
+    length: int
 
 
-class Message(NamedTuple):
-    """A message; which parts it has depends on its type, `kind`."""
+class Accepted(NamedTuple):
+    """What `ready` has given and `advance` will take for done."""
 
-    kind: str
-    sender: int
-    to: int
-    term: int = 0
-    index: int = 0  # of the last entry, the entry before an append, or what is answered
-    log_term: int = 0  # the term of the entry at that index
-    commit: int = 0
-    entries: tuple = ()
-    refused: bool = False
-    hint: int = 0
-    by_transfer: bool = False
-    snapshot: Snapshot = None
-    body: object = None
-    target: int = 0
+    disk: Disk
+    commit: int
+    sent: int  # how many messages
+    waiting: int
+    restored: bool
 
 
-class Options(NamedTuple):
-    inflight: int = 256
-    prevote: bool = False
-    checkquorum: bool = False
-    step_down_on_removal: bool = False
+class Asked(NamedTuple):
+    """A read under way: the commit when it was asked for, and who has answered since."""
 
-
-class Ready(NamedTuple):
-    """What a node wants done: a term, a vote and a commit to save, or None; index and term of a restored snapshot, or None; entries to save and
-    entries to apply, with their indexes; messages."""
-
-    hard: tuple
-    snapshot: tuple
-    entries: list
-    committed: list
-    messages: list
+    index: int  # type: ignore[assignment]
+    heard: set[int]
 
 
 class View:
     """What a leader knows of a member (etcd's Progress)."""
 
-    def __init__(self, state, match, next, active):
+    def __init__(self, state: str, match: int, next: int, active: bool) -> None:
         self.state, self.match, self.next, self.active = state, match, next, active
-        self.waiting, self.pending, self.window = False, 0, []
+        self.waiting, self.pending = False, 0
+        self.window: list[int] = []
 
-    def to_probe(self):
+    def to_probe(self) -> None:
         self.state, self.next, self.waiting, self.pending, self.window = "probe", self.match + 1, False, 0, []
 
-    def to_replicate(self):
+    def to_replicate(self) -> None:
         self.state, self.next, self.waiting, self.pending, self.window = "replicate", self.match + 1, False, 0, []
 
-    def to_snapshot(self, index):
+    def to_snapshot(self, index: int) -> None:
         self.state, self.next, self.waiting, self.pending, self.window = "snapshot", index + 1, False, index, []
 
-    def is_paused(self, inflight):
+    def is_paused(self, inflight: int) -> bool:
         if self.state == "probe":
             return self.waiting
         return self.state == "snapshot" or len(self.window) >= inflight
 
     @property
-    def inflight(self):
+    def inflight(self) -> int:
         """How many appends are on their way."""
         return len(self.window)
 
-    def free_through(self, index):
+    def free_through(self, index: int) -> None:
         self.window = [last for last in self.window if last > index]
 
-    def frozen(self):
+    def frozen(self) -> tuple[object, ...]:
         return self.state, self.match, self.next, self.active, self.waiting, self.pending, tuple(self.window)
 
 
 class Node:
-    def __init__(self, id, config, index, content, options):
-        self.id, self.config, self.content, self.options = id, config, content, options
-        self.base, self.base_term, self.entries = index, 1 if index else 0, []
-        self.durable = self.commit = self.applied = index
-        self.term = self.vote = self.lead = 0
-        self.role, self.timeout = "follower", TIMEOUT
-        self.views, self.votes = {}, {}
-        self.elapsed = self.beat_elapsed = self.transferee = self.pending_change = 0
-        self.saved, self.restored = (0, 0, index), False
-        self.sent, self.waiting, self.events = [], [], []
+    def __init__(self, id: int, config: Config, index: int, content: bytes, options: Options) -> None:
+        self.id, self.options = id, options
+        self.start_from(Disk(Hard(0, 0, index), index, 1 if index else 0, content, config, (), 0))
 
-    def frozen(self):
+    def start_from(self, disk: Disk) -> None:
+        """A follower that has what is saved, and has applied the snapshot that its log begins at."""
+        self.disk, self.saved, self.restored = disk, disk.hard, False
+        self.base, self.base_term, self.base_content, self.base_config = disk.base, disk.base_term, disk.content, disk.config
+        self.content, self.config = disk.content, disk.config
+        self.entries: list[Entry] = list(disk.entries[:disk.length])
+        self.durable, self.applied = self.last(), disk.base
+        self.commit = max(disk.hard.commit, disk.base)
+        self.term, self.vote, self.lead = disk.hard.term, disk.hard.vote, 0
+        self.role, self.timeout = "follower", TIMEOUT
+        self.views: dict[int, View] = {}
+        self.votes: dict[int, bool] = {}
+        self.elapsed = self.beat_elapsed = self.transferee = self.pending_change = 0
+        self.sent: list[Message] = []
+        self.waiting: list[Message] = []
+        self.events: list[Event] = []
+        self.under_way: Accepted | None = None
+        self.reads: dict[int, Asked] = {}
+        self.served: list[Read] = []
+
+    def frozen(self) -> tuple[object, ...]:
         """All of the state, as a value that can be compared; events are none of it."""
         return (
             self.id, self.config, self.content, self.options, self.base, self.base_term, tuple(self.entries), self.durable,
@@ -121,49 +115,77 @@ class Node:
 
     # The log
 
-    def last(self):
+    def last(self) -> int:
         return self.base + len(self.entries)
 
-    def term_at(self, index):
+    def term_at(self, index: int) -> int | None:
         """The term of the entry at an index, or None where that is not in the log."""
         if index == self.base:
             return self.base_term
         return self.entries[index - self.base - 1].term if self.base < index <= self.last() else None
 
-    def entries_from(self, index, to=None):
+    def last_term(self) -> int:
+        return self.entries[-1].term if self.entries else self.base_term
+
+    def known_term(self, index: int) -> int:
+        """The term of an entry that is in the log."""
+        term = self.term_at(index)
+        assert term is not None
+        return term
+
+    def entries_from(self, index: int, to: int | None = None) -> list[Numbered]:
         """Pairs of an index and its entry."""
         to = self.last() if to is None else to
         return [(at, self.entries[at - self.base - 1]) for at in range(index, to + 1)]
 
-    def is_new(self, term, index):
+    def is_new(self, term: int, index: int) -> bool:
         """Whether a log that ends so is at least as new (3.6.1)."""
-        return (term, index) >= (self.term_at(self.last()), self.last())
+        return (term, index) >= (self.last_term(), self.last())
 
-    def hint(self, index, term):
+    def hint(self, index: int, term: int) -> int:
         """The greatest index that may still agree with a log that has this term there; 0 if none may."""
-        fits = [at for at in range(self.base, min(index, self.last()) + 1) if self.term_at(at) <= term]
+        fits = [at for at in range(self.base, min(index, self.last()) + 1) if self.known_term(at) <= term]
         return max(fits, default=0)
 
-    def snapshot(self):
-        return Snapshot(self.applied, self.term_at(self.applied), self.content, self.config)
+    def snapshot(self) -> Snapshot:
+        return Snapshot(self.applied, self.known_term(self.applied), self.content, self.config)
 
-    def snapshot_for(self, to):
+    def snapshot_for(self, to: int) -> Message:
         """A message with all that is applied."""
         return Message("MsgSnap", self.id, to, self.term, snapshot=self.snapshot())
 
-    def compact(self, index):
-        self.base_term, self.entries = self.term_at(index), self.entries[index - self.base:]
+    def compact(self, index: int) -> None:
+        self.base_content, self.base_config = self.state_at(index)
+        self.base_term, self.entries = self.known_term(index), self.entries[index - self.base:]
         self.base = index
+        disk = self.disk
+        kept = disk.entries[index - disk.base:disk.length]
+        self.disk = Disk(disk.hard, index, self.base_term, self.base_content, self.base_config, kept, len(kept))
+
+    def state_at(self, index: int) -> tuple[bytes, Config]:
+        """The content and the configuration that the entries up to an applied index come to."""
+        content, now = self.base_content, self.config
+        self.config = self.base_config
+        for _, entry in self.entries_from(self.base + 1, index):
+            if isinstance(entry.body, bytes):
+                content += entry.body
+            else:
+                try:
+                    self.config = self.config_after(entry.body)
+                except ChangeFault:
+                    pass
+        config, self.config = self.config, now
+        return content, config
 
     # What it says
 
-    def tell(self, level, text):
+    def tell(self, level: str, text: str) -> None:
         self.events.append((level, f"{self.id} {text}"))
 
-    def ignore(self, m):
+    def ignore(self, m: Message) -> None:
         self.tell("DEBUG", f"ignored {m.kind} from {m.sender}")
 
-    def send(self, kind, to, **parts):
+    def send(self, kind: str, to: int, **parts: Any) -> None:
         """Answers to votes and appends wait until what they rest on is durable (3.8); all else goes out at once."""
         parts.setdefault("term", self.term)
         waits = kind in ("MsgVoteResp", "MsgPreVoteResp", "MsgAppResp")
@@ -171,22 +193,22 @@ class Node:
 
     # Roles
 
-    def reset(self, term):
+    def reset(self, term: int) -> None:
         if term != self.term:
             self.vote = 0
         self.term, self.lead, self.elapsed, self.beat_elapsed, self.timeout = term, 0, 0, 0, TIMEOUT
-        self.votes, self.views, self.transferee, self.pending_change = {}, {}, 0, 0
+        self.votes, self.views, self.transferee, self.pending_change, self.reads = {}, {}, 0, 0, {}
 
-    def become(self, role):
+    def become(self, role: str) -> None:
         self.role = role
         self.tell("INFO", f"became {role} at term {self.term}")
 
-    def follow(self, term, lead):
+    def follow(self, term: int, lead: int) -> None:
         self.reset(term)
         self.lead = lead
         self.become("follower")
 
-    def why_not(self):
+    def why_not(self) -> str | None:
         """Why it can't campaign, or None."""
         coming = self.entries_from(self.applied + 1, self.commit)
         reasons = [
@@ -198,9 +220,13 @@ class Node:
         ]
         return next((why for why, holds in reasons if holds), None)
 
-    def campaign(self, kind="usual"):
+    def why_not_now(self, kind: str) -> str | None:
+        """Why it can't begin a campaign of a kind, or None."""
+        return self.why_not()
+
+    def campaign(self, kind: str = "usual") -> None:
         """Kinds are `usual`, `transfer` (told by the leader to), and `elected` (the question before the vote was won)."""
-        why = self.why_not()
+        why = self.why_not_now(kind)
         if why:
             self.tell("WARN", f"can't campaign: {why}")
         elif self.options.prevote and kind == "usual":
@@ -213,7 +239,7 @@ class Node:
             self.become("candidate")
             self.ask("MsgVote", self.term, kind == "transfer")
 
-    def ask(self, kind, term, by_transfer):
+    def ask(self, kind: str, term: int, by_transfer: bool) -> None:
         for id in sorted(self.config.voters()):
             if id == self.id:
                 self.send(kind + "Resp", id, term=term)
@@ -221,14 +247,14 @@ class Node:
                 last = self.last()
                 self.send(kind, id, term=term, index=last, log_term=self.term_at(last), by_transfer=by_transfer)
 
-    def new_view(self, id, active):
+    def new_view(self, id: int, active: bool) -> None:
         if id == self.id:
             view = View("replicate", self.durable, self.last() + 1, True)
         else:
             view = View("probe", 0, self.last() + 1, active)
         self.views[id] = view
 
-    def lead_on(self):
+    def lead_on(self) -> None:
         """It has won: it leads, and an empty entry of its term is the first that it can commit (6.4)."""
         self.reset(self.term)
         self.lead = self.id
@@ -239,7 +265,7 @@ class Node:
         self.append(b"")
         self.tell_all()
 
-    def append(self, body):
+    def append(self, body: Body) -> bool:
         if self.last() >= INDEX_LIMIT:
             self.tell("WARN", "appends nothing: index limit")
             return False
@@ -249,14 +275,14 @@ class Node:
 
     # What a leader sends
 
-    def others(self):
+    def others(self) -> list[int]:
         return [id for id in sorted(self.views) if id != self.id]
 
-    def tell_all(self):
+    def tell_all(self) -> None:
         for id in self.others():
             self.sends(id, "tell")
 
-    def sends(self, id, mode):
+    def sends(self, id: int, mode: str) -> None:
         """Sends what a member lacks, as its view allows; modes are `tell`, `news` (only what is new) and `ping`."""
         view = self.views.get(id)
         if id == self.id or view is None:
@@ -264,31 +290,49 @@ class Node:
         if view.state == "snapshot" or view.state == "probe" and view.waiting:
             return
         if view.next - 1 < self.base:
-            self.send("MsgSnap", id, snapshot=self.snapshot())
-            view.to_snapshot(self.applied)
+            snapshot = self.snapshot()
+            self.send("MsgSnap", id, snapshot=snapshot)
+            view.to_snapshot(snapshot.index)
         elif view.state == "replicate" and len(view.window) >= self.options.inflight:
             if mode == "ping":
                 self.send_append(id, view, ())
         elif mode != "news" or view.next <= self.last():
             self.send_news(id, view)
 
-    def send_news(self, id, view):
-        entries = tuple(entry for _, entry in self.entries_from(view.next))
+    def send_news(self, id: int, view: View) -> None:
+        entries = self.limited(tuple(entry for _, entry in self.entries_from(view.next)))
         self.send_append(id, view, entries)
         if view.state == "probe":
             view.waiting = True
         elif entries:
-            view.window.append(self.last())
-            view.next = self.last() + 1
+            view.next += len(entries)
+            view.window.append(view.next - 1)
 
-    def send_append(self, id, view, entries):
+    def send_rest(self, id: int) -> None:
+        """Sends what a limit of sizes left, as far as the window goes."""
+        view = self.views.get(id)
+        while view and id != self.id and self.options.max_size_per_msg and view.state == "replicate" and self.base < view.next <= self.last():
+            was = view.next
+            self.sends(id, "news")
+            if view.next == was:
+                return
+
+    def limited(self, entries: tuple[Entry, ...]) -> tuple[Entry, ...]:
+        """The first of some entries that fit into a message: one, and more as long as their payloads keep to the limit."""
+        size, most = 0, self.options.max_size_per_msg
+        for at, entry in enumerate(entries if most else ()):
+            size += max(1, len(entry.body if isinstance(entry.body, bytes) else entry.body.words))
+            if at and size > most:
+                return entries[:at]
+        return entries
+
+    def send_append(self, id: int, view: View, entries: tuple[Entry, ...]) -> None:
         prev = view.next - 1
         self.send("MsgApp", id, index=prev, log_term=self.term_at(prev), commit=self.commit, entries=entries)
 
     # Messages
 
-    def step(self, m):
-        MET[m.kind, self.role] += 1
+    def step(self, m: Message) -> None:
         if m.kind not in ("MsgProp", "MsgTransferLeader"):
             if self.is_undisturbed(m):
                 return self.ignore(m)
@@ -300,17 +344,17 @@ class Node:
             return self.answer_candidate(m)
         return self.by_role(m)
 
-    def is_undisturbed(self, m):
+    def is_undisturbed(self, m: Message) -> bool:
         """Whether it has heard of its leader lately, and so ignores who asks for votes (4.2.3)."""
         asks = m.kind in ("MsgVote", "MsgPreVote") and m.term > self.term and not m.by_transfer
         return asks and self.options.checkquorum and self.lead != 0 and self.elapsed < 3
 
-    def raise_term(self, m):
+    def raise_term(self, m: Message) -> None:
         if m.kind == "MsgPreVote" or m.kind == "MsgPreVoteResp" and not m.refused:
             return
         self.follow(m.term, m.sender if m.kind in ("MsgApp", "MsgHeartbeat", "MsgSnap") else 0)
 
-    def answer_older(self, m):
+    def answer_older(self, m: Message) -> None:
         if m.kind == "MsgPreVote":
             self.send("MsgPreVoteResp", m.sender, refused=True)
         elif m.kind in ("MsgApp", "MsgHeartbeat") and (self.options.prevote or self.options.checkquorum):
@@ -318,7 +362,7 @@ class Node:
         else:
             self.ignore(m)
 
-    def answer_candidate(self, m):
+    def answer_candidate(self, m: Message) -> None:
         is_free = self.vote == m.sender or self.vote == 0 and self.lead == 0 or m.kind == "MsgPreVote" and m.term > self.term
         if not (is_free and self.is_new(m.log_term, m.index)):
             self.send(m.kind + "Resp", m.sender, refused=True)
@@ -327,12 +371,12 @@ class Node:
         if m.kind == "MsgVote":
             self.vote, self.elapsed = m.sender, 0
 
-    def by_role(self, m):
+    def by_role(self, m: Message) -> None:
         if self.role in ("candidate", "precandidate") and m.kind in ("MsgApp", "MsgHeartbeat", "MsgSnap"):
             self.follow(self.term, m.sender)
         getattr(self, CASES.get((self.role, m.kind), "ignore"))(m)
 
-    def count_vote(self, m):
+    def count_vote(self, m: Message) -> None:
         self.votes.setdefault(m.sender, not m.refused)
         result = vote_result(self.config, self.votes)
         self.tell("INFO", f"has {m.kind} {'refused' if m.refused else 'granted'} from {m.sender}: {result}")
@@ -341,30 +385,30 @@ class Node:
         elif result == "lost":
             self.follow(self.term, 0)
 
-    def drop(self, _):
+    def drop(self, _: Message) -> None:
         self.tell("WARN", "dropped a proposal")
 
-    def pass_proposal(self, m):
+    def pass_proposal(self, m: Message) -> None:
         if self.lead == 0:
             self.drop(m)
         else:
             self.send("MsgProp", self.lead, term=0, body=m.body)
 
-    def pass_transfer(self, m):
+    def pass_transfer(self, m: Message) -> None:
         if self.lead == 0:
             self.ignore(m)
         else:
             self.send("MsgTransferLeader", self.lead, term=0, target=m.target)
 
-    def campaign_by_transfer(self, _):
+    def campaign_by_transfer(self, _: Message) -> None:
         self.campaign("transfer")
 
-    def take_beat(self, m):
+    def take_beat(self, m: Message) -> None:
         self.lead, self.elapsed = m.sender, 0
         self.commit = max(self.commit, min(m.commit, self.last()))
-        self.send("MsgHeartbeatResp", m.sender)
+        self.send("MsgHeartbeatResp", m.sender, context=m.context)
 
-    def take_append(self, m):
+    def take_append(self, m: Message) -> None:
         self.lead, self.elapsed = m.sender, 0
         numbered = list(enumerate(m.entries, m.index + 1))
         if m.index < self.commit:
@@ -381,15 +425,16 @@ class Node:
             self.commit = max(self.commit, min(m.commit, m.index + len(m.entries)))
             self.send("MsgAppResp", m.sender, index=m.index + len(m.entries))
 
-    def put_after(self, numbered):
+    def put_after(self, numbered: list[Numbered]) -> None:
         """The first entry that differs and all behind it give way to what was sent."""
         differs = next((at for at, entry in numbered if self.term_at(at) != entry.term), None)
         if differs is not None:
             self.entries = self.entries[:differs - self.base - 1] + [entry for at, entry in numbered if at >= differs]
             self.durable = min(self.durable, differs - 1)
 
-    def take_snapshot(self, m):
+    def take_snapshot(self, m: Message) -> None:
         self.lead, self.elapsed, new = m.sender, 0, m.snapshot
+        assert new is not None
         if new.index <= self.commit:
             pass
         elif self.term_at(new.index) == new.term:
@@ -398,45 +443,70 @@ class Node:
             self.base, self.base_term, self.entries = new.index, new.term, []
             self.durable = self.commit = self.applied = new.index
             self.content, self.config, self.restored = new.content, new.config, True
+            self.base_content, self.base_config = new.content, new.config
             self.tell("INFO", f"restored snapshot {new.term}/{new.index}")
         self.send("MsgAppResp", m.sender, index=self.commit)
 
     # What clients and operators ask for
 
-    def propose(self, body):
+    def propose(self, body: Body) -> None:
         self.step(Message("MsgProp", self.id, self.id, body=body))
 
-    def propose_change(self, change, is_v1=False):
+    def propose_change(self, change: Change, is_v1: bool = False) -> None:
         """Proposes a change; that it was asked for in etcd's first form makes no difference here."""
         self.propose(change)
 
-    def transfer(self, to):
+    def transfer(self, to: int) -> None:
         self.step(Message("MsgTransferLeader", self.id, self.id, target=to))
 
-    def set_timeout(self, ticks):
+    def set_timeout(self, ticks: int) -> None:
         self.timeout = ticks
 
-    def forget_leader(self):
+    def forget_leader(self) -> None:
         if self.role == "follower":
             self.lead = 0
 
-    def report_unreachable(self, id):
+    def report_unreachable(self, id: int) -> None:
         view = self.views.get(id)
         if view and view.state == "replicate":
             view.to_probe()
 
+    def report_snapshot(self, id: int, is_lost: bool) -> None:
+        """The application says what became of a snapshot that was sent."""
+        view = self.views.get(id)
+        if view and view.state == "snapshot":
+            next_index = view.match + 1 if is_lost else max(view.match, view.pending) + 1
+            view.to_probe()
+            view.next, view.waiting = next_index, True
+
+    def read(self, id: int) -> None:
+        """Asks for a read: a leader that has committed in its term hears from a quorum before it may be served (6.4)."""
+        if self.role != "leader" or self.known_term(self.commit) != self.term:
+            return self.tell("WARN", f"can't read {id}")
+        self.reads[id] = Asked(self.commit, {self.id})
+        for to in self.others():
+            self.send("MsgHeartbeat", to, commit=min(self.views[to].match, self.commit), context=id)
+        return self.serve(id)
+
+    def serve(self, id: int) -> None:
+        asked = self.reads[id]
+        if both(self.config, lambda voter: voter in asked.heard):
+            self.served.append(Read(id, asked.index))
+            del self.reads[id]
+
     # A leader's cases
 
-    def take_proposal(self, m):
+    def take_proposal(self, m: Message) -> None:
         if self.id not in self.views or self.transferee:
             self.drop(m)
         elif isinstance(m.body, Change):
             self.append_change(m.body)
         else:
+            assert m.body is not None
             self.append(m.body)
             self.tell_all()
 
-    def append_change(self, change):
+    def append_change(self, change: Change) -> None:
         joint, leaves = self.config.is_joint(), not change.words
         reasons = [("unapplied", self.pending_change > self.applied), ("joint", joint and not leaves), ("not joint", leaves and not joint)]
         why = next((why for why, holds in reasons if holds), None)
@@ -450,14 +520,14 @@ class Node:
             self.pending_change = self.last()
         self.tell_all()
 
-    def take_answer(self, m):
+    def take_answer(self, m: Message) -> None:
         view = self.views.get(m.sender)
         if view is None:
             return self.ignore(m)
         view.active = True
         return self.take_refusal(m, view) if m.refused else self.take_acceptance(m, view)
 
-    def take_refusal(self, m, view):
+    def take_refusal(self, m: Message, view: View) -> None:
         if view.state == "replicate" and m.index > view.match:
             view.to_probe()
         elif view.state == "probe" and m.index == view.next - 1:
@@ -466,11 +536,11 @@ class Node:
             return self.ignore(m)
         return self.sends(m.sender, "tell")
 
-    def acknowledged(self, m):
+    def acknowledged(self, m: Message) -> int:
         """What an answer says that its sender holds: no more than the leader has."""
         return min(m.index, self.last())
 
-    def take_acceptance(self, m, view):
+    def take_acceptance(self, m: Message, view: View) -> None:
         index, was_paused = self.acknowledged(m), view.is_paused(self.options.inflight)
         if index < view.match or index == view.match and view.state != "probe":
             if view.state == "replicate":
@@ -483,10 +553,11 @@ class Node:
             view.free_through(index)
         if not self.commits() and m.sender != self.id:
             self.sends(m.sender, "tell" if was_paused else "news")
+        self.send_rest(m.sender)
         if m.sender == self.transferee and view.match == self.last():
             self.send("MsgTimeoutNow", m.sender)
 
-    def commits(self):
+    def commits(self) -> bool:
         """Commits what a quorum holds, if it is of the leader's own term (3.6.2), and tells all."""
         held = commit_of(self.config, {id: view.match for id, view in self.views.items()})
         if held <= self.commit or self.term_at(held) != self.term:
@@ -495,16 +566,19 @@ class Node:
         self.tell_all()
         return True
 
-    def take_beat_answer(self, m):
+    def take_beat_answer(self, m: Message) -> None:
         view = self.views.get(m.sender)
         if view is None:
             return self.ignore(m)
         view.active, view.waiting = True, False
+        if m.context in self.reads:
+            self.reads[m.context].heard.add(m.sender)
+            self.serve(m.context)
         if view.match < self.last() or view.state == "probe":
             self.sends(m.sender, "ping")
         return None
 
-    def start_transfer(self, m):
+    def start_transfer(self, m: Message) -> None:
         if m.target not in self.config.voters() or m.target in (self.id, self.transferee):
             return self.ignore(m)
         self.end_transfer()
@@ -514,14 +588,14 @@ class Node:
             return self.send("MsgTimeoutNow", m.target)
         return self.sends(m.target, "tell")
 
-    def end_transfer(self):
+    def end_transfer(self) -> None:
         if self.transferee:
             self.tell("INFO", f"ends transfer to {self.transferee}")
         self.transferee = 0
 
     # Time
 
-    def tick(self):
+    def tick(self) -> None:
         self.elapsed = min(self.elapsed + 1, GREATEST_TIMEOUT)
         if self.role != "leader":
             if self.id in self.config.voters() and self.elapsed >= self.timeout:
@@ -536,7 +610,7 @@ class Node:
             for id in self.others():
                 self.send("MsgHeartbeat", id, commit=min(self.views[id].match, self.commit))
 
-    def keeps_lead(self):
+    def keeps_lead(self) -> bool:
         """What a leader looks at after each timeout: whether a quorum answers, and whether a transfer takes too long."""
         self.elapsed = 0
         if self.options.checkquorum:
@@ -551,27 +625,34 @@ class Node:
 
     # What is ready
 
-    def hard_state(self):
-        return self.term, self.vote, self.commit
+    def hard_state(self) -> Hard:
+        return Hard(self.term, self.vote, self.commit)
 
-    def has_ready(self):
-        rest = self.restored or self.commit > self.applied or self.sent or self.waiting
+    def has_ready(self) -> bool:
+        rest = self.restored or self.commit > self.applied or self.sent or self.waiting or self.served
         return bool(self.hard_state() != self.saved or self.last() > self.durable or rest)
 
-    def ready(self):
+    def ready(self) -> Ready:
+        hard = self.hard_state()
+        disk = Disk(hard, self.base, self.base_term, self.base_content, self.base_config, self.entries, len(self.entries))
+        self.under_way = Accepted(disk, self.commit, len(self.sent), len(self.waiting), self.restored)
         return Ready(
-            self.hard_state() if self.hard_state() != self.saved else None, (self.base, self.base_term) if self.restored else None,
+            hard if hard != self.saved else None, (self.base, self.base_term) if self.restored else None,
             self.entries_from(self.durable + 1), self.entries_from(self.applied + 1, self.commit),
             self.sent + [m for m in self.waiting if m.to != self.id],
+            self.last() > self.durable or hard[:2] != self.saved[:2], tuple(self.served),
         )
 
-    def advance(self):
-        """Saves and applies what was ready, and takes its own answers in."""
-        own = [m for m in self.waiting if m.to == self.id]
-        coming = self.entries_from(self.applied + 1, self.commit)
-        self.saved, self.durable, self.restored = self.hard_state(), self.last(), False
-        self.sent, self.waiting = [], []
-        for index, entry in coming:
+    def advance(self) -> None:
+        """Saves and applies what was ready, and takes its own answers in. What changed since then is ready the next time."""
+        if self.under_way is None:
+            self.ready()
+        done, self.under_way = self.under_way, None
+        assert done is not None
+        own = [m for m in self.waiting[:done.waiting] if m.to == self.id]
+        self.save(done)
+        self.sent, self.waiting, self.served = self.sent[done.sent:], self.waiting[done.waiting:], []
+        for index, entry in self.entries_from(self.applied + 1, max(self.applied, done.commit)):
             self.applied = index
             if isinstance(entry.body, Change):
                 self.apply_change(index, entry.body)
@@ -581,16 +662,34 @@ class Node:
         for m in own:
             self.step(m)
 
-    def leave_by_itself(self):
+    def save(self, done: Accepted) -> None:
+        self.disk, self.saved = done.disk, done.disk.hard
+        if self.restored and not done.restored:
+            return
+        self.restored = False
+        saved, at = done.disk, min(done.disk.base + done.disk.length, self.last())
+        while at > max(saved.base, self.base) and saved.entries[at - saved.base - 1] != self.entries[at - self.base - 1]:
+            at -= 1
+        self.durable = at
+
+    def restart(self, saved: str = "nothing") -> None:
+        """Loses all that isn't saved, and starts again. Of what is ready and not advanced, `saved` was: `nothing`, the `entries` (and a snapshot), or `all`."""
+        disk, done = self.disk, self.under_way
+        if done and saved != "nothing":
+            disk = done.disk if saved == "all" else done.disk._replace(hard=disk.hard)
+        self.start_from(disk)
+        self.tell("INFO", f"restarted at term {self.term}, log {self.base_term}/{self.base} to {self.last_term()}/{self.last()}")
+
+    def leave_by_itself(self) -> None:
         leaves = self.role == "leader" and self.config.is_joint() and self.config.auto
         if leaves and not self.transferee and self.applied >= self.pending_change and self.append(Change("auto", ())):
             self.pending_change = self.last()
             self.tell_all()
 
-    def config_after(self, change):
+    def config_after(self, change: Change) -> Config:
         return changed(self.config, change)
 
-    def apply_change(self, index, change):
+    def apply_change(self, index: int, change: Change) -> None:
         try:
             self.config = self.config_after(change)
         except ChangeFault as fault:
@@ -602,7 +701,7 @@ class Node:
             return self.follow(self.term, 0)
         return self.view_members()
 
-    def view_members(self):
+    def view_members(self) -> None:
         members = self.config.members()
         self.views = {id: view for id, view in self.views.items() if id in members}
         added = sorted(members - set(self.views))

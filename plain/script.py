@@ -1,6 +1,8 @@
 """The format of scripts, in the plainest way: docs/SCRIPT-FORMAT.md, rule by rule, over lists of lines of bytes."""
+from __future__ import annotations
+
 import re
-from typing import NamedTuple
+from typing import Any, Callable, NamedTuple, Sequence
 
 LONGEST_SCRIPT = 4_194_304
 LONGEST_LINE = 65_536
@@ -16,85 +18,96 @@ ARGUMENT = re.compile(rb"[ \t]+(" + TOKEN + rb")(?:(=)(?:\(([^()]*)\)|((?!\()[^ 
 class Fault(Exception):
     """Why a text or an edit is refused; as text, its name, with its line where it has one."""
 
-    def __str__(self):
-        return self.args[0] + (f" at line {self.args[1]}" if len(self.args) > 1 else "")
+    def __str__(self) -> str:
+        return str(self.args[0]) + (f" at line {self.args[1]}" if len(self.args) > 1 else "")
+
+
+Lines = Sequence[bytes]
 
 
 class Argument(NamedTuple):
     key: bytes
     has_equals: bool
-    values: tuple
+    values: tuple[bytes, ...]
+
+
+class Directive(NamedTuple):
+    name: bytes
+    arguments: tuple[Argument, ...]
+    input: tuple[bytes, ...]
 
 
 class Block(NamedTuple):
-    lead: tuple
-    head: tuple
-    input: tuple
-    expected: tuple
+    lead: tuple[bytes, ...]
+    head: tuple[bytes, ...]
+    input: tuple[bytes, ...]
+    expected: tuple[bytes, ...]
 
-    def text(self, expected=None):
+    def text(self, expected: Lines | None = None) -> bytes:
         """The canonical text, with other expected lines where these are given."""
         expected = self.expected if expected is None else expected
         rules = [RULE, RULE] if any(is_blank(line) or line == RULE for line in expected) else [RULE]
         closing = rules if len(rules) > 1 else []
         return joined([*self.lead, *self.head, *self.input, *rules, *expected, *closing, b""])
 
-    def directive(self):
-        """The name, the arguments and the input lines, or None where the head is not in the grammar."""
+    def directive(self) -> Directive:
+        """The name, the arguments and the input lines of a block that was read."""
         parsed = parsed_head(joined_head(self.head))
-        return parsed and (*parsed, self.input)
+        assert parsed is not None
+        return Directive(*parsed, self.input)
 
 
 class Script(NamedTuple):
-    blocks: tuple
-    tail: tuple
+    blocks: tuple[Block, ...]
+    tail: tuple[bytes, ...]
 
-    def text(self, outputs=None):
-        outputs = [None] * len(self.blocks) if outputs is None else outputs
-        return b"".join(block.text(lines) for block, lines in zip(self.blocks, outputs)) + joined(self.tail)
+    def text(self, outputs: Sequence[Lines | None] | None = None) -> bytes:
+        shown: Sequence[Lines | None] = [None] * len(self.blocks) if outputs is None else outputs
+        return b"".join(block.text(lines) for block, lines in zip(self.blocks, shown)) + joined(self.tail)
 
 
-def joined(lines):
+def joined(lines: Lines) -> bytes:
     return b"".join(line + b"\n" for line in lines)
 
 
-def lines_of(data):
+def lines_of(data: bytes) -> list[bytes]:
     """The lines of a text: each without its LF and the carriage returns directly before it."""
     if data and not data.endswith(b"\n"):
         data += b"\n"
     return [line.rstrip(b"\r") for line in data.split(b"\n")[:-1]]
 
 
-def is_blank(line):
+def is_blank(line: bytes) -> bool:
     return not line.strip(b" \t")
 
 
-def is_lead(line):
+def is_lead(line: bytes) -> bool:
     return is_blank(line) or line.lstrip(b" \t").startswith(b"#")
 
 
-def is_continued(line):
+def is_continued(line: bytes) -> bool:
     return line.rstrip(b" \t").endswith(b"\\")
 
 
-def is_readable(lines):
+def is_readable(lines: Lines) -> bool:
     """Whether lines can be read back as an expectation."""
     pair = any(a == RULE == b for a, b in zip(lines, lines[1:]))
     wrong = any(b"\n" in line or line.endswith(b"\r") or len(line) > LONGEST_LINE for line in lines)
     return not pair and not wrong and (not lines or lines[-1] != RULE)
 
 
-def joined_head(lines):
+def joined_head(lines: Lines) -> bytes:
     """The head in one line; a last backslash with no line behind it is followed by an empty one."""
     return b"".join(line.rstrip(b" \t")[:-1] + b" " if is_continued(line) else line for line in lines)
 
 
-def parsed_head(text):
+def parsed_head(text: bytes) -> tuple[bytes, tuple[Argument, ...]] | None:
     """The name and the arguments of a joined head, or None."""
     found = NAME.match(text)
     if not found:
         return None
-    name, at, arguments = found.group(1), found.end(), []
+    name, at = found.group(1), found.end()
+    arguments: list[Argument] = []
     while found := ARGUMENT.match(text, at):
         key, equals, listed, value = found.groups()
         values = () if not equals else (value,) if listed is None else tuple(piece for piece in re.split(rb"[ \t,]", listed) if piece)
@@ -106,17 +119,17 @@ def parsed_head(text):
 class Reader:
     """Takes blocks from lines, one after the other; lines are told by their number from 1 on."""
 
-    def __init__(self, lines):
+    def __init__(self, lines: list[bytes]) -> None:
         self.lines, self.at = lines, 0
-        self.heads = []  # the number of the first line of each head
+        self.heads: list[int] = []  # the number of the first line of each head
 
-    def take_while(self, holds):
+    def take_while(self, holds: Callable[[bytes], bool]) -> tuple[bytes, ...]:
         start = self.at
         while self.at < len(self.lines) and holds(self.lines[self.at]):
             self.at += 1
         return tuple(self.lines[start:self.at])
 
-    def block(self, is_allowed):
+    def block(self, is_allowed: bool) -> Block | tuple[bytes, ...]:
         """The next block, or what is left where there is no head."""
         lead = self.take_while(is_lead)
         if self.at == len(self.lines):
@@ -132,7 +145,7 @@ class Reader:
         self.at += 1
         return Block(lead, head, given, self.expected(self.at))
 
-    def head(self, first):
+    def head(self, first: int) -> tuple[bytes, ...]:
         """The lines that ask for a further one, and the one behind them, if there is one."""
         head = self.take_while(is_continued) + tuple(self.lines[self.at:self.at + 1])
         self.at = min(self.at + 1, len(self.lines))
@@ -143,7 +156,7 @@ class Reader:
             raise Fault("TooManyArguments", first)
         return head
 
-    def expected(self, separator):
+    def expected(self, separator: int) -> tuple[bytes, ...]:
         if self.lines[self.at:self.at + 1] == [RULE]:
             return self.double_form(separator)
         lines = self.take_while(lambda line: not is_blank(line))
@@ -152,7 +165,7 @@ class Reader:
             raise Fault("NotClosed", separator)
         return lines
 
-    def double_form(self, separator):
+    def double_form(self, separator: int) -> tuple[bytes, ...]:
         start = self.at + 1
         for at in range(start, len(self.lines) - 1):
             if self.lines[at] == RULE == self.lines[at + 1]:
@@ -163,7 +176,7 @@ class Reader:
         raise Fault("NotClosed", separator)
 
 
-def read_with_lines(data):
+def read_with_lines(data: bytes) -> tuple[Script, list[int]]:
     """The script of a text, and the line of each directive's head; a Fault where there is none."""
     if len(data) > LONGEST_SCRIPT:
         raise Fault("TooLong")
@@ -171,25 +184,26 @@ def read_with_lines(data):
     for number, line in enumerate(lines, 1):
         if len(line) > LONGEST_LINE:
             raise Fault("LineTooLong", number)
-    reader, blocks = Reader(lines), []
+    reader = Reader(lines)
+    blocks: list[Block] = []
     while isinstance(block := reader.block(len(blocks) < MOST_DIRECTIVES), Block):
         blocks.append(block)
     return Script(tuple(blocks), block), reader.heads
 
 
-def read(data):
+def read(data: bytes) -> Script:
     """The script of a text; a Fault where there is none."""
     return read_with_lines(data)[0]
 
 
-def read_script(data):
+def read_script(data: bytes) -> Script:
     script = read(data)
     if len(script.text()) > LONGEST_SCRIPT:
         raise Fault("TooLong")
     return script
 
 
-def read_block(data):
+def read_block(data: bytes) -> Block:
     """The block that a text is, alone."""
     script = read(data)
     if len(script.blocks) != 1 or script.tail:
@@ -199,7 +213,7 @@ def read_block(data):
     return script.blocks[0]
 
 
-def edited(script, kind, place, given, outputs):
+def edited(script: Script, kind: str, place: int, given: Any, outputs: Sequence[tuple[bytes, ...]]) -> Script:
     """A script with an edit made: given is a block, or expected lines. Faults are those of docs/SESSION.md, in their order."""
     blocks, count = list(script.blocks), len(script.blocks)
     if kind != "accept" and not 1 <= place <= count + (kind == "insert"):

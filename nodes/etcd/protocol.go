@@ -11,17 +11,24 @@ type call struct {
 		Inflight    int  `json:"inflight"`
 		PreVote     bool `json:"prevote"`
 		CheckQuorum bool `json:"checkquorum"`
+		// In bytes of etcd's encoding: 1 is one entry a message.
+		MaxSizePerMsg uint64 `json:"max_size_per_msg"`
 	} `json:"options"`
 	Data   []byte `json:"data"`
 	Change change `json:"change"`
 	V1     bool   `json:"v1"`
 	// Of a message only our own part is read: it holds all of it.
-	Message struct {
-		Own []byte `json:"own"`
+	Message *struct {
+		Own     []byte     `json:"own"`
+		Entries []struct{} `json:"entries"`
 	} `json:"message"`
-	To    uint64 `json:"to"`
-	Index uint64 `json:"index"`
-	Ticks int64  `json:"ticks"`
+	Numbers []int  `json:"numbers"`
+	To      uint64 `json:"to"`
+	Index   uint64 `json:"index"`
+	Ticks   int64  `json:"ticks"`
+	ID      uint64 `json:"id"`
+	Saved   string `json:"saved"`
+	Failed  bool   `json:"failed"`
 }
 
 type answer map[string]interface{}
@@ -101,6 +108,20 @@ type ready struct {
 	Entries   []entry   `json:"entries"`
 	Committed []entry   `json:"committed"`
 	Messages  []message `json:"messages"`
+	Sync      bool      `json:"sync"`
+	Reads     []read    `json:"reads,omitempty"`
+}
+
+// logEnd is the end of a log, by which the bench sees that it is the same.
+type logEnd struct {
+	Last    uint64 `json:"last"`
+	Term    uint64 `json:"term"`
+	Durable uint64 `json:"durable"`
+}
+
+type read struct {
+	ID    uint64 `json:"id"`
+	Index uint64 `json:"index"`
 }
 
 type view struct {

@@ -4,6 +4,7 @@ import (
 	"bytes"
 	"math"
 	"sort"
+	"strconv"
 	"strings"
 
 	"go.etcd.io/etcd/raft/v3"
@@ -50,7 +51,36 @@ func (n *node) whatIsReady() ready {
 	for _, m := range n.ready.Messages {
 		shown.Messages = append(shown.Messages, shownMessage(m))
 	}
+	shown.Sync = n.ready.MustSync
+	for _, r := range n.ready.ReadStates {
+		id, err := strconv.ParseUint(string(r.RequestCtx), 10, 64)
+		if err != nil {
+			panic(err)
+		}
+		shown.Reads = append(shown.Reads, read{id, r.Index})
+	}
 	return shown
+}
+
+// logEnd is where the log ends, with what isn't saved.
+func (n *node) logEnd() logEnd {
+	unsavedFrom, unsaved, snapshot := n.unsaved()
+	if len(unsaved) > 0 {
+		last := unsaved[len(unsaved)-1]
+		return logEnd{last.Index, last.Term, unsavedFrom - 1}
+	}
+	if snapshot != nil {
+		return logEnd{snapshot.Metadata.Index, snapshot.Metadata.Term, unsavedFrom - 1}
+	}
+	last, err := n.store.LastIndex()
+	if err != nil {
+		panic(err)
+	}
+	term, err := n.store.Term(last)
+	if err != nil {
+		panic(err)
+	}
+	return logEnd{last, term, unsavedFrom - 1}
 }
 
 // shownLog has the entries that aren't saved too, which the storage lacks.

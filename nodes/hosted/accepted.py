@@ -1,15 +1,20 @@
-"""Differences that an author has accepted: a file with a script, a kind of difference and a reason a line, with tabs between them.
+"""What an author has accepted: a file with a script, a kind and a reason a line, with tabs between them. A script `*` is any.
 
-    deliver-late.txt<tab>commit after stabilize<tab>we commit when the answer is read, and not when it is saved
+    deliver-late.txt<tab>commit behind after MsgAppResp at a leader<tab>we commit when the answer is read, and not when it is saved
 """
+from __future__ import annotations
+
+import pathlib
+
 from .likes import Unknown
+from .promises import PROMISES
 
 
 class Accepted:
     """Which kinds are accepted of which scripts; Unknown where the file can't be read."""
 
-    def __init__(self, path=None):
-        self.reasons = {}
+    def __init__(self, path: pathlib.Path | None = None) -> None:
+        self.reasons: dict[tuple[str, str], str] = {}
         if path is None:
             return
         try:
@@ -24,6 +29,24 @@ class Accepted:
                 raise Unknown(f"--accepted {path}:{number}: a script, a kind and a reason are wanted, with tabs between them")
             self.reasons[parts[0], parts[1]] = parts[2]
 
-    def reason(self, file, kind):
+    def reason(self, file: pathlib.Path, kind: str) -> str | None:
         """The reason, or None; a script goes by its path, or by the end of it."""
-        return next((reason for (name, known), reason in self.reasons.items() if known == kind and ("/" + str(file)).endswith("/" + name)), None)
+        known = (reason for (name, each), reason in self.reasons.items() if each == kind and (name == "*" or f"/{file}".endswith(f"/{name}")))
+        return next(known, None)
+
+    def reason_of(self, kind: str) -> str | None:
+        """The reason for a kind that is accepted in any script."""
+        return self.reasons.get(("*", kind))
+
+
+def exceptions_of(texts: list[str]) -> frozenset[str]:
+    """The promises that `--except 'NAME: REASON'` names; Unknown where a name or a reason is missing."""
+    names = set()
+    for text in texts:
+        name, _, reason = text.partition(":")
+        if name.strip() not in PROMISES:
+            raise Unknown(f"--except: there is no promise {name.strip()!r}; they are {', '.join(PROMISES)}")
+        if not reason.strip():
+            raise Unknown(f"--except {name.strip()!r}: a reason is wanted: --except '{name.strip()}: REASON'")
+        names.add(name.strip())
+    return frozenset(names)

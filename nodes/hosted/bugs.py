@@ -1,18 +1,15 @@
 """Well-known bugs of Raft libraries: each a plain node with one rule broken, by name. What explore finds of them is measured by
 nodes/hosted/planted.py; in brackets stands the section of Ongaro's thesis that has the rule.
 """
-from plain.config import both, commit_of, most, vote_result
-from plain.node import Entry, Node
+from __future__ import annotations
 
-BUGS = {}
+from typing import Any
 
+from plain.config import Change, both, commit_of, most, vote_result
+from plain.node import Node, View
+from plain.records import Body, Message, Numbered
 
-def planted(name):
-    """Puts a kind of node under a name."""
-    def put(kind):
-        BUGS[name] = kind
-        return kind
-    return put
+from .planting import planted
 
 
 # Elections
@@ -22,7 +19,7 @@ def planted(name):
 class VotesTwice(Node):
     """Grants a second candidate of the same term its vote (3.4)."""
 
-    def answer_candidate(self, m):
+    def answer_candidate(self, m: Message) -> None:
         if m.kind == "MsgVote":
             self.vote, self.lead = 0, 0
         super().answer_candidate(m)
@@ -32,7 +29,7 @@ class VotesTwice(Node):
 class ForgetsVote(Node):
     """Forgets its vote when it steps down within its term (3.4)."""
 
-    def follow(self, term, lead):
+    def follow(self, term: int, lead: int) -> None:
         super().follow(term, lead)
         self.vote = 0
 
@@ -41,7 +38,7 @@ class ForgetsVote(Node):
 class KeepsOldVote(Node):
     """Takes its vote along into a later term, and so has none to give (3.4)."""
 
-    def reset(self, term):
+    def reset(self, term: int) -> None:
         vote = self.vote
         super().reset(term)
         self.vote = vote
@@ -51,7 +48,7 @@ class KeepsOldVote(Node):
 class VotesByLength(Node):
     """Looks at the length of a candidate's log and not at its last term (3.6.1)."""
 
-    def is_new(self, term, index):
+    def is_new(self, term: int, index: int) -> bool:
         return index >= self.last()
 
 
@@ -59,7 +56,7 @@ class VotesByLength(Node):
 class VotesForAnyLog(Node):
     """Votes whatever the candidate's log is (3.6.1)."""
 
-    def is_new(self, term, index):
+    def is_new(self, term: int, index: int) -> bool:
         return True
 
 
@@ -67,7 +64,7 @@ class VotesForAnyLog(Node):
 class IgnoresLaterTerms(Node):
     """A leader pays no heed to an answer of a later term (3.3)."""
 
-    def raise_term(self, m):
+    def raise_term(self, m: Message) -> None:
         if not (self.role == "leader" and m.kind in ("MsgAppResp", "MsgHeartbeatResp")):
             super().raise_term(m)
 
@@ -76,7 +73,7 @@ class IgnoresLaterTerms(Node):
 class TakesEarlierTerms(Node):
     """Takes an append of a leader of an earlier term (3.3)."""
 
-    def answer_older(self, m):
+    def answer_older(self, m: Message) -> None:
         return self.by_role(m) if m.kind == "MsgApp" else super().answer_older(m)
 
 
@@ -84,7 +81,7 @@ class TakesEarlierTerms(Node):
 class HalfIsAQuorum(Node):
     """Wins with half of the votes (3.4)."""
 
-    def count_vote(self, m):
+    def count_vote(self, m: Message) -> None:
         granted = {id for id, yes in {m.sender: not m.refused, **self.votes}.items() if yes}
         if self.role == "candidate" and 2 * len(granted & self.config.incoming) == len(self.config.incoming):
             self.votes[m.sender] = not m.refused
@@ -96,7 +93,7 @@ class HalfIsAQuorum(Node):
 class CandidateKeepsStanding(Node):
     """Stays a candidate where another already leads in its term (3.4)."""
 
-    def by_role(self, m):
+    def by_role(self, m: Message) -> None:
         if self.role == "candidate" and m.kind in ("MsgApp", "MsgHeartbeat"):
             return self.ignore(m)
         return super().by_role(m)
@@ -106,12 +103,12 @@ class CandidateKeepsStanding(Node):
 class TimeoutRunsOn(Node):
     """What it hears of its leader doesn't put its election timeout back (3.4)."""
 
-    def take_beat(self, m):
+    def take_beat(self, m: Message) -> None:
         elapsed = self.elapsed
         super().take_beat(m)
         self.elapsed = elapsed
 
-    def take_append(self, m):
+    def take_append(self, m: Message) -> None:
         elapsed = self.elapsed
         super().take_append(m)
         self.elapsed = elapsed
@@ -121,7 +118,7 @@ class TimeoutRunsOn(Node):
 class PreVoteRaisesTerm(Node):
     """Asking before the vote already begins the next term (9.6)."""
 
-    def campaign(self, kind="usual"):
+    def campaign(self, kind: str = "usual") -> None:
         super().campaign(kind)
         if self.role == "precandidate":
             self.term += 1
@@ -131,7 +128,7 @@ class PreVoteRaisesTerm(Node):
 class PreVoteBinds(Node):
     """A yes to the question before the vote counts as its vote (9.6)."""
 
-    def answer_candidate(self, m):
+    def answer_candidate(self, m: Message) -> None:
         waiting = len(self.waiting)
         super().answer_candidate(m)
         if m.kind == "MsgPreVote" and len(self.waiting) > waiting and not self.waiting[-1].refused:
@@ -142,7 +139,7 @@ class PreVoteBinds(Node):
 class IsDisturbed(Node):
     """Gives a candidate an ear though it heard of its leader just now (4.2.3)."""
 
-    def is_undisturbed(self, m):
+    def is_undisturbed(self, m: Message) -> bool:
         return False
 
 
@@ -150,7 +147,7 @@ class IsDisturbed(Node):
 class LeadsWithoutQuorum(Node):
     """Leads on though no quorum answers (6.2)."""
 
-    def keeps_lead(self):
+    def keeps_lead(self) -> bool:
         self.elapsed = 0
         self.end_transfer()
         return True
@@ -163,7 +160,7 @@ class LeadsWithoutQuorum(Node):
 class KeepsConflict(Node):
     """Appends behind what it has, and takes away nothing that conflicts (3.5)."""
 
-    def put_after(self, numbered):
+    def put_after(self, numbered: list[Numbered]) -> None:
         self.entries = self.entries + [entry for at, entry in numbered if at > self.last()]
 
 
@@ -171,7 +168,7 @@ class KeepsConflict(Node):
 class CutsAlways(Node):
     """Cuts its log behind each append, also where nothing conflicts: an old append takes new entries away (3.5)."""
 
-    def put_after(self, numbered):
+    def put_after(self, numbered: list[Numbered]) -> None:
         super().put_after(numbered)
         if numbered:
             self.entries = self.entries[:max(numbered[-1][0], self.commit) - self.base]
@@ -182,7 +179,7 @@ class CutsAlways(Node):
 class AnswersWithLast(Node):
     """Says that it holds all of its log, and not just what the append covers (3.5)."""
 
-    def take_append(self, m):
+    def take_append(self, m: Message) -> None:
         waiting = len(self.waiting)
         super().take_append(m)
         if len(self.waiting) > waiting and not self.waiting[-1].refused:
@@ -193,7 +190,7 @@ class AnswersWithLast(Node):
 class CommitsPastAppend(Node):
     """Commits up to the end of its log, and not of what the append covers (3.5)."""
 
-    def take_append(self, m):
+    def take_append(self, m: Message) -> None:
         super().take_append(m)
         if m.index >= self.commit and self.term_at(m.index) == m.log_term:
             self.commit = max(self.commit, min(m.commit, self.last()))
@@ -203,7 +200,7 @@ class CommitsPastAppend(Node):
 class BeatPastMatch(Node):
     """A heartbeat has the leader's commit, and not the smaller of it and what the follower holds (3.5)."""
 
-    def send(self, kind, to, **parts):
+    def send(self, kind: str, to: int, **parts: Any) -> None:
         if kind == "MsgHeartbeat":
             parts["commit"] = self.commit
         super().send(kind, to, **parts)
@@ -213,7 +210,7 @@ class BeatPastMatch(Node):
 class NeverStepsBack(Node):
     """Asks again at the same index after a refusal (3.5)."""
 
-    def take_refusal(self, m, view):
+    def take_refusal(self, m: Message, view: View) -> None:
         if view.state == "probe" and m.index == view.next - 1:
             view.waiting = False
             return self.sends(m.sender, "tell")
@@ -224,7 +221,7 @@ class NeverStepsBack(Node):
 class CommitsEarlierTerms(Node):
     """Commits an entry of an earlier term by counting who holds it (3.6.2, figure 3.7)."""
 
-    def commits(self):
+    def commits(self) -> bool:
         held = commit_of(self.config, {id: view.match for id, view in self.views.items()})
         if held <= self.commit:
             return False
@@ -237,7 +234,7 @@ class CommitsEarlierTerms(Node):
 class CountsUnsaved(Node):
     """A leader counts its own entry before it is saved (10.2.1)."""
 
-    def append(self, body):
+    def append(self, body: Body) -> bool:
         done = super().append(body)
         if done and self.id in self.views:
             self.views[self.id].match = self.last()
@@ -249,7 +246,7 @@ class CountsUnsaved(Node):
 class NoEmptyEntry(Node):
     """A new leader doesn't begin its term with an empty entry, and so commits nothing of earlier ones (6.4)."""
 
-    def append(self, body):
+    def append(self, body: Body) -> bool:
         return body == b"" or super().append(body)
 
 
@@ -257,7 +254,7 @@ class NoEmptyEntry(Node):
 class WindowOverflows(Node):
     """Sends on into a full window."""
 
-    def sends(self, id, mode):
+    def sends(self, id: int, mode: str) -> None:
         view = self.views.get(id)
         if view and view.state == "replicate":
             view.window = view.window[-(self.options.inflight - 1):] if self.options.inflight > 1 else []
@@ -268,10 +265,10 @@ class WindowOverflows(Node):
 class AppliesTwice(Node):
     """Applies the last entry of what is ready again the next time (3.5)."""
 
-    def advance(self):
+    def advance(self) -> None:
         coming = self.entries_from(self.applied + 1, self.commit)
         super().advance()
-        if len(coming) > 1 and isinstance(coming[-1][1], Entry) and isinstance(coming[-1][1].body, bytes):
+        if len(coming) > 1 and isinstance(coming[-1][1].body, bytes):
             self.content += coming[-1][1].body
 
 
@@ -282,7 +279,8 @@ class AppliesTwice(Node):
 class SnapshotGoesBack(Node):
     """Restores a snapshot that is older than what it has committed (5.3)."""
 
-    def take_snapshot(self, m):
+    def take_snapshot(self, m: Message) -> None:
+        assert m.snapshot is not None
         if m.snapshot.index < self.commit:
             self.base, self.base_term, self.entries = m.snapshot.index, m.snapshot.term, []
             self.durable = self.commit = self.applied = m.snapshot.index
@@ -294,7 +292,8 @@ class SnapshotGoesBack(Node):
 class SnapshotLosesConfiguration(Node):
     """Restores a snapshot without the configuration in it (5.3)."""
 
-    def take_snapshot(self, m):
+    def take_snapshot(self, m: Message) -> None:
+        assert m.snapshot is not None
         super().take_snapshot(m._replace(snapshot=m.snapshot._replace(config=self.config)))
 
 
@@ -302,7 +301,7 @@ class SnapshotLosesConfiguration(Node):
 class CompactedTermLost(Node):
     """Doesn't keep the term of the last compacted entry (5.1)."""
 
-    def compact(self, index):
+    def compact(self, index: int) -> None:
         super().compact(index)
         self.base_term = 0
 
@@ -314,7 +313,7 @@ class CompactedTermLost(Node):
 class ChangesTooEarly(Node):
     """Takes a change though an earlier one isn't applied (4.1)."""
 
-    def append_change(self, change):
+    def append_change(self, change: Change) -> None:
         self.pending_change = 0
         super().append_change(change)
 
@@ -323,7 +322,7 @@ class ChangesTooEarly(Node):
 class OneQuorumOfTwo(Node):
     """In a joint configuration it commits by the incoming voters alone (4.3)."""
 
-    def commits(self):
+    def commits(self) -> bool:
         held = commit_of(self.config._replace(outgoing=frozenset()), {id: view.match for id, view in self.views.items()})
         if held <= self.commit or self.term_at(held) != self.term:
             return False
@@ -336,7 +335,7 @@ class OneQuorumOfTwo(Node):
 class ElectsByOneOfTwo(Node):
     """In a joint configuration it wins by the incoming voters alone (4.3)."""
 
-    def count_vote(self, m):
+    def count_vote(self, m: Message) -> None:
         config, self.config = self.config, self.config._replace(outgoing=frozenset())
         votes = {m.sender: not m.refused, **self.votes}
         wins = self.role == "candidate" and vote_result(self.config, votes) == "won"
@@ -351,7 +350,7 @@ class ElectsByOneOfTwo(Node):
 class LearnersCount(Node):
     """Learners count for what is committed (4.2.1)."""
 
-    def commits(self):
+    def commits(self) -> bool:
         ids, match = self.config.incoming | self.config.learners, {id: view.match for id, view in self.views.items()}
         held = max((n for n in {0, *match.values()} if most(ids, lambda id: match.get(id, 0) >= n)), default=0)
         if not both(self.config, lambda id: True) or held <= self.commit or self.term_at(held) != self.term:
@@ -365,7 +364,7 @@ class LearnersCount(Node):
 class NeverLeavesJoint(Node):
     """Stays in a joint configuration that should be left by itself (4.3)."""
 
-    def leave_by_itself(self):
+    def leave_by_itself(self) -> None:
         pass
 
 
@@ -373,7 +372,7 @@ class NeverLeavesJoint(Node):
 class TransfersToWhoLags(Node):
     """Tells the target of a transfer to campaign before it holds all (3.10)."""
 
-    def start_transfer(self, m):
+    def start_transfer(self, m: Message) -> None:
         before = self.transferee
         super().start_transfer(m)
         if self.transferee != before and self.views[m.target].match != self.last():
@@ -384,7 +383,7 @@ class TransfersToWhoLags(Node):
 class ProposesWhileTransferring(Node):
     """Takes proposals while it hands over the lead (3.10)."""
 
-    def take_proposal(self, m):
+    def take_proposal(self, m: Message) -> None:
         transferee, self.transferee = self.transferee, 0
         super().take_proposal(m)
         self.transferee = transferee

@@ -1,64 +1,100 @@
-"""A script run by somebody else's nodes and by the reference beside them, directive by directive: where they first differ."""
-from typing import NamedTuple
+"""A script run on somebody else's nodes and on the reference alongside, directive by directive: where they first differ."""
+from __future__ import annotations
+
+from itertools import zip_longest
+from typing import Callable, Iterator, NamedTuple, Sequence
 
 from plain.node import Node
+from plain.records import AnyNode, Message, Ready
+from plain.script import Block
 from plain.texts import config_text, content_text, entry_text, log_texts, message_text, view_text
 
-from .node import HostedCluster
-from .process import Failed
-from .promises import Promises, name_of
-from .reference import Reference
-from .wild import disturb
+from .likes import Switched
+from .process import Failed, Process
+from .promises import name_of
+from .stage import Called, Stage, allowed
+from .steps import steps_above
+from .watched import WatchedHosts, WatchedReference, breaks
 from .without import reduced
 
-MODES = ("states", "views", "messages", "order", "lines")
+# What may be compared besides states.
+ASPECTS = ("views", "messages", "order", "ready", "lines")
 # Parts of a state, in the order in which a difference is named.
 FIELDS = ("role", "term", "vote", "lead", "commit", "applied", "content")
+NUMBERS = ("term", "commit", "applied")
+NEVER = "stopped after 200 rounds"
+
+
+class Comparison(NamedTuple):
+    """How scripts are run and compared."""
+
+    kind: type[Node] = Node  # of the reference's nodes
+    aspects: frozenset[str] = frozenset()
+    begins_at_0: bool = False
+    has_steps: bool = True  # of the runner; without, they stay comments
+    known_promises: frozenset[str] = frozenset()  # not looked at
 
 
 class Difference(NamedTuple):
     place: int  # of the directive, from 1 on
     directive: str
-    field: str  # the part that differs
+    field: str  # the part that differs, with its direction
     node: int  # 0 where it is of no single node
-    wanted: list  # lines of the reference
-    came: list  # lines of the nodes
+    wanted: Sequence[str]  # lines of the reference
+    came: Sequence[str]  # lines of the nodes
+    after: str  # the call or message after which they differ, and at which role; or the directive
 
-    def kind(self):
-        return f"{self.field} after {self.directive}"
+    def kind(self) -> str:
+        return f"{self.field} {self.after}"
+
+    def is_failure(self) -> bool:
+        return self.field.startswith("failed ")
+
+
+class Broken(NamedTuple):
+    """A promise that the nodes break and the reference keeps."""
+
+    place: int
+    text: str
+    is_joined: bool  # in clusters joined by hand, where it may be the script's fault
+
+    def kind(self) -> str:
+        return f"promise broken{' in joined clusters' if self.is_joined else ''}: {name_of(self.text)}"
 
 
 class Outcome(NamedTuple):
     compared: int  # directives that both sides carried out, up to the first difference
     agreed: int
     left_out: int
-    kept: list  # the blocks that both sides carried out, and their places
-    outputs: list  # what the reference printed of these
-    came: list  # what the nodes printed
-    first: Difference  # or None
-    broken: tuple  # a place and a text, or None: the first promise that the nodes break and the reference keeps
+    kept: Sequence[tuple[int, Block]]  # the places and blocks that both sides carried out
+    outputs: Sequence[list[str]]  # what the reference printed
+    came: Sequence[list[str]]  # what the nodes printed
+    first: Difference | None
+    broken: Sequence[Broken]
 
-    def kinds(self):
-        """Pairs of a kind of difference and its place. A promise that is broken in clusters joined by hand may be the script's fault."""
+    def kinds(self) -> Iterator[tuple[str, int]]:
+        """Each kind of what was found, and its place."""
         if self.first:
             yield self.first.kind(), self.first.place
-        if self.broken:
-            where = " in joined clusters" if are_joined(block for place, block in self.kept if place <= self.broken[0]) else ""
-            yield f"promise broken{where}: {name_of(self.broken[1])}", self.broken[0]
+        for broken in self.broken:
+            yield broken.kind(), broken.place
 
 
-def known_state(node, without):
+# What is compared
+
+
+def known_state(node: AnyNode, without: frozenset[str]) -> dict[str, object]:
     values = {name: getattr(node, name) for name in FIELDS if name not in without}
     if "content" in values:
         values["content"] = content_text(node.content)
     return values
 
 
-def known_config(node, without):
-    return config_text(node.config._replace(auto=False) if "auto" in without else node.config)
+def known_config(node: AnyNode, without: frozenset[str]) -> list[str]:
+    return [f"{node.id} {config_text(node.config._replace(auto=False) if 'auto' in without else node.config)}"]
 
 
-def known_log(node, without):
+def known_log(node: AnyNode, without: frozenset[str]) -> list[str]:
     """Where a log begins, its entries, and which aren't saved. Commit and applied, which are shown with it, are parts of the state."""
     if "durable" in without:
         return [f"base={node.base_term}/{node.base}"] + [entry_text(index, entry) for index, entry in node.entries_from(node.base + 1)]
@@ -66,18 +102,18 @@ def known_log(node, without):
     return [first.partition(" commit=")[0], *entries]
 
 
-def state_line(node, values):
+def state_line(node: AnyNode, values: dict[str, object]) -> str:
     return f"{node.id} " + " ".join(str(value) if name == "role" else f"{name}={value}" for name, value in values.items())
 
 
-def views_of(node):
-    """What a leader knows of the others; who doesn't lead has nothing to say."""
+def views_of(node: AnyNode) -> list[str]:
+    """What a leader knows of the others."""
     if node.role != "leader":
         return []
     return [f"{node.id} sees {view_text(id, view)}" for id, view in sorted(node.views.items()) if id != node.id]
 
 
-def known_message(m):
+def known_message(m: Message) -> str:
     """What is compared of a message, as a text. Who a passed on transfer is from isn't compared: not every library says so."""
     text = message_text(m)
     if m.kind == "MsgTransferLeader":
@@ -86,122 +122,205 @@ def known_message(m):
     return text + hint + "".join(f" {entry_text(index, entry)}" for index, entry in enumerate(m.entries, m.index + 1))
 
 
+def known_ready(id: int, ready: Ready, without: frozenset[str]) -> list[str]:
+    """What is to be saved and applied; nothing if there is nothing."""
+    lines = []
+    if ready.hard:
+        lines.append(f"{id} hard term={ready.hard.term} vote={ready.hard.vote} commit={ready.hard.commit}")
+    if ready.snapshot:
+        lines.append(f"{id} snapshot {ready.snapshot[1]}/{ready.snapshot[0]}")
+    for verb, entries in (("save", ready.entries), ("apply", ready.committed)):
+        lines += [f"{id} {verb} {entry_text(index, entry)}" for index, entry in entries]
+    if lines and "sync" not in without:
+        lines.append(f"{id} {'must' if ready.sync else 'need not'} be saved before anything is sent")
+    return lines
+
+
+def direction(field: str, wanted: object, came: object) -> str:
+    """A part with what is surprising about it."""
+    if field == "role":
+        return f"role {came} for {wanted}"
+    if field in NUMBERS and isinstance(wanted, int) and isinstance(came, int):
+        return f"{field} {'ahead' if came > wanted else 'behind'}"
+    return field
+
+
+Found = tuple[str, int, Sequence[str], Sequence[str]]
+
+
 class Beside:
     """Both clusters, and what differs between them after a directive."""
 
-    def __init__(self, process, kind, mode):
-        self.without, self.mode = process.without, mode
-        self.ours, self.theirs = Reference(kind), Watched(process)
-        self.promises = self.theirs.promises
+    def __init__(self, process: Process, chosen: Comparison) -> None:
+        self.without, self.chosen, self.process = process.without, chosen, process
+        self.ours = WatchedReference(chosen.kind, chosen.begins_at_0)
+        self.theirs = WatchedHosts(process, chosen.begins_at_0)
 
-    def differs(self, place, name, lines, other_lines):
-        """The first Difference, or None."""
-        found = next(self.differences(), None)
-        if found is None and self.mode == "lines" and lines != other_lines:
-            found = "lines", 0, lines, other_lines
-        return found and Difference(place, name, *found)
+    def differs(self, place: int, name: str, lines: Sequence[str], other_lines: Sequence[str]) -> Difference | None:
+        found = next(self.differences(lines, other_lines), None)
+        if found is None:
+            return None
+        field, node, wanted, came = found
+        return Difference(place, name, field, node, wanted, came, place_of(self.ours, self.theirs, field, name))
 
-    def differences(self):
+    def differences(self, lines: Sequence[str], other_lines: Sequence[str]) -> Iterator[Found]:
         ids = sorted((self.ours.touched | self.theirs.touched) & self.ours.nodes.keys() & self.theirs.nodes.keys())
         pairs = [(self.ours.nodes[id], self.theirs.nodes[id]) for id in ids]
+        aspects = self.chosen.aspects
         for ours, theirs in pairs:
             yield from self.state_differences(ours, theirs)
         if "config" not in self.without:
-            yield from self.text_differences("config", pairs, lambda node: [f"{node.id} {known_config(node, self.without)}"])
+            yield from text_differences("config", pairs, lambda node: known_config(node, self.without))
         if "log" not in self.without:
-            yield from self.text_differences("log", pairs, lambda node: known_log(node, self.without))
-        if self.mode == "views" and "status" not in self.without:
-            yield from self.text_differences("views", pairs, views_of)
-        if self.mode in ("messages", "order"):
+            yield from text_differences("log", pairs, lambda node: known_log(node, self.without))
+        if "views" in aspects and "status" not in self.without:
+            yield from text_differences("views", pairs, views_of)
+        if "ready" in aspects and "ready" not in self.without:
+            yield from self.ready_differences()
+        if aspects & {"messages", "order"}:
             yield from self.message_differences()
+        if "lines" in aspects and lines != other_lines:
+            yield "lines", 0, lines, other_lines
+        if (NEVER in other_lines) != (NEVER in lines):
+            yield "never comes to rest" if NEVER in other_lines else "comes to rest early", 0, lines[-1:], other_lines[-1:]
 
-    def state_differences(self, ours, theirs):
-        skipped = self.without | getattr(ours, "unsettled", lambda: frozenset())()
+    def state_differences(self, ours: AnyNode, theirs: AnyNode) -> Iterator[Found]:
+        skipped = self.without | (ours.unsettled() if isinstance(ours, Switched) else frozenset())
         wanted, came = known_state(ours, skipped), known_state(theirs, skipped)
         field = next((name for name in wanted if wanted[name] != came[name]), None)
         if field:
-            yield field, ours.id, [state_line(ours, wanted)], [state_line(theirs, came)]
+            yield direction(field, wanted[field], came[field]), ours.id, [state_line(ours, wanted)], [state_line(theirs, came)]
 
-    @staticmethod
-    def text_differences(field, pairs, lines_of):
-        for ours, theirs in pairs:
-            wanted, came = lines_of(ours), lines_of(theirs)
-            if wanted != came:
-                yield field, ours.id, wanted, came
-
-    def message_differences(self):
-        wanted, came = (list(map(known_message, cluster.sent)) for cluster in (self.ours, self.theirs))
-        if self.mode == "messages":
-            wanted, came = sorted(wanted), sorted(came)
+    def ready_differences(self) -> Iterator[Found]:
+        wanted, came = ([line for id, ready in side.readies for line in known_ready(id, ready, self.without)] for side in (self.ours, self.theirs))
         if wanted != came:
-            first = next((text for side, other in ((wanted, came), (came, wanted)) for text in side if text not in other), None)
-            what = "order of messages" if first is None else "messages " + next(word for word in first.split() if word.startswith("Msg"))
-            yield what, 0, wanted, came
+            first = next(one or other or "" for one, other in zip_longest(wanted, came) if one != other)
+            yield "ready: " + {"hard": "hard state", "must": "sync", "need": "sync"}.get(first.split()[1], first.split()[1]), int(first.split()[0]), wanted, came
+
+    def message_differences(self) -> Iterator[Found]:
+        wanted, came = (list(map(known_message, cluster.sent)) for cluster in (self.ours, self.theirs))
+        if "order" not in self.chosen.aspects:
+            wanted, came = sorted(wanted), sorted(came)
+        if wanted == came:
+            return
+        lacking = next((text for text in wanted if text not in came), None)
+        excess = next((text for text in came if text not in wanted), None)
+        first = lacking or excess
+        if first is None:
+            what = "order of messages" if len(wanted) == len(came) else "number of messages"
+        else:
+            what = f"{'other' if lacking and excess else 'lacking' if lacking else 'additional'} {next(word for word in first.split() if word.startswith('Msg'))}"
+        yield what, 0, wanted, came
 
 
-class Watching:
-    """A cluster that is held to Raft's promises after each call of a node."""
-
-    def touch(self, id):
-        super().touch(id)
-        self.promises.look(self.nodes[id])
-
-
-class Watched(Watching, HostedCluster):
-    def __init__(self, process):
-        super().__init__(process)
-        self.promises = Promises()
+def text_differences(field: str, pairs: Sequence[tuple[AnyNode, AnyNode]], lines_of: Callable[[AnyNode], list[str]]) -> Iterator[Found]:
+    for ours, theirs in pairs:
+        wanted, came = lines_of(ours), lines_of(theirs)
+        if wanted != came:
+            yield field, ours.id, wanted, came
 
 
-class WatchedReference(Watching, Reference):
-    def __init__(self, kind):
-        super().__init__(kind)
-        self.promises = Promises()
+def place_of(ours: Stage, theirs: Stage, field: str, directive: str) -> str:
+    """After which call, at which role, the sides begin to differ; the directive, where their calls already differ before."""
+    for one, other in zip(ours.calls, theirs.calls):
+        if (one.node, one.what) != (other.node, other.what):
+            break
+        if one.after != other.after:
+            return after_of(one, ours)
+    last = ours.calls[-1] if ours.calls and len(ours.calls) == 1 else None
+    return after_of(last, ours) if last else f"after {directive}"
 
 
-def breaks(cluster, blocks, is_wild):
-    """The promises that a reference breaks in a script."""
-    for block in blocks:
-        if is_wild:
-            disturb([cluster], block)
-        cluster.run(block.directive())
-        cluster.promises.look_at_logs(cluster)
-    return set(map(name_of, cluster.promises.broken))
+def after_of(called: Called, cluster: Stage) -> str:
+    restarted = " that was restarted" if called.node in cluster.restarted and called.what != "restart" else ""
+    return f"after {called.what} at a {called.role}{restarted}" if called.role else f"after {called.what}"
 
 
-def are_joined(blocks):
+def are_joined(blocks: Sequence[Block]) -> bool:
     """Whether a script joins clusters by hand: nodes that begin with configurations of their own, or snapshots that nobody needs."""
     heads = [block.directive() for block in blocks]
     begun = [arguments for name, arguments, _ in heads if name == b"add-nodes" and any(a.key == b"voters" for a in arguments)]
     return len(begun) > 1 or any(name == b"send-snapshot" for name, *_ in heads)
 
 
-def failure(place, name, failed):
-    return Difference(place, name, f"failed {failed.call} ({failed.short})", failed.node, ["an answer"], [str(failed)])
+def failure(place: int, name: str, failed: Failed, role: str) -> Difference:
+    what = f"failed {failed.call} ({failed.short})"
+    return Difference(place, name, what, failed.node, ["an answer"], [str(failed)], f"at a {role}" if role else f"in {name}")
 
 
-def run_beside(blocks, process, kind=Node, mode="states", is_wild=False, goes_on=True):
-    """With `goes_on` the nodes go on behind the first difference, so that a promise which is broken later is seen."""
-    process.reset()
-    kept = [(place, less) for place, block in enumerate(blocks, 1) if (less := reduced(block, process.without)) is not None]
-    beside, outputs, came, compared, first, broken = Beside(process, kind, mode), [], [], 0, None, None
-    for place, block in kept:
-        name = block.directive()[0].decode("latin-1")
-        if is_wild:
-            disturb([beside.ours, beside.theirs], block, process.is_open)
-        outputs.append(beside.ours.run(block.directive()))
-        compared += first is None
+class Run:
+    """One script on both sides."""
+
+    def __init__(self, blocks: Sequence[Block], process: Process, chosen: Comparison) -> None:
+        process.reset()
+        less = ((place, reduced(block, process.hello)) for place, block in enumerate(blocks, 1))
+        self.kept = [(place, block) for place, block in less if block is not None]
+        self.left_out = len(blocks) - len(self.kept)
+        self.process, self.chosen, self.beside = process, chosen, Beside(process, chosen)
+        self.outputs: list[list[str]] = []
+        self.came: list[list[str]] = []
+        self.compared = 0
+        self.first: Difference | None = None
+        self.broken: list[tuple[int, str]] = []
+
+    def outcome(self, goes_on: bool) -> Outcome:
+        for place, block in self.kept:
+            if not self.carry_out(place, block) or self.first and not goes_on:
+                break
+        return Outcome(
+            self.compared, self.compared - (self.first is not None), self.left_out, self.kept, self.outputs, self.came, self.first, self.broken_promises(),
+        )
+
+    def carry_out(self, place: int, block: Block) -> bool:
+        """Runs a directive on both sides; answers whether the nodes can go on."""
+        name = block.directive().name.decode("latin-1")
+        ours, theirs = self.beside.ours, self.beside.theirs
+        steps = allowed(steps_above(block), self.process) if self.chosen.has_steps and block.lead else []
+        self.compared += self.first is None
+        if steps:
+            ours.carry_out(steps)
+            if not self.on_theirs(place, "a step of the runner", lambda: theirs.carry_out(steps)):
+                self.outputs.append(ours.run(block.directive()))
+                return False
+            if self.first is None:
+                self.first = self.beside.differs(place, steps[-1].name, [], [])
+        self.outputs.append(ours.run(block.directive()))
+        if not self.on_theirs(place, name, lambda: self.came.append(theirs.run(block.directive()))):
+            return False
+        if self.first is None:
+            try:
+                self.first = self.beside.differs(place, name, self.outputs[-1], self.came[-1])
+            except Failed as failed:
+                self.first = failure(place, name, failed, "")
+                return False
+        return True
+
+    def on_theirs(self, place: int, name: str, act: Callable[[], None]) -> bool:
+        theirs = self.beside.theirs
         try:
-            came.append(beside.theirs.run(block.directive()))
-            beside.promises.look_at_logs(beside.theirs)
-            first = first or beside.differs(place, name, outputs[-1], came[-1])
+            act()
+            theirs.look_at_logs()
         except Failed as failed:
-            first = first or failure(place, name, failed)
-            break
-        if broken is None and beside.promises.broken:
-            broken = place, beside.promises.broken[0]
-        if first and (broken or not goes_on):
-            break
-    if broken and name_of(broken[1]) in breaks(WatchedReference(kind), [block for place, block in kept if place <= broken[0]], is_wild):
-        broken = None
-    return Outcome(compared, compared - (first is not None), len(blocks) - len(kept), kept, outputs, came, first, broken)
+            self.first = self.first or failure(place, name, failed, theirs.role_before)
+            return False
+        seen = {text for _, text in self.broken}
+        self.broken += [(place, text) for text in theirs.promises.broken if text not in seen]
+        return True
+
+    def broken_promises(self) -> list[Broken]:
+        """The first of each promise that is broken, without those that the reference breaks too and those that one knows."""
+        firsts: dict[str, tuple[int, str]] = {}
+        for place, text in self.broken:
+            if name_of(text) not in self.chosen.known_promises:
+                firsts.setdefault(name_of(text), (place, text))
+        if not firsts:
+            return []
+        blocks = [block for _, block in self.kept]
+        excused = breaks(WatchedReference(self.chosen.kind, self.chosen.begins_at_0), blocks, self.process)
+        is_joined = are_joined(blocks)
+        return [Broken(place, text, is_joined) for name, (place, text) in firsts.items() if name not in excused]
+
+
+def run_beside(blocks: Sequence[Block], process: Process, chosen: Comparison = Comparison(), goes_on: bool = True) -> Outcome:
+    """With `goes_on` the nodes go on after the first difference, so that promises which are broken later are seen."""
+    return Run(blocks, process, chosen).outcome(goes_on)

@@ -1,112 +1,201 @@
-"""Exploring: scripts from seeds by the nodes and by the reference, and the shortest script of each kind of difference."""
+"""Exploring: scripts from seeds, and children of those that reached something new, on the nodes and on the reference; and the shortest script of each
+kind of what was found.
+"""
+from __future__ import annotations
+
 import collections
-import re
-from typing import NamedTuple
+from typing import Iterable, NamedTuple, Sequence
 
-from plain.node import MET
-from plain.script import Script
+from plain.script import Block, Script
 
-from .compare import run_beside
+from .accepted import Accepted
+from .alone import run_alone
+from .compare import Comparison, Outcome, run_beside
 from .dice import steps_of
-from .reference import Reference, Unjudged
+from .judge import Judge, Unjudged
+from .mutate import Mutator
+from .plan import agrees_at_once, plan_of
+from .process import Process
+from .script import Step, blocks_of
 from .shrink import Shrinker
+from .stage import Reference
+from .steps import is_stepped
 
-MOST_RUNS = 200
+MOST_RUNS = 250
 # A node that doesn't answer takes its whole time at each try.
 MOST_SLOW_RUNS = 12
+# How often a script goes on without a directive at which it fails as one knows.
+MOST_KNOWN_FAILURES = 4
+# Of this many scripts without the runner's steps the proved program is asked about one.
+JUDGED = 40
+CALIBRATING = 24
+# An aspect in which more scripts differ first isn't compared by default.
+MOST_LOUD = 4
 
 
 class Chosen(NamedTuple):
-    """What all scripts of an exploration share."""
+    """What all scripts of an exploration share. `alone`: of how many scripts one is held to promises alone, with reads; 1: all, 0: none."""
 
-    kind: type  # of the reference's nodes
-    mode: str
+    comparison: Comparison
     dice: str
-    is_wild: bool
+    alone: int
+    accepted: Accepted
+    program: str = "explore"
+
+
+class Spec(NamedTuple):
+    """A script to try: thrown by a seed, or a child of another."""
+
+    number: int
+    seed: int
+    is_alone: bool
+    parent: tuple[Step, ...] = ()
+    mate: tuple[Step, ...] = ()
+
+    def steps(self, dice: str) -> list[Step]:
+        if self.parent:
+            return Mutator(self.seed).child(self.parent, self.mate)
+        return steps_of(self.seed, dice, self.is_alone)
+
+
+class Shown(NamedTuple):
+    """A kind of what a script showed, and the directive at which."""
+
+    kind: str
+    place: int
 
 
 class Found(NamedTuple):
-    """What a seed came to; `kinds` are pairs of a kind of difference and the place where it stood."""
+    """What a script came to. `steps` are left out where nobody needs them."""
 
-    seed: int
+    spec: Spec
     directives: int
     compared: int
     agreed: int
     left_out: int
-    kinds: tuple
+    kinds: tuple[Shown, ...]
+    met: frozenset[int]
+    steps: tuple[Step, ...]
     is_reference_wrong: bool
-
-
-class Met:
-    """What was met: directives by name, pairs of a type of message and a role, and kinds of events."""
-
-    def __init__(self):
-        self.directives, self.roles, self.events = collections.Counter(), collections.Counter(), collections.Counter()
-
-    def take(self, kept, outputs):
-        for (_, block), lines in zip(kept, outputs):
-            if not lines[0].startswith("error: "):
-                self.directives[block.directive()[0].decode("latin-1")] += 1
-            for line in lines:
-                if line.startswith(("INFO ", "DEBUG ", "WARN ", "ERROR ")):
-                    self.events[re.sub(r"\(.*|\d[\d/]*", "*", line.split(" ", 2)[2])] += 1
-
-    def update(self, other):
-        for name in ("directives", "roles", "events"):
-            getattr(self, name).update(getattr(other, name))
+    was_quick: bool
 
 
 class Explorer:
-    def __init__(self, process, judge, chosen):
-        self.process, self.judge, self.chosen, self.met = process, judge, chosen, Met()
+    """Tries scripts; one a worker."""
 
-    def outcome(self, steps, goes_on=True):
-        blocks = [step.block() for step in steps]
-        return run_beside(blocks, self.process, self.chosen.kind, self.chosen.mode, self.chosen.is_wild, goes_on)
+    def __init__(self, process: Process, judge: Judge, chosen: Chosen) -> None:
+        self.process, self.judge, self.chosen = process, judge, chosen
+        self.met: set[int] = set()
+        self.judged = 0
 
-    def explore(self, seed):
-        """Runs the script of a seed."""
-        steps = steps_of(seed, self.chosen.dice, self.chosen.is_wild)
-        MET.clear()
-        outcome = self.outcome(steps)
-        self.met.take(outcome.kept, outcome.outputs)
-        self.met.roles.update(MET)
+    def outcome(self, steps: Sequence[Step], goes_on: bool = True) -> Outcome:
+        return run_beside(blocks_of(steps), self.process, self.chosen.comparison, goes_on)
+
+    def explore(self, spec: Spec) -> Found:
+        """Runs a script."""
+        steps = spec.steps(self.chosen.dice)
+        if not self.process.is_started:
+            self.process.reset()
+        plan = plan_of(blocks_of(steps), self.process, self.chosen.comparison)
+        new = frozenset(plan.met - self.met)
+        self.met |= new
+        if spec.is_alone:
+            alone = run_alone(blocks_of(steps), self.process, self.chosen.comparison)
+            kinds = self.unknown(alone.kinds())
+            return Found(spec, len(steps), alone.directives, alone.directives, alone.left_out, kinds, new, self.kept(steps, kinds, new), False, False)
+        is_wrong = self.is_wrong(steps)
+        can_be_quick = self.process.hello.has_batch and "lines" not in self.chosen.comparison.aspects
+        if can_be_quick and agrees_at_once(plan, self.process, self.chosen.comparison):
+            return Found(spec, len(steps), plan.directives, plan.directives, plan.left_out, (), new, self.kept(steps, (), new), is_wrong, True)
+        steps, outcome = self.beyond_known(steps)
+        kinds = self.unknown(outcome.kinds())
         return Found(
-            seed, len(steps), outcome.compared, outcome.agreed, outcome.left_out, tuple(outcome.kinds()),
-            self.is_wrong([block for _, block in outcome.kept]),
+            spec, len(steps), outcome.compared, outcome.agreed, outcome.left_out, kinds, new, self.kept(steps, kinds, new), is_wrong, False,
         )
 
-    def is_wrong(self, blocks):
-        """Whether the proved program prints something else than the reference without switches. It knows of no wild network."""
-        if self.chosen.is_wild or not self.judge.is_there:
+    def unknown(self, kinds: Iterable[tuple[str, int]]) -> tuple[Shown, ...]:
+        found = (Shown(*pair) for pair in kinds)
+        return tuple(shown for shown in found if self.chosen.accepted.reason_of(shown.kind) is None)
+
+    @staticmethod
+    def kept(steps: Sequence[Step], kinds: Sequence[Shown], new: frozenset[int]) -> tuple[Step, ...]:
+        return tuple(steps) if kinds or new else ()
+
+    def beyond_known(self, steps: list[Step]) -> tuple[list[Step], Outcome]:
+        """A script without the directives at which a call fails as one knows: what comes after is looked at too."""
+        for _ in range(MOST_KNOWN_FAILURES):
+            outcome = self.outcome(steps)
+            first = outcome.first
+            if first is None or not first.is_failure() or self.chosen.accepted.reason_of(first.kind()) is None:
+                break
+            steps = steps[:first.place - 1] + steps[first.place:]
+        return steps, outcome
+
+    def is_wrong(self, steps: Sequence[Step]) -> bool:
+        """Whether the proved program prints something else than the reference without switches, of some scripts."""
+        blocks = blocks_of(steps)
+        if not self.judge.is_there or is_stepped(blocks):
             return False
-        cluster = Reference()
-        return self.judge.first_wrong(blocks, [cluster.run(block.directive()) for block in blocks]) is not None
+        self.judged += 1
+        return self.judged % JUDGED == 1 and is_reference_wrong(self.judge, blocks)
 
-    def shrunk(self, seed, kind, place):
+    # Shrinking
+
+    def kinds_of(self, steps: Sequence[Step], is_alone: bool) -> list[tuple[str, int]]:
+        if is_alone:
+            return run_alone(blocks_of(steps), self.process, self.chosen.comparison).kinds()
+        return list(self.outcome(steps).kinds())
+
+    def has(self, steps: Sequence[Step], kind: str, is_alone: bool) -> bool:
+        if is_alone:
+            return kind in dict(run_alone(blocks_of(steps), self.process, self.chosen.comparison).kinds())
+        return kind in dict(self.outcome(steps, goes_on=kind.startswith("promise")).kinds())
+
+    def shrunk(self, steps: Sequence[Step], kind: str, is_alone: bool, most: int = MOST_RUNS) -> list[Step]:
         """The shortest steps found that show a kind."""
-        steps = steps_of(seed, self.chosen.dice, self.chosen.is_wild)[:place]
-        goes_on = kind.startswith("promise")
+        most = MOST_SLOW_RUNS if "no answer within" in kind else most
+        return Shrinker(lambda tried: self.has(tried, kind, is_alone), most).shrunk(list(steps))
 
-        def has(tried):
-            return kind in dict(self.outcome(tried, goes_on).kinds())
-
-        return Shrinker(has, MOST_SLOW_RUNS if "no answer within" in kind else MOST_RUNS).shrunk(steps)
-
-    def script(self, steps, comments):
-        """The text of a script with the proved program's expectations; the reference's where that knows nothing of it."""
+    def script(self, steps: Sequence[Step], comments: Sequence[str]) -> bytes:
+        """The text of a script with the proved program's expectations; the reference's where that knows nothing of it. Comments stand above the last directive."""
         outcome = self.outcome(steps, goes_on=False)
         blocks = [block for _, block in outcome.kept]
-        outputs = outcome.outputs + self.rest_of(blocks, len(outcome.outputs))
-        if self.judge.is_there and not self.chosen.is_wild:
+        outputs = list(outcome.outputs) + [[] for _ in blocks[len(outcome.outputs):]]
+        if self.judge.is_there and not is_stepped(blocks):
             try:
                 outputs = self.judge.outputs(blocks)
             except Unjudged as fault:
                 comments = [*comments, str(fault)]
-        text = Script(tuple(blocks), ()).text([tuple(line.encode() for line in lines) for lines in outputs])
-        return "".join(f"# {line}\n" for line in comments).encode() + text
+        if blocks:
+            blocks[-1] = blocks[-1]._replace(lead=(*(f"# {line}".encode() for line in comments), *blocks[-1].lead))
+        return Script(tuple(blocks), ()).text([tuple(line.encode() for line in lines) for lines in outputs])
 
-    @staticmethod
-    def rest_of(blocks, done):
-        """Outputs for what the reference wasn't run on, since a node failed before."""
-        return [[] for _ in blocks[done:]]
+
+def is_reference_wrong(judge: Judge, blocks: Sequence[Block]) -> bool:
+    cluster = Reference()
+    return judge.first_wrong(blocks, [cluster.run(block.directive()) for block in blocks]) is not None
+
+
+def aspect_of(kind: str) -> str | None:
+    """The aspect that a kind of difference is of; None for a state's."""
+    if kind.startswith("views"):
+        return "views"
+    if kind.startswith("ready: "):
+        return "ready"
+    return "messages" if "Msg" in kind.split(" after ")[0] or " of messages" in kind else None
+
+
+def strictest(process: Process, comparison: Comparison) -> frozenset[str]:
+    """The aspects in which the first scripts agree, or nearly all of them."""
+    aspects = frozenset({"views", "messages", "ready"}) - ({"views"} if "status" in process.without else set())
+    while aspects:
+        explorer = Explorer(process, Judge(is_asked=False), Chosen(comparison._replace(aspects=aspects), "mixed", 0, Accepted()))
+        loud: collections.Counter[str | None] = collections.Counter()
+        for seed in range(CALIBRATING):
+            found = explorer.explore(Spec(seed, seed, False))
+            loud.update(aspect_of(shown.kind) for shown in found.kinds[:1])
+        dropped = {aspect for aspect, count in loud.items() if aspect and count >= MOST_LOUD}
+        if not dropped:
+            break
+        aspects -= dropped
+    return aspects

@@ -1,12 +1,16 @@
 """Switches of the reference: rules that a known library has otherwise. With them on the reference does as that library does, and what still
-differs is news. Each is named in `SWITCHES`; nodes/like/ has the lists of known libraries, and a file of one's own may be such a list.
+differs is news. Each is named in `SWITCHES`; nodes/like/ has the lists of known libraries, and a file of your own may be such a list.
 
 The proved program has no switches: a switched reference is the plain node alone.
 """
-import pathlib
+from __future__ import annotations
 
-from plain.config import Change, enter_joint, vote_result
-from plain.node import Node
+import pathlib
+from typing import Any, Iterable
+
+from plain.config import Change, ChangeFault, Config, enter_joint, vote_result
+from plain.node import Disk, Node, View
+from plain.records import Body, Entry, Message, Numbered, Snapshot
 
 LIKE = pathlib.Path(__file__).resolve().parents[1] / "like"
 FROM_LEADERS = ("MsgApp", "MsgHeartbeat", "MsgSnap")
@@ -19,6 +23,7 @@ SWITCHES = {
     "snapshot-keeps-next": "a snapshot that is sent leaves the view's next as it is",
     "refusal-has-term": "a refused append is answered with a term too, and the leader skips by it",
     "refusal-hints-last": "a refused append is answered with the last index",
+    "refusal-goes-below-match": "a late refusal leads back below what the member is known to hold",
     "leaving-not-told": "what leaves a joint configuration by itself goes out with the next message, and a transfer doesn't hold it up",
     "leaving-needs-applying": "a leader leaves a joint configuration by itself only where it applies something",
     "leaving-not-pending": "leaving a joint configuration by itself is no pending change",
@@ -46,6 +51,17 @@ SWITCHES = {
     "proposal-keeps-sender": "a proposal that is passed on is from whom it came from first",
     "transfer-has-term": "a request to hand over the lead that is passed on has its sender's term, and is ignored where that is old",
     "no-words-leave-with-auto": "a change without words leaves a joint configuration with `auto` alone, and else would enter one",
+    "won-question-campaigns": "who wins the question before the vote campaigns, also if it votes no more or a change or a snapshot waits",
+    "refused-candidate-stays": "a candidate that a quorum has refused stays one",
+    "change-counts-when-appended": "a configuration counts from when its change is appended, and no longer if the change is overwritten",
+    "commit-told-later": "a commit is told with the next append or heartbeat",
+    "proposal-refused": "a follower passes no proposal on",
+    "known-leader-refuses": "a node that knows of a leader ignores candidates, however long it has heard nothing",
+    "own-vote-at-once": "a node's own vote counts before it is saved, and its own new entries don't",
+    "lead-is-kept": "a follower that a candidate brings to a later term keeps whom it held for the leader",
+    "last-snapshot-sent": "a snapshot that is sent is where the log begins, and not what is applied",
+    "restart-keeps-applied": "applied and content survive a restart",
+    "restart-forgets-commit": "commit isn't saved: after a restart it is where the log begins",
 }
 
 
@@ -53,7 +69,7 @@ class Unknown(Exception):
     """A list of switches that can't be read; its text says why."""
 
 
-def switches_of(text):
+def switches_of(text: str) -> frozenset[str]:
     """The switches of a list: one a line, with the reason behind it; `#` begins a comment."""
     names = [line.split()[0] for line in text.splitlines() if line.strip() and not line.strip().startswith("#")]
     for name in names:
@@ -62,7 +78,7 @@ def switches_of(text):
     return frozenset(names)
 
 
-def kind_like(name):
+def kind_like(name: str) -> type[Node]:
     """The kind of node for `--like`: a name of nodes/like, or a file; the plain one without a name."""
     if not name:
         return Node
@@ -74,38 +90,39 @@ def kind_like(name):
     return kind_with(switches_of(text))
 
 
-def kind_with(switches):
+def kind_with(switches: Iterable[str]) -> type[Switched]:
     return type("SwitchedNode", (Switched,), {"switches": frozenset(switches)})
 
 
 class Switched(Node):
     """The plain node with the rules of its switches."""
 
-    switches = frozenset()
+    switches: frozenset[str] = frozenset()
     # While it is true: own answers are of itself; nothing is told; views begin as those of added members.
     is_own = is_quiet = is_growing = False
     applies = True
-    removed = frozenset()  # by the change that is applied
+    removed: frozenset[int] = frozenset()  # by the change that is applied
 
-    def on(self, name):
+    def on(self, name: str) -> bool:
         return name in self.switches
 
-    def unsettled(self):
+    def unsettled(self) -> frozenset[str]:
         """Parts of the state that can't be compared now."""
         return frozenset(("applied", "content")) if self.on("applied-when-saved") and self.restored else frozenset()
 
     # Own vote, own entries
 
-    def send(self, kind, to, **parts):
-        if self.on("own-answers-at-once") and to == self.id and self.is_own:
+    def send(self, kind: str, to: int, **parts: Any) -> None:
+        is_at_once = self.on("own-answers-at-once") or self.on("own-vote-at-once") and kind != "MsgAppResp"
+        if is_at_once and to == self.id and self.is_own:
             return
         waiting = len(self.waiting)
         super().send(kind, to, **parts)
         if self.on("answers-in-order") and len(self.waiting) > waiting:
             self.sent.append(self.waiting.pop())
 
-    def ask(self, kind, term, by_transfer):
-        if self.on("own-answers-at-once"):
+    def ask(self, kind: str, term: int, by_transfer: bool) -> None:
+        if self.on("own-answers-at-once") or self.on("own-vote-at-once"):
             self.votes[self.id] = True
             if vote_result(self.config, self.votes) == "won":
                 return self.win()
@@ -114,7 +131,7 @@ class Switched(Node):
         self.is_own = False
         return None
 
-    def win(self):
+    def win(self) -> None:
         if self.role != "candidate":
             return self.campaign("elected")
         self.is_quiet = True
@@ -122,14 +139,16 @@ class Switched(Node):
         self.is_quiet = False
         return None
 
-    def tell_all(self):
+    def tell_all(self) -> None:
         if not self.is_quiet:
             super().tell_all()
 
-    def append(self, body):
+    def append(self, body: Body) -> bool:
         self.is_own = True
         done = super().append(body)
         self.is_own = False
+        if done and isinstance(body, Change):
+            self.recount()
         view = self.views.get(self.id)
         if self.on("own-answers-at-once") and done and view:
             view.match, view.next = self.last(), self.last() + 1
@@ -138,7 +157,7 @@ class Switched(Node):
             self.is_quiet = before
         return done
 
-    def new_view(self, id, active):
+    def new_view(self, id: int, active: bool) -> None:
         super().new_view(id, active)
         view = self.views[id]
         if self.on("own-answers-at-once") and id == self.id:
@@ -148,11 +167,11 @@ class Switched(Node):
 
     # Changes
 
-    def advance(self):
+    def advance(self) -> None:
         self.applies = self.commit > self.applied
         super().advance()
 
-    def leave_by_itself(self):
+    def leave_by_itself(self) -> None:
         if not self.on("leaving-not-told"):
             return super().leave_by_itself()
         leaves = self.role == "leader" and self.config.is_joint() and self.config.auto and (self.applies or not self.on("leaving-needs-applying"))
@@ -160,17 +179,49 @@ class Switched(Node):
             self.pending_change = self.last()
         return None
 
-    def config_after(self, change):
+    def config_after(self, change: Change) -> Config:
         if self.on("no-words-leave-with-auto") and not change.words and change.transition != "auto":
             return enter_joint(self.config, (), change.transition == "implicit")
         return super().config_after(change)
 
-    def apply_change(self, index, change):
+    def recount(self) -> None:
+        """The configuration that the whole log comes to, if changes count when they are appended."""
+        if not self.on("change-counts-when-appended"):
+            return
+        before, self.config = self.config, self.base_config
+        for _, entry in self.entries_from(self.base + 1):
+            if isinstance(entry.body, Change):
+                try:
+                    self.config = self.config_after(entry.body)
+                except ChangeFault:
+                    pass
+        if self.config != before and self.role == "leader":
+            self.view_members()
+
+    def put_after(self, numbered: list[Numbered]) -> None:
+        super().put_after(numbered)
+        self.recount()
+
+    def start_from(self, disk: Disk) -> None:
+        before = (self.applied, self.content, self.config) if hasattr(self, "disk") else None
+        super().start_from(disk)
+        self.recount()
+        if self.on("restart-forgets-commit"):
+            self.commit = disk.base
+        if self.on("restart-keeps-applied") and before and before[0] <= self.last():
+            self.applied, self.content, self.config = before
+            self.commit = max(self.commit, self.applied)
+
+    def apply_change(self, index: int, change: Change) -> None:
+        if self.on("change-counts-when-appended"):
+            if self.role == "leader" and self.options.step_down_on_removal and self.id not in self.config.voters():
+                self.follow(self.term, 0)
+            return
         if self.on("removed-and-added-anew"):
-            self.removed = {id for letter, id in change.words if letter == "r"} - self.config.incoming
+            self.removed = frozenset(id for letter, id in change.words if letter == "r") - self.config.incoming
         super().apply_change(index, change)
 
-    def view_members(self):
+    def view_members(self) -> None:
         self.is_growing = True
         self.views = {id: view for id, view in self.views.items() if id not in self.removed}
         if self.on("demoted-leader-stops") and self.id not in self.config.voters():
@@ -187,7 +238,7 @@ class Switched(Node):
             super().view_members()
         self.is_growing = False
 
-    def view_added(self):
+    def view_added(self) -> None:
         members = self.config.members()
         self.views = {id: view for id, view in self.views.items() if id in members}
         for id in sorted(members - set(self.views)):
@@ -195,10 +246,9 @@ class Switched(Node):
 
     # Sending
 
-    def sends(self, id, mode):
+    def sends(self, id: int, mode: str) -> None:
         view = self.views.get(id)
-        lacks = view is not None and id != self.id and not view.is_paused(self.options.inflight) and view.next - 1 < self.base
-        if not lacks:
+        if view is None or id == self.id or view.is_paused(self.options.inflight) or view.next - 1 >= self.base:
             return super().sends(id, mode)
         if self.on("no-snapshot-unheard") and not view.active or self.on("change-tells-all") and mode == "news" and view.next > self.last():
             return None
@@ -208,13 +258,13 @@ class Switched(Node):
             view.next = was
         return None
 
-    def send_news(self, id, view):
+    def send_news(self, id: int, view: View) -> None:
         was_waiting, has_news = view.waiting, view.next <= self.last()
         super().send_news(id, view)
         if self.on("empty-probe-goes-on") and view.state == "probe" and not has_news:
             view.waiting = was_waiting
 
-    def send_append(self, id, view, entries):
+    def send_append(self, id: int, view: View, entries: tuple[Entry, ...]) -> None:
         if view.next - 1 > self.last():
             self.send("MsgApp", id, index=view.next - 1, commit=self.commit)
         else:
@@ -222,17 +272,54 @@ class Switched(Node):
 
     # Campaigns and time
 
-    def why_not(self):
+    def why_not(self) -> str | None:
         why = super().why_not()
-        return None if self.on("pending-change-campaigns") and why == "change pending" else why
+        is_free = self.on("pending-change-campaigns") or self.on("change-counts-when-appended")
+        return None if is_free and why == "change pending" else why
 
-    def campaign(self, kind="usual"):
+    def why_not_now(self, kind: str) -> str | None:
+        return None if self.on("won-question-campaigns") and kind == "elected" else super().why_not_now(kind)
+
+    def count_vote(self, m: Message) -> None:
+        if self.on("refused-candidate-stays") and m.refused and self.role == "candidate":
+            self.votes.setdefault(m.sender, False)
+            return None
+        return super().count_vote(m)
+
+    def raise_term(self, m: Message) -> None:
+        lead = self.lead if self.role == "follower" and self.on("lead-is-kept") and m.kind not in FROM_LEADERS else 0
+        super().raise_term(m)
+        if lead and m.term == self.term:
+            self.lead = lead
+
+    def answer_candidate(self, m: Message) -> None:
+        kept = self.lead
+        if self.on("lead-is-kept") and self.vote == 0 and m.kind == "MsgVote":
+            self.lead = 0
+        super().answer_candidate(m)
+        self.lead = kept if self.on("lead-is-kept") else self.lead
+
+    def is_undisturbed(self, m: Message) -> bool:
+        asks = m.kind in ("MsgVote", "MsgPreVote") and not m.by_transfer and self.lead not in (0, m.sender)
+        return self.on("known-leader-refuses") and asks or super().is_undisturbed(m)
+
+    def snapshot(self) -> Snapshot:
+        return Snapshot(self.base, self.base_term, self.base_content, self.base_config) if self.on("last-snapshot-sent") else super().snapshot()
+
+    def commits(self) -> bool:
+        before = self.is_quiet
+        self.is_quiet = before or self.on("commit-told-later")
+        moved = super().commits()
+        self.is_quiet = before
+        return moved and not self.on("commit-told-later")
+
+    def campaign(self, kind: str = "usual") -> None:
         timeout = self.timeout
         super().campaign(kind)
         if self.on("pre-vote-keeps-timeout") and self.role == "precandidate" and kind == "usual":
             self.timeout = timeout
 
-    def tick(self):
+    def tick(self) -> None:
         if self.on("unsaved-snapshot-waits") and self.role != "leader" and self.restored:
             self.elapsed += 1
         else:
@@ -240,7 +327,7 @@ class Switched(Node):
 
     # Messages
 
-    def step(self, m):
+    def step(self, m: Message) -> None:
         if self.on("stranger-ignored") and m.kind in ANSWERS and m.sender not in self.config.members():
             return self.ignore(m)
         if m.kind == "MsgTransferLeader" and m.term:
@@ -254,10 +341,10 @@ class Switched(Node):
             m = m._replace(term=self.term)
         return super().step(m)
 
-    def acknowledged(self, m):
+    def acknowledged(self, m: Message) -> int:
         return m.index if self.on("acknowledged-past-last") else super().acknowledged(m)
 
-    def take_beat_answer(self, m):
+    def take_beat_answer(self, m: Message) -> None:
         view = self.views.get(m.sender)
         if view is None or not self.on("full-window-frees"):
             return super().take_beat_answer(m)
@@ -268,7 +355,7 @@ class Switched(Node):
             self.sends(m.sender, "tell")
         return None
 
-    def take_acceptance(self, m, view):
+    def take_acceptance(self, m: Message, view: View) -> None:
         if not self.on("probe-ends-above"):
             return super().take_acceptance(m, view)
         index, was_paused = self.acknowledged(m), view.is_paused(self.options.inflight)
@@ -284,16 +371,20 @@ class Switched(Node):
         if not self.commits() and was_paused:
             self.sends(m.sender, "tell")
         self.sends(m.sender, "news")
+        self.send_rest(m.sender)
         if m.sender == self.transferee and view.match == self.last():
             self.send("MsgTimeoutNow", m.sender)
         return None
 
-    def take_refusal(self, m, view):
+    def take_refusal(self, m: Message, view: View) -> None:
         if self.on("refusal-has-term") and m.log_term:
             m = m._replace(hint=self.hint(m.hint, m.log_term))
+        if self.on("refusal-goes-below-match") and view.state == "probe" and m.index == view.next - 1:
+            view.next, view.waiting = max(1, min(m.index, m.hint + 1)), False
+            return self.sends(m.sender, "tell")
         return super().take_refusal(m, view)
 
-    def take_append(self, m):
+    def take_append(self, m: Message) -> None:
         is_refused = m.index >= self.commit and self.term_at(m.index) != m.log_term
         if self.on("refusal-has-term") and is_refused:
             # Below its base it takes each term for 0, which always agrees.
@@ -305,32 +396,36 @@ class Switched(Node):
             return self.answer_append(m, index=self.commit)
         return super().take_append(m)
 
-    def answer_append(self, m, **parts):
+    def answer_append(self, m: Message, **parts: Any) -> None:
         self.lead, self.elapsed = m.sender, 0
         self.send("MsgAppResp", m.sender, **parts)
 
-    def take_snapshot(self, m):
+    def take_snapshot(self, m: Message) -> None:
+        assert m.snapshot is not None
         if m.snapshot.index > self.commit and self.is_left_out(m.snapshot.config):
             return self.answer_append(m, index=self.commit)
         return super().take_snapshot(m)
 
-    def is_left_out(self, config):
+    def is_left_out(self, config: Config) -> bool:
         """Whether it takes a configuration for one that it isn't in."""
         if self.id in config.incoming | config.learners:
             return False
         return self.on("outgoing-snapshot-ignored" if self.id in config.outgoing else "strange-snapshot-ignored")
 
-    def pass_proposal(self, m):
+    def pass_proposal(self, m: Message) -> None:
+        if self.on("proposal-refused"):
+            return self.drop(m)
         super().pass_proposal(m)
         if self.on("proposal-keeps-sender") and self.lead:
             self.sent[-1] = self.sent[-1]._replace(sender=m.sender)
+        return None
 
-    def pass_transfer(self, m):
+    def pass_transfer(self, m: Message) -> None:
         super().pass_transfer(m._replace(target=self.id) if self.on("transfer-to-passer") else m)
         if self.on("transfer-has-term") and self.lead:
             self.sent[-1] = self.sent[-1]._replace(term=self.term)
 
-    def start_transfer(self, m):
+    def start_transfer(self, m: Message) -> None:
         if self.on("transfer-to-itself-ends") and m.target == self.id and self.transferee and m.target in self.config.voters():
             return self.end_transfer()
         return super().start_transfer(m)

@@ -1,36 +1,31 @@
-"""A node of a process, with the calls that a plain cluster makes of a node; and a cluster of such nodes."""
-from typing import NamedTuple
+"""A node of a process, with the calls that a plain cluster makes of a node."""
+from __future__ import annotations
 
-from plain.cluster import Cluster
-from plain.config import Config
+from typing import Any, Callable, TypeVar
 
-from .protocol import Parts, Wrong, change_out, config_in, config_out, data_out, entries_in, events_in, message_in, ready_in
+from plain.config import Change, Config
+from plain.records import Event, Message, Numbered, Options, Ready
 
-ROLES = ("follower", "precandidate", "candidate", "leader")
-NUMBERS = ("vote", "lead", "commit", "applied")
+from .process import Process
+from .protocol import (
+    HostedView, Json, Log, Parts, State, Wired, Wrong, change_out, config_out, data_out, events_in, log_in, message_in, ready_in, state_in, views_in,
+)
 
-
-class HostedView(NamedTuple):
-    """What a leader says of a member."""
-
-    state: str
-    match: int
-    next: int
-    inflight: int
-    waiting: bool
-    active: bool
-    pending: int
+T = TypeVar("T")
+NO_LOG = Log(0, 0, 0, [])
 
 
 class HostedNode:
-    """Each call is one to the process. Its state is what the last answer said; its log is asked for where it is looked at."""
+    """Each call is one to the process. Its state is that of the last answer; its log is asked for where it is looked at."""
 
-    def __init__(self, process, id, config, index, content, options):
-        self.process, self.id, self.events, self.known_log = process, id, [], None
+    def __init__(self, process: Process, id: int, config: Config, index: int, content: bytes, options: Options) -> None:
+        self.process, self.id = process, id
+        self.events: list[Event] = []
+        self.known_log: Log | None = None
         base = {"index": index, "term": 1 if index else 0, "content": data_out(content), "config": config_out(config)}
-        self.change_by("start", base=base, options=options._asdict())
+        self.change_by("start", base=base, options=options_out(options, process.hello.limits))
 
-    def ask(self, name, read, **given):
+    def ask(self, name: str, read: Callable[[Parts], T], **given: Any) -> T:
         """What `read` makes of the parts of an answer; where that is wrong the call failed."""
         call = {"call": name, "node": self.id, **given}
         answer = self.process.ask(call)
@@ -39,108 +34,108 @@ class HostedNode:
         except Wrong as wrong:
             raise self.process.failed(call, str(wrong)) from None
 
-    def change_by(self, name, **given):
+    def change_by(self, name: str, **given: Any) -> None:
         self.ask(name, self.take, **given)
 
-    def take(self, parts):
-        state, without = parts.object("state", needed=True), self.process.without
-        self.role, self.term = state.word("role", ROLES), state.number("term", needed=True)
-        for name in NUMBERS:
-            setattr(self, name, state.number(name, needed=name not in without))
-        self.content = state.data("content", needed="content" not in without)
-        config = state.object("config", needed="config" not in without)
-        self.config = config_in(config) if config else Config(frozenset())
-        self.is_ready, self.known_log = state.truth("ready", needed=True), None
+    def take(self, parts: Parts) -> None:
+        self.take_state(state_in(parts.needed_object("state"), self.process.without))
         self.events += events_in(parts)
+
+    def take_state(self, state: State) -> None:
+        self.state, self.known_log = state, None
+        self.role, self.term, self.vote, self.lead, self.commit, self.applied, self.content, self.config, self.is_ready = state
 
     # What it says of itself
 
-    def log(self):
-        """The base's term and index, the last durable index, and pairs of an index and an entry."""
+    def log(self) -> Log:
         if "log" in self.process.without:
-            return 0, 0, 0, []
+            return NO_LOG
         if self.known_log is None:
-            self.known_log = self.ask("log", self.read_log)
+            self.known_log = self.ask("log", lambda parts: log_in(parts, self.process.without))
         return self.known_log
 
-    def read_log(self, parts):
-        base, without = parts.object("base", needed=True), self.process.without
-        entries = entries_in(parts.objects("entries"))
-        for at, (index, _) in enumerate(entries, base.number("index", needed=True) + 1):
-            if index != at:
-                raise Wrong(f"entries: an index {index} where {at} is due")
-        return base.number("term", needed=True), base.number("index"), parts.number("durable", needed="durable" not in without), entries
-
-    base_term = property(lambda self: self.log()[0])
-    base = property(lambda self: self.log()[1])
-    durable = property(lambda self: self.log()[2])
-
-    def entries_from(self, index):
-        return [pair for pair in self.log()[3] if pair[0] >= index]
+    @property
+    def base_term(self) -> int:
+        return self.log().base_term
 
     @property
-    def views(self):
-        return {} if "status" in self.process.without else self.ask("status", self.read_views)
+    def base(self) -> int:
+        return self.log().base
 
-    @staticmethod
-    def read_views(parts):
-        return {
-            view.number("node", needed=True): HostedView(
-                view.word("state", ("probe", "replicate", "snapshot")), view.number("match"), view.number("next", needed=True), view.number("inflight"),
-                view.truth("waiting"), view.truth("active"), view.number("snapshot"),
-            )
-            for view in parts.objects("views")
-        }
+    @property
+    def durable(self) -> int:
+        return self.log().durable
 
-    def has_ready(self):
+    def entries_from(self, index: int) -> list[Numbered]:
+        return [pair for pair in self.log().entries if pair[0] >= index]
+
+    @property
+    def views(self) -> dict[int, HostedView]:
+        return {} if "status" in self.process.without else self.ask("status", views_in)
+
+    def has_ready(self) -> bool:
         return self.is_ready
 
     # Calls
 
-    def campaign(self):
+    def campaign(self) -> None:
         self.change_by("campaign")
 
-    def tick(self):
+    def tick(self) -> None:
         self.change_by("tick")
 
-    def propose(self, payload):
-        self.change_by("propose", data=data_out(payload))
+    def propose(self, body: bytes) -> None:
+        self.change_by("propose", data=data_out(body))
 
-    def propose_change(self, change, is_v1=False):
+    def propose_change(self, change: Change, is_v1: bool = False) -> None:
         self.change_by("propose_change", change=change_out(change), v1=is_v1)
 
-    def transfer(self, to):
+    def transfer(self, to: int) -> None:
         self.change_by("transfer", to=to)
 
-    def set_timeout(self, ticks):
+    def set_timeout(self, ticks: int) -> None:
         self.change_by("set_timeout", ticks=ticks)
 
-    def forget_leader(self):
+    def forget_leader(self) -> None:
         self.change_by("forget_leader")
 
-    def report_unreachable(self, id):
+    def report_unreachable(self, id: int) -> None:
         self.change_by("report_unreachable", to=id)
 
-    def step(self, message):
-        self.change_by("step", message=message.json)
+    def report_snapshot(self, id: int, is_lost: bool) -> None:
+        self.change_by("report_snapshot", to=id, failed=is_lost)
 
-    def compact(self, index):
+    def lose(self, message: Message) -> None:
+        self.change_by("lost", message=json_of(message))
+
+    def read(self, id: int) -> None:
+        self.change_by("read", id=id)
+
+    def restart(self, saved: str = "nothing") -> None:
+        self.change_by("restart", saved=saved)
+
+    def step(self, m: Message) -> None:
+        self.change_by("step", message=json_of(m))
+
+    def compact(self, index: int) -> None:
         self.change_by("compact", index=index)
 
-    def snapshot_for(self, to):
-        return self.ask("snapshot", lambda parts: message_in(parts.object("message", needed=True)), to=to)
+    def snapshot_for(self, to: int) -> Message:
+        return self.ask("snapshot", lambda parts: message_in(parts.needed_object("message")), to=to)
 
-    def ready(self):
-        return self.ask("ready", lambda parts: ready_in(parts.object("ready", needed=True)))
+    def ready(self) -> Ready:
+        return self.ask("ready", lambda parts: ready_in(parts.needed_object("ready")))
 
-    def advance(self):
+    def advance(self) -> None:
         self.change_by("advance")
 
 
-class HostedCluster(Cluster):
-    def __init__(self, process):
-        super().__init__()
-        self.host = process
+def json_of(message: Message) -> Json:
+    """A message as its sender wrote it."""
+    assert isinstance(message, Wired)
+    return message.json
 
-    def new_node(self, id, config, index, content, options):
-        return HostedNode(self.host, id, config, index, content, options)
+
+def options_out(options: Options, limits: frozenset[str]) -> Json:
+    """The options of `start`: limits only where a library has them."""
+    return {name: value for name, value in options._asdict().items() if not name.startswith("max_") or name in limits}

@@ -1,55 +1,108 @@
 #!/usr/bin/env python3
-"""Which seeds find the bugs of bugs.py: for each bug and each kind of dice the first one that shows a difference, in the form of tests/nodes/bugs.txt.
+"""How soon explore finds each planted bug: the script that first shows it by the default search, what it shows there, and the seconds of processor that
+the bench and the nodes took until then, calibrating not counted; in the form of tests/nodes/bugs.txt.
 
-    nodes/hosted/planted.py [--dice weighted ..] [--count N] [--compare MODE] [--network wild] [BUG ..]
+    nodes/hosted/planted.py [--most N] [--jobs N] [--compare WORDS] [BUG ..]
 """
+from __future__ import annotations
+
 import argparse
 import multiprocessing
 import pathlib
+import resource
 import sys
+import time
+from typing import NamedTuple
 
 sys.dont_write_bytecode = True
 TOP = pathlib.Path(__file__).resolve().parents[2]
 sys.path.insert(0, str(TOP))
 
-from nodes.hosted.bugs import BUGS  # noqa: E402
-from nodes.hosted.compare import run_beside  # noqa: E402
-from nodes.hosted.dice import DICE, steps_of  # noqa: E402
+import nodes.hosted.bugs  # noqa: E402
+import nodes.hosted.crash_bugs  # noqa: E402, F401
+from nodes.hosted.accepted import Accepted  # noqa: E402
+from nodes.hosted.compare import Comparison  # noqa: E402
+from nodes.hosted.explorer import Chosen, Explorer, Found, strictest  # noqa: E402
+from nodes.hosted.exploring import ALONE  # noqa: E402
+from nodes.hosted.judge import Judge  # noqa: E402
+from nodes.hosted.planting import BUGS  # noqa: E402
 from nodes.hosted.process import Process  # noqa: E402
-from plain.node import Node  # noqa: E402
+from nodes.hosted.search import Limits, Search, surprise  # noqa: E402
+
+PLAIN = [sys.executable, str(TOP / "nodes" / "plain")]
 
 
-def first_seed(bug, dice, count, mode, is_wild):
-    """The first of so many seeds that shows it, or None."""
-    process = Process([sys.executable, str(TOP / "nodes" / "plain"), "--bug", bug])
+class Shows(Exception):
+    """A script shows a bug: its number, and the kind."""
+
+
+class InPlace:
+    """A fleet of one, which works when it is asked."""
+
+    def __init__(self, explorer: Explorer) -> None:
+        self.explorer = explorer
+        self.chunks: list[object] = []
+
+    def give(self, task: object, chunk: object) -> None:
+        self.chunks.append(chunk)
+
+    def take(self) -> list[Found]:
+        found = []
+        for spec in self.chunks.pop(0):  # type: ignore[attr-defined]
+            found.append(self.explorer.explore(spec))
+            shown = next((shown.kind for shown in found[-1].kinds if surprise(shown.kind) < 4 and "took more than" not in shown.kind), None)
+            if shown:
+                raise Shows(spec.number, shown)
+        return found
+
+
+class Row(NamedTuple):
+    bug: str
+    script: int  # its number, from 1 on; 0 where it isn't found
+    seconds: float
+    kind: str
+
+    def text(self) -> str:
+        return f"{self.bug} {self.script} {self.seconds:.1f} {self.kind}" if self.script else f"# {self.bug}: not found, {self.seconds:.1f} s"
+
+
+def processor_seconds() -> float:
+    own, children = resource.getrusage(resource.RUSAGE_SELF), resource.getrusage(resource.RUSAGE_CHILDREN)
+    return own.ru_utime + own.ru_stime + children.ru_utime + children.ru_stime
+
+
+def first_found(bug: str, most: int, compare: str) -> Row:
+    """The first script of the default search that shows a bug, but by a promise that any Raft breaks in clusters joined by hand."""
+    process = Process([*PLAIN, "--bug", bug] if bug else PLAIN)
+    comparison = Comparison()
     try:
-        for seed in range(count):
-            blocks = [step.block() for step in steps_of(seed, dice, is_wild)]
-            if run_beside(blocks, process, Node, mode, is_wild, goes_on=False).first:
-                return seed
+        aspects = strictest(process, comparison) if compare == "auto" else frozenset(compare.split(","))
+        process.close()
+        begun = processor_seconds()
+        explorer = Explorer(process, Judge(is_asked=False), Chosen(comparison._replace(aspects=aspects), "mixed", ALONE, Accepted()))
+        search = Search(InPlace(explorer), Limits(0, 1, most, time.monotonic() + 3600), ALONE)  # type: ignore[arg-type]
+        number, kind = -1, ""
+        try:
+            search.run(lambda: False, lambda _: None)
+        except Shows as shown:
+            number, kind = shown.args
+        process.close()
+        return Row(bug, number + 1, processor_seconds() - begun, kind)
     finally:
         process.close()
-    return None
 
 
-def row(bug, dice, chosen):
-    seed = first_seed(bug, dice, chosen.count, chosen.compare, chosen.network == "wild")
-    return f"# {bug}: not in {chosen.count} seeds of {dice} dice" if seed is None else f"{bug} {dice} {seed} {chosen.network}"
-
-
-def main():
+def main() -> None:
     parser = argparse.ArgumentParser()
     parser.add_argument("bugs", nargs="*", metavar="BUG")
-    parser.add_argument("--dice", nargs="*", choices=DICE, default=["weighted"])
-    parser.add_argument("--count", type=int, default=500)
-    parser.add_argument("--compare", default="states")
-    parser.add_argument("--network", choices=["usual", "wild"], default="usual")
+    parser.add_argument("--most", type=int, default=3000)
+    parser.add_argument("--compare", default="auto")
     parser.add_argument("--jobs", type=int, default=2)
     chosen = parser.parse_args()
-    with multiprocessing.Pool(chosen.jobs) as pool:
-        rows = [pool.apply_async(row, (bug, dice, chosen)) for bug in chosen.bugs or BUGS for dice in chosen.dice]
+    with multiprocessing.Pool(chosen.jobs, maxtasksperchild=1) as pool:
+        rows = [pool.apply_async(first_found, (bug, chosen.most, chosen.compare)) for bug in chosen.bugs or BUGS]
         for each in rows:
-            print(each.get(), flush=True)
+            print(each.get().text(), flush=True)
 
 
 if __name__ == "__main__":

@@ -1,87 +1,119 @@
 """The process that hosts somebody else's nodes: a call is a line to it, an answer a line from it. It may hang, die, babble and flood: then the
 call has `Failed`, with a sentence, and the process is killed; the next script starts a new one.
 """
+from __future__ import annotations
+
+import importlib
 import json
 import os
 import select
 import signal
 import subprocess
 import time
+from typing import IO, Any, Callable, Sequence
 
-from .protocol import Parts, VERSION, Wrong, printable, shown
+from .protocol import VERSION, Hello, Json, Parts, Wrong, hello_in, printable, shown
+
+
+def json_functions() -> tuple[Callable[[bytes], Any], Callable[[Any], bytes]]:
+    """What reads and writes JSON: orjson where it is installed, which is faster."""
+    try:
+        orjson = importlib.import_module("orjson")
+    except ImportError:
+        return json.loads, lambda value: json.dumps(value).encode()
+
+    def loaded(text: bytes) -> Any:
+        """What orjson refuses and JSON allows, as half a pair of surrogates, is read by the standard library."""
+        try:
+            return orjson.loads(text)
+        except ValueError:
+            return json.loads(text)
+
+    return loaded, orjson.dumps
+
+
+loads, dumps = json_functions()
 
 # A command may need longer to start than to answer.
 START_SECONDS = 20.0
-MOST_LINE = 8 << 20
+MOST_LINE = 128 << 20
 MOST_ERRORS = 2000
+# So many calls of a batch have the time of one.
+CALLS_IN_TIME = 100
 CHUNK = 1 << 16
-# What `without` may name.
-CALLS = ("campaign", "tick", "forget_leader", "propose_change", "set_timeout", "transfer", "report_unreachable", "compact", "snapshot", "status")
-OPTIONS = ("inflight", "prevote", "checkquorum", "step_down_on_removal")
-CHANGES = ("learners", "joint")
-STATES = ("vote", "lead", "commit", "applied", "content", "config", "log", "durable", "auto")
 
 
 class Failed(Exception):
-    """A call that had no good answer; `short` is what happened, without what changes from one time to the next."""
+    """A call that had no good answer; `short` is what happened, without what changes from one time to the next; `at` is its place in the source."""
 
-    def __init__(self, call, why, errors=""):
+    def __init__(self, call: Json, why: str, errors: str = "", at: str = "") -> None:
         super().__init__(call, why, errors)
-        self.call, self.node, self.short = call["call"], call.get("node", 0), short_of(why)
+        self.call, self.node = str(call["call"]), int(call.get("node", 0))
+        self.short = f"at {at}" if at else short_of(why)
+        self.at = at
 
-    def __str__(self):
-        return sentence(*self.args)
+    def __str__(self) -> str:
+        return sentence(*self.args) + (f" ({self.at})" if self.at else "")
 
 
-def sentence(call, why, errors):
+def sentence(call: Json, why: str, errors: str) -> str:
     who = f" of node {call['node']}" if "node" in call else ""
     return f"{call['call']}{who}: {why}" + (f"; on standard error: {errors}" if errors else "")
 
 
-def short_of(why):
+def short_of(why: str) -> str:
     """A text without its numbers and quotations, by which failures are told apart."""
     return "".join(c for c in why.split("[")[0] if not c.isdigit())[:60].strip()
+
+
+def error_of(call: Json, answer: Json) -> Failed:
+    """The failure that an answer with `error` is."""
+    error, at = answer["error"], answer.get("at", "")
+    return Failed(call, "error: " + printable(error if isinstance(error, str) else shown(error)), at=printable(at)[:80] if isinstance(at, str) else "")
 
 
 class Process:
     """A command, started by the first `reset` and again after each failure."""
 
-    def __init__(self, command, seconds=5.0, script_seconds=60.0):
+    def __init__(self, command: str | Sequence[str], seconds: float = 5.0, script_seconds: float = 60.0) -> None:
         self.command, self.seconds, self.script_seconds = command, seconds, script_seconds
-        self.process, self.until = None, float("inf")
-        self.name, self.without, self.is_open = "", frozenset(), False
+        self.process: subprocess.Popen[bytes] | None = None
+        self.until = float("inf")
+        self.hello = Hello()
         self.calls = self.starts = 0
-        self.record = None  # a list that takes each call and its answer
+        self.record: list[tuple[Json, Json]] | None = None  # takes each call and its answer
 
-    def start(self):
+    @property
+    def is_started(self) -> bool:
+        return self.process is not None
+
+    @property
+    def name(self) -> str:
+        return self.hello.name
+
+    @property
+    def without(self) -> frozenset[str]:
+        return self.hello.without
+
+    def start(self) -> None:
         self.process = subprocess.Popen(
             self.command, shell=isinstance(self.command, str), stdin=subprocess.PIPE, stdout=subprocess.PIPE, stderr=subprocess.PIPE,
             bufsize=0, start_new_session=True,
         )
-        self.pipes = [pipe.fileno() for pipe in (self.process.stdin, self.process.stdout, self.process.stderr)]
+        self.pipes = [pipe.fileno() for pipe in streams_of(self.process)]
         for pipe in self.pipes:
             os.set_blocking(pipe, False)
-        self.rest, self.errors, self.ended = bytearray(), b"", set()
+        self.rest, self.errors = bytearray(), b""
+        self.ended: set[int] = set()
         self.starts += 1
-        self.greet()
-
-    def greet(self):
         call = {"call": "hello", "protocol": VERSION}
         answer = self.ask(call)
         try:
-            parts = Parts(answer, "")
-            self.name, self.is_open = printable(parts.text("name", needed=True)), parts.truth("open")
-            if parts.number("protocol", needed=True) != VERSION:
-                raise Wrong(f"protocol: {shown(answer['protocol'])} is none that this bench speaks: {VERSION}")
-            words = parts.list("without")
-            unknown = [word for word in words if word not in CALLS + OPTIONS + CHANGES + STATES]
-            if unknown:
-                raise Wrong(f"without: {shown(unknown[0])} is nothing that nodes may be without")
-            self.without = frozenset(words)
+            self.hello = hello_in(Parts(answer, ""))
         except Wrong as wrong:
             raise self.failed(call, str(wrong)) from None
 
-    def close(self):
+    def close(self) -> None:
         """Ends the process and all that it started in its group."""
         if self.process is None:
             return
@@ -90,11 +122,11 @@ class Process:
         except ProcessLookupError:
             pass
         self.process.wait()
-        for pipe in (self.process.stdin, self.process.stdout, self.process.stderr):
+        for pipe in streams_of(self.process):
             pipe.close()
         self.process = None
 
-    def reset(self):
+    def reset(self) -> None:
         """No nodes, for the next script, which has its time from now on. A process that doesn't do that any more gives way to a new one."""
         self.until = time.monotonic() + self.script_seconds
         self.errors = b""
@@ -107,30 +139,38 @@ class Process:
         self.start()
         self.ask({"call": "reset"})
 
-    def ask(self, call):
+    def ask(self, call: Json) -> Json:
         """The answer to a call, an object; Failed where there is none. Where it is an error the process stays as it is."""
-        self.calls += 1
-        if self.rest:
-            raise self.failed(call, f"it said what it wasn't asked: {shown(bytes(self.rest[:200]).decode('latin-1'))}")
-        line = self.exchange(call, json.dumps(call).encode() + b"\n")
-        try:
-            answer = json.loads(line)
-        except (ValueError, RecursionError):
-            raise self.failed(call, f"no JSON: {shown(line[:200].decode('latin-1'))}") from None
-        if not isinstance(answer, dict):
-            raise self.failed(call, f"no object: {shown(answer)}")
-        if self.record is not None:
-            self.record.append((call, answer))
-        if "error" in answer:
-            raise Failed(call, "error: " + printable(answer["error"] if isinstance(answer["error"], str) else shown(answer["error"])))
-        return answer
+        return self.ask_all([call])[0]
 
-    def exchange(self, call, given):
-        """Writes a call and reads a line; both within the time, and whichever the process does first."""
-        seconds = max(self.seconds, START_SECONDS) if call["call"] == "hello" else self.seconds
+    def ask_all(self, calls: Sequence[Json]) -> list[Json]:
+        """The answers to calls that are written at once, up to the first that failed."""
+        self.calls += len(calls)
+        if self.rest:
+            raise self.failed(calls[0], f"it said what it wasn't asked: {shown(bytes(self.rest[:200]).decode('latin-1'))}")
+        answers: list[Json] = []
+        for call, line in zip(calls, self.exchange(calls, b"".join(dumps(call) + b"\n" for call in calls))):
+            try:
+                answer = loads(line)
+            except (ValueError, RecursionError):
+                raise self.failed(call, f"no JSON: {shown(line[:200].decode('latin-1'))}") from None
+            if not isinstance(answer, dict):
+                raise self.failed(call, f"not an object: {shown(answer)}")
+            if self.record is not None:
+                self.record.append((call, answer))
+            if "error" in answer:
+                raise error_of(call, answer)
+            answers.append(answer)
+        return answers
+
+    def exchange(self, calls: Sequence[Json], given: bytes) -> list[bytes]:
+        """Writes calls and reads a line for each; all within the time, and whichever the process does first."""
+        seconds = max(self.seconds, START_SECONDS) if calls[0]["call"] == "hello" else self.seconds * (1 + len(calls) // CALLS_IN_TIME)
         end, looked, written = min(time.monotonic() + seconds, self.until), 0, 0
         given_to, taken, told = self.pipes
+        lines: list[bytes] = []
         while True:
+            call = calls[len(lines)]
             if written < len(given):
                 written += self.written(call, given[written:written + CHUNK])
             waits = [pipe for pipe in (taken, told) if pipe not in self.ended]
@@ -139,20 +179,26 @@ class Process:
                 self.take_errors()
             if taken in readable:
                 self.rest += self.read(taken)
-                at = self.rest.find(b"\n", looked)
-                if at > MOST_LINE or at < 0 and len(self.rest) > MOST_LINE:
-                    raise self.failed(call, f"a line of more than {MOST_LINE >> 20} MiB")
-                if at >= 0:
-                    line = bytes(self.rest[:at])
-                    del self.rest[:at + 1]
-                    return line
+                if self.rest.find(b"\n", looked) >= 0:
+                    *whole, last = self.rest.split(b"\n", len(calls) - len(lines))
+                    for line in whole:
+                        self.check_length(calls[len(lines)], len(line))
+                        lines.append(bytes(line))
+                    self.rest = bytearray(last)
+                if len(lines) == len(calls):
+                    return lines
+                self.check_length(calls[len(lines)], len(self.rest))
                 looked = len(self.rest)
             if taken in self.ended:
-                raise self.failed(call, self.how_it_ended())
+                raise self.failed(calls[len(lines)], self.how_it_ended())
             if time.monotonic() >= end:
-                raise self.failed(call, self.too_late(call, seconds))
+                raise self.failed(calls[len(lines)], self.too_late(call, seconds))
 
-    def written(self, call, piece):
+    def check_length(self, call: Json, length: int) -> None:
+        if length > MOST_LINE:
+            raise self.failed(call, f"a line of more than {MOST_LINE >> 20} MiB")
+
+    def written(self, call: Json, piece: bytes) -> int:
         try:
             return os.write(self.pipes[0], piece)
         except BlockingIOError:
@@ -160,7 +206,7 @@ class Process:
         except BrokenPipeError:
             raise self.failed(call, self.how_it_ended()) from None
 
-    def read(self, pipe):
+    def read(self, pipe: int) -> bytes:
         try:
             data = os.read(pipe, CHUNK)
         except BlockingIOError:
@@ -169,22 +215,23 @@ class Process:
             self.ended.add(pipe)
         return data
 
-    def take_errors(self):
+    def take_errors(self) -> None:
         self.errors = (self.errors + self.read(self.pipes[2]))[-MOST_ERRORS:]
 
-    def too_late(self, call, seconds):
+    def too_late(self, call: Json, seconds: float) -> str:
         if time.monotonic() >= self.until:
             return f"the script took more than {self.script_seconds:g} s"
         return f"no answer within {seconds:g} s" + (": is each answer flushed?" if call["call"] == "hello" else "")
 
-    def how_it_ended(self):
+    def how_it_ended(self) -> str:
+        assert self.process is not None
         try:
             status = self.process.wait(0.5)
         except subprocess.TimeoutExpired:
             return "it closed its output"
         return f"it ended by signal {-status}" if status < 0 else f"it ended with status {status}"
 
-    def failed(self, call, why):
+    def failed(self, call: Json, why: str) -> Failed:
         """Kills the process; answers the failure."""
         until = time.monotonic() + 0.2
         told = self.pipes[2]
@@ -192,3 +239,8 @@ class Process:
             self.take_errors()
         self.close()
         return Failed(call, why, printable(self.errors.decode("utf-8", "replace").strip()))
+
+
+def streams_of(process: subprocess.Popen[bytes]) -> tuple[IO[bytes], IO[bytes], IO[bytes]]:
+    assert process.stdin and process.stdout and process.stderr
+    return process.stdin, process.stdout, process.stderr

@@ -1,62 +1,173 @@
-"""Raft's promises (Ongaro's thesis, figure 3.2), over what nodes say of themselves: each that is broken is a text.
+"""Raft's promises (Ongaro's thesis, figure 3.2, and what follows from it), over what nodes say of themselves: each that is broken is a text that begins
+with the promise's name.
 
-Scripts that join clusters by hand break promises of any Raft: so the reference is looked at as well, and what it breaks counts for nothing.
+Scripts that join clusters by hand break promises of any Raft: so the reference is held to them as well, and what it breaks doesn't count.
 """
+from __future__ import annotations
+
+from typing import Mapping, NamedTuple
+
+from plain.config import Config, both
+from plain.records import AnyNode, Entry, Message, Ready
+
+# The promises, each with its place in the thesis.
+PROMISES = {
+    "one leader a term": "two nodes never lead in one term (3.4)",
+    "one vote a term": "a node votes for one candidate in a term (3.4)",
+    "a leader has a quorum of votes": "who leads was voted for by a quorum of its configuration (3.4, 4.3)",
+    "terms and commits don't fall": "term, commit and applied of a node only rise; at a restart commit and applied may fall (3.3, 3.5)",
+    "a leader only appends": "a leader keeps the entries of its log (3.5)",
+    "logs match": "logs with an entry of the same index and term are the same up to it (3.5)",
+    "a leader has what was committed": "an entry that was committed is in the log of each later leader (3.6.3)",
+    "no two commit different entries": "an index holds one committed entry (3.6.3)",
+    "no two apply different entries": "nodes that applied up to an index applied the same (3.6.3)",
+    "a quorum holds what a leader commits": "a leader commits an entry of its term once a quorum has it (3.5, 3.6.2)",
+    "what is acknowledged is held": "who says that it has entries has them, as the leader does (3.5)",
+    "a vote that is told is kept": "who grants its vote has voted so (3.4)",
+    "a restart keeps term and vote": "term and vote that were saved are there after a restart (3.8)",
+    "a restart keeps saved entries": "entries that were saved are there after a restart (3.8)",
+    "a restart keeps what was acknowledged": "entries that were acknowledged are there after a restart (3.8)",
+    "what must be saved first is marked": "`sync` is true if entries, a term or a vote have to be saved (3.8)",
+    "a read is linearizable": "a read sees what was committed when it was asked for (6.4)",
+    "appends keep to the limit of sizes": "an append with several entries keeps to `max_size_per_msg`",
+    "comes to rest": "without loss the nodes have no more to say after 200 rounds",
+    "heals": "once all messages are delivered and time passes, there is a leader, it commits, and all members catch up",
+}
+
+
+class Known(NamedTuple):
+    """What was known of a node after its last call."""
+
+    role: str
+    term: int
+    commit: int
+    applied: int
+    config: Config
+
+
+class Saved(NamedTuple):
+    """What a node has saved: its term and vote, and its entries by index."""
+
+    term: int
+    vote: int
+    entries: Mapping[int, Entry]
+
+
+def name_of(broken: str) -> str:
+    """The promise that a text is about."""
+    return broken.split(":")[0]
+
+
+def log_of(node: AnyNode) -> dict[int, Entry]:
+    return dict(node.entries_from(node.base + 1))
 
 
 class Promises:
-    def __init__(self):
-        self.broken = []  # in the order in which they were seen, each once
-        self.leaders, self.votes, self.before = {}, {}, {}
-        self.entries, self.contents = {}, {}
+    """Held after each call of a node. `without` names parts of the state that the nodes don't show."""
 
-    def note(self, text):
+    def __init__(self, without: frozenset[str] = frozenset()) -> None:
+        self.without = without
+        self.broken: list[str] = []  # in the order in which they were seen, each once
+        self.leaders: dict[int, int] = {}
+        self.votes: dict[tuple[int, int], int] = {}
+        self.before: dict[int, Known] = {}
+        self.entries: dict[int, tuple[int, Entry, int]] = {}
+        self.contents: dict[int, tuple[bytes, int]] = {}
+        self.logs: dict[int, dict[int, Entry]] = {}
+        self.saved: dict[int, Saved] = {}
+        self.acknowledged: dict[int, dict[int, Entry]] = {}
+        self.untold: dict[int, dict[int, Entry]] = {}  # acknowledgements that aren't sent yet
+        self.asked: dict[int, int] = {}
+
+    def note(self, text: str) -> None:
         if text not in self.broken:
             self.broken.append(text)
 
-    def look(self, node):
-        """Looks at a node after each call of it."""
-        id = node.id
-        if node.role == "leader" and self.leaders.setdefault(node.term, id) != id:
-            self.note(f"one leader a term: {self.leaders[node.term]} and {id} lead in term {node.term}")
+    def shows(self, *parts: str) -> bool:
+        return not self.without.intersection(parts)
+
+    # After each call
+
+    def look(self, node: AnyNode, nodes: Mapping[int, AnyNode], is_restarted: bool = False) -> None:
+        id, was = node.id, self.before.get(node.id)
+        self.saved.setdefault(id, Saved(node.term, node.vote, {}))
+        now = self.before[id] = Known(node.role, node.term, node.commit, node.applied, node.config)
         if node.vote and self.votes.setdefault((id, node.term), node.vote) != node.vote:
             self.note(f"one vote a term: {id} voted for {self.votes[id, node.term]} and {node.vote} in term {node.term}")
-        now = {"term": node.term, "commit": node.commit, "applied": node.applied}
-        for name, was in self.before.get(id, {}).items():
-            if now[name] < was:
-                self.note(f"terms and commits don't fall: the {name} of {id} falls from {was} to {now[name]}")
-        self.before[id] = now
+        if node.role == "leader":
+            self.look_at_role(node, was)
+            if was and was.role == "leader" and was.term == now.term and now.commit > was.commit and was.config == now.config:
+                self.look_at_commit(node, nodes)
+        if was and not is_restarted:
+            for name in ("term", "commit", "applied"):
+                if getattr(now, name) < getattr(was, name):
+                    self.note(f"terms and commits don't fall: the {name} of {id} falls from {getattr(was, name)} to {getattr(now, name)}")
 
-    def look_at_logs(self, cluster):
+    def look_at_role(self, node: AnyNode, was: Known | None) -> None:
+        id, term = node.id, node.term
+        if self.leaders.setdefault(term, id) != id:
+            self.note(f"one leader a term: {self.leaders[term]} and {id} lead in term {term}")
+        begins = was and (was.role, was.term) != ("leader", term) and was.config == node.config
+        if begins and self.shows("vote", "config") and not both(node.config, lambda voter: self.votes.get((voter, term)) == id):
+            voters = [voter for voter in sorted(node.config.voters()) if self.votes.get((voter, term)) == id]
+            self.note(f"a leader has a quorum of votes: {id} leads in term {term} by {voters}")
+
+    def look_at_commit(self, node: AnyNode, nodes: Mapping[int, AnyNode]) -> None:
+        """A leader's commit has moved: the entry there is of its term, and a quorum has it."""
+        if not self.shows("log", "commit", "config") or node.commit <= node.base:
+            return
+        at = node.commit
+        entry = next((entry for index, entry in node.entries_from(at) if index == at), None)
+
+        def holds(id: int) -> bool:
+            other = nodes.get(id)
+            return id == node.id or other is not None and (other.base >= at or (at, entry) in other.entries_from(at))
+
+        if entry is None or entry.term != node.term:
+            self.note(f"a quorum holds what a leader commits: {node.id} commits {at}, which is not of its term {node.term}")
+        elif not both(node.config, holds):
+            self.note(f"a quorum holds what a leader commits: {node.id} commits {at}, which {[id for id in sorted(nodes) if holds(id)]} have")
+
+    # After each directive
+
+    def look_at_logs(self, nodes: Mapping[int, AnyNode], touched: set[int]) -> None:
         """Looks at the logs of the nodes that a directive called."""
-        logs = {id: dict(node.entries_from(node.base + 1)) for id, node in cluster.nodes.items()}
-        for id in sorted(cluster.touched):
-            node = cluster.nodes[id]
-            self.look_at_committed(node, logs[id])
-            for other in logs:
-                if other != id:
-                    self.compare(id, logs[id], other, logs[other])
-        for id in sorted(cluster.touched):
-            if cluster.nodes[id].role == "leader":
-                self.look_at_leader(cluster.nodes[id], logs[id])
+        if not self.shows("log"):
+            return
+        changed = []
+        for id in sorted(touched):
+            log, before = log_of(nodes[id]), self.logs.get(id)
+            if log != before:
+                changed.append(id)
+            self.logs[id] = log
+        for id in sorted(touched):
+            self.look_at_committed(nodes[id], self.logs[id])
+            if nodes[id].role == "leader":
+                self.look_at_leader(nodes[id], self.logs[id])
+        for id in changed:
+            for other in self.logs:
+                if other != id and not (other in changed and other < id):
+                    self.compare(id, self.logs[id], other, self.logs[other])
 
-    def look_at_committed(self, node, log):
-        for index, entry in log.items():
-            if index <= node.commit:
-                _, first, who = self.entries.setdefault(index, (node.term, entry, node.id))
-                if first != entry:
-                    self.note(f"no two commit different entries: {who} and {node.id} do at {index}")
-        content, who = self.contents.setdefault(node.applied, (node.content, node.id))
-        if content != node.content and node.applied:
-            self.note(f"no two apply different entries: {who} and {node.id} do up to {node.applied}")
+    def look_at_committed(self, node: AnyNode, log: Mapping[int, Entry]) -> None:
+        if self.shows("commit"):
+            for index, entry in log.items():
+                if index <= node.commit:
+                    _, first, who = self.entries.setdefault(index, (node.term, entry, node.id))
+                    if first != entry:
+                        self.note(f"no two commit different entries: {who} and {node.id} do at {index}")
+        if self.shows("applied", "content"):
+            content, who = self.contents.setdefault(node.applied, (node.content, node.id))
+            if content != node.content and node.applied:
+                self.note(f"no two apply different entries: {who} and {node.id} do up to {node.applied}")
 
-    def look_at_leader(self, node, log):
+    def look_at_leader(self, node: AnyNode, log: Mapping[int, Entry]) -> None:
         for index, (term, entry, _) in self.entries.items():
             if term < node.term and index > node.base and log.get(index) != entry:
                 return self.note(f"a leader has what was committed: {node.id}, in term {node.term}, lacks {index}")
         return None
 
-    def compare(self, one, mine, other, theirs):
+    def compare(self, one: int, mine: Mapping[int, Entry], other: int, theirs: Mapping[int, Entry]) -> None:
         """Logs with an entry of the same index and term are the same up to it."""
         shared = mine.keys() & theirs.keys()
         agreed = max((index for index in shared if mine[index].term == theirs[index].term), default=0)
@@ -66,7 +177,71 @@ class Promises:
         if wrong is not None:
             self.note(f"logs match: {min(one, other)} and {max(one, other)} agree at {agreed} and not at {wrong}")
 
+    # What is ready and saved
 
-def name_of(broken):
-    """The promise that a text is about."""
-    return broken.split(":")[0]
+    def look_at_ready(self, node: AnyNode, ready: Ready, nodes: Mapping[int, AnyNode], limit: int) -> None:
+        saved = self.saved.get(node.id)
+        if self.shows("sync", "ready", "vote") and not ready.sync:
+            if ready.entries or saved and (node.term, node.vote) != (saved.term, saved.vote):
+                self.note(f"what must be saved first is marked: {node.id} has a term, a vote or entries to save")
+        for read in ready.reads:
+            if read.index < self.asked.get(read.id, 0):
+                self.note(f"a read is linearizable: {node.id} serves one at {read.index}, and {self.asked[read.id]} was committed before")
+        for m in ready.messages:
+            if m.kind == "MsgVoteResp" and not m.refused and self.shows("vote") and self.votes.get((node.id, m.term), m.to) != m.to:
+                self.note(f"a vote that is told is kept: {node.id} grants {m.to} its vote, and voted for {self.votes[node.id, m.term]}")
+            elif m.kind == "MsgAppResp" and not m.refused and m.index and self.shows("log"):
+                self.look_at_acknowledgement(node, m, nodes)
+            elif m.kind == "MsgApp" and limit and len(m.entries) > 1:
+                size = sum(max(1, len(entry.body if isinstance(entry.body, bytes) else entry.body.words)) for entry in m.entries)
+                if size > limit:
+                    self.note(f"appends keep to the limit of sizes: {node.id} sends {len(m.entries)} entries of {size} bytes")
+
+    def look_at_acknowledgement(self, node: AnyNode, m: Message, nodes: Mapping[int, AnyNode]) -> None:
+        log, leader = log_of(node), nodes.get(m.to)
+        if m.index > node.base and m.index not in log:
+            return self.note(f"what is acknowledged is held: {node.id} acknowledges {m.index}, which it lacks")
+        if leader and leader.role == "leader" and leader.term == m.term == node.term and m.index in log:
+            there = log_of(leader).get(m.index)
+            if there is not None and there != log[m.index]:
+                self.note(f"what is acknowledged is held: {node.id} acknowledges {m.index} to {m.to}, which has another entry there")
+        self.untold.setdefault(node.id, {}).update((index, entry) for index, entry in log.items() if index <= m.index)
+        return None
+
+    def image(self, node: AnyNode) -> Saved:
+        """What a node will have saved once what is ready now is saved."""
+        return Saved(node.term, node.vote, log_of(node) if self.shows("log") else {})
+
+    def save(self, id: int, image: Saved) -> None:
+        self.saved[id] = image
+        told = self.acknowledged.get(id, {})
+        self.acknowledged[id] = {index: entry for index, entry in told.items() if image.entries.get(index) == entry}
+
+    def send(self, id: int) -> None:
+        """What a node had ready is sent: from now on its acknowledgements hold."""
+        self.acknowledged.setdefault(id, {}).update(self.untold.pop(id, {}))
+
+    def look_at_restart(self, node: AnyNode) -> None:
+        """A node has started again: what it saved and what it acknowledged is there. What it didn't save counts for nothing."""
+        id, saved = node.id, self.saved[node.id]
+        if node.term < saved.term or node.term == saved.term and self.shows("vote") and node.vote != saved.vote:
+            self.note(f"a restart keeps term and vote: {id} saved {saved.term} and {saved.vote}, and starts with {node.term} and {node.vote}")
+        self.forget(id, saved, node.base)
+        self.untold.pop(id, None)
+        if not self.shows("log"):
+            return
+        log, base = log_of(node), node.base
+        for name, kept in (("a restart keeps what was acknowledged", self.acknowledged.get(id, {})), ("a restart keeps saved entries", saved.entries)):
+            lost = next((index for index, entry in kept.items() if index > base and log.get(index) != entry), None)
+            if lost is not None:
+                self.note(f"{name}: {id} lacks {lost}")
+
+    def forget(self, id: int, saved: Saved, base: int) -> None:
+        """What a node had not saved binds nobody: it has told nobody."""
+        kept = {saved.term} if saved.vote else set()
+        self.votes = {(who, term): vote for (who, term), vote in self.votes.items() if who != id or term < saved.term or term in kept}
+        self.entries = {at: known for at, known in self.entries.items() if known[2] != id or at <= base or at in saved.entries}
+        self.logs.pop(id, None)
+
+    def ask_read(self, id: int, nodes: Mapping[int, AnyNode]) -> None:
+        self.asked[id] = max(node.commit for node in nodes.values())

@@ -1,8 +1,13 @@
 """How differences are shown: as `raftbench check` shows them (docs/CHECK.md), and a table of their kinds."""
+from __future__ import annotations
+
 import collections
+from typing import Iterator, Sequence
+
+from .compare import Difference, Outcome
 
 
-def sides(wanted, came):
+def sides(wanted: Sequence[str], came: Sequence[str]) -> Iterator[str]:
     """Lines of both sides: plain are the longest common beginning and, of the rest, the longest common end."""
     front = next((at for at, (a, b) in enumerate(zip(wanted, came)) if a != b), min(len(wanted), len(came)))
     left = min(len(wanted), len(came)) - front
@@ -13,30 +18,30 @@ def sides(wanted, came):
     yield from (f"  {ended(line)}" for line in wanted[len(wanted) - back:])
 
 
-def ended(line):
+def ended(line: str) -> str:
     """A line whose end is seen."""
     return line + "$" if not line or line[-1] in " \t$" else line
 
 
-def difference_lines(where, difference):
+def difference_lines(where: str, difference: Difference) -> Iterator[str]:
     who = f" of node {difference.node}" if difference.node else ""
-    yield f"{where}: {difference.directive}: {difference.field}{who}"
+    yield f"{where}: {difference.directive}: {difference.field}{who} {difference.after}"
     yield from sides(difference.wanted, difference.came)
 
 
 class Totals:
     """What runs come to: how many directives agree up to each script's first difference, and the kinds of differences."""
 
-    def __init__(self):
-        self.counts, self.kinds = collections.Counter(), collections.Counter()
+    def __init__(self) -> None:
+        self.counts: collections.Counter[str] = collections.Counter()
+        self.kinds: collections.Counter[str] = collections.Counter()
 
-    def add(self, outcome):
-        self.counts.update(
-            scripts=1, same=int(outcome.first is None and outcome.broken is None), compared=outcome.compared, agreed=outcome.agreed, left=outcome.left_out,
-        )
+    def add(self, outcome: Outcome) -> None:
+        is_same = outcome.first is None and not outcome.broken
+        self.counts.update(scripts=1, same=int(is_same), compared=outcome.compared, agreed=outcome.agreed, left=outcome.left_out)
         self.kinds.update(kind for kind, _ in outcome.kinds())
 
-    def lines(self, seconds):
+    def lines(self, seconds: float) -> Iterator[str]:
         counts = self.counts
         share = 100 * counts["agreed"] / counts["compared"] if counts["compared"] else 100.0
         for kind, count in self.kinds.most_common():

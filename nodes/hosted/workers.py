@@ -1,101 +1,107 @@
-"""Several processes side by side, each with nodes of its own: what comes of each item stands in the items' order, however many there are."""
+"""Several processes side by side, each with nodes of its own. They take lists of items as they get free; results are in the items' order."""
+from __future__ import annotations
+
 import contextlib
 import multiprocessing
 import queue
 import signal
-import time
+from typing import Any, Callable, Iterator, Protocol, Sequence
 
-from .process import Failed
-from .reference import Unjudged
+from .judge import Unjudged
+from .process import Failed, Process
 
 FORKED = multiprocessing.get_context("fork")
 LOOK_SECONDS = 0.2
+
+
+class Worker(Protocol):
+    """What a worker works with: it has a process that is closed at the end."""
+
+    process: Process
 
 
 class Broken(Exception):
     """The nodes could not be started, the reference not judged, or a worker ended."""
 
 
-def work(make, task, items, until, stop, results):
-    """What a worker does: `make` gives its explorer, which has a `process` that is closed at the end, and what it `met`."""
+Task = Callable[[Any, Any], Any]
+
+
+def work(make: Callable[[], Worker], items: Any, results: Any) -> None:
+    """What a worker does: pairs of a number and a list of tasks with their items, until there is None."""
     signal.signal(signal.SIGINT, signal.SIG_IGN)
-    explorer = make()
+    worker = make()
     try:
-        for at, item in items:
-            if stop.value or time.monotonic() > until:
-                break
-            results.put(("result", at, task(explorer, item)))
-        results.put(("done", explorer.process.name, explorer.met))
+        while (taken := items.get()) is not None:
+            number, task, chunk = taken
+            results.put(("result", number, [task(worker, item) for item in chunk], worker.process.name))
     except Failed as failed:
-        results.put(("failed", str(failed), None))
+        results.put(("failed", 0, str(failed), ""))
     except Unjudged as fault:
-        results.put(("failed", f"the reference could not be judged: {fault}", None))
+        results.put(("failed", 0, f"the reference could not be judged: {fault}", ""))
     finally:
-        explorer.process.close()
+        worker.process.close()
+
+
+class Fleet:
+    """Workers, what they were given, and what they gave back."""
+
+    def __init__(self, jobs: int, make: Callable[[], Worker]) -> None:
+        self.items, self.results = FORKED.Queue(), FORKED.Queue()
+        self.workers = [FORKED.Process(target=work, args=(make, self.items, self.results)) for _ in range(jobs)]
+        self.name, self.given, self.taken = "", 0, 0
+        self.back: dict[int, list[Any]] = {}
+        for worker in self.workers:
+            worker.start()
+
+    def give(self, task: Task, chunk: Sequence[Any]) -> None:
+        self.items.put((self.given, task, list(chunk)))
+        self.given += 1
+
+    def take(self) -> list[Any]:
+        """The results of the next chunk, in the order in which they were given."""
+        while self.taken not in self.back:
+            self.look()
+        self.taken += 1
+        return self.back.pop(self.taken - 1)
+
+    def look(self) -> None:
+        """Takes one report of a worker, if there is one in time."""
+        are_over = not all(worker.is_alive() for worker in self.workers)
+        try:
+            what, number, result, name = self.results.get(timeout=LOOK_SECONDS)
+        except queue.Empty:
+            if are_over:
+                raise Broken("a worker ended") from None
+            return
+        if what == "failed":
+            raise Broken(result)
+        self.name = self.name or name
+        self.back[number] = result
+
+    def end(self, is_patient: bool = True) -> None:
+        """Ends the workers; at once, where nobody waits for what they do."""
+        for _ in self.workers:
+            self.items.put(None)
+        for worker in self.workers:
+            worker.join(5 if is_patient else 0.2)
+            if worker.is_alive():
+                worker.terminate()
+                worker.join(2)
 
 
 @contextlib.contextmanager
-def interruptible(is_patient):
-    """A value that all workers see: who is patient sets it by an interrupt; a second one, or the first of who isn't, is a KeyboardInterrupt."""
-    stop = FORKED.RawValue("b", 0)
+def interruptible() -> Iterator[Callable[[], bool]]:
+    """Answers whether an interrupt has come; a second one is a KeyboardInterrupt."""
+    seen: list[int] = []
 
-    def interrupt(*_):
-        if stop.value or not is_patient:
+    def interrupt(*_: object) -> None:
+        if seen:
             raise KeyboardInterrupt
-        stop.value = 1
+        seen.append(1)
 
     before = signal.signal(signal.SIGINT, interrupt)
     try:
-        yield stop
+        yield lambda: bool(seen)
     finally:
         signal.signal(signal.SIGINT, before)
-
-
-def side_by_side(jobs, make, task, items, until, met, look, is_patient=True):
-    """The results of the items that were begun before a time, or an interrupt, in their order. `met` takes what workers met, `look` each result as it comes.
-    Who isn't patient doesn't wait, after an interrupt, for what is under way.
-
-    Broken where the nodes don't start, or nothing judges the reference.
-    """
-    numbered = list(enumerate(items))
-    jobs = max(1, min(jobs, len(numbered)))
-    results, found, names = FORKED.Queue(), {}, []
-    with interruptible(is_patient) as stop:
-        workers = [FORKED.Process(target=work, args=(make, task, numbered[at::jobs], until, stop, results)) for at in range(jobs)]
-        for worker in workers:
-            worker.start()
-        try:
-            while len(names) < jobs:
-                take(results, workers, found, names, met, look)
-        except KeyboardInterrupt:
-            if is_patient:
-                raise
-        finally:
-            end(workers, len(names) == jobs)
-    return [found[at] for at in sorted(found)], next(iter(names), "")
-
-
-def end(workers, are_done):
-    for worker in workers:
-        worker.join(None if are_done else 1)
-        if worker.is_alive():
-            worker.terminate()
-
-
-def take(results, workers, found, names, met, look):
-    """Takes one report of a worker, if there is one in time."""
-    are_over = not any(worker.is_alive() for worker in workers)
-    try:
-        what, at, result = results.get(timeout=LOOK_SECONDS)
-    except queue.Empty:
-        if are_over:
-            raise Broken("a worker ended") from None
-        return
-    if what == "failed":
-        raise Broken(at)
-    if what == "done":
-        names.append(at)
-        met.update(result)
-    else:
-        found[at] = result
-        look(result)

@@ -3,6 +3,7 @@
 #include "node.h"
 
 #include <jansson.h>
+#include <limits.h>
 #include <stdio.h>
 #include <stdlib.h>
 #include <string.h>
@@ -10,6 +11,8 @@
 enum { MOST_NODES = 64 };
 
 static struct node *nodes[MOST_NODES];
+/* For nodes/promises: commits and what is applied are shown too, and terms begin as on libraft's own disk. */
+static bool shows_all;
 /* All messages since the last reset: a message's `own` is its place here. */
 static struct letters letters;
 
@@ -83,8 +86,10 @@ static struct node *started(const json_t *call)
     struct raft_buffer content = read_bytes(json_string_value(json_object_get(base, "content")));
     bool pre_vote = json_is_true(json_object_get(options, "prevote"));
     raft_id id = (raft_id)number(call, "node");
-    struct node *n =
-        node_start(id, (raft_index)number(base, "index"), (raft_term)number(base, "term"), &members, content, pre_vote);
+    raft_term base_term = (raft_term)number(base, "term");
+    /* On libraft's own disk the term is at least 1, and at least that of the snapshot. */
+    raft_term term = shows_all ? (base_term > 1 ? base_term : 1) : 0;
+    struct node *n = node_start(id, term, (raft_index)number(base, "index"), base_term, &members, content, pre_vote);
     raft_configuration_close(&members);
     raft_free(content.base);
     return n;
@@ -117,6 +122,7 @@ static const char *role_of(const struct node *n)
 static json_t *shown_state(struct node *n)
 {
     raft_id lead = 0;
+    struct raft_buffer content = {n->content.base, n->shown_size};
     if (n->raft.state == RAFT_LEADER) {
         lead = n->raft.id;
     } else if (n->raft.state == RAFT_FOLLOWER) {
@@ -124,7 +130,7 @@ static json_t *shown_state(struct node *n)
     }
     return json_pack("{s:{ss sI sI sI sI sI so so sb} s[]}", "state", "role", role_of(n), "term", (json_int_t)n->raft.current_term,
                      "vote", (json_int_t)n->raft.voted_for, "lead", (json_int_t)lead, "commit", (json_int_t)n->raft.commit_index,
-                     "applied", (json_int_t)n->raft.last_applied, "content", shown_bytes(n->content), "config",
+                     "applied", (json_int_t)n->shown_applied, "content", shown_bytes(content), "config",
                      shown_config(&n->raft.configuration), "ready", (int)node_has_ready(n), "events");
 }
 
@@ -246,9 +252,15 @@ static json_t *shown_views(const struct node *n)
 
 static json_t *greeting(void)
 {
-    return json_pack("{ss si s[sssssssssss]}", "name", "libraft " VERSION, "protocol", 1, "without", "forget_leader",
-                     "report_unreachable", "compact", "snapshot", "propose_change", "inflight",
-                     "step_down_on_removal", "applied", "content", "status", "commit");
+    json_t *without = json_pack("[sssssssssss]", "forget_leader", "report_unreachable", "compact", "snapshot", "propose_change",
+                                "inflight", "step_down_on_removal", "status", "ready", "sync", "torn");
+    if (!shows_all) {
+        json_array_append_new(without, json_string("applied"));
+        json_array_append_new(without, json_string("content"));
+        json_array_append_new(without, json_string("commit"));
+    }
+    return json_pack("{ss si so s[s] s[s] sb}", "name", "libraft " VERSION, "protocol", 1, "without", without, "calls", "restart",
+                     "always", "checkquorum", "open", 1);
 }
 
 static json_t *refusal(const char *why) { return json_pack("{ss}", "error", why); }
@@ -275,8 +287,9 @@ static json_t *changed(struct node *n, const char *name, const json_t *call)
         if (own < 0 || (size_t)own >= letters.count) {
             return refusal("there is no such message");
         }
-        node_receive(n, letters.all[own]);
-    } else if (strcmp(name, "start") != 0) {
+        const json_t *entries = json_object_get(json_object_get(call, "message"), "entries");
+        node_receive(n, letters.all[own], entries == NULL ? UINT_MAX : (unsigned)json_array_size(entries));
+    } else if (strcmp(name, "start") != 0 && strcmp(name, "restart") != 0) {
         return refusal("unknown call");
     }
     return shown_state(n);
@@ -300,6 +313,8 @@ static json_t *answered(const json_t *call)
     }
     if (strcmp(name, "start") == 0) {
         nodes[id] = started(call);
+    } else if (strcmp(name, "restart") == 0 && nodes[id] != NULL) {
+        nodes[id] = node_restart(nodes[id], strcmp(json_string_value(json_object_get(call, "saved")), "all") == 0);
     }
     struct node *n = nodes[id];
     if (n == NULL) {
@@ -317,8 +332,10 @@ static json_t *answered(const json_t *call)
     return changed(n, name, call);
 }
 
-int main(void)
+int main(int count, char **words)
 {
+    (void)words;
+    shows_all = count > 1;
     char *line = NULL;
     size_t room = 0;
     while (getline(&line, &room, stdin) > 0) {

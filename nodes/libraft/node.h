@@ -38,6 +38,18 @@ struct sending {
     raft_io_send_cb done;
 };
 
+/* What a disk holds. Its entries follow the snapshot, and each is a copy of its own. */
+struct disk {
+    raft_term term;
+    raft_id vote;
+    raft_index base;
+    raft_term base_term;
+    struct raft_configuration members;
+    struct raft_buffer content;
+    struct raft_entry *entries;
+    size_t count;
+};
+
 struct node {
     struct raft raft;
     struct raft_io io;
@@ -45,13 +57,14 @@ struct node {
     raft_io_tick_cb tick;
     raft_io_recv_cb receive;
     raft_time now;
-    /* What it begins with. */
-    raft_index base;
-    raft_term base_term;
-    struct raft_configuration members;
-    struct raft_buffer base_content;
-    /* The payloads that were applied, one behind the other. */
+    bool pre_vote;
+    /* The disk, and what it held when what was ready was saved last: a restart begins with that. */
+    struct disk disk;
+    struct disk saved;
+    /* The payloads that were applied, one after the other; and how many bytes and entries of them were so at the last advance. */
     struct raft_buffer content;
+    size_t shown_size;
+    raft_index shown_applied;
     struct write writes[256];
     size_t write_count;
     struct sending sendings[4096];
@@ -65,15 +78,18 @@ struct node {
     struct raft_transfer transfer;
 };
 
-/* A started node, or NULL where libraft refuses; `members` and `content` are copied. */
-struct node *node_start(raft_id id, raft_index base, raft_term base_term, const struct raft_configuration *members,
+/* A node that begins with a snapshot, in a term of its own; `members` and `content` are copied. */
+struct node *node_start(raft_id id, raft_term term, raft_index base, raft_term base_term, const struct raft_configuration *members,
                         struct raft_buffer content, bool pre_vote);
 void node_campaign(struct node *n);
 void node_tick(struct node *n);
 void node_set_timeout(struct node *n, unsigned ticks);
 void node_propose(struct node *n, struct raft_buffer payload);
 void node_transfer(struct node *n, raft_id to);
-void node_receive(struct node *n, const struct letter *letter);
+/* An append keeps `most` entries at most. */
+void node_receive(struct node *n, const struct letter *letter, unsigned most);
+/* A node that begins with what this one saved, or with all that is on its disk. This one is done with. */
+struct node *node_restart(const struct node *n, bool all);
 
 bool node_has_ready(const struct node *n);
 /* Finishes what was being written. What it wants to send is in `outbox` then. */

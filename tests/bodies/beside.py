@@ -2,13 +2,13 @@
 import pathlib
 import re
 
-from crates import Crate
+from tests.bodies.crates import Crate
 
 
 class Gate:
     """A run of `rt ci` with one job a proof, by a folder: what it says goes into the file `said`, and `status` stands there once it has ended."""
 
-    def __init__(self, folder: pathlib.Path, crates: dict[str, Crate]):
+    def __init__(self, folder: pathlib.Path, crates: dict[str, Crate]) -> None:
         self.folder = folder
         self.crates = crates
         self.have_tests = {name for name, crate in crates.items() if any("#[test]" in it.read_text() for it in crate.folder.glob("src/**/*.rt"))}

@@ -6,9 +6,8 @@ import shutil
 import subprocess
 import tempfile
 
-from edits import PARTS
-
-ROOT = pathlib.Path(__file__).resolve().parents[2]
+from tests.bodies.edits import PARTS
+from tests.harness import TOP
 
 
 class NotReady(Exception):
@@ -25,7 +24,7 @@ class Crate:
 
     @property
     def folder(self) -> pathlib.Path:
-        return ROOT / "crates" / self.name
+        return TOP / "crates" / self.name
 
     @property
     def built(self) -> pathlib.Path:
@@ -44,7 +43,7 @@ class Crate:
         return [path for part in PARTS for path in sorted((self.folder / part).rglob("*")) if path.is_file()]
 
 
-def crates_of(root: pathlib.Path = ROOT) -> dict[str, Crate]:
+def crates_of(root: pathlib.Path = TOP) -> dict[str, Crate]:
     """The crates that crates.txt lists, by name."""
     lines = [line.partition("#")[0].partition(":") for line in (root / "crates.txt").read_text().splitlines()]
     named = {name.split()[0]: names.split() for name, _, names in lines if name.strip()}

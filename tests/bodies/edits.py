@@ -1,8 +1,8 @@
-"""Wrong bodies as they are kept: an edit a file, which says what to change in a crate and which function must refuse it.
+"""Wrong bodies as they are kept: a file for each crate, with edits that say what to change and which function must refuse it.
 
-A file NAME.edit has a line `function: PATH`, the function's path below its crate as a check prints it, a line `file: FILE`
-below src/ or specs/, and pairs of lines `old: TEXT` and `new: TEXT`. Each old text stands once in its file, or once in the
-function. A law's crate has its definitions from crates below: `file: ../CRATE/specs/FILE` is one of those.
+An edit in CRATE.edits begins with a line `name: NAME`. `tried: yes` says that `./test` tries it. `function: PATH` is the function's path below its
+crate as a check prints it. Below `file: FILE`, a file of src/ or specs/, are pairs of lines `old: TEXT` and `new: TEXT`. Each old text is in its
+file once, or in the function once. A crate of laws has definitions from crates below: `file: ../CRATE/specs/FILE` is one of those.
 """
 import dataclasses
 import pathlib
@@ -35,34 +35,54 @@ class Edit:
     name: str
     function: str
     changes: tuple[Change, ...]
+    tried: bool = False
+    # What must come of it, of an edit that tries the judge.
+    verdict: str = ""
 
     def __str__(self) -> str:
         return f"{self.crate}/{self.name}"
 
 
-def read_edit(path: pathlib.Path, crate: str) -> Edit:
-    """Reads one file. Raises BadEdit where it names no function or file, or changes nothing."""
-    function = file = old = ""
-    changes = []
-    for line in path.read_text().splitlines():
+def read_edit(lines: list[str], crate: str) -> Edit:
+    """Reads the lines of one edit. Raises BadEdit if it names no function or file, or changes nothing."""
+    told = {"name": "", "tried": "", "function": "", "file": "", "verdict": ""}
+    changes, old = [], ""
+    for line in lines:
         key, _, text = line.partition(":")
         text = text.removeprefix(" ")
-        if key == "function":
-            function = text.strip()
-        elif key == "file":
-            file = text.strip()
+        if key in told:
+            told[key] = text.strip()
         elif key == "old":
             old = text
         elif key == "new":
-            if not old or not EDITED.match(file):
+            if not old or not EDITED.match(told["file"]):
                 raise BadEdit("a new text without an old one, or outside src/ and specs/")
-            changes.append(Change(file, old, text))
+            changes.append(Change(told["file"], old, text))
             old = ""
-    if not function:
+        else:
+            raise BadEdit(f"no line of an edit: {line}")
+    if not told["function"]:
         raise BadEdit("no line names the function that must refuse it")
     if not changes or all(change.old == change.new for change in changes):
         raise BadEdit("it changes nothing")
-    return Edit(crate, path.stem, function, tuple(changes))
+    return Edit(crate, told["name"], told["function"], tuple(changes), told["tried"] == "yes", told["verdict"])
+
+
+def read_edits(path: pathlib.Path, crate: str) -> dict[str, Edit | BadEdit]:
+    """Reads a file of edits, each by its name, with what is wrong with those that can't be read. Raises BadEdit if two have one name."""
+    found: dict[str, Edit | BadEdit] = {}
+    for block in re.split(r"(?m)^(?=name: )", path.read_text()):
+        lines = [line for line in block.splitlines() if line.strip() and not line.startswith("#")]
+        if not lines:
+            continue
+        name = lines[0].removeprefix("name: ").strip()
+        if name in found:
+            raise BadEdit(f"{path.name} has {name} twice")
+        try:
+            found[name] = read_edit(lines, crate)
+        except BadEdit as error:
+            found[name] = error
+    return found
 
 
 def function_at(text: str, at: int) -> str:

@@ -1,13 +1,13 @@
-"""The judge itself is tried: each edit of trials/ has a line `verdict: KIND`, which is what must come of it in rb_text."""
+"""The judge itself is tried: each edit of trials.edits has a line `verdict: KIND`, which is what must come of it in rb_text."""
 import pathlib
 import re
 import tempfile
 
-from beside import Gate
-from crates import Crate, NotReady
-from edits import BadEdit, read_edit
-from judge import judged
-from said import Kind, Verdict
+from tests.bodies.batches import judged
+from tests.bodies.beside import Gate
+from tests.bodies.crates import Crate, NotReady
+from tests.bodies.edits import Edit, read_edits
+from tests.bodies.verdicts import Kind, Verdict
 
 HERE = pathlib.Path(__file__).resolve().parent
 CRATE = "rb_text"
@@ -30,28 +30,21 @@ def stays_beside() -> bool:
 
 def tried(crates: dict[str, Crate]) -> tuple[int, int]:
     """Prints a line for each trial, and gives how many have come out as they must, and how many otherwise."""
-    files = sorted((HERE / "trials").glob("*.edit"))
-    found: dict[str, Verdict] = {}
-    edits = []
-    for file in files:
-        try:
-            edits.append(read_edit(file, CRATE))
-        except BadEdit as error:
-            found[file.stem] = Verdict(Kind.NOT_MADE, str(error))
+    edits = read_edits(HERE / "trials.edits", CRATE)
+    due = dict(re.findall(r"(?ms)^name: (\w+)$.*?^verdict: (\w+)$", (HERE / "trials.edits").read_text()))
+    found = {name: Verdict(Kind.NOT_MADE, str(error)) for name, error in edits.items() if not isinstance(error, Edit)}
     try:
-        judged(crates[CRATE], edits, lambda edit, verdict: found.update({edit.name: verdict}))
+        judged(crates[CRATE], [it for it in edits.values() if isinstance(it, Edit)], lambda edit, verdict: found.update({edit.name: verdict}))
     except NotReady as error:
         print(f"FAILED the judge: {error}", flush=True)
-        return 0, len(files) + 1
+        return 0, len(edits) + 1
     failed = int(not stays_beside())
     if failed:
         print("FAILED the judge beside a run of `rt ci`", flush=True)
-    for file in files:
-        wanted = re.search(r"(?m)^verdict: (\w+)$", file.read_text())
-        verdict = found[file.stem]
-        is_right = bool(wanted) and verdict.kind.name.lower() == wanted[1]
+    for name, verdict in found.items():
+        is_right = verdict.kind.name.lower() == due[name]
         failed += not is_right
-        print(f"{'' if is_right else 'FAILED '}the judge of {file.stem}: {verdict.kind.value}: {verdict.line[:160]}", flush=True)
-    count = len(files) + 1
+        print(f"{'' if is_right else 'FAILED '}the judge of {name}: {verdict.kind.value}: {verdict.line[:160]}", flush=True)
+    count = len(edits) + 1
     print(f"the judge: {count - failed} of {count} trials have come out as they must", flush=True)
     return count - failed, failed

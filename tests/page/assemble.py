@@ -10,9 +10,12 @@ import pathlib
 import re
 import sys
 
+sys.dont_write_bytecode = True
+sys.path[:1] = [str(pathlib.Path(__file__).resolve().parents[2])]
+
 CRATE = pathlib.Path(__file__).resolve().parents[2] / "crates" / "rb_frame"
 ASSETS = CRATE / "assets"
-CODE = ["rows.js", "words.js", "layout.js", "picture.js", "script.js", "state.js", "page.js"]
+ENTRY = "page.js"
 # What each file of sources says of itself, the file that it is made of, and its constants, each with what it is.
 HTML = ("The elements of a page.", "page.html", {
     "HEAD": "The page's head, up to its style.",
@@ -21,15 +24,11 @@ HTML = ("The elements of a page.", "page.html", {
     "END": "What stands behind the code.",
 })
 STYLE = ("The style of a page.", "page.css", {"STYLE": "The style."})
-SCRIPTS = [
-    ("The code of a page that reads its rows.", "rows.js", {"ROWS": "The code."}),
-    ("The code of a page that has its words.", "words.js", {"WORDS": "The code."}),
-    ("The code of a page that says where what happens stands in the picture.", "layout.js", {"LAYOUT": "The code."}),
-    ("The code of a page that draws the picture.", "picture.js", {"PICTURE": "The code."}),
-    ("The code of a page that shows the script.", "script.js", {"SCRIPT": "The code."}),
-    ("The code of a page that shows what stands.", "state.js", {"STATE": "The code."}),
-    ("The code of a page that puts its parts together and hears its reader.", "page.js", {"PAGE": "The code."}),
-]
+IMPORT = re.compile(r'^import \{[^}]*\} from "\./(\w+\.js)";\n', re.MULTILINE)
+# Comments that have types: on lines of their own, and before an expression.
+TYPES = re.compile(r"^[ \t]*/\*\*.*?\*/\n|/\*\*.*?\*/ ?", re.MULTILINE | re.DOTALL)
+NAME = re.compile(r"^(?:export )?(?:const|let|function|class) (\w+)", re.MULTILINE)
+EXPORT = re.compile(r"^export (?=(?:const|function|class) )", re.MULTILINE)
 
 
 def text_of(name):
@@ -44,9 +43,28 @@ def style():
     return "\n" + text_of("page.css")
 
 
+def modules():
+    """The names of the page's modules, each after those that it imports."""
+    order = []
+
+    def visit(name, path):
+        if name in path:
+            raise ValueError(f"{' imports '.join([*path, name])}")
+        for imported in IMPORT.findall(text_of(name)):
+            visit(imported, [*path, name])
+        if name not in order:
+            order.append(name)
+    visit(ENTRY, [])
+    names = [name for module in order for name in NAME.findall(text_of(module))]
+    if twice := sorted({name for name in names if names.count(name) > 1}):
+        raise ValueError(f"{', '.join(twice)} would be there twice, since the page's modules share one scope")
+    return order
+
+
 def codes():
-    """The parts of the code, in their order."""
-    return ["\n" + text_of(name) for name in CODE]
+    """The modules as parts of one strict script, in their order: without imports and exports, which one scope doesn't need, and without types."""
+    parts = ["\n" + TYPES.sub("", EXPORT.sub("", IMPORT.sub("", text_of(name)))) for name in modules()]
+    return ['\n"use strict";' + parts[0], *parts[1:]]
 
 
 def elements():
@@ -79,10 +97,14 @@ def source(said, texts):
     return "\n".join([f"//! {about} Made of assets/{asset} by `tests/page/assemble.py sources`.\n", *items])
 
 
+def constant_of(module):
+    return module.removesuffix(".js").upper()
+
+
 def order():
-    """Which constants stand before the rows and which behind them, in order."""
-    modules = [name.removesuffix(".js") for name in CODE]
-    uses = ["use crate::html::{BETWEEN, BODY, END, HEAD};", *sorted(f"use crate::{name}::{name.upper()};" for name in [*modules, "style"])]
+    """Which constants are before the rows and which are after them, in order."""
+    names = [constant_of(module) for module in modules()]
+    uses = sorted(["use crate::html::{BETWEEN, BODY, END, HEAD};", *(f"use crate::{name.lower()}::{name};" for name in [*names, "STYLE"])])
 
     def function(said, name, parts):
         facts = " ∷ ".join(f"{part}.now" for part in parts)
@@ -91,24 +113,49 @@ def order():
             f"    ensures {{ map (λ part. part.now) result ≡ {facts} ∷ [] }}\n"
             f"{{\n    [{', '.join(parts)}]\n}}\n")
     return "\n".join([
-        "//! What stands around the rows of a page, in parts. Made by `tests/page/assemble.py sources`.\n",
+        "//! What is around the rows of a page, in parts. Made by `tests/page/assemble.py sources`.\n",
         "ghost use Rattle.std.specs.Prelude.{◌≡◌, ◌∷◌, [], map};\n",
         "\n".join(uses) + "\n",
-        function("What stands before the rows: the page's head with its style, and its elements.", "front", ["HEAD", "STYLE", "BODY"]),
-        function("What stands behind them: the page's code.", "back", ["BETWEEN", *map(str.upper, modules), "END"]),
+        function("The parts before the rows: the page's head with its style, and its elements.", "front", ["HEAD", "STYLE", "BODY"]),
+        function("The parts after them: the page's code.", "back", ["BETWEEN", *names, "END"]),
+    ])
+
+
+def library():
+    """The root of the crate."""
+    names = sorted(["frame", "html", "style", *(constant_of(module).lower() for module in modules())])
+    return "\n".join([
+        "//! What is around the rows of a page (docs/PAGE.md): its own elements, its style and its code. Made by `tests/page/assemble.py sources`.",
+        "//!",
+        "//! The files are in assets, and the sources are made of them. The page's head names its style and its code by their hashes, so that no other",
+        "//! runs in it.",
+        "#![tactic(auto)]\n",
+        *(f"mod {name};" for name in names),
+        "\npub use frame::{back, front};\n",
     ])
 
 
 def sources():
     """Each source that is made, with its text."""
-    made = {"html": source(HTML, elements()), "style": source(STYLE, [style()]), "frame": order()}
-    for said, text in zip(SCRIPTS, codes()):
-        made[said[1].removesuffix(".js")] = source(said, [text])
+    made = {"html": source(HTML, elements()), "style": source(STYLE, [style()]), "frame": order(), "lib": library()}
+    for module, text in zip(modules(), codes()):
+        about = first_comment(module)
+        made[module.removesuffix(".js")] = source((about, module, {constant_of(module): "The code."}), [text])
     return {CRATE / "src" / f"{name}.rt": text for name, text in made.items()}
 
 
+def first_comment(module):
+    """What a module says of itself, as one sentence of a source."""
+    said = re.match(r"(?:// .*\n)+", text_of(module))[0].replace("// ", "").replace("\n", " ")
+    return "Code of a page. " + said.split(". ")[0].rstrip(". ") + "."
+
+
 def write_sources():
-    for path, text in sources().items():
+    made = sources()
+    for path in (CRATE / "src").glob("*.rt"):
+        if path not in made:
+            path.unlink()
+    for path, text in made.items():
         path.write_text(text)
     return ""
 

@@ -4,14 +4,14 @@ each band and all that stands after each step.
 import functools
 from collections import Counter
 
-import standing
-from assemble import parts
-from plain_steps import json_text, rows_of
-from printed import steps_of
-from reader import TALL
-from scripts import FULL, HOSTILE, LOST, MANY, NOBODY, RARE, SELF, TOUR, Failed, page_of, same
-from seen import CODE, Sheet
-from told import SIGNS, gist, happened_in, marks_of, messages_of_lines, messages_of_rows, notes_of, turns_of
+from tests.page import standing
+from tests.page.assemble import parts
+from tests.page.plain_steps import json_text, rows_of
+from tests.page.printed import steps_of
+from tests.page.reader import TALL
+from tests.page.scripts import FULL, HOSTILE, LOST, MANY, NOBODY, RARE, SELF, TOUR, Failed, page_of, same
+from tests.page.seen import CODE, Sheet
+from tests.page.told import SIGNS, gist, happened_in, marks_of, messages_of_lines, messages_of_rows, notes_of, turns_of
 
 OWN = {"self": SELF, "nobody": NOBODY, "rare": RARE, "lost": LOST, "hostile": HOSTILE, "many": MANY}
 SCRIPTS = {path.stem: path.read_bytes() for path in TOUR} | OWN
@@ -19,7 +19,7 @@ MOST_TOLD = 4
 # Roles from the narrowest band to the widest; two of them are alike.
 BY_STRENGTH = ("follower", "candidate", "precandidate", "leader")
 # Rows that a browser test beside what is printed doesn't look at: what they say is in the left pane, or they part others.
-UNSEEN = {"raftbench", "text", "output", "mismatch", "expected", "ready"}
+UNSEEN = {"raftbench", "text", "output", "mismatch", "expected", "same", "actual", "ready"}
 
 
 def same_counts(what, came, wanted):
@@ -91,6 +91,19 @@ def state_as_printed(where, seen, step, pending):
     same(f"the nodes {where}", list(came), list(nodes))
     for id, node in nodes.items():
         same(f"what stands of node {id} {where}", came[id], node)
+    logs_as_printed(where, seen["logs"], step.nodes)
+
+
+def logs_as_printed(where, logs, nodes):
+    """The table of logs: its columns, and of each node the cells; below them the leader's match and next."""
+    if not nodes:
+        return
+    columns = logs["columns"]
+    same(f"the columns {where}", columns, standing.columns_wanted(nodes, columns))
+    for (id, node), row in zip(nodes.items(), logs["rows"], strict=True):
+        same(f"whose row it is {where}", row["head"], f"node {id} {node.role} t{node.numbers.term}")
+        same(f"the log of node {id} {where}", standing.row_told(row, columns), standing.row_wanted(node, columns))
+        same(f"the marks below node {id} {where}", [[name, columns[at]] for name, at in row["marks"]], standing.marks_wanted(nodes, id, columns))
 
 
 # All of them, in a browser

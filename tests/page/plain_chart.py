@@ -4,7 +4,7 @@ Nodes stand side by side and time goes downwards. A message is an arrow from whe
 that was lost, and a dotted one is still on its way: to whom these are stands before their labels. For readers who can't see there are a
 title, the script's notes and heads, and a sentence for each thing that happened.
 
-    plain_chart.py FILE [LINE]     writes the picture of a script, or of its directives up to the one at a line
+    plain_chart.py FILE [UNTIL [FROM]]     writes the picture of a script, or of its directives up to the one at a line, from one on
 """
 import bisect
 import itertools
@@ -17,10 +17,10 @@ from dataclasses import dataclass, field
 from xml.sax.saxutils import escape
 
 sys.dont_write_bytecode = True
-sys.path.insert(0, str(pathlib.Path(__file__).resolve().parents[2]))
+sys.path[:1] = [str(pathlib.Path(__file__).resolve().parents[2])]
 
 from plain.script import lines_of, read_script  # noqa: E402
-from plain_steps import rows_of  # noqa: E402
+from tests.page.plain_steps import DIRECTIVES, rows_of  # noqa: E402
 
 # Sizes, in pixels. A row is its heading, a slot for each thing that happens in it, and a little room.
 SLOT, ROW_TOP, ROW_BOTTOM, HEADING = 18, 25, 8, 34
@@ -121,12 +121,14 @@ NOTES = {
 
 @dataclass
 class Arrow:
-    """A message on its way: who sent it, where its line begins, which of the lines is its own and which of the texts, and its label."""
+    """A message on its way: who sent it, where its line begins, which of the lines is its own and which of the texts, its label, and the cells of
+    its row."""
     sender: int
     start: int
     place: int
     text: int
     label: str
+    cells: tuple
 
 
 @dataclass
@@ -161,6 +163,25 @@ class Drafter:
         self.chart, self.row = Chart(title), None
         self.mail, self.commits, self.bases, self.bands = defaultdict(list), {}, {}, {}
         self.ready, self.sent, self.saves = 0, 0, None
+
+    def begin_after(self, above, line):
+        """Takes over what is so after the directives that another drafter has read: nodes, roles and what is on its way, which comes in from
+        above, each message in a slot of the first row."""
+        self.commits, self.bases = above.commits, above.bases
+        self.bands = {id: (role, HEADING) for id, (role, _) in above.bands.items()}
+        for id in self.bands:
+            self.words("name", x_of(id), 22, f"node {id}")
+        waiting = sorted((arrow for queue in above.mail.values() for arrow in queue), key=lambda arrow: arrow.text)
+        self.row, self.sent = Row(line, HEADING), 0
+        for id, (role, _) in self.bands.items():
+            self.tell(f"node {id} is {role}")
+        if waiting:
+            self.chart.under.append(f'<rect class="edge" y="{HEADING}" width="100%" height="1"/>')
+            self.words("quiet", HEAD_X, HEADING + 17, "on its way before")
+        for arrow in waiting:
+            self.send(*arrow.cells)
+        if not waiting:
+            self.row = None
 
     def read(self, name, *cells):
         if name != "save":
@@ -276,7 +297,7 @@ class Drafter:
 
     def send(self, sender, to, kind, term, *cells):
         label, is_left = label_of(kind, term, cells), to < sender
-        arrow = Arrow(sender, self.slot(), len(self.chart.over), len(self.chart.texts), label)
+        arrow = Arrow(sender, self.slot(), len(self.chart.over), len(self.chart.texts), label, (sender, to, kind, term, *cells))
         self.chart.over += line(sender, to, kind, arrow.start, "waiting")
         self.chart.reach(x_of(sender) + (HALF_BAND + 1 + OUT if to == sender else 0 if is_left else LEAD + WAITING))
         x = x_of(sender) + (-HALF_BAND - 5 if is_left else HALF_BAND + 5)
@@ -321,25 +342,36 @@ class Drafter:
         return self.chart
 
 
-def chart_of(data, name, until=None):
-    """All that a script's picture has; of the directives up to the one at a line where there is one."""
+def title_of(name, until, start):
     title = shown(name if isinstance(name, bytes) else os.fsencode(name))
-    drafter = Drafter(title if until is None else f"{title}, up to line {until}")
+    return title + (f", from line {start}" if start is not None else "") + (f", up to line {until}" if until is not None else "")
+
+
+def chart_of(data, name, until=None, start=None):
+    """All that a script's picture has; of the directives up to the one at a line, and from one at a line on, where there are these."""
+    title = title_of(name, until, start)
+    above, drafter = None, Drafter(title)
+    if start is not None:
+        above, drafter = drafter, Drafter(title)
     script = read_script(data)
     blocks = iter(script.blocks)
-    for row in rows_of(data, name):
+    for row in rows_of(data, name, DIRECTIVES):
         if row[0] == "step" and until is not None and row[1] > until:
             break
+        if row[0] == "step" and above and row[1] >= start:
+            above.end_saves()
+            drafter.begin_after(above, row[1])
+            above = None
         if row[0] == "step":
-            block = next(blocks)
-            drafter.end_saves()
-            drafter.tell_notes(row[1] - len(block.lead), block.lead)
-            drafter.begin_row(row[1], shown(block.head[0]))
+            block, drawn = next(blocks), above or drafter
+            drawn.end_saves()
+            drawn.tell_notes(row[1] - len(block.lead), block.lead)
+            drawn.begin_row(row[1], shown(block.head[0]))
         elif row[0] == "end":
             drafter.end_saves()
             drafter.tell_notes(1 + len(lines_of(data)) - len(script.tail), script.tail)
         elif row[0] not in ("raftbench", "text", "output", "expected", "mismatch"):
-            drafter.read(*row)
+            (above or drafter).read(*row)
     return drafter.done()
 
 
@@ -402,14 +434,14 @@ def svg_lines(chart):
     yield "</svg>"
 
 
-def svg_of(data, name, until=None):
+def svg_of(data, name, until=None, start=None):
     """The picture of a script, as the text of an SVG file."""
-    return "\n".join(svg_lines(chart_of(data, name, until))) + "\n"
+    return "\n".join(svg_lines(chart_of(data, name, until, start))) + "\n"
 
 
 def main():
     path = pathlib.Path(sys.argv[1])
-    sys.stdout.write(svg_of(path.read_bytes(), path.name, int(sys.argv[2]) if len(sys.argv) > 2 else None))
+    sys.stdout.write(svg_of(path.read_bytes(), path.name, *map(int, sys.argv[2:])))
 
 
 if __name__ == "__main__":

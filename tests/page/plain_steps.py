@@ -8,13 +8,15 @@ import re
 import sys
 
 sys.dont_write_bytecode = True
-sys.path.insert(0, str(pathlib.Path(__file__).resolve().parents[2]))
+sys.path[:1] = [str(pathlib.Path(__file__).resolve().parents[2])]
 
 from plain.cluster import Cluster  # noqa: E402
 from plain.script import read_script, read_with_lines  # noqa: E402
 from plain.texts import body_text, config_text  # noqa: E402
+from tests.page.plain_difference import difference_rows
 
-FORMAT = 1
+# Format 1 says what changed at the end of a directive, format 2 after each ready and each delivery too.
+DIRECTIVES, EVENTS_TOO = 1, 2
 SHOWN_CONTENT = 32
 # What a node tells, as its line shows it, and the row of it; a group that is all digits is a number.
 EVENTS = [
@@ -98,16 +100,31 @@ def ready_rows(node):
 class Watched(Cluster):
     """A cluster that also keeps the rows of what it did: what each directive can show, at any level."""
 
-    def __init__(self):
+    def __init__(self, format):
         super().__init__()
-        self.rows = []
+        self.rows, self.kept, self.format = [], {}, format
 
     def run(self, directive):
         self.rows = []
         lines = super().run(directive)
         if lines[0].startswith("error: "):
             self.rows = [["error", lines[0].removeprefix("error: ")]]
+        for id in self.nodes:
+            self.put_changes(id)
         return lines
+
+    def put_changes(self, id):
+        """What of a node is not as it was when this was asked last."""
+        self.rows += self.kept.setdefault(id, Kept()).rows(self.nodes[id])
+
+    def put_changes_of_event(self, id):
+        if self.format == EVENTS_TOO:
+            self.put_changes(id)
+
+    def call(self, id, name, *parts):
+        super().call(id, name, *parts)
+        if name == "step":
+            self.put_changes_of_event(id)
 
     def put_events(self, node):
         self.rows += [event_row(text) for _, text in node.events]
@@ -120,7 +137,9 @@ class Watched(Cluster):
     def process(self, id):
         if self.nodes[id].has_ready():
             self.rows += ready_rows(self.nodes[id])
-        return super().process(id)
+        is_done = super().process(id)
+        self.put_changes_of_event(id)
+        return is_done
 
     def do_process_ready(self, words, *rest):
         for id in words:
@@ -196,15 +215,10 @@ def common(old, new):
     return next((at for at, pair in enumerate(zip(old, new)) if pair[0] != pair[1]), min(len(old), len(new)))
 
 
-def state_rows(cluster, kept):
-    for id, node in cluster.nodes.items():
-        yield from kept.setdefault(id, Kept()).rows(node)
-
-
-def rows_of(data, name):
+def rows_of(data, name, format=EVENTS_TOO):
     """The rows of a script's page; a Fault where it is refused."""
-    script, cluster, kept, wrong = read_script(data), Watched(), {}, 0
-    yield ["raftbench", FORMAT, name]
+    script, cluster, wrong = read_script(data), Watched(format), 0
+    yield ["raftbench", format, name]
     yield ["text", data]
     for block, line in zip(script.blocks, read_with_lines(data)[1]):
         yield ["step", line]
@@ -213,9 +227,8 @@ def rows_of(data, name):
         if output != block.expected:
             wrong += 1
             yield ["mismatch"]
-            yield from (["expected", text] for text in block.expected)
+            yield from difference_rows(block.expected, output) if format == EVENTS_TOO else (["expected", text] for text in block.expected)
         yield from cluster.rows
-        yield from state_rows(cluster, kept)
     yield ["end", len(script.blocks), wrong]
 
 

@@ -10,7 +10,7 @@ from typing import NamedTuple
 
 from plain.cluster import Cluster
 from plain.script import joined_head, parsed_head, read_script, read_with_lines
-from program import MOST_SECONDS, PROGRAM, found
+from tests.page.program import MOST_SECONDS, PROGRAM, found
 
 MOST_NODES = 32
 LEVEL = re.compile(rb"[ \t]log-level=[^ \t]*")

@@ -1,13 +1,15 @@
 """What `raftbench page` writes, byte for byte beside the page that is made of the plain bench's rows, and how it ends: as `run` does."""
-import os
 import pathlib
 import subprocess
 import tempfile
 import time
 
-from scripts import HOSTILE, LONG, LOST, MANY, TOP, TOUR, long_page, mismatched, page_of, same
+from tests.harness import PROGRAM
+from tests.page.scripts import HOSTILE, LONG, LOST, MANY, TOUR, long_page, mismatched, page_of, same
+from tests.page.plain_steps import DIRECTIVES
 
-PROGRAM = pathlib.Path(os.environ.get("RAFTBENCH", TOP / "crates" / "raftbench" / "out" / "raftbench"))
+# The format of the rows that the program writes.
+FORMAT = DIRECTIVES
 FAILED = b"raftbench: input or output failed\n"
 MOST_SECONDS = 120
 # Scripts that are refused.
@@ -48,19 +50,19 @@ def pages_are_those_of_the_plain_rows():
     scripts |= {"hostile.txt": (HOSTILE, 1), "mismatch.txt": (mismatched()[0], 1), "many.txt": (MANY, 1), "lost.txt": (LOST, 1), "empty.txt": (b"", 0)}
     with tempfile.TemporaryDirectory() as room:
         for name, (data, status) in scripts.items():
-            writes_the_plain_page(name, [put(room, name, data)], b"", page_of(data, name), status)
+            writes_the_plain_page(name, [put(room, name, data)], b"", page_of(data, name, FORMAT), status)
 
 
 def names_are_told_as_they_are():
     data = TOUR[0].read_bytes()
     with tempfile.TemporaryDirectory() as room:
         for name in ("<!--<script>&'\"", "ключ \u202e.txt"):
-            writes_the_plain_page(name, [put(room, name, data)], b"", page_of(data, name), 0)
-    writes_the_plain_page("standard input", ["-"], data, page_of(data, "standard input"), 0)
+            writes_the_plain_page(name, [put(room, name, data)], b"", page_of(data, name, FORMAT), 0)
+    writes_the_plain_page("standard input", ["-"], data, page_of(data, "standard input", FORMAT), 0)
 
 
 def every_changes_no_page():
-    data, page = HOSTILE, page_of(HOSTILE, "standard input")
+    data, page = HOSTILE, page_of(HOSTILE, "standard input", FORMAT)
     for words in (["--every", "1", "-"], ["-", "--every", "64"], ["-", "--every=16"]):
         writes_the_plain_page(" ".join(words), words, data, page, 1)
 
@@ -83,7 +85,7 @@ def full_devices_are_told():
 
 def readers_that_go_away_are_told():
     """Who reads some and goes away has a beginning of the page, of which a pipe holds a part alone."""
-    whole = page_of(HOSTILE, "standard input").encode()
+    whole = page_of(HOSTILE, "standard input", FORMAT).encode()
     for count in (0, 1, 4096, 30_000):
         with subprocess.Popen([PROGRAM, "page", "-"], stdin=subprocess.PIPE, stdout=subprocess.PIPE, stderr=subprocess.PIPE) as running:
             running.stdin.write(HOSTILE)
@@ -95,7 +97,7 @@ def readers_that_go_away_are_told():
 
 
 def twenty_thousand_directives_are_written():
-    page = long_page()
+    page = long_page(FORMAT)
     with tempfile.TemporaryDirectory() as room:
         path = put(room, "long", LONG)
         start = time.monotonic()

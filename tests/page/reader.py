@@ -5,10 +5,10 @@ import re
 import statistics
 import time
 
-from browser import Browser, found
 from plain.script import read_script
-from plain_steps import rows_of
-from scripts import FULL, HOSTILE, LESS, LOST, MANY, OUTPUT, TOUR, Failed, long_page, mismatched, page_of, same
+from tests.page.browser import Browser, found
+from tests.page.plain_steps import rows_of
+from tests.page.scripts import FULL, HOSTILE, LESS, LOST, MANY, OUTPUT, TOUR, Failed, long_page, mismatched, page_of, same
 
 TALL = 12000
 MOST_SECONDS = 20

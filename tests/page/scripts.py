@@ -1,14 +1,10 @@
 """Scripts that tests of pages are made of: the tour, a mismatch, texts that would act, messages that are lost, 32 nodes, 20,000 directives."""
 import functools
-import pathlib
-import sys
 
-TOP = pathlib.Path(__file__).resolve().parents[2]
-sys.path.insert(0, str(TOP))
-
-from assemble import parts  # noqa: E402
-from plain.script import read_script  # noqa: E402
-from plain_steps import json_text, rows_of  # noqa: E402
+from plain.script import read_script
+from tests.harness import TOP
+from tests.page.assemble import parts
+from tests.page.plain_steps import EVENTS_TOO, json_text, rows_of
 
 TOUR = sorted((TOP / "examples" / "tour").glob("*.txt"))
 PAYLOADS = [
@@ -58,7 +54,7 @@ OUTPUT = b"".join([
 ])
 
 
-class Failed(Exception):
+class Failed(AssertionError):
     """What a test finds wrong."""
 
 
@@ -75,12 +71,12 @@ def mismatched():
     return changed, [place for place, block in enumerate(read_script(changed).blocks, 1) if b"from 2: other" in block.text()]
 
 
-def page_of(data, name):
+def page_of(data, name, format=EVENTS_TOO):
     before, after = parts()
-    return before + json_text(rows_of(data, name)) + after
+    return before + json_text(rows_of(data, name, format)) + after
 
 
 @functools.cache
-def long_page():
+def long_page(format=EVENTS_TOO):
     """The page of 20,000 directives, which takes the plain bench a minute."""
-    return page_of(LONG, "long")
+    return page_of(LONG, "long", format)

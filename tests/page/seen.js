@@ -35,19 +35,25 @@
     return { columns, parts, width: parseFloat(document.getElementById("extent").style.width) };
   };
 
-  // A box's look, and its whole text where that is not what stands in it; the box of the base and that of what isn't shown have no more.
-  const box = (it) => {
-    const whole = it.querySelector(".whole")?.textContent ?? it.title;
-    const isEntry = !it.matches(".base, .more, button");
-    return [it.matches("button") ? "more" : it.className, isEntry ? whole : it.firstChild.data];
-  };
+  // The logs side by side: by column its index, and by row the cells that hold something, each with its looks and its whole text.
+  const cell = (it, at) => ({ at, looks: it.className.split(" "), whole: it.querySelector(".whole")?.textContent, struck: texts("del", it).join() });
+  const row = (it) => all("td", it).map(cell).filter(({ whole }) => whole);
+  const marks = (it) => all("td", it).slice(1).flatMap((td, at) => texts(".unseen", td).map((name) => [name, at]));
+  const logs = () => ({
+    columns: texts("#logs .indexes th[scope=col]").map(Number),
+    more: document.querySelector("#logs .more")?.textContent ?? "",
+    rows: all("#logs tr:not(.indexes):not(.marks)").map((it) => ({
+      head: it.querySelector("th").textContent,
+      cells: row(it),
+      marks: it.nextElementSibling?.matches(".marks") ? marks(it.nextElementSibling) : [],
+    })),
+  });
 
   const node = (article) => ({
     id: article.querySelector("b").textContent,
     look: article.className,
     role: article.querySelector(".role").textContent,
-    facts: texts(":scope > div:not(.log)", article),
-    log: all(".log > *", article).map(box),
+    facts: texts(":scope > div", article),
     views: all("tr", article).map((it) => texts("td", it)).filter((cells) => cells.length > 0),
   });
 
@@ -58,6 +64,7 @@
       count: document.querySelector("#state summary").textContent,
       happened: texts("li", happened),
       nodes: all("#state article").map(node),
+      logs: logs(),
       pending: texts("li", pending),
     };
   };
@@ -75,5 +82,12 @@
     return found;
   };
 
-  return { picture, states, state };
+  // Chooses a directive, or an event of it, by the address.
+  const at = async (place) => {
+    location.hash = place;
+    await drawn();
+    return state();
+  };
+
+  return { picture, states, state, at };
 })()

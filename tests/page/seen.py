@@ -4,8 +4,8 @@ import pathlib
 import re
 from collections import Counter
 
-from scripts import same
-from told import SIGN, Arrow, gist
+from tests.page.scripts import same
+from tests.page.told import SIGN, Arrow, gist
 
 CODE = (pathlib.Path(__file__).parent / "seen.js").read_text()
 # How far from the middle of a band, in pixels, a line may begin, and one may end that leads to it: up to its tip, or to a cross that is

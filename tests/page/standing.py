@@ -1,7 +1,7 @@
 """What stands after a step in a page's right pane, beside what is printed of the nodes (printed.py)."""
 import re
 
-from told import gist
+from tests.page.told import gist
 
 FACTS = re.compile(r"\d+|no vote|no leader")
 CONTENT = re.compile(r", content (\d+) bytes?: …?(.*)")
@@ -20,34 +20,64 @@ def told(article):
         "numbers": FACTS.findall(first) + FACTS.findall(numbers),
         "content": (int(content[0]), content[1]) if content else (0, ""),
         "configuration": config,
-        "log": [[look, SIGNS.sub("", text)] for look, text in article["log"]],
         "views": article["views"],
     }
 
 
 def wanted(node):
     """The same of a node as it is printed."""
-    term, vote, lead, commit, applied, base_term, base, durable = node.numbers
+    term, vote, lead, commit, applied, _, _, durable = node.numbers
     first = [f"{term}", f"{vote}" if vote else "no vote", f"{lead}" if lead else "no leader"]
     return {
         "role": [node.role, node.role],
         "numbers": [*first, f"{commit}", f"{applied}", f"{durable}"],
         "content": node.content,
         "configuration": node.config,
-        "log": [["base", f"{base_term}/{base}"], *boxes(node)],
         "views": [view(*cells) for cells in node.views],
     }
 
 
-def boxes(node):
-    """The boxes of a log's last entries: of each its signs, and the entry."""
-    indexes = list(node.entries)
-    if len(indexes) > MOST_ENTRIES:
-        yield ["more", f"… {len(indexes) - MOST_ENTRIES} entries …"]
-    for index in indexes[-MOST_ENTRIES:]:
-        term, body = node.entries[index]
-        held = {"committed": index <= node.numbers.commit, "applied": index <= node.numbers.applied, "unsaved": index > node.numbers.durable}
-        yield [" ".join(sign for sign, holds in held.items() if holds), f"{term}/{index} {body}"]
+def columns_wanted(nodes, seen):
+    """Which indexes a table of logs has: the last 24, up to the last entry of all nodes, and to what their leader sends next; no others but
+    those of entries that gave way."""
+    leaders = sorted((node for node in nodes.values() if node.role == "leader"), key=lambda node: -node.numbers.term)
+    nexts = [int(cells[3]) for leader in leaders[:1] for cells in leader.views if int(cells[0]) in nodes]
+    last = max([*(node.last() for node in nodes.values()), *nexts, *seen[-1:]])
+    first = max(min(node.numbers.base for node in nodes.values()), 1, last - MOST_ENTRIES + 1)
+    return list(range(first, last + 1))
+
+
+def row_wanted(node, columns):
+    """The cells of a node's log in these columns: signs and texts."""
+    cells = []
+    for index in columns:
+        edge = ["edge"] if index == node.numbers.commit else []
+        if index == node.numbers.base:
+            cells.append((index, {"base", *edge}, f"{node.numbers.base_term}/{index}"))
+        elif index in node.entries:
+            term, body = node.entries[index]
+            held = {"committed": index <= node.numbers.commit, "applied": index <= node.numbers.applied, "unsaved": index > node.numbers.durable}
+            cells.append((index, {*(sign for sign, holds in held.items() if holds), *edge}, f"{term}/{index} {body}"))
+    return cells
+
+
+def row_told(row, columns):
+    """The same of a row of the table; a cell in which an entry gave way to none isn't counted."""
+    told = []
+    for cell in row["cells"]:
+        looks = set(cell["looks"]) - {"new", "gone"} - {f"t{term}" for term in range(8)}
+        if cell["looks"] != ["gone"]:
+            told.append((columns[cell["at"]], looks, SIGNS.sub("", cell["whole"].split("; ")[0].split(": the base")[0])))
+    return told
+
+
+def marks_wanted(nodes, id, columns):
+    """What the leader of the latest term knows of a node, where its columns are shown."""
+    leaders = sorted((node for node in nodes.values() if node.role == "leader"), key=lambda node: -node.numbers.term)
+    for member, _, match, next, *_ in leaders[0].views if leaders else []:
+        if int(member) == id:
+            return [[name, int(index)] for name, index in (("match", match), ("next", next)) if int(index) in columns]
+    return []
 
 
 def view(member, state, match, next, inflight, waiting, pending, inactive):

@@ -6,8 +6,8 @@ from collections import Counter, defaultdict
 from dataclasses import dataclass
 from typing import NamedTuple
 
-from plain_chart import KINDS, MARKS
-from plain_steps import event_row
+from tests.page.plain_chart import KINDS, MARKS
+from tests.page.plain_steps import event_row
 
 # What is told of a message in whatever words: who, to whom, which type, and the numbers and answers in it; and what became of it.
 GIST = re.compile(r"Msg\w+|\d+|granted|refused|transfer|delivered|dropped|given up|on its way")
@@ -26,7 +26,7 @@ PAGE_MARKS = {
     "started": lambda id: ("started", "quiet"),
     "nothing-ready": lambda id: ("nothing ready", "quiet"),
     "appended": lambda id, index, body: (f"+ {index} {body}", "quiet"),
-    "replaced": lambda id, index: (f"↺ {index}+ anew", "change"),
+    "replaced": lambda id, index: (f"↺ {index}+ replaced", "change"),
 }
 
 

@@ -1,4 +1,4 @@
-//! How a picture looks: the text of assets/style.svg, to which tests/page/run holds it.
+//! How a picture looks: the text of assets/style.svg, to which tests/page holds it.
 
 /// Its styles, light and dark, and the tips of its arrows.
 #[rattlefmt::skip]

@@ -34,7 +34,7 @@ said_gives w m among to given = record {
 }
 
 -- so all that comes by it is heard
-safe_hears : {w : World} (c : Call) (t : Turn) → IsSafe w c t.node → Holds w t.node → Hears w (ways c t)
+pub safe_hears : {w : World} (c : Call) (t : Turn) → IsSafe w c t.node → Holds w t.node → Hears w (ways c t)
 safe_hears {w} (Step m) t safe h x is = subst (IsHeard w) (sym is) safe
 safe_hears {w} (Propose body) t safe h x is = subst (IsHeard w) (sym is) ((safe, λ _. tt), λ no. cc)
 safe_hears {w} (Transfer to) t safe h x is = subst (IsHeard w) (sym is) ((tt, λ _. tt), λ no. cc)

@@ -96,7 +96,7 @@ added_new members r x same new = record {
   silent = none_sent (start r) (options r) (range_with_len (length x.cluster.nodes + 1) r.count) x ∙ new.silent;
 }
 
-same_asked : (r : Result Asked DirectiveError) (a b : Asked) → r ≡ Ok a → r ≡ Ok b → a ≡ b
+pub same_asked : (r : Result Asked DirectiveError) (a b : Asked) → r ≡ Ok a → r ≡ Ok b → a ≡ b
 same_asked r a b one two = cc
 
 pub still_new : (members : ConfState) (c : Cluster) (d : PlainDirective) (a : Asked) (r : AddNodes) → request d ≡ Ok a → a.request ≡ requests.AddNodes r → (start r).config ≡ members → IsNew members c → IsNew members (outcome c d).cluster

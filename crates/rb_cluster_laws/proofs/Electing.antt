@@ -10,7 +10,7 @@ use Rattle.rb_cluster_laws.specs.Votes.{IsCast}
 use Rattle.rb_cluster_laws.proofs.Holding.{Setting, IsElected, AreOnce}
 
 -- who was chosen had a voter
-some_voters : (xs ys : List ℕ) (id : ℕ) → ys ≡ [] → (has xs id || has ys id) ≡ true → 0 < length xs
+pub some_voters : (xs ys : List ℕ) (id : ℕ) → ys ≡ [] → (has xs id || has ys id) ≡ true → 0 < length xs
 some_voters [] ys id none h = absurd (false≢true (subst (λ (l : List ℕ). (has [] id || has l id) ≡ true) none h))
 some_voters (x ∷ xs) ys id none h = omega arith
 

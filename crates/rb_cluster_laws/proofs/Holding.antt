@@ -249,7 +249,7 @@ turned {w} e term r votes later stands leads h = record {
 abbrev pub IsSaid : List Message → List Message → Type 0
 IsSaid said now = (m : Message) → Contains said m → Contains now m
 
-still_cast : (said now : List Message) (voter term candidate : ℕ) → IsSaid said now → IsCast said voter term candidate → IsCast now voter term candidate
+pub still_cast : (said now : List Message) (voter term candidate : ℕ) → IsSaid said now → IsCast said voter term candidate → IsCast now voter term candidate
 still_cast said now voter term candidate more c = record {
   answer = c.answer;
   among = more c.answer c.among;

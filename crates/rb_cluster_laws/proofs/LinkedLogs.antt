@@ -76,21 +76,21 @@ part_linked ls v p term es above first among linked = λ i e t at is.
 -- ---- an append
 
 -- what stands in a log with entries put in place
-record Puts (v : LogValue) (prev term : ℕ) (es : List Entry) (c : ℕ) : Type 0 where
-  held : term_at v prev ≡ Ok term
-  new : first_new v (prev + 1) es ≡ Some c
-  above : v.base ≤ prev
-  from : prev + 1 ≤ c
-  high : c ≤ last v + 1
-  within : c < prev + 1 + length es
+pub record Puts (v : LogValue) (prev term : ℕ) (es : List Entry) (c : ℕ) : Type 0 where
+  pub held : term_at v prev ≡ Ok term
+  pub new : first_new v (prev + 1) es ≡ Some c
+  pub above : v.base ≤ prev
+  pub from : prev + 1 ≤ c
+  pub high : c ≤ last v + 1
+  pub within : c < prev + 1 + length es
 
-put_last : (v : LogValue) (prev term c : ℕ) (es : List Entry) → Puts v prev term es c → last (put v prev es c) ≡ prev + length es
+pub put_last : (v : LogValue) (prev term c : ℕ) (es : List Entry) → Puts v prev term es c → last (put v prev es c) ≡ prev + length es
 put_last v prev term c es p =
     let size = put_size v prev c es p.high in
     let above = p.above in let from = p.from in let within = p.within in
     omega (arith, size, above, from, within)
 
-put_sent_term : (v : LogValue) (prev term c k : ℕ) (es : List Entry) (x : Entry) → Puts v prev term es c → slice_get es k ≡ Some x → term_at (put v prev es c) (prev + 1 + k) ≡ Ok x.term
+pub put_sent_term : (v : LogValue) (prev term c k : ℕ) (es : List Entry) (x : Entry) → Puts v prev term es c → slice_get es k ≡ Some x → term_at (put v prev es c) (prev + 1 + k) ≡ Ok x.term
 put_sent_term v prev term c k es x p at =
     elim (cases_lt (prev + 1 + k) c) as (λ _. term_at (put v prev es c) (prev + 1 + k) ≡ Ok x.term) [
       | inl low ↦ put_term_below v prev c (prev + 1 + k) es low p.high ∙ held_before v es (prev + 1) c k x p.new low at

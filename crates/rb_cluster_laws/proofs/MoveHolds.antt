@@ -227,7 +227,7 @@ compacts_holds n i is s h =
 step_holds : {w : World} {v : Ways} → Hears w v → {a b : PlainNode} → StepMove v a b → IsSound a → Holds w a → Holds w b
 step_holds hears (StepTells m) s h = telling_holds m s h
 step_holds {w} hears (Passes n m came sent) s h = says n m (fine w m.kind hears came).0 (λ ls linked. sends_chain ls m.kind n m (sent s).1 linked) h
-step_holds {w} hears (Waits n m answer) s h =
+step_holds {w} hears (Waits n m answer may) s h =
     (let said = answer s in let is = answers_fine w.setting.config m.kind n m said.1 in waits n m said.0 is.0 is.1 h)
 step_holds hears (Follows n term lead up past) s h = follows_holds n term lead up h
 step_holds hears (Asks n may) s h = precandidate_holds n h
@@ -236,11 +236,11 @@ step_holds hears (Leads n stands elected won) s h = leading_holds n stands won h
 step_holds hears (Counts n m granted came answers) s h = counts_holds n m granted (hears m came).1 answers h
 step_holds hears (Appends n body leads puts) s h =
     own_entry_holds n (record { term = n.term; body = body }) refl (puts_plain n body hears puts h) leads h
-step_holds {w} hears (Takes n from append is came) s h = takes_holds n from append is (fine w (kind.Append append) hears came) h
-step_holds {w} hears (Restores n snapshot is past came) s h = restores_holds n snapshot is (fine w (kind.Snapshot snapshot) hears came).0 h
+step_holds {w} hears (Takes n from append is came) s h = takes_holds n from append is (fine w (kind.Append append) hears came.came) h
+step_holds {w} hears (Restores n snapshot is past came other) s h = restores_holds n snapshot is (fine w (kind.Snapshot snapshot) hears came.came).0 h
 step_holds hears _ s h = h
 
-call_holds : {w : World} {v : Ways} {sound : Type 0} → Hears w v → {a b : PlainNode} → CallMove sound v a b → IsSound a → Holds w a → Holds w b
+pub call_holds : {w : World} {v : Ways} {sound : Type 0} → Hears w v → {a b : PlainNode} → CallMove sound v a b → IsSound a → Holds w a → Holds w b
 unfolding unmarked
 call_holds hears (CallChanges m has) s h = absurd (has h.log)
 call_holds hears (CallSteps m) s h = step_holds hears m s h

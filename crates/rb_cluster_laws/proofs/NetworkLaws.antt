@@ -70,7 +70,7 @@ no_append ls (kind.Append append) none = absurd none
 no_append ls _ none = tt
 
 -- the call that happens is one that a node stands
-safe_call : (g : Setting) (s : Network) (place : ℕ) (c : Call) (n : PlainNode) (sane : IsSane g s) → IsGood g s.said sane.links place n → IsHonestCall g.config s (place + 1) c → (g.strict ≡ true → IsGenuineCall s c) → IsSafe (world_of g (s.said ++ put_out c n) sane.links place) c n
+pub safe_call : (g : Setting) (s : Network) (place : ℕ) (c : Call) (n : PlainNode) (sane : IsSane g s) → IsGood g s.said sane.links place n → IsHonestCall g.config s (place + 1) c → (g.strict ≡ true → IsGenuineCall s c) → IsSafe (world_of g (s.said ++ put_out c n) sane.links place) c n
 safe_call g s place (Step m) n sane good honest genuine =
     let w = world_of g (s.said ++ []) sane.links place in
     let chain : g.strict ≡ true → IsChainBy sane.links m.kind = λ strict.
@@ -161,7 +161,7 @@ still_good g said more links place k x n other e good =
     record { sound = good.sound; promises = good.promises; holds = still_holds g said (said ++ more) links e.now k n (λ m among. Contains-append_left said more m among) linked good.holds; linked = linked }
 
 -- the votes that the called node gave, those that it puts out now among them, it had promised
-pledged : (g : Setting) (s : Network) (place : ℕ) (c : Call) (n : PlainNode) (m : Message) (sane : IsSane g s) → slice_get s.nodes place ≡ Some n → IsGood g s.said sane.links place n → Contains (s.said ++ put_out c n) m → IsYes m → m.from ≡ place + 1 → IsPromised n m.term m.to
+pub pledged : (g : Setting) (s : Network) (place : ℕ) (c : Call) (n : PlainNode) (m : Message) (sane : IsSane g s) → slice_get s.nodes place ≡ Some n → IsGood g s.said sane.links place n → Contains (s.said ++ put_out c n) m → IsYes m → m.from ≡ place + 1 → IsPromised n m.term m.to
 pledged g s place c n m sane at good among gives own =
     elim (Contains-append_cases s.said (put_out c n) m among) as (λ _. IsPromised n m.term m.to) [
       | inl before ↦
@@ -204,7 +204,7 @@ nodes_after g s place c told n k x sane at e is =
     each_set (λ (j : ℕ) (y : PlainNode). IsGood g (s.said ++ put_out c n) e.now j y) s.nodes place n new at e.good
     (λ j y other there. still_good g s.said (put_out c n) sane.links place j new y other e (sane.good j y there)) k x is
 
-once_after : (g : Setting) (s : Network) (place : ℕ) (c : Call) (n : PlainNode) (a b : Message) → IsSane g s → slice_get s.nodes place ≡ Some n → Contains (s.said ++ put_out c n) a → Contains (s.said ++ put_out c n) b → IsYes a → IsYes b → a.from ≡ b.from → a.term ≡ b.term → a.to ≡ b.to
+pub once_after : (g : Setting) (s : Network) (place : ℕ) (c : Call) (n : PlainNode) (a b : Message) → IsSane g s → slice_get s.nodes place ≡ Some n → Contains (s.said ++ put_out c n) a → Contains (s.said ++ put_out c n) b → IsYes a → IsYes b → a.from ≡ b.from → a.term ≡ b.term → a.to ≡ b.to
 once_after g s place c n a b sane at one two first second from term =
     let good = sane.good place n at in
     elim (Contains-append_cases s.said (put_out c n) b two) as (λ _. a.to ≡ b.to) [

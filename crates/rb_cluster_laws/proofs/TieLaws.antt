@@ -90,7 +90,7 @@ calls g s nodes ms all k call t at brought either r =
 
 -- ---- a snapshot sent by hand
 
-no_vote : (n : PlainNode) → kind.Snapshot (snapshot_of n) ≡ kind.VoteResponse true → ⊥
+pub no_vote : (n : PlainNode) → kind.Snapshot (snapshot_of n) ≡ kind.VoteResponse true → ⊥
 no_vote n e = cc
 
 shows : (g : Setting) (s : Network) (nodes : List PlainNode) (ms : List Message) (k from to : ℕ) (n : PlainNode) → slice_get nodes k ≡ Some n → IsReached g s nodes ms → IsReached g s nodes (ms ++ message from to n.term (kind.Snapshot (snapshot_of n)) ∷ [])

@@ -2,3 +2,4 @@ pub mod Network
 pub mod Honesty
 pub mod Votes
 pub mod Clusters
+pub mod Safety

@@ -5,8 +5,15 @@
 #![tactic(auto)]
 
 mod laws;
+mod safety;
 
 pub use laws::{
     clusters_elect_one_leader, clusters_keep_logs_matching, elections_are_safe, leaders_are_chosen,
     logs_match, votes_are_cast_once,
+};
+pub use safety::{
+    applied_entries_agree, clusters_applied_entries_agree, clusters_begin_alike,
+    clusters_committed_entries_agree, clusters_contents_agree,
+    clusters_leaders_have_what_is_committed, committed_entries_agree, contents_agree,
+    leaders_have_what_is_committed,
 };

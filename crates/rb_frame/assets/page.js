@@ -1,20 +1,28 @@
-// The page: reads the rows, and steps through them by keys, by clicks and by the place in the address.
+// The page: reads the rows, and goes through them by keys, buttons, clicks and the address.
 
-const KEYS = {
-  ArrowDown: (page) => page.chosen + 1,
-  ArrowUp: (page) => page.chosen - 1,
-  j: (page) => page.chosen + 1,
-  k: (page) => page.chosen - 1,
-  PageDown: (page) => page.chosen + 10,
-  PageUp: (page) => page.chosen - 10,
-  Home: () => 1,
-  End: (page) => page.model.steps.length,
-  m: (page) => page.nextMismatch(),
-  M: (page) => page.lastMismatch(),
-};
+import { byId } from "./dom.js";
+import { Keys } from "./keys.js";
+import { makeLegend } from "./legend.js";
+import { Logs } from "./logs.js";
+import { Picture } from "./picture.js";
+import { Player } from "./play.js";
+import { after, before, eventsAt, instantAt, placesOf } from "./position.js";
+import { printWhole } from "./print.js";
+import { readRows } from "./rows.js";
+import { Script } from "./script.js";
+import { Search } from "./search.js";
+import { State } from "./state.js";
+import { counted } from "./text.js";
+import { eventText, MARKS } from "./words.js";
 
-// Writes where in the page one is. A frame that was given its document as a text has no address, and some browsers refuse a page that writes one at each
-// key that is held down: the page goes on without.
+/** @typedef {import("./types.js").Position} Position */
+/** @typedef {import("./rows.js").Model} Model */
+
+/**
+ * Writes into the address what is chosen. A frame that was given its document as a text has no address, and some browsers refuse a page that
+ * writes one at each key that is held down: the page goes on without.
+ * @param {string} place
+ */
 function writeAddress(place) {
   try {
     history.replaceState(null, "", place);
@@ -26,116 +34,192 @@ function writeAddress(place) {
 }
 
 class Page {
+  /** @param {Model} model */
   constructor(model) {
     this.model = model;
-    this.chosen = 0;
-    const choose = (place) => this.choose(place);
-    this.parts = [new Picture(model, choose), new Script(model, choose), new State(model)];
-    document.addEventListener("keydown", (event) => this.pressed(event));
+    /** @type {Position} */
+    this.chosen = { place: 0, event: 0 };
+    /** @param {Position} position */
+    const take = (position) => this.take(position);
+    this.search = new Search(model, () => this.refresh());
+    const picture = new Picture(model, this.search, (place) => take({ place, event: 0 }));
+    const script = new Script(model, this.search, take);
+    this.script = script;
+    /** @type {import("./types.js").Part[]} */
+    this.parts = [picture, script, new Logs(model), new State(model, this.search, take)];
+    this.player = new Player(() => this.goOn());
+    this.keys = new Keys(this.commands());
+    this.keepFocus();
+    printWhole(model, () => this.chosen.place, () => picture.placeAgain());
     window.addEventListener("hashchange", () => this.chooseByAddress());
   }
 
-  choose(place) {
-    const chosen = Math.min(Math.max(1, place), this.model.steps.length);
-    if (chosen === this.chosen) {
-      return;
-    }
-    this.chosen = chosen;
-    this.parts.forEach((part) => part.choose(chosen));
-    const step = this.model.steps[chosen - 1];
-    document.getElementById("where").textContent = `step ${chosen} of ${this.model.steps.length}, line ${step.line}`;
-    writeAddress(`#${chosen}`);
+  /** @returns {import("./keys.js").Command[]} */
+  commands() {
+    return [
+      { keys: ["ArrowDown", "j"], button: "next-step", says: "the next directive", does: () => this.step(1) },
+      { keys: ["ArrowUp", "k"], button: "last-step", says: "the directive before", does: () => this.step(-1) },
+      { keys: ["ArrowRight", "l"], button: "next-event", says: "the next event", does: () => this.take(after(this.model, this.chosen)) },
+      { keys: ["ArrowLeft", "h"], button: "last-event", says: "the event before", does: () => this.take(before(this.model, this.chosen)) },
+      { keys: [" "], button: "play", says: "play, and stop", does: () => this.player.toggle() },
+      { keys: ["+", "="], says: "play faster", does: () => this.player.change(1) },
+      { keys: ["-"], says: "play slower", does: () => this.player.change(-1) },
+      { keys: ["PageDown"], says: "ten directives on, or a page of a long output", does: () => this.script.scrollWithin(1) || this.step(10) },
+      { keys: ["PageUp"], says: "ten directives back, or a page of a long output", does: () => this.script.scrollWithin(-1) || this.step(-10) },
+      { keys: ["Home"], says: "the first directive", does: () => this.take({ place: 1, event: 0 }) },
+      { keys: ["End"], says: "the last directive", does: () => this.take({ place: this.model.steps.length, event: 0 }) },
+      { keys: ["m"], button: "next-mismatch", says: "the next mismatch", does: () => this.takePlace(this.nextMismatch()) },
+      { keys: ["M"], says: "the mismatch before", does: () => this.takePlace(this.lastMismatch()) },
+      { keys: ["o"], says: "unfold the equal lines of a mismatch, or fold them", does: () => this.script.toggleFolds() },
+      { keys: ["/"], says: "find a text", does: () => byId("find").focus() },
+      { keys: ["n"], button: "next-found", says: "the next place that was found, or that the filters leave", does: () => this.find(1) },
+      { keys: ["N"], button: "last-found", says: "the place before", does: () => this.find(-1) },
+      { keys: ["?"], button: "show-help", says: "this list", does: () => this.keys.showHelp() },
+    ];
   }
 
+  /** Keeps keys for steps after a click into the picture, and takes Enter and Escape in the field of the search. */
+  keepFocus() {
+    const directives = byId("directives");
+    byId("drawing").addEventListener("click", () => directives.focus({ preventScroll: true }));
+    byId("script").addEventListener("click", () => directives.focus({ preventScroll: true }));
+    byId("find").addEventListener("keydown", ({ key, shiftKey }) => {
+      if (key === "Enter") {
+        this.find(shiftKey ? -1 : 1);
+      } else if (key === "Escape") {
+        directives.focus({ preventScroll: true });
+      }
+    });
+    byId("search").addEventListener("submit", (event) => event.preventDefault());
+  }
+
+  // ---- what is chosen
+
+  /**
+   * Chooses what a reader asks for; what is being played stops.
+   * @param {Position} position
+   */
+  take(position) {
+    if (this.player.isPlaying()) {
+      this.player.stop();
+    }
+    this.choose(position);
+  }
+
+  /** @param {number} place */
+  takePlace(place) {
+    this.take({ place, event: 0 });
+  }
+
+  /** @param {number} count */
+  step(count) {
+    this.takePlace(this.chosen.place + count);
+  }
+
+  goOn() {
+    const { place, event } = this.chosen;
+    this.choose(after(this.model, this.chosen));
+    return this.chosen.place !== place || this.chosen.event !== event;
+  }
+
+  /** @param {number} direction */
+  find(direction) {
+    this.take(this.search.next(this.chosen, direction));
+  }
+
+  /** @param {Position} position */
+  choose({ place, event }) {
+    const chosen = Math.min(Math.max(1, place), this.model.steps.length);
+    const position = { place: chosen, event: Math.min(Math.max(0, event), eventsAt(this.model, chosen)) };
+    if (position.place !== this.chosen.place || position.event !== this.chosen.event) {
+      this.chosen = position;
+      this.refresh();
+      this.tell();
+    }
+  }
+
+  refresh() {
+    this.parts.forEach((part) => part.choose(this.chosen));
+  }
+
+  tell() {
+    const { place, event } = this.chosen;
+    const { step, event: happened } = instantAt(this.model, this.chosen);
+    const events = placesOf(step).map((at) => step.events[at]);
+    const where = event > 0 ? `, event ${event} of ${events.length}` : "";
+    byId("where").textContent = `step ${place} of ${this.model.steps.length}, line ${step.line}${where}`;
+    byId("said").textContent = happened ? eventText(happened) : this.summary(step.head.join(" "), events);
+    writeAddress(event > 0 ? `#${place}.${event}` : `#${place}`);
+  }
+
+  /**
+   * A directive in a sentence: its head, how much happened, and the first mark.
+   * @param {string} head
+   * @param {import("./types.js").Event[]} events
+   */
+  summary(head, events) {
+    const first = events.find(({ name }) => MARKS[name]);
+    const mark = first ? `: node ${first.id} ${MARKS[first.name](first.cells)[0]}` : "";
+    const isWrong = this.model.steps[this.chosen.place - 1].pieces !== null;
+    return `${head}, ${counted(events.length, "event", "events")}${mark}${isWrong ? ", mismatch" : ""}`;
+  }
+
+  // ---- places
+
+  /** Takes `#5`, `#5.3` (the third event) and `#L20` (the directive of line 20). */
   chooseByAddress() {
-    const found = /^#(\d+)$/.exec(location.hash);
-    this.choose(found ? Number(found[1]) : this.chosen || 1);
+    const found = /^#(L?)(\d+)(?:\.(\d+))?$/.exec(location.hash);
+    const number = Number(found?.[2]);
+    const place = found?.[1] ? this.placeOfLine(number) : number;
+    this.choose(found ? { place, event: Number(found[3] ?? 0) } : { place: this.chosen.place || 1, event: this.chosen.event });
+  }
+
+  /** @param {number} line */
+  placeOfLine(line) {
+    return this.model.steps.filter(({ first }) => first <= line).length;
   }
 
   nextMismatch() {
-    return this.model.mismatches.find((place) => place > this.chosen) ?? this.model.mismatches[0] ?? this.chosen;
+    const { mismatches } = this.model;
+    return mismatches.find((place) => place > this.chosen.place) ?? mismatches[0] ?? this.chosen.place;
   }
 
   lastMismatch() {
-    const before = this.model.mismatches.filter((place) => place < this.chosen);
-    return before[before.length - 1] ?? this.model.mismatches[this.model.mismatches.length - 1] ?? this.chosen;
-  }
-
-  pressed(event) {
-    const to = KEYS[event.key];
-    if (to && !event.ctrlKey && !event.metaKey && !event.altKey) {
-      event.preventDefault();
-      this.choose(to(this));
-    }
+    const { mismatches } = this.model;
+    const earlier = mismatches.filter((place) => place < this.chosen.place);
+    return earlier[earlier.length - 1] ?? mismatches[mismatches.length - 1] ?? this.chosen.place;
   }
 }
 
-function counted(count, one, many) {
-  return `${count} ${count === 1 ? one : many}`;
-}
-
+/** @param {Model} model */
 function tellCounts(model) {
-  const counts = document.getElementById("counts");
+  const counts = byId("counts");
   const wrong = counted(model.mismatches.length, "mismatch", "mismatches");
   counts.textContent = `${counted(model.steps.length, "directive", "directives")}, ${wrong}, ${counted(model.nodes.length, "node", "nodes")}`;
   counts.classList.toggle("bad", model.mismatches.length > 0);
-}
-
-const LEGEND = [
-  ["vote", "votes"],
-  ["append", "appends"],
-  ["heartbeat", "heartbeats"],
-  ["snapshot", "snapshots"],
-  ["proposal", "handed on"],
-];
-
-function legendItem(text, draw) {
-  const item = element("li", "");
-  const picture = svg(item, "svg", { width: 30, height: 10, "aria-hidden": "true" });
-  draw(picture);
-  item.append(text);
-  return item;
-}
-
-function makeLegend() {
-  const legend = document.getElementById("legend");
-  for (const [kind, text] of LEGEND) {
-    legend.append(
-      legendItem(text, (picture) => {
-        svg(picture, "path", { class: `arrow ${kind}`, d: "M0 5H26" });
-        svg(picture, "path", { class: `tip ${kind}`, d: tipAt(30, 5, 1, 0) });
-      }),
-    );
-  }
-  const lost = (picture) => {
-    svg(picture, "path", { class: "arrow append", d: "M0 5H22" });
-    svg(picture, "path", { class: "cross", d: crossAt(24, 5) });
-  };
-  const waits = (picture) => svg(picture, "path", { class: "arrow append waiting", d: "M0 5H30" });
-  legend.append(legendItem("dropped, or given up", lost), legendItem("still on its way", waits));
-  for (const [role, half] of [["leader", 5], ["candidate", 4], ["precandidate", 4], ["follower", 2.5]]) {
-    legend.append(legendItem(role, (picture) => svg(picture, "rect", { class: `band ${role}`, x: 0, y: 5 - half, width: 30, height: 2 * half })));
-  }
+  byId("next-mismatch").hidden = model.mismatches.length === 0;
 }
 
 function start() {
-  const notice = document.getElementById("notice");
+  const notice = byId("notice");
   try {
-    const model = readRows(JSON.parse(document.getElementById("steps").textContent));
+    const model = readRows(JSON.parse(byId("steps").textContent ?? ""));
     document.title = `${model.name}: raftbench`;
-    document.getElementById("name").textContent = model.name;
+    byId("name").textContent = model.name;
     tellCounts(model);
     if (model.steps.length === 0) {
       notice.textContent = "The script has no directives.";
       return;
     }
-    document.getElementById("panes").hidden = false;
+    byId("panes").hidden = false;
+    byId("keys").hidden = false;
+    byId("search").hidden = false;
     notice.hidden = true;
     makeLegend();
     new Page(model).chooseByAddress();
   } catch (fault) {
     notice.hidden = false;
-    notice.textContent = `The page can't be shown: ${fault.message}.`;
+    notice.textContent = `The page can't be shown: ${fault instanceof Error ? fault.message : fault}.`;
     throw fault;
   }
 }

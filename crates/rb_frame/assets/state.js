@@ -1,47 +1,85 @@
-// What stands after the chosen directive. What is long is made as it is wanted: a list when its end comes into view, a log's earlier entries by a click.
+// What is so after the chosen event: what happened, a card a node, and the messages on their way. A long list is made as its end comes into
+// view.
 
-const FIRST_ENTRIES = 24;
-const MORE_ENTRIES = 200;
+import { byId, element, withAttributes } from "./dom.js";
+import { instantAt, isChanged, momentBefore, numbersOf, placesOf } from "./position.js";
+import { counted, shown } from "./text.js";
+import { eventText, messageText } from "./words.js";
+
+/** @typedef {import("./types.js").Position} Position */
+/** @typedef {import("./types.js").Event} Event */
+/** @typedef {import("./types.js").View} View */
+/** @typedef {import("./rows.js").Node} Node */
+/** @typedef {import("./position.js").Instant} Instant */
+
 const MORE_LISTED = 200;
+// How many events before the chosen one are listed.
+const LISTED_BEFORE = 100;
 
-function element(name, look, ...children) {
-  const made = document.createElement(name);
-  made.className = look;
-  made.append(...children);
-  return made;
-}
-
-class State {
-  constructor(model) {
+export class State {
+  /**
+   * @param {import("./rows.js").Model} model
+   * @param {import("./search.js").Search} search
+   * @param {(position: Position) => void} choose
+   */
+  constructor(model, search, choose) {
     this.model = model;
-    this.pane = document.getElementById("state");
+    this.search = search;
+    this.take = choose;
+    this.pane = byId("state");
     this.isOpen = false;
-    this.growing = new Map(); // by the last item of a list that isn't whole, what makes more of it
+    /** @type {Map<Element, () => void>} by the last item of a list that isn't whole, what makes more of it */
+    this.growing = new Map();
     this.watch = new IntersectionObserver((seen) => this.came(seen), { root: this.pane, rootMargin: "600px 0px" });
+    this.pane.addEventListener("click", ({ target }) => {
+      const item = /** @type {HTMLElement | null} */ (/** @type {Element} */ (target).closest("li[data-event]"));
+      if (item) {
+        this.take({ place: Number(item.dataset.place), event: Number(item.dataset.event) });
+      }
+    });
   }
 
-  choose(place) {
+  /** @param {Position} position */
+  choose(position) {
     this.watch.disconnect();
     this.growing.clear();
-    const step = this.model.steps[place - 1];
-    const nodes = this.model.nodes.filter((node) => node.since <= place);
-    const pending = this.model.spans.pendingAfter(place);
+    const instant = instantAt(this.model, position);
+    const before = momentBefore(this.model, position);
+    const nodes = this.model.nodes.filter((node) => node.isThereAt(instant.moment));
+    const pending = this.model.spans.pendingAfter(position.place, instant.serial);
+    const when = position.event > 0 ? `After event ${position.event} of line ${instant.step.line}` : `After line ${instant.step.line}`;
+    this.isOpen = this.isOpen || position.event > 0;
+    const happened = this.happened(position);
     this.pane.replaceChildren(
-      this.happened(step),
-      element("h2", "", `After line ${step.line}`),
-      this.signs(),
-      ...nodes.map((node) => this.node(node, step)),
+      happened,
+      element("h2", "", when),
+      ...nodes.map((node) => this.card(node, instant, before)),
       element("h2", "", pending.length === 1 ? "1 message on its way" : `${pending.length || "No"} messages on their way`),
-      this.list(pending, messageText),
+      this.list(pending, (message) => element("li", "", messageText(message))),
     );
     if (this.isOpen) {
       this.pane.scrollTop = 0;
+      const now = happened.querySelector(".now");
+      const list = happened.querySelector("ol");
+      if (now instanceof HTMLElement && list) {
+        list.scrollTop = now.offsetTop - list.clientHeight / 2;
+      }
     }
   }
 
-  happened(step) {
-    const events = step.events.filter((event) => event.name !== "ready");
-    const found = element("details", "", element("summary", "", `What happened (${events.length})`), this.list(events, eventText));
+  /** @param {Position} position */
+  happened({ place, event }) {
+    const step = this.model.steps[place - 1];
+    const { isKept } = this.search.tests();
+    const events = placesOf(step).map((at, before) => ({ happened: step.events[at], number: before + 1 }));
+    const kept = events.filter(({ happened }) => isKept(happened));
+    const start = Math.max(0, kept.findIndex(({ number }) => number >= event) - LISTED_BEFORE);
+    const first = event > 0 && kept.length > MORE_LISTED ? start : 0;
+    const list = this.list(kept.slice(first), ({ happened, number }) => this.item(happened, place, number, event));
+    list.prepend(...(first > 0 ? [element("li", "quiet", `${first} before`)] : []));
+    const summary = kept.length === events.length ? `What happened (${events.length})` : `What happened (${kept.length} of ${events.length})`;
+    const found = /** @type {HTMLDetailsElement} */ (element("details", "", element("summary", "", summary), list));
+    found.setAttribute("aria-label", "What happened");
     found.open = this.isOpen;
     found.addEventListener("toggle", () => {
       this.isOpen = found.open;
@@ -49,26 +87,56 @@ class State {
     return found;
   }
 
-  // A list of what some things are as texts.
-  list(things, textOf) {
+  /**
+   * @param {Event} event
+   * @param {number} place
+   * @param {number} number
+   * @param {number} chosen
+   */
+  item(event, place, number, chosen) {
+    const reasons = (event.reasons ?? []).map((reason) => element("span", "reason", reason));
+    const item = element("li", number === chosen ? "now" : "", eventText(event), ...reasons);
+    if (this.model.hasEvents()) {
+      item.dataset.place = String(place);
+      item.dataset.event = String(number);
+    }
+    return number === chosen ? withAttributes(item, { "aria-current": "step" }) : item;
+  }
+
+  /**
+   * @template T
+   * @param {T[]} things
+   * @param {(thing: T) => HTMLElement} make
+   */
+  list(things, make) {
     const list = element("ol", "list");
-    this.addItems(list, things, textOf, 0);
+    this.addItems(list, things, make, 0);
     return list;
   }
 
-  addItems(list, things, textOf, from) {
-    const items = things.slice(from, from + MORE_LISTED).map((thing) => element("li", "", textOf(thing)));
-    const rest = things.length - from - items.length;
-    list.append(...items);
+  /**
+   * @template T
+   * @param {HTMLElement} list
+   * @param {T[]} things
+   * @param {(thing: T) => HTMLElement} make
+   * @param {number} from
+   */
+  addItems(list, things, make, from) {
+    const more = things.slice(from, from + MORE_LISTED).map(make);
+    const rest = things.length - from - more.length;
+    list.append(...more);
     if (rest > 0) {
       const last = element("li", "quiet", `and ${rest} more`);
       list.append(last);
-      this.growing.set(last, () => this.addItems(list, things, textOf, from + items.length));
+      this.growing.set(last, () => this.addItems(list, things, make, from + more.length));
       this.watch.observe(last);
     }
   }
 
-  // Lists whose ends came into view, or near to it, grow.
+  /**
+   * Lets lists grow whose ends came into view, or near to it.
+   * @param {IntersectionObserverEntry[]} seen
+   */
   came(seen) {
     for (const { isIntersecting, target } of seen) {
       const grow = isIntersecting && this.growing.get(target);
@@ -81,83 +149,49 @@ class State {
     }
   }
 
-  // How the boxes of entries look.
-  signs() {
-    const looks = [["base", "base"], ["unsaved", "unsaved"], ["", "durable"], ["committed", "committed ✓"], ["committed applied", "applied ✓"]];
-    return element("div", "log", ...looks.map(([look, text]) => element("span", look, text)));
-  }
-
-  node(node, step) {
-    const numbers = node.numbers.at(step.place);
-    const { role, term, vote, lead, commit, applied, durable, length, end } = numbers;
-    const changed = step.changed.includes(node.id) ? [element("span", "changed", "● changed")] : [];
+  /**
+   * @param {Node} node
+   * @param {Instant} instant
+   * @param {number} before
+   */
+  card(node, instant, before) {
+    const { role, term, vote, lead, commit, applied, durable, length, end } = numbersOf(node, instant);
+    const changed = isChanged(node, before, instant.moment) ? [element("span", "changed", "● changed")] : [];
     const facts = `term ${term}, ${vote ? `voted for ${vote}` : "no vote"}, ${lead ? `leader ${lead}` : "no leader"}`;
     const content = length ? `, content ${counted(length, "byte", "bytes")}: ${length > end.length ? "…" : ""}${shown(end)}` : "";
-    return element(
+    const card = element(
       "article",
       `node ${role}`,
       element("header", "", element("b", "", `node ${node.id}`), element("span", "role", role), ...changed),
       element("div", "", facts),
-      this.log(node, numbers, step.place),
       element("div", "facts", `commit ${commit}, applied ${applied}, durable ${durable}${content}`),
-      element("div", "facts", shown(node.config.at(step.place))),
-      ...this.views(node, step.place),
+      element("div", "facts", shown(node.config.at(instant.moment) ?? "")),
+      ...this.views(node, instant.moment),
     );
+    return withAttributes(card, { "aria-label": `node ${node.id}, ${role}, term ${term}` });
   }
 
-  log(node, numbers, place) {
-    const { baseTerm, base, last } = node.log.at(place);
-    const log = element("div", "log", this.box("base", `${baseTerm}/${base}`, `${baseTerm}/${base}, the base of the log`));
-    const boxes = (from, to) => {
-      const indices = Array.from({ length: to - from + 1 }, (_, at) => from + at);
-      return indices.map((index) => this.entry(index, node.entryAt(index, place), numbers));
-    };
-    const first = Math.max(base + 1, last - FIRST_ENTRIES + 1);
-    log.append(...boxes(first, last));
-    this.addEarlier(log, base + 1, first - 1, boxes);
-    return log;
-  }
-
-  // A button for the entries up to one that aren't shown, behind the base.
-  addEarlier(log, from, to, boxes) {
-    if (from > to) {
-      return;
-    }
-    const more = element("button", "", `… ${counted(to - from + 1, "entry", "entries")} …`);
-    more.addEventListener("click", () => {
-      const first = Math.max(from, to - MORE_ENTRIES + 1);
-      more.replaceWith(...boxes(first, to));
-      this.addEarlier(log, from, first - 1, boxes);
+  /**
+   * @param {Node} node
+   * @param {number} moment
+   */
+  views(node, moment) {
+    const found = [...node.views].flatMap(([member, history]) => {
+      const view = history.at(moment);
+      return view ? [{ member, view }] : [];
     });
-    log.firstChild.after(more);
-  }
-
-  // An entry's box: its signs are words and forms too.
-  entry(index, { term, body }, { commit, applied, durable }) {
-    const looks = [index <= commit ? "committed" : "", index <= applied ? "applied" : "", index > durable ? "unsaved" : ""].filter(Boolean);
-    const text = shown(body);
-    const most = index > durable ? 12 : 18;
-    const short = text.length > most ? beginning(text, most - 1) + "…" : text;
-    const sign = index > durable ? " unsaved" : index <= commit ? " ✓" : "";
-    const said = [...(index > durable ? [] : ["durable"]), ...looks].join(", ");
-    return this.box(looks.join(" "), `${term}/${index} ${short}${sign}`, `${term}/${index} ${text}: ${said}`);
-  }
-
-  // A box whose whole text stands below it while it is pointed at.
-  box(look, text, whole) {
-    return element("span", look, text, element("span", "whole", whole));
-  }
-
-  views(node, place) {
-    const found = [...node.views].map(([member, history]) => [member, history.at(place)]).filter(([, view]) => view);
     if (found.length === 0) {
       return [];
     }
-    const head = element("tr", "", ...["node", "", "match", "next", "window"].map((text) => element("th", "", text)));
-    const rows = found.sort((a, b) => a[0] - b[0]).map(([member, view]) => this.view(member, view));
-    return [element("table", "views", head, ...rows)];
+    const heads = ["node", "state", "match", "next", "window"].map((text) => withAttributes(element("th", "", text), { scope: "col" }));
+    const rows = found.sort((one, other) => one.member - other.member).map(({ member, view }) => this.view(member, view));
+    return [withAttributes(element("table", "views", element("tr", "", ...heads), ...rows), { "aria-label": `Members by node ${node.id}` })];
   }
 
+  /**
+   * @param {number} member
+   * @param {View} view
+   */
   view(member, { state, match, next, inFlight, isWaiting, pending, isActive }) {
     const waits = state === "probe" && isWaiting ? ", waiting" : state === "snapshot" ? ` ${pending}` : "";
     const cells = [member, `${state}${waits}${isActive ? "" : ", inactive"}`, match, next, inFlight];

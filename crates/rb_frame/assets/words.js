@@ -1,6 +1,13 @@
 // What is written at arrows and bands, in few words; and in full.
 
-const KINDS = {
+import { counted, shown } from "./text.js";
+
+/** @typedef {import("./types.js").Message} Message */
+/** @typedef {import("./types.js").Event} Event */
+/** @typedef {(cells: any[]) => [string, string]} Mark a text and its look */
+
+/** @type {Record<string, string>} */
+export const KINDS = {
   MsgVote: "vote",
   MsgPreVote: "vote",
   MsgVoteResp: "vote",
@@ -15,6 +22,7 @@ const KINDS = {
   MsgTransferLeader: "proposal",
 };
 
+/** @type {Record<string, (said: any[]) => string>} */
 const SAID = {
   MsgVote: ([term, index, transfer]) => `last ${term}/${index}${transfer ? " transfer" : ""}`,
   MsgPreVote: ([term, index]) => `last ${term}/${index}`,
@@ -30,7 +38,8 @@ const SAID = {
   MsgTimeoutNow: () => "",
 };
 
-// What matters of a message where there is less and less room than for all that is said of it. A commit is ✓, as it is at marks and entries.
+// The same in fewer and fewer words. A commit is ✓, as it is at marks.
+/** @type {Record<string, (said: any[]) => string[]>} */
 const IN_FEWER = {
   MsgVote: ([term, index, transfer]) => (transfer ? [`${term}/${index} transfer`, "transfer"] : [`${term}/${index}`]),
   MsgPreVote: ([term, index]) => [`${term}/${index}`],
@@ -41,9 +50,12 @@ const IN_FEWER = {
   MsgHeartbeat: ([commit]) => [`✓${commit}`],
 };
 
-// The labels that a message can have, from the one that says the most. First comes to whom it is, where no arrow leads there; then its type,
-// without Msg; and its term, where its receiver is of another.
-function labelsOf(message) {
+/**
+ * The labels of a message, from the longest. A receiver comes first where no arrow leads to it; then the type, without Msg; and the term
+ * where the receiver's is another.
+ * @param {Message} message
+ */
+export function labelsOf(message) {
   const { type, term, metTerm } = message;
   const isAimless = message.fate === "waiting" || message.fate === "given up" || metTerm === undefined;
   const aim = isAimless ? `→${message.to} ` : "";
@@ -53,23 +65,43 @@ function labelsOf(message) {
   const said = [SAID[type](message.said), ...(IN_FEWER[type]?.(message.said) ?? [])];
   const labels = said.map((text) => `${startWithTerm} ${text}`.trim());
   // The answer to a question before the vote has the question's term. A heartbeat of another term says little by its commit.
+  /** @type {Record<string, string>} */
   const least = { MsgPreVoteResp: `${start} ${said[1]}`, MsgHeartbeat: startWithTerm };
   return isOther && least[type] ? [...labels, least[type]] : labels;
 }
 
-function messageText(message) {
+/** @param {Message} message */
+export function messageText(message) {
   const term = message.term ? ` term ${message.term}` : "";
   return `${message.from}→${message.to} ${message.type}${term} ${SAID[message.type](message.said)}`.trim();
 }
 
-const LOST = { dropped: "dropped", "given up": "given up: no room", waiting: "on its way" };
+/** @type {Record<string, (said: any[]) => string>} */
+const IN_SENTENCES = {
+  MsgApp: ([term, index, commit, count]) => (count ? `+${count} after ${term}/${index}` : `commit ${commit}`),
+  MsgAppResp: ([refused, index, hint]) => (refused ? `refused ${index}, hint ${hint}` : `match ${index}`),
+};
 
-function fateText(message) {
-  return message.fate === "delivered" ? `delivered at line ${message.met.line}` : LOST[message.fate];
+/**
+ * A message in a sentence of the description: its type, its term, and what matters of it.
+ * @param {Message} message
+ */
+export function messageWords({ type, term, said }) {
+  const words = (IN_SENTENCES[type] ?? SAID[type])(said);
+  return [type.slice(3), term ? `t${term}` : "", words].filter(Boolean).join(" ");
 }
 
-// What a node tells: a sentence, and how its mark looks.
-const MARKS = {
+/** @type {Record<string, string>} */
+const LOST = { dropped: "dropped", "given up": "given up: no room", waiting: "on its way" };
+
+/** @param {Message} message */
+export function fateText(message) {
+  return message.fate === "delivered" ? `delivered at line ${message.met?.line}` : LOST[message.fate];
+}
+
+// What a node reports: a sentence, and the look of its mark.
+/** @type {Record<string, Mark>} */
+export const MARKS = {
   started: () => ["started", "quiet"],
   became: ([, role, term]) => (role === "leader" ? [`★ leader, t${term}`, "won"] : [`${role}, t${term}`, "turn"]),
   "cannot-campaign": ([, why]) => [`! can't campaign: ${why}`, "bad"],
@@ -89,30 +121,48 @@ const MARKS = {
   committed: ([, index]) => [`✓ commit ${index}`, "moved"],
   saved: ([, first, last]) => [`saves ${first === last ? first : `${first}–${last}`}`, "quiet"],
   appended: ([, index, body]) => [`+ ${index} ${shown(body)}`, "quiet"],
-  replaced: ([, index]) => [`↺ ${index}+ anew`, "change"],
+  replaced: ([, index]) => [`↺ ${index}+ replaced`, "change"],
   compacted: ([, index]) => [`▣ compacted to ${index}`, "installed"],
 };
 
-// What is said of a directive as a whole.
-const NOTES = {
+// What is said of a whole directive.
+/** @type {Record<string, Mark>} */
+export const NOTES = {
   "no-messages": () => ["no messages", "note"],
   stopped: ([rounds]) => [`stopped after ${rounds} rounds`, "note"],
   error: ([text]) => [`error: ${shown(text)}`, "bad"],
 };
 
-// An event in a sentence, for the list of what happened.
-function eventText(event) {
-  if (event.message) {
-    const verb = event.name === "no-room" ? "no room for" : event.name;
-    return `${verb} ${messageText(event.message)}`;
+/**
+ * An event in a sentence, without its reasons.
+ * @param {Event} event
+ */
+export function eventText({ name, id, cells, message }) {
+  if (message) {
+    const verb = name === "no-room" ? "no room for" : name;
+    return `${verb} ${messageText(message)}`;
   }
-  if (MARKS[event.name]) {
-    return `${event.id} ${MARKS[event.name](event.cells)[0]}`;
+  if (MARKS[name]) {
+    return `${id} ${MARKS[name](cells)[0]}`;
   }
-  if (NOTES[event.name]) {
-    return NOTES[event.name](event.cells)[0];
+  if (NOTES[name]) {
+    return NOTES[name](cells)[0];
   }
-  const cells = event.name === "save" || event.name === "apply" ? `${event.cells[1]}/${event.cells[0]} ${shown(event.cells[2])}` : "";
-  const hard = event.name === "hard" ? `term ${event.cells[0]}, vote ${event.cells[1]}, commit ${event.cells[2]}` : "";
-  return `${event.id} ${event.name} ${cells}${hard}`.trim();
+  const entry = name === "save" || name === "apply" ? `${cells[1]}/${cells[0]} ${shown(cells[2])}` : "";
+  const hard = name === "hard" ? `term ${cells[0]}, vote ${cells[1]}, commit ${cells[2]}` : "";
+  const snapshot = name === "snapshot" ? `${cells[0]}/${cells[1]}` : "";
+  return `${id} ${name} ${entry}${hard}${snapshot}`.trim();
+}
+
+/**
+ * The nodes, the types of messages and the terms that an event is about: what filters look at.
+ * @param {Event} event
+ */
+export function subjectOf({ name, id, cells, message }) {
+  if (message) {
+    return { nodes: [message.from, message.to], type: message.type, term: message.term };
+  }
+  const type = name === "vote" || name === "ignored" ? cells[1] : "";
+  const term = { became: cells[2], hard: cells[0], save: cells[1], apply: cells[1], snapshot: cells[0], restored: cells[1] }[name] ?? 0;
+  return { nodes: id ? [id] : [], type, term };
 }

@@ -1,26 +1,13 @@
-//! The code of a page that puts its parts together and hears its reader. Made of assets/page.js by `tests/page/assemble.py sources`.
+//! Code of a page. The page: reads the rows, and goes through them by keys, buttons, clicks and the address. Made of assets/page.js by `tests/page/assemble.py sources`.
 
 /// The code.
 #[rattlefmt::skip]
 pub(crate) const PAGE: &[u8] = b"\
 \n\
-// The page: reads the rows, and steps through them by keys, by clicks and by the place in the address.\n\
+// The page: reads the rows, and goes through them by keys, buttons, clicks and the address.\n\
 \n\
-const KEYS = {\n\
-\x20 ArrowDown: (page) => page.chosen + 1,\n\
-\x20 ArrowUp: (page) => page.chosen - 1,\n\
-\x20 j: (page) => page.chosen + 1,\n\
-\x20 k: (page) => page.chosen - 1,\n\
-\x20 PageDown: (page) => page.chosen + 10,\n\
-\x20 PageUp: (page) => page.chosen - 10,\n\
-\x20 Home: () => 1,\n\
-\x20 End: (page) => page.model.steps.length,\n\
-\x20 m: (page) => page.nextMismatch(),\n\
-\x20 M: (page) => page.lastMismatch(),\n\
-};\n\
 \n\
-// Writes where in the page one is. A frame that was given its document as a text has no address, and some browsers refuse a page that writes one at each\n\
-// key that is held down: the page goes on without.\n\
+\n\
 function writeAddress(place) {\n\
 \x20 try {\n\
 \x20   history.replaceState(null, \"\", place);\n\
@@ -34,114 +21,168 @@ function writeAddress(place) {\n\
 class Page {\n\
 \x20 constructor(model) {\n\
 \x20   this.model = model;\n\
-\x20   this.chosen = 0;\n\
-\x20   const choose = (place) => this.choose(place);\n\
-\x20   this.parts = [new Picture(model, choose), new Script(model, choose), new State(model)];\n\
-\x20   document.addEventListener(\"keydown\", (event) => this.pressed(event));\n\
+\x20   this.chosen = { place: 0, event: 0 };\n\
+\x20   const take = (position) => this.take(position);\n\
+\x20   this.search = new Search(model, () => this.refresh());\n\
+\x20   const picture = new Picture(model, this.search, (place) => take({ place, event: 0 }));\n\
+\x20   const script = new Script(model, this.search, take);\n\
+\x20   this.script = script;\n\
+\x20   this.parts = [picture, script, new Logs(model), new State(model, this.search, take)];\n\
+\x20   this.player = new Player(() => this.goOn());\n\
+\x20   this.keys = new Keys(this.commands());\n\
+\x20   this.keepFocus();\n\
+\x20   printWhole(model, () => this.chosen.place, () => picture.placeAgain());\n\
 \x20   window.addEventListener(\"hashchange\", () => this.chooseByAddress());\n\
 \x20 }\n\
 \n\
-\x20 choose(place) {\n\
-\x20   const chosen = Math.min(Math.max(1, place), this.model.steps.length);\n\
-\x20   if (chosen === this.chosen) {\n\
-\x20     return;\n\
-\x20   }\n\
-\x20   this.chosen = chosen;\n\
-\x20   this.parts.forEach((part) => part.choose(chosen));\n\
-\x20   const step = this.model.steps[chosen - 1];\n\
-\x20   document.getElementById(\"where\").textContent = `step ${chosen} of ${this.model.steps.length}, line ${step.line}`;\n\
-\x20   writeAddress(`#${chosen}`);\n\
+\x20 commands() {\n\
+\x20   return [\n\
+\x20     { keys: [\"ArrowDown\", \"j\"], button: \"next-step\", says: \"the next directive\", does: () => this.step(1) },\n\
+\x20     { keys: [\"ArrowUp\", \"k\"], button: \"last-step\", says: \"the directive before\", does: () => this.step(-1) },\n\
+\x20     { keys: [\"ArrowRight\", \"l\"], button: \"next-event\", says: \"the next event\", does: () => this.take(after(this.model, this.chosen)) },\n\
+\x20     { keys: [\"ArrowLeft\", \"h\"], button: \"last-event\", says: \"the event before\", does: () => this.take(before(this.model, this.chosen)) },\n\
+\x20     { keys: [\" \"], button: \"play\", says: \"play, and stop\", does: () => this.player.toggle() },\n\
+\x20     { keys: [\"+\", \"=\"], says: \"play faster\", does: () => this.player.change(1) },\n\
+\x20     { keys: [\"-\"], says: \"play slower\", does: () => this.player.change(-1) },\n\
+\x20     { keys: [\"PageDown\"], says: \"ten directives on, or a page of a long output\", does: () => this.script.scrollWithin(1) || this.step(10) },\n\
+\x20     { keys: [\"PageUp\"], says: \"ten directives back, or a page of a long output\", does: () => this.script.scrollWithin(-1) || this.step(-10) },\n\
+\x20     { keys: [\"Home\"], says: \"the first directive\", does: () => this.take({ place: 1, event: 0 }) },\n\
+\x20     { keys: [\"End\"], says: \"the last directive\", does: () => this.take({ place: this.model.steps.length, event: 0 }) },\n\
+\x20     { keys: [\"m\"], button: \"next-mismatch\", says: \"the next mismatch\", does: () => this.takePlace(this.nextMismatch()) },\n\
+\x20     { keys: [\"M\"], says: \"the mismatch before\", does: () => this.takePlace(this.lastMismatch()) },\n\
+\x20     { keys: [\"o\"], says: \"unfold the equal lines of a mismatch, or fold them\", does: () => this.script.toggleFolds() },\n\
+\x20     { keys: [\"/\"], says: \"find a text\", does: () => byId(\"find\").focus() },\n\
+\x20     { keys: [\"n\"], button: \"next-found\", says: \"the next place that was found, or that the filters leave\", does: () => this.find(1) },\n\
+\x20     { keys: [\"N\"], button: \"last-found\", says: \"the place before\", does: () => this.find(-1) },\n\
+\x20     { keys: [\"?\"], button: \"show-help\", says: \"this list\", does: () => this.keys.showHelp() },\n\
+\x20   ];\n\
 \x20 }\n\
 \n\
+\x20 keepFocus() {\n\
+\x20   const directives = byId(\"directives\");\n\
+\x20   byId(\"drawing\").addEventListener(\"click\", () => directives.focus({ preventScroll: true }));\n\
+\x20   byId(\"script\").addEventListener(\"click\", () => directives.focus({ preventScroll: true }));\n\
+\x20   byId(\"find\").addEventListener(\"keydown\", ({ key, shiftKey }) => {\n\
+\x20     if (key === \"Enter\") {\n\
+\x20       this.find(shiftKey ? -1 : 1);\n\
+\x20     } else if (key === \"Escape\") {\n\
+\x20       directives.focus({ preventScroll: true });\n\
+\x20     }\n\
+\x20   });\n\
+\x20   byId(\"search\").addEventListener(\"submit\", (event) => event.preventDefault());\n\
+\x20 }\n\
+\n\
+\x20 // ---- what is chosen\n\
+\n\
+\x20 take(position) {\n\
+\x20   if (this.player.isPlaying()) {\n\
+\x20     this.player.stop();\n\
+\x20   }\n\
+\x20   this.choose(position);\n\
+\x20 }\n\
+\n\
+\x20 takePlace(place) {\n\
+\x20   this.take({ place, event: 0 });\n\
+\x20 }\n\
+\n\
+\x20 step(count) {\n\
+\x20   this.takePlace(this.chosen.place + count);\n\
+\x20 }\n\
+\n\
+\x20 goOn() {\n\
+\x20   const { place, event } = this.chosen;\n\
+\x20   this.choose(after(this.model, this.chosen));\n\
+\x20   return this.chosen.place !== place || this.chosen.event !== event;\n\
+\x20 }\n\
+\n\
+\x20 find(direction) {\n\
+\x20   this.take(this.search.next(this.chosen, direction));\n\
+\x20 }\n\
+\n\
+\x20 choose({ place, event }) {\n\
+\x20   const chosen = Math.min(Math.max(1, place), this.model.steps.length);\n\
+\x20   const position = { place: chosen, event: Math.min(Math.max(0, event), eventsAt(this.model, chosen)) };\n\
+\x20   if (position.place !== this.chosen.place || position.event !== this.chosen.event) {\n\
+\x20     this.chosen = position;\n\
+\x20     this.refresh();\n\
+\x20     this.tell();\n\
+\x20   }\n\
+\x20 }\n\
+\n\
+\x20 refresh() {\n\
+\x20   this.parts.forEach((part) => part.choose(this.chosen));\n\
+\x20 }\n\
+\n\
+\x20 tell() {\n\
+\x20   const { place, event } = this.chosen;\n\
+\x20   const { step, event: happened } = instantAt(this.model, this.chosen);\n\
+\x20   const events = placesOf(step).map((at) => step.events[at]);\n\
+\x20   const where = event > 0 ? `, event ${event} of ${events.length}` : \"\";\n\
+\x20   byId(\"where\").textContent = `step ${place} of ${this.model.steps.length}, line ${step.line}${where}`;\n\
+\x20   byId(\"said\").textContent = happened ? eventText(happened) : this.summary(step.head.join(\" \"), events);\n\
+\x20   writeAddress(event > 0 ? `#${place}.${event}` : `#${place}`);\n\
+\x20 }\n\
+\n\
+\x20 summary(head, events) {\n\
+\x20   const first = events.find(({ name }) => MARKS[name]);\n\
+\x20   const mark = first ? `: node ${first.id} ${MARKS[first.name](first.cells)[0]}` : \"\";\n\
+\x20   const isWrong = this.model.steps[this.chosen.place - 1].pieces !== null;\n\
+\x20   return `${head}, ${counted(events.length, \"event\", \"events\")}${mark}${isWrong ? \", mismatch\" : \"\"}`;\n\
+\x20 }\n\
+\n\
+\x20 // ---- places\n\
+\n\
 \x20 chooseByAddress() {\n\
-\x20   const found = /^#(\\d+)$/.exec(location.hash);\n\
-\x20   this.choose(found ? Number(found[1]) : this.chosen || 1);\n\
+\x20   const found = /^#(L?)(\\d+)(?:\\.(\\d+))?$/.exec(location.hash);\n\
+\x20   const number = Number(found?.[2]);\n\
+\x20   const place = found?.[1] ? this.placeOfLine(number) : number;\n\
+\x20   this.choose(found ? { place, event: Number(found[3] ?? 0) } : { place: this.chosen.place || 1, event: this.chosen.event });\n\
+\x20 }\n\
+\n\
+\x20 placeOfLine(line) {\n\
+\x20   return this.model.steps.filter(({ first }) => first <= line).length;\n\
 \x20 }\n\
 \n\
 \x20 nextMismatch() {\n\
-\x20   return this.model.mismatches.find((place) => place > this.chosen) ?? this.model.mismatches[0] ?? this.chosen;\n\
+\x20   const { mismatches } = this.model;\n\
+\x20   return mismatches.find((place) => place > this.chosen.place) ?? mismatches[0] ?? this.chosen.place;\n\
 \x20 }\n\
 \n\
 \x20 lastMismatch() {\n\
-\x20   const before = this.model.mismatches.filter((place) => place < this.chosen);\n\
-\x20   return before[before.length - 1] ?? this.model.mismatches[this.model.mismatches.length - 1] ?? this.chosen;\n\
+\x20   const { mismatches } = this.model;\n\
+\x20   const earlier = mismatches.filter((place) => place < this.chosen.place);\n\
+\x20   return earlier[earlier.length - 1] ?? mismatches[mismatches.length - 1] ?? this.chosen.place;\n\
 \x20 }\n\
-\n\
-\x20 pressed(event) {\n\
-\x20   const to = KEYS[event.key];\n\
-\x20   if (to && !event.ctrlKey && !event.metaKey && !event.altKey) {\n\
-\x20     event.preventDefault();\n\
-\x20     this.choose(to(this));\n\
-\x20   }\n\
-\x20 }\n\
-}\n\
-\n\
-function counted(count, one, many) {\n\
-\x20 return `${count} ${count === 1 ? one : many}`;\n\
 }\n\
 \n\
 function tellCounts(model) {\n\
-\x20 const counts = document.getElementById(\"counts\");\n\
+\x20 const counts = byId(\"counts\");\n\
 \x20 const wrong = counted(model.mismatches.length, \"mismatch\", \"mismatches\");\n\
 \x20 counts.textContent = `${counted(model.steps.length, \"directive\", \"directives\")}, ${wrong}, ${counted(model.nodes.length, \"node\", \"nodes\")}`;\n\
 \x20 counts.classList.toggle(\"bad\", model.mismatches.length > 0);\n\
-}\n\
-\n\
-const LEGEND = [\n\
-\x20 [\"vote\", \"votes\"],\n\
-\x20 [\"append\", \"appends\"],\n\
-\x20 [\"heartbeat\", \"heartbeats\"],\n\
-\x20 [\"snapshot\", \"snapshots\"],\n\
-\x20 [\"proposal\", \"handed on\"],\n\
-];\n\
-\n\
-function legendItem(text, draw) {\n\
-\x20 const item = element(\"li\", \"\");\n\
-\x20 const picture = svg(item, \"svg\", { width: 30, height: 10, \"aria-hidden\": \"true\" });\n\
-\x20 draw(picture);\n\
-\x20 item.append(text);\n\
-\x20 return item;\n\
-}\n\
-\n\
-function makeLegend() {\n\
-\x20 const legend = document.getElementById(\"legend\");\n\
-\x20 for (const [kind, text] of LEGEND) {\n\
-\x20   legend.append(\n\
-\x20     legendItem(text, (picture) => {\n\
-\x20       svg(picture, \"path\", { class: `arrow ${kind}`, d: \"M0 5H26\" });\n\
-\x20       svg(picture, \"path\", { class: `tip ${kind}`, d: tipAt(30, 5, 1, 0) });\n\
-\x20     }),\n\
-\x20   );\n\
-\x20 }\n\
-\x20 const lost = (picture) => {\n\
-\x20   svg(picture, \"path\", { class: \"arrow append\", d: \"M0 5H22\" });\n\
-\x20   svg(picture, \"path\", { class: \"cross\", d: crossAt(24, 5) });\n\
-\x20 };\n\
-\x20 const waits = (picture) => svg(picture, \"path\", { class: \"arrow append waiting\", d: \"M0 5H30\" });\n\
-\x20 legend.append(legendItem(\"dropped, or given up\", lost), legendItem(\"still on its way\", waits));\n\
-\x20 for (const [role, half] of [[\"leader\", 5], [\"candidate\", 4], [\"precandidate\", 4], [\"follower\", 2.5]]) {\n\
-\x20   legend.append(legendItem(role, (picture) => svg(picture, \"rect\", { class: `band ${role}`, x: 0, y: 5 - half, width: 30, height: 2 * half })));\n\
-\x20 }\n\
+\x20 byId(\"next-mismatch\").hidden = model.mismatches.length === 0;\n\
 }\n\
 \n\
 function start() {\n\
-\x20 const notice = document.getElementById(\"notice\");\n\
+\x20 const notice = byId(\"notice\");\n\
 \x20 try {\n\
-\x20   const model = readRows(JSON.parse(document.getElementById(\"steps\").textContent));\n\
+\x20   const model = readRows(JSON.parse(byId(\"steps\").textContent ?? \"\"));\n\
 \x20   document.title = `${model.name}: raftbench`;\n\
-\x20   document.getElementById(\"name\").textContent = model.name;\n\
+\x20   byId(\"name\").textContent = model.name;\n\
 \x20   tellCounts(model);\n\
 \x20   if (model.steps.length === 0) {\n\
 \x20     notice.textContent = \"The script has no directives.\";\n\
 \x20     return;\n\
 \x20   }\n\
-\x20   document.getElementById(\"panes\").hidden = false;\n\
+\x20   byId(\"panes\").hidden = false;\n\
+\x20   byId(\"keys\").hidden = false;\n\
+\x20   byId(\"search\").hidden = false;\n\
 \x20   notice.hidden = true;\n\
 \x20   makeLegend();\n\
 \x20   new Page(model).chooseByAddress();\n\
 \x20 } catch (fault) {\n\
 \x20   notice.hidden = false;\n\
-\x20   notice.textContent = `The page can't be shown: ${fault.message}.`;\n\
+\x20   notice.textContent = `The page can't be shown: ${fault instanceof Error ? fault.message : fault}.`;\n\
 \x20   throw fault;\n\
 \x20 }\n\
 }\n\

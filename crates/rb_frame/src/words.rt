@@ -1,10 +1,12 @@
-//! The code of a page that has its words. Made of assets/words.js by `tests/page/assemble.py sources`.
+//! Code of a page. What is written at arrows and bands, in few words; and in full. Made of assets/words.js by `tests/page/assemble.py sources`.
 
 /// The code.
 #[rattlefmt::skip]
 pub(crate) const WORDS: &[u8] = b"\
 \n\
 // What is written at arrows and bands, in few words; and in full.\n\
+\n\
+\n\
 \n\
 const KINDS = {\n\
 \x20 MsgVote: \"vote\",\n\
@@ -36,7 +38,7 @@ const SAID = {\n\
 \x20 MsgTimeoutNow: () => \"\",\n\
 };\n\
 \n\
-// What matters of a message where there is less and less room than for all that is said of it. A commit is \xe2\x9c\x93, as it is at marks and entries.\n\
+// The same in fewer and fewer words. A commit is \xe2\x9c\x93, as it is at marks.\n\
 const IN_FEWER = {\n\
 \x20 MsgVote: ([term, index, transfer]) => (transfer ? [`${term}/${index} transfer`, \"transfer\"] : [`${term}/${index}`]),\n\
 \x20 MsgPreVote: ([term, index]) => [`${term}/${index}`],\n\
@@ -47,8 +49,6 @@ const IN_FEWER = {\n\
 \x20 MsgHeartbeat: ([commit]) => [`\xe2\x9c\x93${commit}`],\n\
 };\n\
 \n\
-// The labels that a message can have, from the one that says the most. First comes to whom it is, where no arrow leads there; then its type,\n\
-// without Msg; and its term, where its receiver is of another.\n\
 function labelsOf(message) {\n\
 \x20 const { type, term, metTerm } = message;\n\
 \x20 const isAimless = message.fate === \"waiting\" || message.fate === \"given up\" || metTerm === undefined;\n\
@@ -68,13 +68,23 @@ function messageText(message) {\n\
 \x20 return `${message.from}\xe2\x86\x92${message.to} ${message.type}${term} ${SAID[message.type](message.said)}`.trim();\n\
 }\n\
 \n\
+const IN_SENTENCES = {\n\
+\x20 MsgApp: ([term, index, commit, count]) => (count ? `+${count} after ${term}/${index}` : `commit ${commit}`),\n\
+\x20 MsgAppResp: ([refused, index, hint]) => (refused ? `refused ${index}, hint ${hint}` : `match ${index}`),\n\
+};\n\
+\n\
+function messageWords({ type, term, said }) {\n\
+\x20 const words = (IN_SENTENCES[type] ?? SAID[type])(said);\n\
+\x20 return [type.slice(3), term ? `t${term}` : \"\", words].filter(Boolean).join(\" \");\n\
+}\n\
+\n\
 const LOST = { dropped: \"dropped\", \"given up\": \"given up: no room\", waiting: \"on its way\" };\n\
 \n\
 function fateText(message) {\n\
-\x20 return message.fate === \"delivered\" ? `delivered at line ${message.met.line}` : LOST[message.fate];\n\
+\x20 return message.fate === \"delivered\" ? `delivered at line ${message.met?.line}` : LOST[message.fate];\n\
 }\n\
 \n\
-// What a node tells: a sentence, and how its mark looks.\n\
+// What a node reports: a sentence, and the look of its mark.\n\
 const MARKS = {\n\
 \x20 started: () => [\"started\", \"quiet\"],\n\
 \x20 became: ([, role, term]) => (role === \"leader\" ? [`\xe2\x98\x85 leader, t${term}`, \"won\"] : [`${role}, t${term}`, \"turn\"]),\n\
@@ -95,31 +105,40 @@ const MARKS = {\n\
 \x20 committed: ([, index]) => [`\xe2\x9c\x93 commit ${index}`, \"moved\"],\n\
 \x20 saved: ([, first, last]) => [`saves ${first === last ? first : `${first}\xe2\x80\x93${last}`}`, \"quiet\"],\n\
 \x20 appended: ([, index, body]) => [`+ ${index} ${shown(body)}`, \"quiet\"],\n\
-\x20 replaced: ([, index]) => [`\xe2\x86\xba ${index}+ anew`, \"change\"],\n\
+\x20 replaced: ([, index]) => [`\xe2\x86\xba ${index}+ replaced`, \"change\"],\n\
 \x20 compacted: ([, index]) => [`\xe2\x96\xa3 compacted to ${index}`, \"installed\"],\n\
 };\n\
 \n\
-// What is said of a directive as a whole.\n\
+// What is said of a whole directive.\n\
 const NOTES = {\n\
 \x20 \"no-messages\": () => [\"no messages\", \"note\"],\n\
 \x20 stopped: ([rounds]) => [`stopped after ${rounds} rounds`, \"note\"],\n\
 \x20 error: ([text]) => [`error: ${shown(text)}`, \"bad\"],\n\
 };\n\
 \n\
-// An event in a sentence, for the list of what happened.\n\
-function eventText(event) {\n\
-\x20 if (event.message) {\n\
-\x20   const verb = event.name === \"no-room\" ? \"no room for\" : event.name;\n\
-\x20   return `${verb} ${messageText(event.message)}`;\n\
+function eventText({ name, id, cells, message }) {\n\
+\x20 if (message) {\n\
+\x20   const verb = name === \"no-room\" ? \"no room for\" : name;\n\
+\x20   return `${verb} ${messageText(message)}`;\n\
 \x20 }\n\
-\x20 if (MARKS[event.name]) {\n\
-\x20   return `${event.id} ${MARKS[event.name](event.cells)[0]}`;\n\
+\x20 if (MARKS[name]) {\n\
+\x20   return `${id} ${MARKS[name](cells)[0]}`;\n\
 \x20 }\n\
-\x20 if (NOTES[event.name]) {\n\
-\x20   return NOTES[event.name](event.cells)[0];\n\
+\x20 if (NOTES[name]) {\n\
+\x20   return NOTES[name](cells)[0];\n\
 \x20 }\n\
-\x20 const cells = event.name === \"save\" || event.name === \"apply\" ? `${event.cells[1]}/${event.cells[0]} ${shown(event.cells[2])}` : \"\";\n\
-\x20 const hard = event.name === \"hard\" ? `term ${event.cells[0]}, vote ${event.cells[1]}, commit ${event.cells[2]}` : \"\";\n\
-\x20 return `${event.id} ${event.name} ${cells}${hard}`.trim();\n\
+\x20 const entry = name === \"save\" || name === \"apply\" ? `${cells[1]}/${cells[0]} ${shown(cells[2])}` : \"\";\n\
+\x20 const hard = name === \"hard\" ? `term ${cells[0]}, vote ${cells[1]}, commit ${cells[2]}` : \"\";\n\
+\x20 const snapshot = name === \"snapshot\" ? `${cells[0]}/${cells[1]}` : \"\";\n\
+\x20 return `${id} ${name} ${entry}${hard}${snapshot}`.trim();\n\
+}\n\
+\n\
+function subjectOf({ name, id, cells, message }) {\n\
+\x20 if (message) {\n\
+\x20   return { nodes: [message.from, message.to], type: message.type, term: message.term };\n\
+\x20 }\n\
+\x20 const type = name === \"vote\" || name === \"ignored\" ? cells[1] : \"\";\n\
+\x20 const term = { became: cells[2], hard: cells[0], save: cells[1], apply: cells[1], snapshot: cells[0], restored: cells[1] }[name] ?? 0;\n\
+\x20 return { nodes: id ? [id] : [], type, term };\n\
 }\n\
 ";

@@ -1,4 +1,4 @@
-//! What the manual says of each directive. Made of docs/DIRECTIVES.md by `tests/manual/run --write`.
+//! What the manual says of each directive. Made of docs/DIRECTIVES.md by `tests/repository/manual.py`.
 
 /// A page for each directive, in the order of the document's table: its name, its line of the overview, and the page.
 #[rattlefmt::skip]

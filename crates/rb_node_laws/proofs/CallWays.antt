@@ -1,10 +1,11 @@
 -- Each call, as a way of moves: entries that take effect, ticks, what is ready, and the calls themselves
-use Rattle.std.proofs.Common.{[], ◌≡◌, true, refl, false, ap, Result, Ok, if◌then◌else◌, Err, List, ℕ, ◌≤◌, ◌∙◌, arith, nat_lt, ◌+◌, length, ◌∷◌, Bool, ◌&&◌, ◌==◌, nat_le, min, ◌⊎◌, eqb-true, inl, inr, ◌-◌, max, Option, None, Some, sym, subst}
-use Rattle.std.specs.Prelude.{All, Contains}
+use Rattle.std.proofs.Common.{[], suc, ◌≡◌, true, refl, false, ap, Result, Ok, if◌then◌else◌, Err, List, ℕ, ◌≤◌, ◌∙◌, arith, nat_lt, ◌+◌, length, ◌∷◌, Bool, ◌&&◌, ◌==◌, nat_le, min, ◌⊎◌, eqb-true, inl, inr, ◌-◌, max, Option, None, Some, sym, subst}
+use Rattle.std.specs.Prelude.{All, Contains, slice_get}
 use Rattle.std.proofs.lemmas.Bool.{ltb-true, and_parts, false≢true}
 use Rattle.std.proofs.lemmas.List.Elements.{All-head, All-tail, All-take, All-drop, All-weaker, All-contains_itself}
 use Rattle.rb_raftlog.specs.Bodies.{is_change}
-use Rattle.rb_raftlog.specs.Log.{LogValue, is_term, term_at, last, compact_fault}
+use Rattle.rb_raftlog.specs.Log.{LogValue, is_term, term_at, entry_at, last, compact_fault}
+use Rattle.rb_raftlog.proofs.PlaceLaws.{between-entries}
 use Rattle.rb_raftlog.specs.declared.entry.Body.{Body}
 use Rattle.rb_raftlog.specs.declared.entry.Body.TheVariants.{Payload, Change}
 use Rattle.rb_raftlog.specs.declared.entry.Entry.{Entry}
@@ -45,7 +46,7 @@ use Rattle.rb_node_laws.specs.Sound.{IsSound}
 use Rattle.rb_node_laws.proofs.Goes.{Core, core, Ways}
 use Rattle.rb_node_laws.proofs.LeaderLaws.{viewing, with_views_only, strangers_only}
 use Rattle.rb_node_laws.proofs.LeaderWays.{nothing_done, transfer_ended_way, telling_path, appended_change_way, all_told_way}
-use Rattle.rb_node_laws.proofs.Moves.{Path, TellMove, ChangesNothing, with_members, Onward, Goes_on, ChangeMove, in_config, following, Resigns, Shows, Revises, Configures, Unchanged, Idle, Whole, Commits, Allows, over, StepMove, CallMove, wider_path, CallSteps, One, Fills, CallChanges, StepTells, Applies, Way, Sent, Then, Unmarks, Gives_up, whole, Saves, Viewed, Compacts}
+use Rattle.rb_node_laws.proofs.Moves.{Path, TellMove, ChangesNothing, with_members, Onward, Goes_on, ChangeMove, in_config, following, Resigns, Shows, Revises, Configures, Unchanged, Idle, Whole, Commits, Allows, over, StepMove, CallMove, IsNext, wider_path, CallSteps, One, Fills, CallChanges, StepTells, Applies, Way, Sent, Then, Unmarks, Gives_up, whole, Saves, Viewed, Compacts}
 use Rattle.rb_node_laws.proofs.ProgressLaws.{unreachable_matched, sound_unreachable}
 use Rattle.rb_node_laws.proofs.Saying.{different}
 use Rattle.rb_node_laws.proofs.StepWays.{campaigned_way, stepped_way}
@@ -56,7 +57,7 @@ use Rattle.rb_node_laws.proofs.TellWays.{checked_way}
 given_up_way : (t : Turn) → Path TellMove t (stranger_given_up t)
 given_up_way t = if_both (Path TellMove t) (is_member t.node.tracker.config t.node.transferee) _ _ (λ _. nothing_done t) (λ _. transfer_ended_way t)
 
-revised_way : (t : Turn) → Path TellMove (with_node t (with_members t.node)) (revised t)
+pub revised_way : (t : Turn) → Path TellMove (with_node t (with_members t.node)) (revised t)
 unfolding revised
 revised_way t =
     let u : Turn = with_node t (with_members t.node) in
@@ -147,12 +148,14 @@ changed_leaves {t} {u} c = leaves_then t.node c.to u.node (change_leaves c.first
 stepping : {sound : Type 0} {w : Ways} {t u : Turn} → Path (StepMove w) t u → Path (CallMove sound w) t u
 stepping x = wider_path (λ a b m. CallSteps m) x
 
-pub body_way : {sound : Type 0} {w : Ways} (body : Body) (t : Turn) → (All ChangesNothing t.node.log.entries → is_change body ≡ false)
-    → Path (CallMove sound w) t (body_applied body t)
-body_way (Payload bytes) t plain = Goes_on t (One (Fills t.node bytes))
-body_way (Change transition words) t plain =
-    (let c = change_way t transition words in
-    Onward (Goes_on t (One (CallChanges c.first (λ all. false≢true (sym (plain all)))))) (stepping (telling_path c.next)))
+body_way : {sound : Type 0} {w : Ways} (body : Body) (t : Turn) (i : ℕ) (e : Entry) → e.body ≡ body → (sound → IsNext t.node i e) → (All ChangesNothing t.node.log.entries → is_change body ≡ false)
+    → Path (CallMove sound w) t (body_applied body (with_node t (record t.node { applied = i })))
+body_way (Payload bytes) t i e is next plain = Goes_on t (One (Fills t.node i e bytes is next))
+body_way (Change transition words) t i e is next plain =
+    (let u : Turn = with_node t (record t.node { applied = i }) in
+    let c = change_way u transition words in
+    Onward (Goes_on t (One (Applies t.node i e transition words is next)))
+    (Onward (Goes_on u (One (CallChanges c.first (λ all. false≢true (sym (plain all)))))) (stepping (telling_path c.next))))
 
 -- an entry brings applied to its index, and leaves the log
 pub record Brought (t u : Turn) (i : ℕ) : Type 0 where
@@ -176,9 +179,13 @@ pub one_brought : (t : Turn) (i : ℕ) (e : Entry) → Brought t (applied_one t 
 one_brought t i e =
     (let b = body_brought e.body (with_node t (record t.node { applied = i })) in record { id = b.id; log = b.log; applied = b.applied; commit = b.commit })
 
+-- some entries follow an index in a log
+abbrev Follow : LogValue → ℕ → List Entry → Type 0
+Follow v i es = (k : ℕ) (e : Entry) → slice_get es k ≡ Some e → entry_at v (i + 1 + k) ≡ Ok e
+
 -- the entries that were committed and durable take effect
 all_way : {sound : Type 0} {w : Ways} (t : Turn) (i : ℕ) (es : List Entry)
-    → (sound → (t.node.applied ≤ i) × (i + length es ≤ t.node.commit) × (i + length es ≤ t.node.log.durable))
+    → (sound → (t.node.applied ≡ i) × (i + length es ≤ t.node.commit) × (i + length es ≤ t.node.log.durable) × Follow t.node.log i es)
     → (All ChangesNothing t.node.log.entries → All ChangesNothing es) → Path (CallMove sound w) t (applied_all t i es)
 all_way t i [] known plain = Goes_on t (One (CallSteps (StepTells (Idle t.node t.node refl))))
 all_way {sound} {w} t i (e ∷ es) known plain =
@@ -187,13 +194,19 @@ all_way {sound} {w} t i (e ∷ es) known plain =
     let at = b.applied in
     let up = b.commit in
     let durable : u.node.log.durable ≡ t.node.log.durable = ap (λ (v : LogValue). v.durable) b.log in
-    let x : PlainNode = record t.node { applied = i + 1 } in
-    let rises : Path (CallMove sound w) t (with_node t x) =
-    Goes_on t (One (Applies t.node (i + 1) (λ s.
-    (let k = known s in let low = k.0 in let far = k.1 in let safe = k.2 in (omega (arith, low), omega (arith, far), omega (arith, safe)))))) in
-    Onward rises (Onward (body_way e.body (with_node t x) (λ all. All-head ChangesNothing e es (plain all)))
-    (all_way u (i + 1) es (λ s. (let k = known s in let far = k.1 in let safe = k.2 in (omega (arith, at), omega (arith, far, up), omega (arith, safe, durable))))
-    (λ all. All-tail ChangesNothing e es (plain (subst (λ (v : LogValue). All ChangesNothing v.entries) b.log all)))))
+    let next : sound → IsNext t.node (i + 1) e = λ s.
+    (let k = known s in let low = k.0 in let far = k.1 in let safe = k.2 in
+    let here : i + 1 ≡ i + 1 + 0 = omega arith in
+    record { next = omega (arith, low); known = omega (arith, far); durable = omega (arith, safe); held = ap (entry_at t.node.log) here ∙ k.3 0 e refl }) in
+    Onward (body_way e.body t (i + 1) e refl next (λ all. All-head ChangesNothing e es (plain all)))
+    (all_way u (i + 1) es (λ s.
+    (let k = known s in let far = k.1 in let safe = k.2 in (
+      at,
+      omega (arith, far, up),
+      omega (arith, safe, durable),
+      λ j x is. (let place : i + 1 + 1 + j ≡ i + 1 + suc j = omega arith in ap (λ (v : LogValue). entry_at v (i + 1 + 1 + j)) b.log ∙ ap (entry_at t.node.log) place ∙ k.3 (suc j) x is),
+    )))
+    (λ all. All-tail ChangesNothing e es (plain (subst (λ (v : LogValue). All ChangesNothing v.entries) b.log all))))
 
 first_two : (a b c d e : Bool) → (a && b && c && d && e) ≡ true → (a ≡ true) × (b ≡ true)
 first_two true true c d e h = (refl, refl)
@@ -325,7 +338,7 @@ pub ready_way : {sound : Type 0} {w : Ways} (t : Turn) → (sound → IsSound t.
 ready_way t known =
     let n = t.node in
     let u : Turn = with_node t (saved n) in
-    Onward (all_way u n.applied (applying n) (λ s. (let within = ready_within n (known s) in (omega arith, within.0, within.1)))
+    Onward (all_way u n.applied (applying n) (λ s. (let o = known s in let within = ready_within n o in (refl, within.0, within.1, λ k e is. (between-entries n.log n.applied n.commit k e o.past_base is).0)))
     (λ all. All-drop ChangesNothing (n.applied - n.log.base) _ (All-take ChangesNothing (n.commit - n.log.base) n.log.entries all)))
     (stepping (left_way (applied_all u n.applied (applying n))))
 

@@ -108,8 +108,8 @@ step_leads (Asks n may) leads same = absurd ((may_campaign n may).follows leads)
 step_leads (Stands n may) leads same = absurd ((may_campaign n may).follows leads)
 step_leads (Leads n stands elected won) leads same = absurd (no_leader_stands n.role stands leads)
 step_leads (Takes n from append is came) leads same = absurd (no_leader n.role is leads)
-step_leads (Learns n i is up held) leads same = absurd (no_leader n.role is leads)
-step_leads (Restores n s is past came) leads same = absurd (no_leader n.role is leads)
+step_leads (Learns n i is up held why) leads same = absurd (no_leader n.role is leads)
+step_leads (Restores n s is past came other) leads same = absurd (no_leader n.role is leads)
 step_leads (Acks n at from i view role_is here is up said) leads same =
     (leads, lasts_still n (viewed n at (acked view i)) refl (view_holds n.tracker at (acked view i) (acked_more n at from i view here is up)))
 step_leads _ leads same = (leads, record { moves = inl refl; holds_on = λ i held. held })
@@ -148,8 +148,8 @@ change_commits t transition words =
 step_commit : {w : Ways} {a b : PlainNode} → StepMove w a b → a.role ≡ role.Leader → CommitHolds a.commit b
 step_commit (StepTells m) leads = (telling_lasts m).moves
 step_commit (Leads n stands elected won) leads = absurd (no_leader_stands n.role stands leads)
-step_commit (Learns n i is up held) leads = absurd (no_leader n.role is leads)
-step_commit (Restores n s is past came) leads = absurd (no_leader n.role is leads)
+step_commit (Learns n i is up held why) leads = absurd (no_leader n.role is leads)
+step_commit (Restores n s is past came other) leads = absurd (no_leader n.role is leads)
 step_commit _ leads = inl refl
 
 call_commit : {sound : Type 0} {w : Ways} {a b : PlainNode} → CallMove sound w a b → a.role ≡ role.Leader → CommitHolds a.commit b

@@ -45,12 +45,17 @@ nothing_done t = Goes_on t (One (Idle t.node t.node refl))
 
 -- ---- entries of its own, and the lead
 
+-- an answer to an append says one index
+pub acks_same : (i j : ℕ) → kind.AppendResponse i ≡ kind.AppendResponse j → i ≡ j
+acks_same i j same = cc
+
 own_way : {w : Ways} (n : PlainNode) (body : Body) → n.role ≡ role.Leader → Puts w n body → Way (StepMove w) n (with_own n body)
 own_way n body leads puts =
     let e : Entry = record { term = n.term; body = body } in
     let x : PlainNode = record n { log = own n.log e } in
     Then {b = x} (One (Appends n body leads puts)) (One (Waits x (message n.id n.id n.term (kind.AppendResponse (last n.log + 1)))
-    (λ _. (refl, (refl, omega (arith, own_size n.log e), λ stands. (let never : role.Leader ≡ role.Candidate = sym leads ∙ stands in cc))))))
+    (λ _. (refl, (refl, omega (arith, own_size n.log e), λ stands. (let never : role.Leader ≡ role.Candidate = sym leads ∙ stands in cc))))
+    (λ i says. (let same = acks_same (last n.log + 1) i says in inr (inl (leads, omega (arith, own_size n.log e, same)))))))
 
 pub appended_way : {w : Ways} (t : Turn) (body : Body) → t.node.role ≡ role.Leader → Puts w t.node body → Path (StepMove w) t (appended t body)
 appended_way {w} t body leads puts = if_both (Path (StepMove w) t) (is_log_full t.node) _ _ (λ _. Shows t _) (λ _. Goes_on t (own_way t.node body leads puts))

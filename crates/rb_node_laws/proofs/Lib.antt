@@ -27,3 +27,15 @@ pub mod MatchLaws
 pub mod CountLaws
 pub mod CommitLaws
 pub mod AnswerLaws
+pub mod StepCases
+pub mod SendLaws
+pub mod LearnLaws
+pub mod RestoreLaws
+pub mod EarlierLaws
+pub mod StateLaws
+pub mod ConfigLaws
+pub mod WindowLaws
+pub mod TimerLaws
+pub mod StandingLaws
+pub mod KnownLeaderLaws
+pub mod PendingLaws

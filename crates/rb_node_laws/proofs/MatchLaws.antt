@@ -66,7 +66,7 @@ step_bounded {w} id low term bound (Leads n stands elected won) p =
     ])
 step_bounded {w} id low term bound (Takes n from append is came) p =
     not_leading w id low term bound (rest (core n)) (rest (core (with_appended n from append))) (of n id) (no_leader n.role is) p
-step_bounded {w} id low term bound (Restores n s is past came) p =
+step_bounded {w} id low term bound (Restores n s is past came other) p =
     not_leading w id low term bound (rest (core n)) (rest (core (restored_to n s))) (of n id) (no_leader n.role is) p
 step_bounded {w} id low term bound (Acks n at from i view leads here is up said) p =
     elim (place_set n.tracker.views at from id (acked view i) here) as (λ _. IsBounded w id low term bound (viewed n at (acked view i))) [

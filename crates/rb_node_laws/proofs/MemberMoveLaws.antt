@@ -69,7 +69,7 @@ step_members (Asks n may) is =
     in_any_config n.role role.Precandidate n.tracker.config n.tracker.config (keys_of n.tracker.views) (may_campaign n may).follows no_precandidate is
 step_members (Stands n may) is = nobody role.Candidate n.tracker.config no_candidate
 step_members (Leads n stands elected won) is = leading_members n
-step_members (Restores n s follows past came) is =
+step_members (Restores n s follows past came other) is =
     (let never : n.role ≡ role.Leader → ⊥ = λ leads. no_follower (sym follows ∙ leads) in
     in_any_config n.role n.role n.tracker.config (config_of s.config) (keys_of n.tracker.views) never never is)
 step_members (Acks n at from i view leads here at_place up said) is = written n at (acked view i) is

@@ -2,6 +2,7 @@
 use Rattle.std.proofs.Common.{ℕ, ◌≡◌, if◌then◌else◌, ◌==◌, eq-eqb, sym, inr, inl, eqb-true, refl, ◌≤◌, ◌+◌, arith, Bool, ◌||◌, ◌&&◌, false, true, ◌<◌, nat_lt, None, Option, nat_le, Result, Ok, Err, min, ap, ◌∙◌, ◌++◌}
 use Rattle.std.proofs.lemmas.Bool.{cond-true, or_cases, and_parts, false≢true, ltb-true, leb-false, ltb-false}
 use Rattle.rb_raftlog.proofs.TermLaws.{held_in, is_term_is}
+use Rattle.rb_raftlog.specs.declared.entry.Entry.{Entry}
 use Rattle.rb_raftlog.specs.Log.{is_up_to_date, is_term, term_at, LogValue, compact_fault, compacted}
 use Rattle.rb_raftlog.specs.declared.raft_log.CompactFault.{CompactFault}
 use Rattle.rb_raftlog.specs.declared.raft_log.LogFault.{LogFault}
@@ -17,7 +18,7 @@ use Rattle.rb_node.specs.Votes.{grants, voted_for, can_vote_for}
 use Rattle.rb_node_laws.proofs.CallWays.{with_members_only}
 use Rattle.rb_node_laws.proofs.Goes.{Ways, Voted, core, Keeps, and_then, same, Core, self}
 use Rattle.rb_node_laws.proofs.LeaderLaws.{leading_same}
-use Rattle.rb_node_laws.proofs.Moves.{following, TellMove, Idle, Whole, Commits, StepMove, StepTells, Follows, Asks, Stands, Leads, Votes_for, Appends, Takes, Learns, Restores, ChangeMove, Resigns, in_config, Revises, CallMove, CallChanges, CallSteps, Applies, Fills, Gives_up, Saves, Compacts, Allows}
+use Rattle.rb_node_laws.proofs.Moves.{IsNext, following, TellMove, Idle, Whole, Commits, StepMove, StepTells, Follows, Asks, Stands, Leads, Votes_for, Appends, Takes, Learns, Restores, ChangeMove, Resigns, in_config, Revises, CallMove, CallChanges, CallSteps, Applies, Fills, Gives_up, Saves, Compacts, Allows}
 use Rattle.rb_node_laws.proofs.Turns.{turned, committed, without_front, with_entry, with_append, with_snapshot, applied_to, filled, all_durable}
 
 -- ---- another term, vote or role
@@ -112,11 +113,11 @@ step_keeps (Follows n term lead up past) = follows n term lead up
 step_keeps (Asks n may) = becomes_precandidate n
 step_keeps (Stands n may) = becomes_candidate n
 step_keeps (Leads n stands elected won) = becomes_leader n stands elected
-step_keeps (Votes_for n m last_term last_index gives given) = gives_vote n m last_term last_index (λ _. given) gives
+step_keeps (Votes_for n m last_term last_index transfer gives given came asks of_term) = gives_vote n m last_term last_index (λ _. given) gives
 step_keeps (Appends n body leads puts) = with_entry (core n) (record { term = n.term; body = body })
 step_keeps (Takes n from append is came) = with_append (core n) append.prev append.prev_term append.entries (no_leader n.role is)
-step_keeps (Learns n i is up held) = committed (core n) i up held (λ leads. absurd (no_leader n.role is leads))
-step_keeps (Restores n s is past came) = with_snapshot (core n) s past (no_leader n.role is)
+step_keeps (Learns n i is up held why) = committed (core n) i up held (λ leads. absurd (no_leader n.role is leads))
+step_keeps (Restores n s is past came other) = with_snapshot (core n) s past (no_leader n.role is)
 step_keeps _ = same refl
 
 pub change_keeps : {w : Ways} {a b : PlainNode} → ChangeMove a b → Keeps w (core a) (core b)
@@ -124,11 +125,14 @@ change_keeps (Resigns n c) = follows (in_config n c) n.term 0 (omega arith)
 change_keeps (Revises n c leads) = same (ap core (with_members_only (in_config n c)))
 change_keeps _ = same refl
 
+takes_effect : {w : Ways} (n : PlainNode) (i : ℕ) (e : Entry) → IsNext n i e → Keeps w (core n) (record (core n) { applied = i })
+takes_effect n i e x = (let next = x.next in applied_to (core n) i (omega (arith, next)) x.known x.durable)
+
 pub call_keeps : {sound : Type 0} {w : Ways} → sound → {a b : PlainNode} → CallMove sound w a b → Keeps w (core a) (core b)
 call_keeps s (CallChanges m has) = change_keeps m
 call_keeps s (CallSteps m) = step_keeps m
-call_keeps s (Applies n i known) = (let k = known s in applied_to (core n) i k.0 k.1 k.2)
-call_keeps s (Fills n bytes) = filled (core n) (n.content ++ bytes)
+call_keeps s (Applies n i e transition words is next) = takes_effect n i e (next s)
+call_keeps s (Fills n i e bytes is next) = and_then (takes_effect n i e (next s)) (filled (record (core n) { applied = i }) (n.content ++ bytes))
 call_keeps s (Gives_up n) = follows n n.term 0 (omega arith)
 call_keeps s (Saves n known) = all_durable (core n)
 call_keeps s (Compacts n i is) = compacts n i is

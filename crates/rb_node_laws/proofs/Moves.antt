@@ -2,13 +2,16 @@
 --
 -- A law over calls is a relation between a node before and a node after. Where it allows each move, nothing at all, and one after another, it
 -- holds of each way of moves; and each call goes such a way (TellWays, LeaderWays, StepWays, CallWays). So a law's proof is about moves alone.
-use Rattle.std.proofs.Common.{[], ◌≡◌, ℕ, Some, true, ◌≤◌, ◌<◌, None, false, Bool, List, ◌++◌, min, ◌⊎◌, ◌∙◌, ap, append_assoc, sym, append-nil, ◌∷◌, refl}
-use Rattle.std.specs.Prelude.{All}
+use Rattle.std.proofs.Common.{[], ◌≡◌, ℕ, ◌+◌, length, Ok, Some, true, ◌≤◌, ◌<◌, None, false, Bool, List, ◌++◌, min, ◌⊎◌, ◌∙◌, ap, append_assoc, sym, append-nil, ◌∷◌, refl}
+use Rattle.std.specs.Prelude.{All, slice_get}
 use Rattle.rb_raftlog.specs.Bodies.{is_change}
-use Rattle.rb_raftlog.specs.Log.{own, last, compact_fault, compacted, term_at}
+use Rattle.rb_raftlog.specs.Log.{own, last, compact_fault, compacted, term_at, entry_at}
 use Rattle.rb_raftlog.specs.declared.entry.Body.{Body}
+use Rattle.rb_raftlog.specs.declared.entry.Body.TheVariants.{Payload, Change}
 use Rattle.rb_raftlog.specs.declared.entry.Entry.{Entry}
 use Rattle.rb_raftlog.specs.declared.snapshot.Snapshot.{Snapshot}
+use Rattle.rb_change.specs.declared.change.Transition.{Transition}
+use Rattle.rb_change.specs.declared.change.Word.{Word}
 use Rattle.rb_tracker.specs.Active.{unmarked}
 use Rattle.rb_tracker.specs.Ballots.{answered, vote_result}
 use Rattle.rb_tracker.specs.Commits.{commit_of}
@@ -94,6 +97,31 @@ pub record Came (w : Ways) (k : MessageKind) : Type 0 where
   pub comes : w.came message
   pub is : message.kind ≡ k
 
+-- and is of the node's term
+pub record CameNow (w : Ways) (n : PlainNode) (k : MessageKind) : Type 0 where
+  pub came : Came w k
+  pub of_term : came.message.term ≡ n.term
+
+-- an append came, and the log has it up to its end
+pub record HoldsAppend (w : Ways) (n : PlainNode) (i : ℕ) : Type 0 where
+  pub append : PlainAppend
+  pub came : CameNow w n (kind.Append append)
+  pub end : i ≡ append.prev + length append.entries
+  pub first : term_at n.log append.prev ≡ Ok append.prev_term
+  pub held : (k : ℕ) (e : Entry) → slice_get append.entries k ≡ Some e → term_at n.log (append.prev + 1 + k) ≡ Ok e.term
+
+-- what a node says that it holds: what is committed, its own log where it leads, or an append that came
+abbrev pub MaySay : Ways → PlainNode → ℕ → Type 0
+MaySay w n i = (i ≤ n.commit) ⊎ (((n.role ≡ role.Leader) × (i ≤ last n.log)) ⊎ HoldsAppend w n i)
+
+-- why a follower's commit is an index: it was so; by an append that the log has up to there; by a heartbeat; by a snapshot of an entry that
+-- the log has
+pub data Learned (w : Ways) (n : PlainNode) (i : ℕ) : Type 0 where
+  Known : i ≡ n.commit → Learned w n i
+  By_append : (j : ℕ) (h : HoldsAppend w n j) → i ≤ j → i ≤ h.append.commit → Learned w n i
+  By_beat : (commit : ℕ) (m : CameNow w n (kind.Heartbeat commit)) → i ≤ commit → i ≤ last n.log → Learned w n i
+  By_snapshot : (s : Snapshot) → CameNow w n (kind.Snapshot s) → i ≡ s.index → term_at n.log i ≡ Ok s.term → Learned w n i
+
 -- what a leader appends is no change, or is proposed, or leaves a joint configuration
 abbrev pub Puts : Ways → PlainNode → Body → Type 0
 Puts w n body = (is_change body ≡ false) ⊎ (Came w (kind.Proposal body) ⊎ (is_joint n.tracker.config ≡ true))
@@ -102,22 +130,23 @@ pub data StepMove (w : Ways) : PlainNode → PlainNode → Type 0 where
   StepTells : {a b : PlainNode} → TellMove a b → StepMove w a b
   -- what came is passed on to the leader
   Passes : (n : PlainNode) (m : Message) → Came w m.kind → (IsSound n → Sends n m) → StepMove w n (with_sent n m)
-  Waits : (n : PlainNode) (m : Message) → (IsSound n → Answers n m) → StepMove w n (with_waiting n m)
+  Waits : (n : PlainNode) (m : Message) → (IsSound n → Answers n m) → ((i : ℕ) → m.kind ≡ kind.AppendResponse i → MaySay w n i) → StepMove w n (with_waiting n m)
   Follows : (n : PlainNode) (term lead : ℕ) → n.term ≤ term → (n.role ≡ role.Leader → n.term < term) → StepMove w n (following n term lead)
   Asks : (n : PlainNode) → why_no_campaign n ≡ None → StepMove w n (precandidate n)
   Stands : (n : PlainNode) → why_no_campaign n ≡ None → StepMove w n (candidate n)
   Leads : (n : PlainNode) → n.role ≡ role.Candidate → w.elected n.term → vote_result n.tracker.config n.votes ≡ vote.Won → StepMove w n (leading n)
-  Votes_for : (n : PlainNode) (m : Message) (last_term last_index : ℕ) → grants n m last_term last_index false ≡ true → w.given m.from n.term
-      → StepMove w n (voted_for n m.from)
+  Votes_for : (n : PlainNode) (m : Message) (last_term last_index : ℕ) (transfer : Bool) → grants n m last_term last_index false ≡ true → w.given m.from n.term
+      → w.came m → m.kind ≡ kind.Vote last_term last_index transfer → m.term ≡ n.term → StepMove w n (voted_for n m.from)
   Counts : (n : PlainNode) (m : Message) (granted : Bool) → w.came m
       → (n.role ≡ role.Candidate → (m.kind ≡ kind.VoteResponse granted) × (m.term ≡ n.term)) → StepMove w n (record n { votes = answered n.votes m.from granted })
   -- an entry of its own
   Appends : (n : PlainNode) (body : Body) → n.role ≡ role.Leader → Puts w n body
       → StepMove w n (record n { log = own n.log (record { term = n.term; body = body }) })
   -- a leader's entries, commit and snapshot
-  Takes : (n : PlainNode) (from : ℕ) (append : PlainAppend) → n.role ≡ role.Follower → Came w (kind.Append append) → StepMove w n (with_appended n from append)
-  Learns : (n : PlainNode) (i : ℕ) → n.role ≡ role.Follower → n.commit ≤ i → (IsSound n → i ≤ last n.log) → StepMove w n (record n { commit = i })
-  Restores : (n : PlainNode) (s : Snapshot) → n.role ≡ role.Follower → n.commit < s.index → Came w (kind.Snapshot s) → StepMove w n (restored_to n s)
+  Takes : (n : PlainNode) (from : ℕ) (append : PlainAppend) → n.role ≡ role.Follower → CameNow w n (kind.Append append) → StepMove w n (with_appended n from append)
+  Learns : (n : PlainNode) (i : ℕ) → n.role ≡ role.Follower → n.commit ≤ i → (IsSound n → i ≤ last n.log) → Learned w n i → StepMove w n (record n { commit = i })
+  Restores : (n : PlainNode) (s : Snapshot) → n.role ≡ role.Follower → n.commit < s.index → CameNow w n (kind.Snapshot s)
+      → (term_at n.log s.index ≡ Ok s.term → ⊥) → StepMove w n (restored_to n s)
   -- a member's answer
   Acks : (n : PlainNode) (at from i : ℕ) (view : PlainProgress) → n.role ≡ role.Leader → place n.tracker.views from ≡ Some at → view_at n.tracker.views at ≡ Some view
       → view.matched ≤ i → w.matched n.term from i → StepMove w n (viewed n at (acked view i))
@@ -130,11 +159,21 @@ ChangesNothing e = is_change e.body ≡ false
 abbrev pub HasChange : PlainNode → Type 0
 HasChange n = All ChangesNothing n.log.entries → ⊥
 
+-- the entry past the applied ones, which is committed and durable
+pub record IsNext (n : PlainNode) (i : ℕ) (e : Entry) : Type 0 where
+  pub next : i ≡ n.applied + 1
+  pub known : i ≤ n.commit
+  pub durable : i ≤ n.log.durable
+  pub held : entry_at n.log i ≡ Ok e
+
 pub data CallMove (sound : Type 0) (w : Ways) : PlainNode → PlainNode → Type 0 where
   CallChanges : {a b : PlainNode} → ChangeMove a b → HasChange a → CallMove sound w a b
   CallSteps : {a b : PlainNode} → StepMove w a b → CallMove sound w a b
-  Applies : (n : PlainNode) (i : ℕ) → (sound → (n.applied ≤ i) × (i ≤ n.commit) × (i ≤ n.log.durable)) → CallMove sound w n (record n { applied = i })
-  Fills : (n : PlainNode) (bytes : List ℕ) → CallMove sound w n (record n { content = n.content ++ bytes })
+  -- a committed entry is applied: a change, or a payload, which goes to the end of the content
+  Applies : (n : PlainNode) (i : ℕ) (e : Entry) (transition : Transition) (words : List Word) → e.body ≡ Change transition words → (sound → IsNext n i e)
+      → CallMove sound w n (record n { applied = i })
+  Fills : (n : PlainNode) (i : ℕ) (e : Entry) (bytes : List ℕ) → e.body ≡ Payload bytes → (sound → IsNext n i e)
+      → CallMove sound w n (record n { applied = i; content = n.content ++ bytes })
   -- a leader looks at its quorum, and leads no more where it has heard of none
   Unmarks : (n : PlainNode) → CallMove sound w n (record n { tracker = unmarked n.tracker n.id })
   Gives_up : (n : PlainNode) → CallMove sound w n (following n n.term 0)

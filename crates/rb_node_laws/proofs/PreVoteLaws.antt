@@ -23,13 +23,13 @@ use Rattle.rb_node_laws.proofs.StepWays.{asked_one_same}
 shown_same : (t : Turn) (m : Message) → core (shown_term t m).node ≡ core t.node
 shown_same t m = if_both (λ (u : Turn). core u.node ≡ core t.node) (answers_earlier t.node) _ _ (λ _. refl) (λ _. refl)
 
-lowered_same : (k : MessageKind) (t : Turn) (m : Message) → core (lowered_by k t m).node ≡ core t.node
+pub lowered_same : (k : MessageKind) (t : Turn) (m : Message) → core (lowered_by k t m).node ≡ core t.node
 lowered_same (kind.PreVote last_term last_index) t m = refl
 lowered_same (kind.Append append) t m = shown_same t m
 lowered_same (kind.Heartbeat commit) t m = shown_same t m
 lowered_same _ t m = refl
 
-asked_same : (n : PlainNode) (ids : List ℕ) (term : ℕ) (question answer : MessageKind) → core (asked n ids term question answer) ≡ core n
+pub asked_same : (n : PlainNode) (ids : List ℕ) (term : ℕ) (question answer : MessageKind) → core (asked n ids term question answer) ≡ core n
 asked_same n [] term question answer = refl
 asked_same n (id ∷ ids) term question answer = asked_same (asked_one n id term question answer) ids term question answer ∙ asked_one_same n id term question answer
 
@@ -38,7 +38,7 @@ pre_vote_same n m last_term last_index =
     if_both (λ (x : PlainNode). core x ≡ core n) (grants n m last_term last_index true) _ _ (λ _. refl) (λ _. refl)
 
 -- a question before the vote changes no term, no vote and no log
-pre_vote_started_core : (t : Turn) → core (pre_vote_started t).node ≡ record (core t.node) { role = role.Precandidate }
+pub pre_vote_started_core : (t : Turn) → core (pre_vote_started t).node ≡ record (core t.node) { role = role.Precandidate }
 pre_vote_started_core t =
     let n = precandidate t.node in
     asked_same n (voters n.tracker.config) (n.term + 1) (kind.PreVote (last_term n.log) (last n.log)) (kind.PreVoteResponse true)

@@ -31,7 +31,7 @@ step_says : {R : PlainNode → PlainNode → Type 0} (p : Says R) {w : Ways} {a 
 step_says p (StepTells (Sent n m own says)) = p.send n m says
 step_says p (Passes n m came says) = p.send n m says
 step_says p (StepTells (Idle a b e)) = p.silent a b (step_keeps {w = anyone} (StepTells (Idle a b e))) (ap (λ (x : Whole). x.words) e)
-step_says p (Waits n m says) = p.wait n m says
+step_says p (Waits n m says may) = p.wait n m says
 step_says p (Leads n stands elected won) =
     p.silent n (leading n) (step_keeps {w = anyone} (Leads n stands tt won)) (ap words (with_views_only (in_lead n) (members n.tracker.config) (not n.options.check_quorum)))
 step_says p m = p.silent _ _ (anyhow (step_keeps m)) refl

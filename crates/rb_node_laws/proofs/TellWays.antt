@@ -1,5 +1,5 @@
 -- What a leader tells, and its commit, as ways of moves
-use Rattle.std.proofs.Common.{[], ℕ, List, ◌≡◌, ap, refl, ◌∙◌, Result, Ok, ◌≤◌, ◌+◌, ◌-◌, arith, sym, Option, Some, subst, Bool, true, false, nat_lt, ◌&&◌, None, ◌==◌, ◌∷◌}
+use Rattle.std.proofs.Common.{[], ℕ, List, ◌≡◌, ap, refl, ◌∙◌, Result, Ok, Err, ◌≤◌, ◌+◌, ◌-◌, arith, sym, Option, Some, subst, Bool, true, false, nat_lt, ◌&&◌, None, ◌==◌, ◌∷◌}
 use Rattle.std.proofs.lemmas.Bool.{ltb-true, ltb-false}
 use Rattle.std.specs.Result.{result_unwrap_or}
 use Rattle.rb_raftlog.proofs.TermLaws.{entry_past, slice_get_drop}
@@ -62,6 +62,9 @@ keeps_match id = record { nothing = λ n. refl; chain = λ a b c p q. q ∙ p; e
 -- ---- what is sent is true
 
 -- the term that is named is the log's
+unnamed_term : (r : Result ℕ LogFault) (fault : LogFault) → r ≡ Err fault → result_unwrap_or r 0 ≡ 0
+unnamed_term r fault e = ap (λ (x : Result ℕ LogFault). result_unwrap_or x 0) e
+
 named_term : (r : Result ℕ LogFault) (term : ℕ) → r ≡ Ok term → result_unwrap_or r 0 ≡ term
 named_term r term e = ap (λ (x : Result ℕ LogFault). result_unwrap_or x 0) e
 
@@ -100,6 +103,7 @@ append_sent n at to view es is past among other =
         record {
           past_base = past;
           prev_term = λ term e. named_term (term_at n.log (view.next - 1)) term e;
+          no_term = λ fault e. unnamed_term (term_at n.log (view.next - 1)) fault e;
           entries = among;
           commit = refl;
         },

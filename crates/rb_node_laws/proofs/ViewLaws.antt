@@ -57,7 +57,7 @@ strangers_sound n (id ∷ ids) are =
 
 -- ---- each move
 
-no_views : (r : Role) → AreViewsOf r []
+pub no_views : (r : Role) → AreViewsOf r []
 no_views r = record { only_leading = λ _. refl; each = tt }
 
 written : (n : PlainNode) (at : ℕ) (view new : PlainProgress) → view_at n.tracker.views at ≡ Some view → (IsSoundView view → IsSoundView new) → HasSoundViews n
@@ -106,7 +106,7 @@ unmarked_views n v = record {
   each = sound_unmarked n.id n.tracker.views v.each;
 }
 
-call_views : {sound : Type 0} {w : Ways} {a b : PlainNode} → CallMove sound w a b → IsSound a → HasSoundViews a → HasSoundViews b
+pub call_views : {sound : Type 0} {w : Ways} {a b : PlainNode} → CallMove sound w a b → IsSound a → HasSoundViews a → HasSoundViews b
 call_views (CallChanges m has) s v = change_views m s v
 call_views (CallSteps m) s v = step_views m s v
 call_views (Unmarks n) s v = unmarked_views n v

@@ -5,3 +5,5 @@ pub mod Words
 pub mod Choices
 pub mod Matches
 pub mod Events
+pub mod Learning
+pub mod Rules

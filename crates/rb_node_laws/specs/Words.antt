@@ -1,7 +1,8 @@
 -- What a node's messages say of it, at the moment at which it puts them out (Ongaro's thesis, sections 3.4 to 3.6, 3.10 and 5.1; etcd raft
 -- documentation, "MessageType")
-use Rattle.std.specs.Prelude.{ℕ, ◌≡◌, ◌+◌, ◌<◌, ◌≤◌, true, max, List, [], ◌∷◌, ◌++◌, length, All, Ok, Some, ◌⊎◌, Contains, slice_get}
+use Rattle.std.specs.Prelude.{ℕ, ◌≡◌, ◌+◌, ◌<◌, ◌≤◌, true, max, List, [], ◌∷◌, ◌++◌, length, All, Ok, Err, Some, ◌⊎◌, Contains, slice_get}
 use Rattle.rb_raftlog.specs.declared.entry.Entry.{Entry}
+use Rattle.rb_raftlog.specs.declared.raft_log.LogFault.{LogFault}
 use Rattle.rb_raftlog.specs.declared.snapshot.Snapshot.{Snapshot}
 use Rattle.rb_raftlog.specs.Laws.{AreOfLog}
 use Rattle.rb_raftlog.specs.Log.{LogValue, last, last_term as last_term_of, term_at}
@@ -40,6 +41,7 @@ pub record HasPromises (n : PlainNode) : Type 0 where
 pub record IsOfLog (n : PlainNode) (append : PlainAppend) : Type 0 where
   pub past_base : n.log.base ≤ append.prev
   pub prev_term : (term : ℕ) → term_at n.log append.prev ≡ Ok term → append.prev_term ≡ term
+  pub no_term : (fault : LogFault) → term_at n.log append.prev ≡ Err fault → append.prev_term ≡ 0
   pub entries : AreOfLog n.log append.prev append.entries
   pub commit : append.commit ≡ n.commit
 
@@ -64,7 +66,7 @@ SendsBy kind.HeartbeatResponse n m = m.term ≡ n.term
 SendsBy kind.TimeoutNow n m =
     (m.term ≡ n.term) × (n.role ≡ Leader) × (m.to ≡ n.transferee) × (match_of n.tracker.views m.to ≡ last n.log)
 SendsBy (kind.Vote last_term last_index transfer) n m =
-    (m.term ≡ n.term) × (m.to ≡ n.id → ⊥) × (last_term ≡ last_term_of n.log) × (last_index ≡ last n.log)
+    (m.term ≡ n.term) × (m.to ≡ n.id → ⊥) × (last_term ≡ last_term_of n.log) × (last_index ≡ last n.log) × (n.role ≡ Candidate)
 SendsBy (kind.PreVote last_term last_index) n m =
     (m.term ≡ n.term + 1) × (m.to ≡ n.id → ⊥) × (last_term ≡ last_term_of n.log) × (last_index ≡ last n.log)
 SendsBy (kind.Proposal body) n m = (m.term ≡ 0) × (m.to ≡ n.lead)

@@ -6,6 +6,7 @@
 #![tactic(auto)]
 
 mod laws;
+mod rules;
 
 pub use laws::{
     answers_tell_what_is_held, calls_are_these, campaigns_are_of_voters, candidates_disturb_nobody,
@@ -17,4 +18,11 @@ pub use laws::{
     nodes_stay_sound, pre_votes_bind_nobody, promises_are_kept, ready_is_exact,
     removed_leaders_step_down, terms_never_fall, transfers_stop_proposals, views_stay_sound,
     votes_are_given_once, votes_go_to_new_logs,
+};
+pub use rules::{
+    committed_changes_take_effect, earlier_terms_change_nothing,
+    followers_commit_what_leaders_tell, full_windows_take_no_entries,
+    joint_configurations_are_left, later_terms_are_taken_up, leaders_are_known_by_their_messages,
+    leaders_know_of_changes, pre_votes_look_at_logs, ready_is_the_state,
+    snapshots_are_restored_whole, tests_mean_their_names, timers_start_again, transfers_time_out,
 };

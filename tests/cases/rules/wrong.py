@@ -1,9 +1,9 @@
-"""Wrong rules: plain nodes with one rule changed, by name, beside the well-known bugs of nodes/hosted/bugs.py. Each script of this
+"""Wrong rules: plain nodes with one rule changed, by name, beside the well-known bugs of nodes/hosted/planting.py. Each script of this
 folder names those that it must notice.
 """
 
-
-from nodes.hosted.bugs import BUGS
+import nodes.hosted.bugs  # noqa: F401 (fills BUGS)
+from nodes.hosted.planting import BUGS
 from plain.config import changed
 from plain.node import Node
 
@@ -23,13 +23,13 @@ WRONG = dict(BUGS)
 
 @wrong
 class LeaseBindsTransfers(Node):
-    def is_undisturbed(self, m):
+    def is_undisturbed(self, m) -> bool:
         return super().is_undisturbed(m._replace(by_transfer=False))
 
 
 @wrong
 class LeadsOnInALaterTerm(Node):
-    def raise_term(self, m):
+    def raise_term(self, m) -> None:
         if self.role == "leader":
             self.term = m.term
         else:
@@ -38,7 +38,7 @@ class LeadsOnInALaterTerm(Node):
 
 @wrong
 class AsksAndLeads(Node):
-    def raise_term(self, m):
+    def raise_term(self, m) -> None:
         super().raise_term(m)
         if m.kind == "MsgVote":
             self.lead = m.sender
@@ -46,31 +46,31 @@ class AsksAndLeads(Node):
 
 @wrong
 class QuestionRaisesTerm(Node):
-    def raise_term(self, m):
+    def raise_term(self, m) -> None:
         self.follow(m.term, 0) if m.kind == "MsgPreVote" else super().raise_term(m)
 
 
 @wrong
 class QuestionOfOldIsIgnored(Node):
-    def answer_older(self, m):
+    def answer_older(self, m) -> None:
         self.ignore(m) if m.kind == "MsgPreVote" else super().answer_older(m)
 
 
 @wrong
 class LeaderOfOldIsIgnored(Node):
-    def answer_older(self, m):
+    def answer_older(self, m) -> None:
         self.ignore(m) if m.kind in ("MsgApp", "MsgHeartbeat") else super().answer_older(m)
 
 
 @wrong
 class LeaderOfOldIsAnswered(Node):
-    def answer_older(self, m):
+    def answer_older(self, m) -> None:
         self.send("MsgAppResp", m.sender) if m.kind in ("MsgApp", "MsgHeartbeat") else super().answer_older(m)
 
 
 @wrong
 class ProposalsHaveATerm(Node):
-    def step(self, m):
+    def step(self, m) -> None:
         if m.term < self.term and m.kind == "MsgProp":
             self.ignore(m)
         else:
@@ -82,7 +82,7 @@ class ProposalsHaveATerm(Node):
 
 @wrong
 class VotesUnderALeader(Node):
-    def answer_candidate(self, m):
+    def answer_candidate(self, m) -> None:
         lead, self.lead = self.lead, 0
         super().answer_candidate(m)
         self.lead = lead
@@ -90,7 +90,7 @@ class VotesUnderALeader(Node):
 
 @wrong
 class VoteKeepsTheTimer(Node):
-    def answer_candidate(self, m):
+    def answer_candidate(self, m) -> None:
         elapsed = self.elapsed
         super().answer_candidate(m)
         self.elapsed = elapsed
@@ -98,7 +98,7 @@ class VoteKeepsTheTimer(Node):
 
 @wrong
 class PreVoteIsBound(Node):
-    def answer_candidate(self, m):
+    def answer_candidate(self, m) -> None:
         if m.kind == "MsgPreVote" and (self.lead or self.vote not in (0, m.sender)):
             self.send("MsgPreVoteResp", m.sender, refused=True)
         else:
@@ -107,26 +107,26 @@ class PreVoteIsBound(Node):
 
 @wrong
 class PrecandidateLeads(Node):
-    def campaign(self, kind="usual"):
+    def campaign(self, kind: str = "usual") -> None:
         self.lead_on() if kind == "elected" else super().campaign(kind)
 
 
 @wrong
 class StandsOnWhenLost(Node):
-    def follow(self, term, lead):
+    def follow(self, term, lead) -> None:
         if term != self.term or lead or self.role == "leader":
             super().follow(term, lead)
 
 
 @wrong
 class CountsVotesForEver(Node):
-    def by_role(self, m):
+    def by_role(self, m) -> None:
         self.count_vote(m) if m.kind == "MsgVoteResp" else super().by_role(m)
 
 
 @wrong
 class CandidateAppends(Node):
-    def drop(self, m):
+    def drop(self, m) -> None:
         self.append(m.body)
 
 
@@ -135,44 +135,44 @@ class CandidateAppends(Node):
 
 @wrong
 class ProposalsAreDropped(Node):
-    def pass_proposal(self, m):
+    def pass_proposal(self, m) -> None:
         self.drop(m)
 
 
 @wrong
 class ProposalsAreLost(Node):
-    def pass_proposal(self, m):
+    def pass_proposal(self, m) -> None:
         if self.lead:
             super().pass_proposal(m)
 
 
 @wrong
 class TransfersAreIgnored(Node):
-    def pass_transfer(self, m):
+    def pass_transfer(self, m) -> None:
         self.ignore(m)
 
 
 @wrong
 class AsksBeforeATransfer(Node):
-    def campaign_by_transfer(self, _):
+    def campaign_by_transfer(self, _) -> None:
         self.campaign()
 
 
 @wrong
 class BeatsCommitNothing(Node):
-    def take_beat(self, m):
+    def take_beat(self, m) -> None:
         super().take_beat(m._replace(commit=0))
 
 
 @wrong
 class HintsAtNothing(Node):
-    def hint(self, index, term):
+    def hint(self, index, term) -> int:
         return 0
 
 
 @wrong
 class TakesBelowCommit(Node):
-    def take_append(self, m):
+    def take_append(self, m) -> None:
         if m.index < self.commit:
             past = self.commit - m.index
             m = m._replace(index=self.commit, log_term=self.term_at(self.commit), entries=m.entries[past:])
@@ -181,7 +181,7 @@ class TakesBelowCommit(Node):
 
 @wrong
 class ConflictIsAnswered(Node):
-    def tell(self, level, text):
+    def tell(self, level, text: str) -> None:
         super().tell(level, text)
         if text.startswith("conflict"):
             self.send("MsgAppResp", self.lead, index=self.commit)
@@ -189,16 +189,23 @@ class ConflictIsAnswered(Node):
 
 @wrong
 class SnapshotWithoutContent(Node):
-    def take_snapshot(self, m):
+    def take_snapshot(self, m) -> None:
         super().take_snapshot(m._replace(snapshot=m.snapshot._replace(content=self.content)))
 
 
 @wrong
 class SnapshotIsAlwaysRestored(Node):
-    def take_snapshot(self, m):
+    def take_snapshot(self, m) -> None:
         if m.snapshot.index > self.commit:
             self.entries = self.entries[:self.commit - self.base]
         super().take_snapshot(m)
+
+
+@wrong
+class SnapshotIsHeldByItsIndex(Node):
+    def take_snapshot(self, m):
+        held = self.commit < m.snapshot.index <= self.last()
+        super().take_snapshot(m._replace(snapshot=m.snapshot._replace(term=self.term_at(m.snapshot.index))) if held else m)
 
 
 # Leaders
@@ -206,7 +213,7 @@ class SnapshotIsAlwaysRestored(Node):
 
 @wrong
 class TellsNobody(Node):
-    def take_proposal(self, m):
+    def take_proposal(self, m) -> None:
         self.tell_all = lambda: None
         super().take_proposal(m)
         del self.tell_all
@@ -214,7 +221,7 @@ class TellsNobody(Node):
 
 @wrong
 class ChangesWhileJoint(Node):
-    def append_change(self, change):
+    def append_change(self, change) -> None:
         if change.words and self.config.is_joint() and self.pending_change <= self.applied:
             self.append(change)
             self.tell_all()
@@ -224,7 +231,7 @@ class ChangesWhileJoint(Node):
 
 @wrong
 class LeavesNothing(Node):
-    def append_change(self, change):
+    def append_change(self, change) -> None:
         if change.words or self.config.is_joint():
             super().append_change(change)
         else:
@@ -234,7 +241,7 @@ class LeavesNothing(Node):
 
 @wrong
 class FirstAnswerCommits(Node):
-    def commits(self):
+    def commits(self) -> bool:
         held = sorted(view.match for view in self.views.values())[-2]
         if held <= self.commit or self.term_at(held) != self.term:
             return False
@@ -245,7 +252,7 @@ class FirstAnswerCommits(Node):
 
 @wrong
 class AnswersBringNothing(Node):
-    def take_acceptance(self, m, view):
+    def take_acceptance(self, m, view) -> None:
         self.sends = lambda *_: None
         super().take_acceptance(m, view)
         del self.sends
@@ -253,13 +260,13 @@ class AnswersBringNothing(Node):
 
 @wrong
 class BeatAnswersWakeNobody(Node):
-    def take_beat_answer(self, m):
+    def take_beat_answer(self, m) -> None:
         self.views[m.sender].active = True
 
 
 @wrong
 class TransferWaitsForAnAnswer(Node):
-    def start_transfer(self, m):
+    def start_transfer(self, m) -> None:
         sent = len(self.sent)
         super().start_transfer(m)
         self.sent = self.sent[:sent] + [it for it in self.sent[sent:] if it.kind != "MsgTimeoutNow"]
@@ -267,7 +274,7 @@ class TransferWaitsForAnAnswer(Node):
 
 @wrong
 class SendsBehindASnapshot(Node):
-    def sends(self, id, mode):
+    def sends(self, id, mode) -> None:
         if id in self.views and self.views[id].state == "snapshot":
             self.views[id].to_replicate()
             self.views[id].next = self.last()
@@ -276,7 +283,7 @@ class SendsBehindASnapshot(Node):
 
 @wrong
 class ProbesGoOn(Node):
-    def sends(self, id, mode):
+    def sends(self, id, mode) -> None:
         if id in self.views and self.views[id].state == "probe":
             self.views[id].waiting = False
         super().sends(id, mode)
@@ -315,7 +322,7 @@ class PendingChangeCampaigns(Node):
 
 @wrong
 class CandidateHasNoVote(Node):
-    def campaign(self, kind="usual"):
+    def campaign(self, kind: str = "usual") -> None:
         super().campaign(kind)
         if self.role == "candidate":
             self.vote = 0
@@ -323,7 +330,7 @@ class CandidateHasNoVote(Node):
 
 @wrong
 class LeadsAtOnce(Node):
-    def campaign(self, kind="usual"):
+    def campaign(self, kind: str = "usual") -> None:
         super().campaign(kind)
         if self.role == "candidate" and self.config.voters() == {self.id}:
             self.waiting = []
@@ -332,7 +339,7 @@ class LeadsAtOnce(Node):
 
 @wrong
 class BeatsEverySecondTick(Node):
-    def tick(self):
+    def tick(self) -> None:
         sent = len(self.sent)
         super().tick()
         if self.elapsed % 2 == 1:
@@ -341,7 +348,7 @@ class BeatsEverySecondTick(Node):
 
 @wrong
 class TimeoutIsOneMore(Node):
-    def tick(self):
+    def tick(self) -> None:
         self.timeout += 1
         super().tick()
         self.timeout = max(self.timeout - 1, 3)
@@ -349,7 +356,7 @@ class TimeoutIsOneMore(Node):
 
 @wrong
 class LearnerTimesOut(Node):
-    def tick(self):
+    def tick(self) -> None:
         super().tick()
         if self.id not in self.config.voters() and self.elapsed >= self.timeout:
             self.campaign()
@@ -391,14 +398,14 @@ class AnswersGoFirst(Node):
 
 @wrong
 class ChangesTakeEffectAtOnce(Node):
-    def append_change(self, change):
+    def append_change(self, change) -> None:
         super().append_change(change)
         self.config = changed(self.config, change)
 
 
 @wrong
 class NewMembersWait(Node):
-    def view_members(self):
+    def view_members(self) -> None:
         self.sends = lambda *_: None
         super().view_members()
         del self.sends
@@ -406,7 +413,7 @@ class NewMembersWait(Node):
 
 @wrong
 class NewQuorumWaits(Node):
-    def view_members(self):
+    def view_members(self) -> None:
         self.commits = lambda: False
         super().view_members()
         del self.commits
@@ -414,7 +421,7 @@ class NewQuorumWaits(Node):
 
 @wrong
 class TransferOutlivesItsTarget(Node):
-    def view_members(self):
+    def view_members(self) -> None:
         transferee, self.transferee = self.transferee, 0
         super().view_members()
         self.transferee = transferee
@@ -422,37 +429,51 @@ class TransferOutlivesItsTarget(Node):
 
 @wrong
 class RefusedChangesAreSilent(Node):
-    def tell(self, level, text):
+    def tell(self, level, text: str) -> None:
         if not text.startswith("refused change"):
             super().tell(level, text)
 
 
 @wrong
 class RemovedLeaderLeadsOn(Node):
-    def apply_change(self, index, change):
+    def apply_change(self, index, change) -> None:
         options, self.options = self.options, self.options._replace(step_down_on_removal=False)
         super().apply_change(index, change)
         self.options = options
+
+
+@wrong
+class EarlierChangesAreForgotten(Node):
+    def become(self, role):
+        if role == "leader":
+            self.pending_change = 0
+        super().become(role)
 
 
 # Other calls
 
 
 @wrong
-class NeverForgets(Node):
+class LeaderForgetsItself(Node):
     def forget_leader(self):
+        self.lead = 0
+
+
+@wrong
+class NeverForgets(Node):
+    def forget_leader(self) -> None:
         pass
 
 
 @wrong
 class GoesOnReplicating(Node):
-    def report_unreachable(self, id):
+    def report_unreachable(self, id) -> None:
         pass
 
 
 @wrong
 class TimeoutStays(Node):
-    def reset(self, term):
+    def reset(self, term) -> None:
         timeout = self.timeout
         super().reset(term)
         self.timeout = timeout

@@ -1,0 +1,194 @@
+package main
+
+import (
+	"regexp"
+	"sort"
+	"strconv"
+	"strings"
+
+	"github.com/hashicorp/raft"
+)
+
+// The library's values as the protocol has them.
+
+type object map[string]interface{}
+
+func (n *node) shownState() object {
+	term, commit, vote := n.stat("term"), n.stat("commit_index"), uint64(0)
+	// A node that starts from a snapshot doesn't count it as committed until it hears a leader.
+	if restored := n.stat("last_snapshot_index"); commit < restored {
+		commit = restored
+	}
+	if voted, _ := n.store.GetUint64([]byte("LastVoteTerm")); voted == term {
+		candidate, _ := n.store.Get([]byte("LastVoteCand"))
+		vote = number(string(candidate))
+	}
+	return object{
+		"role": strings.ToLower(n.State().String()), "term": term, "vote": vote, "lead": number(string(n.Leader())), "commit": commit,
+		"applied": n.applied, "content": n.content, "config": shownConfig(n.GetConfiguration().Configuration()),
+		"ready": len(n.transport.outbox) > 0 || n.applied != n.AppliedIndex(),
+	}
+}
+
+// takeOutbox is what was sent, ordered by receivers: the library's goroutines send to each of them on their own.
+func (b *bench) takeOutbox(n *node) []object {
+	sent, messages := n.transport.outbox, []object{}
+	n.transport.outbox = nil
+	sort.SliceStable(sent, func(i, j int) bool { return sent[i].receiver < sent[j].receiver })
+	for _, one := range sent {
+		messages = append(messages, n.shownLetter(one, len(b.letters)))
+		b.letters = append(b.letters, one)
+	}
+	return messages
+}
+
+// shownLog is the end of the log that has no holes, or the last snapshot if that is newer.
+func (n *node) shownLog() object {
+	index, term := n.stat("last_snapshot_index"), n.stat("last_snapshot_term")
+	last, _ := n.store.LastIndex()
+	logs := []*raft.Log{}
+	for at := last; at > 0 && last >= index; at-- {
+		log := new(raft.Log)
+		if n.store.GetLog(at, log) != nil {
+			break
+		}
+		logs = append([]*raft.Log{log}, logs...)
+	}
+	if len(logs) > 0 && logs[0].Index-1 != index {
+		index, term = logs[0].Index-1, 0
+	}
+	return object{"base": object{"index": index, "term": term}, "durable": n.LastIndex(), "entries": n.shownEntries(logs)}
+}
+
+func (n *node) shownEntries(logs []*raft.Log) []object {
+	shown := []object{}
+	for _, log := range logs {
+		entry := object{"index": log.Index, "term": log.Term, "data": log.Data}
+		if log.Type == raft.LogConfiguration {
+			at := [2]uint64{log.Term, log.Index}
+			if n.words[at] == nil {
+				n.words[at] = changedBetween(n.configurationBefore(log.Index), raft.DecodeConfiguration(log.Data))
+			}
+			entry = object{"index": log.Index, "term": log.Term, "change": object{"transition": "auto", "words": n.words[at]}}
+		}
+		shown = append(shown, entry)
+	}
+	return shown
+}
+
+func (n *node) configurationBefore(index uint64) raft.Configuration {
+	log := new(raft.Log)
+	for at := index - 1; n.store.GetLog(at, log) == nil; at-- {
+		if log.Type == raft.LogConfiguration {
+			return raft.DecodeConfiguration(log.Data)
+		}
+	}
+	if metas, _ := n.snapshots.List(); len(metas) > 0 {
+		return metas[0].Configuration
+	}
+	return raft.Configuration{}
+}
+
+// changedBetween is the words of a change: an entry of the library holds the whole configuration.
+func changedBetween(before, after raft.Configuration) []string {
+	words, was := []string{}, map[raft.ServerID]raft.ServerSuffrage{}
+	for _, server := range before.Servers {
+		was[server.ID] = server.Suffrage
+	}
+	for _, server := range after.Servers {
+		if suffrage, is := was[server.ID]; !is || suffrage != server.Suffrage {
+			words = append(words, map[bool]string{true: "v", false: "l"}[server.Suffrage == raft.Voter]+string(server.ID))
+		}
+		delete(was, server.ID)
+	}
+	for id := range was {
+		words = append(words, "r"+string(id))
+	}
+	return words
+}
+
+// shownLetter is a message; its `own` is the number of the letter, which this process keeps.
+func (n *node) shownLetter(given letter, own int) object {
+	shown := object{}
+	switch asked := given.request.(type) {
+	case *raft.RequestVoteRequest:
+		shown = object{"type": "MsgVote", "term": asked.Term, "index": asked.LastLogIndex, "logTerm": asked.LastLogTerm, "transfer": asked.LeadershipTransfer}
+	case *raft.AppendEntriesRequest:
+		shown = object{"type": "MsgApp", "term": asked.Term, "index": asked.PrevLogEntry, "logTerm": asked.PrevLogTerm, "commit": asked.LeaderCommitIndex}
+		shown["entries"] = n.shownEntries(asked.Entries)
+		if isOnlyHeartbeat(asked) {
+			shown["type"] = "MsgHeartbeat"
+		}
+	case *raft.InstallSnapshotRequest:
+		shown = object{"type": "MsgSnap", "term": asked.Term, "snapshot": object{
+			"index": asked.LastLogIndex, "term": asked.LastLogTerm, "content": given.snapshot, "config": shownConfig(raft.DecodeConfiguration(asked.Configuration)),
+		}}
+	case *raft.TimeoutNowRequest:
+		shown = object{"type": "MsgTimeoutNow"}
+	}
+	shown["own"], shown["from"], shown["to"] = own, number(string(given.from)), number(string(given.to))
+	if given.answer != nil {
+		shown = shownAnswer(given, shown)
+	}
+	return shown
+}
+
+func shownAnswer(given letter, asked object) object {
+	shown := object{"own": asked["own"], "from": asked["to"], "to": asked["from"], "type": asked["type"].(string) + "Resp", "reject": given.answer.Error != nil}
+	switch said := given.answer.Response.(type) {
+	case *raft.RequestVoteResponse:
+		shown["term"], shown["reject"] = said.Term, !said.Granted
+	case *raft.AppendEntriesResponse:
+		request := given.request.(*raft.AppendEntriesRequest)
+		shown["term"], shown["reject"], shown["index"] = said.Term, !said.Success, request.PrevLogEntry+uint64(len(request.Entries))
+		if !said.Success && asked["type"] == "MsgApp" {
+			shown["index"], shown["rejectHint"] = request.PrevLogEntry, said.LastLog
+		}
+	case *raft.InstallSnapshotResponse:
+		shown["type"], shown["term"], shown["reject"] = "MsgAppResp", said.Term, !said.Success
+		shown["index"] = given.request.(*raft.InstallSnapshotRequest).LastLogIndex
+	}
+	return shown
+}
+
+func shownConfig(c raft.Configuration) map[string][]uint64 {
+	shown := map[string][]uint64{"voters": {}, "learners": {}}
+	for _, server := range c.Servers {
+		set := map[bool]string{true: "voters", false: "learners"}[server.Suffrage == raft.Voter]
+		shown[set] = append(shown[set], number(string(server.ID)))
+	}
+	return shown
+}
+
+func configurationOf(c call) (made raft.Configuration) {
+	for suffrage, ids := range [][]uint64{raft.Voter: c.Base.Config.Voters, raft.Nonvoter: c.Base.Config.Learners} {
+		for _, id := range ids {
+			server := raft.Server{Suffrage: raft.ServerSuffrage(suffrage), ID: idOf(id), Address: raft.ServerAddress(idOf(id))}
+			made.Servers = append(made.Servers, server)
+		}
+	}
+	return made
+}
+
+var logged = regexp.MustCompile(`(?m)^\. \[([A-Z]+)\] *(.*)$`)
+
+// events is what the library logged since they were asked for last.
+func (n *node) events() [][2]string {
+	events := [][2]string{}
+	for _, line := range logged.FindAllStringSubmatch(n.said.String(), -1) {
+		events = append(events, [2]string{line[1], line[2]})
+	}
+	n.said.Reset()
+	return events
+}
+
+// stat is a number of the library's Stats.
+func (n *node) stat(name string) uint64 { return number(n.Stats()[name]) }
+
+func idOf(id uint64) raft.ServerID { return raft.ServerID(strconv.FormatUint(id, 10)) }
+
+// number is an id or a figure of the library; 0 where it has none.
+func number(text string) uint64 {
+	value, _ := strconv.ParseUint(text, 10, 64)
+	return value
+}

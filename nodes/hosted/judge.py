@@ -1,0 +1,50 @@
+"""The judge of the reference: on a script without steps of the runner, the plain bench has to print what the proved program prints."""
+from __future__ import annotations
+
+import os
+import pathlib
+import subprocess
+
+from typing import Sequence
+
+from plain.script import Block, Script, read_script
+
+TOP = pathlib.Path(__file__).resolve().parents[2]
+MOST_SECONDS = 60
+
+
+class Unjudged(Exception):
+    """The proved program gave no outputs of a script."""
+
+
+class Judge:
+    """The proved program: its outputs of a script are what the plain bench has to print."""
+
+    def __init__(self, is_asked: bool = True) -> None:
+        self.program = pathlib.Path(os.environ.get("RAFTBENCH", TOP / "crates" / "raftbench" / "out" / "raftbench"))
+        self.is_there = is_asked and self.program.exists()
+
+    def outputs(self, blocks: Sequence[Block]) -> list[list[str]]:
+        """What each directive prints, in lines of text; Unjudged where the program doesn't say."""
+        text = Script(tuple(blocks), ()).text()
+        try:
+            done = subprocess.run([self.program, "rewrite", "-"], input=text, capture_output=True, timeout=MOST_SECONDS)
+        except (OSError, subprocess.TimeoutExpired) as fault:
+            raise Unjudged(f"{self.program}: {fault}") from None
+        if done.returncode:
+            raise Unjudged(f"{self.program}: status {done.returncode}: {done.stderr.decode('utf-8', 'replace').strip()}")
+        return [[line.decode() for line in block.expected] for block in read_script(done.stdout).blocks]
+
+    def page(self, file: pathlib.Path) -> bytes | None:
+        """The page of a script, or None where the program doesn't give one."""
+        try:
+            done = subprocess.run([self.program, "page", str(file)], capture_output=True, timeout=MOST_SECONDS)
+        except (OSError, subprocess.TimeoutExpired):
+            return None
+        return done.stdout if done.stdout.lstrip()[:1] == b"<" else None
+
+    def first_wrong(self, blocks: Sequence[Block], outputs: Sequence[list[str]]) -> int | None:
+        """The place, from 1 on, of the first directive where the plain bench printed something else, or None; None also without a program."""
+        if not self.is_there or not blocks:
+            return None
+        return next((at for at, (own, lines) in enumerate(zip(self.outputs(blocks), outputs), 1) if own != lines), None)

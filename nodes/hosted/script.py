@@ -1,0 +1,38 @@
+"""A directive as it is thrown, mutated and shrunk; and the text of a script of such."""
+from __future__ import annotations
+
+import functools
+from typing import NamedTuple, Sequence
+
+from plain.script import Block, Fault, read_block
+
+from .steps import RunnerStep
+
+
+class Step(NamedTuple):
+    """A directive: its head, its input lines, and the runner's steps before it."""
+
+    head: str
+    given: tuple[str, ...] = ()
+    before: tuple[RunnerStep, ...] = ()
+
+    def block(self) -> Block | None:
+        """The block, or None where no script may have such lines."""
+        return block_of(self)
+
+    def text(self) -> str:
+        """All of it in one line."""
+        return " / ".join([*(step.text() for step in self.before), self.head, *self.given])
+
+
+@functools.lru_cache(maxsize=50_000)
+def block_of(step: Step) -> Block | None:
+    try:
+        return read_block("\n".join([*(each.text() for each in step.before), step.head, *step.given, "----", ""]).encode("latin-1"))
+    except Fault:
+        return None
+
+
+def blocks_of(steps: Sequence[Step]) -> list[Block]:
+    """The blocks of steps that scripts may have."""
+    return [block for step in steps if (block := step.block()) is not None]

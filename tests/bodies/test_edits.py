@@ -1,0 +1,49 @@
+"""Looks at each wrong body that is kept, tried or not: its texts are in the sources, once, and its function is there."""
+import re
+from collections.abc import Iterator
+
+from tests.bodies.crates import Crate, crates_of
+from tests.bodies.edits import HEAD, BadEdit, Edit, read_edits, texts_with
+from tests.harness import TESTS, Result
+
+BODIES = TESTS / "bodies"
+MANY = 1_000
+
+
+def has_function(crate: Crate, path: str) -> bool:
+    """Whether a crate has the function of a path: its name is in the module's file."""
+    name = path.rpartition("::")[2]
+    return any(found[2] == name for file in (crate.folder / "src").rglob("*.rt") for found in HEAD.finditer(file.read_text()))
+
+
+def problems_of(edit: Edit | BadEdit, crate: Crate) -> Iterator[str]:
+    """Why an edit can't be made, if it can't."""
+    if isinstance(edit, BadEdit):
+        yield str(edit)
+        return
+    if not has_function(crate, edit.function):
+        yield f"no function {edit.function}"
+    try:
+        texts_with([edit], crate.folder)
+    except BadEdit as error:
+        yield str(error)
+
+
+def results(word: str) -> Iterator[Result]:
+    """Each edit of each crate, and that there are as many as ever."""
+    crates = crates_of()
+    count = 0
+    for path in sorted(BODIES.glob("*.edits")):
+        if path.stem == "trials":
+            continue
+        if path.stem not in crates:
+            yield Result(path.stem, ("no crate has this name",))
+            continue
+        edits = read_edits(path, path.stem)
+        count += len(edits)
+        names = [name for name in edits if name != "".join(re.findall(r"\w", name))]
+        yield Result(path.stem, tuple(f"no name: {name}" for name in names))
+        for name, edit in edits.items():
+            if word in f"{path.stem}/{name}":
+                yield Result(f"{path.stem}/{name}", tuple(problems_of(edit, crates[path.stem])))
+    yield Result("they are all there", () if count >= MANY else (f"{count} are kept, and {MANY} or more were",))

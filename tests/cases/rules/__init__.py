@@ -1,0 +1,2 @@
+"""A script for each rule of docs/NODE.md, and nodes with wrong rules."""
+

@@ -1,0 +1,5 @@
+"""`raftbench check` where no case can show it: links, rights, pipes, terminals, a full disk, calls of the system that fail.
+Run it after a change of rb_suite, rb_files, rb_checked, rb_check or rb_program; its reports are in tests/cases/check.
+"""
+
+RUNS = ("raftbench",)

@@ -1,0 +1,254 @@
+"""What the report of `check` shows: lines of heads, warnings, what differs, and the formats for programs."""
+import itertools
+import json
+import pathlib
+import random
+import re
+import time
+from collections.abc import Iterator
+from typing import Any
+
+from tests.check.checking import ACCEPTED, BAD, GOOD, UNKNOWN, UNWRITTEN, differs, files, listed, mismatch, run, totals, tree
+
+
+def test_lines_of_heads(room: pathlib.Path) -> Iterator[str]:
+    """Beside a plain count: each head's name is counted, and stands on the line that is told."""
+    parts = [
+        b"# lead\r\n\r\nlog-level info\r\n----\r\nno\r\n\r\n",
+        b"log-level one-1\n----\n----\nx\n\ny\n----\n----\n\n",
+        b"# no empty line below this double form\nlog-level one-2\n----\n----\na\n\nb\n----\n----\n",
+        b"log-level \\\none-3\n----\nno\n\n\n\n# between\r\r\n",
+        b"\t log-level one-4\n----\n\n",
+        b"log-level one-5\r\n----\r\n----\r\n\r\n----\r\n\r\nlog-level is no head here\r\n----\r\n----\r\n",
+        b"log-level one-6\ninput\n----\nx\n\n",
+    ]
+    name = re.compile(rb"[ \t]*log-level (one-|info|\\)")
+    dice = random.Random(1)
+    for _ in range(60):
+        text = b"".join(dice.choices(parts, k=12)) + b"log-level one-7\n----\nx"
+        (room / "a.txt").write_bytes(text)
+        told = [int(line) for line in re.findall(rb"^a\.txt:(\d+): log-level (?:one-\d|info)$", run(room, "a.txt")[1], re.M)]
+        counted = [number for number, line in enumerate(text.split(b"\n"), 1) if name.match(line)]
+        if told != counted or len(counted) != 13:
+            yield f"{told}, and not {counted}, of {text!r}"
+
+
+def comments(count: int) -> bytes:
+    """So many bytes of comments."""
+    line = b"#" * 63 + b"\n"
+    left = count % len(line) or len(line)
+    return line * ((count - left) // len(line)) + b"#" * (left - 1) + b"\n"
+
+
+def test_what_is_wrong(room: pathlib.Path) -> Iterator[str]:
+    """Each fault is told with its line and in a sentence."""
+    many = b"log-level info\n----\nok\n\n"
+    for name, text, told in [
+        ("a", b"#" * 4_194_305, b": the script, or its canonical text, has more than 4,194,304 bytes; cut it into several scripts"),
+        ("b", many + b"# " + b"x" * 65_535 + b"\n", b":5: this line has more than 65,536 bytes; usually an end of line is missing, or the file is not a script"),
+        ("c", many + b"set (\n----\n", b":5: this is not a name with arguments; usually a parenthesis is not closed, a backslash is missing, or an empty line cut the output above"),
+        ("d", b"\r\n" + many + b"set\n\n", b":6: no line ---- follows this directive; usually it was left out, or an empty line cut the output above"),
+        ("e", many + b"set\n----\n----\nx\n\n", b":6: the output below this ---- has no end; usually an empty line is missing before the next directive, or the two closing ---- are missing"),
+        ("f", many + b"set\n----\nx\nset\n----\n", b":6: the output below this ---- has no end; usually an empty line is missing before the next directive, or the two closing ---- are missing"),
+        ("g", many * 20_001, b": the script has more than 20,000 directives; cut it into several scripts"),
+        ("h", many + b"set " + b" ".join(b"a" for _ in range(65)) + b"\n----\n", b":5: this directive has more than 64 arguments, or more than 64 values of one; usually a backslash takes in a line too many"),
+        ("i", comments(4_194_304 - len(GOOD)) + GOOD, b": the script, or its canonical text, has more than 4,194,304 bytes; cut it into several scripts"),
+    ]:
+        (room / name).write_bytes(text)
+        yield from differs(name, run(room, name), (3, name.encode() + told + b"\n" + totals(1, 0, refused=1), b""))
+
+
+def test_text_that_is_too_long_to_accept(room: pathlib.Path) -> Iterator[str]:
+    """The script is as long as it may be, and with the output longer."""
+    shortest = b"log-level info\n----\n\n"
+    text = comments(4_194_304 - len(shortest)) + shortest
+    (room / "a.txt").write_bytes(text)
+    files(room, b_txt=BAD)
+    came = run(room, "--accept", "a.txt", "b.txt")
+    line = text.count(10) - 2
+    shown = f"a.txt:{line}: log-level info\n+ ok\n\n".encode() + mismatch("b.txt") + b"b.txt: accepted 1 output\n" + listed("a.txt", line=line)
+    told = UNWRITTEN + b"a.txt: with its outputs the script would be too long\n"
+    yield from differs("it", came, (4, shown + totals(2, 2, 1, accepted=1, failed=1), told))
+    if tree(room) != {"a.txt": text, "b.txt": ACCEPTED}:
+        yield "it leaves another text"
+
+
+def test_output_that_no_script_can_expect(room: pathlib.Path) -> Iterator[str]:
+    """A line of it is too long, and not the script: it is told of which directive."""
+    quiet = ["add-nodes 1 voters=(1) index=10", "campaign 1", "stabilize"]
+    text = "".join(f"{head} log-level=none\n----\nok\n\n" for head in quiet) + "propose-conf-change 1\n" + ("u1 " * 20_000 + "\n") * 2 + "----\nok\n\n"
+    line = text.count("\n") + 1
+    text += "stabilize\n----\n\n" + BAD.decode()
+    (room / "a.txt").write_text(text)
+    status, _, told = run(room, "--accept", "a.txt")
+    why = f"a.txt:{line}: this output has a line of more than 65,536 bytes, which no script can expect\n".encode()
+    if (status, told) != (4, UNWRITTEN + why) or (room / "a.txt").read_text() != text:
+        yield f"{status} {told!r}"
+    if run(room, "--accept", f"a.txt:{line + 3}")[0] != 1 or (room / "a.txt").read_bytes() != text.encode().replace(BAD, ACCEPTED):
+        yield "another output of the script can't be accepted"
+
+
+def most_in_common(one: list[bytes], other: list[bytes]) -> int:
+    """How many lines a longest common subsequence has (Wagner and Fischer, 1974)."""
+    row = [0] * (len(other) + 1)
+    for line in one:
+        last = 0
+        for at, beside in enumerate(other, 1):
+            last, row[at] = row[at], last + 1 if line == beside else max(row[at], row[at - 1])
+    return row[-1]
+
+
+def test_signs_are_as_few_as_can_be(room: pathlib.Path) -> Iterator[str]:
+    """Of expectations that are made of the output by leaving lines out, doubling them and putting others in."""
+    output = [b"INFO %d started at 1/10 with voters=(1)" % node for node in range(1, 33)]
+    dice = random.Random(1)
+    for _ in range(150):
+        kinds = dice.choices((lambda line: [line], lambda line: [], lambda line: [line, line], lambda line: [b"x"], lambda line: [dice.choice(output)]),
+                             weights=(dice.choice((1, 5, 20)), 1, 1, 1, 1), k=len(output))
+        expected = [new for line, kind in zip(output, kinds) for new in kind(line)]
+        (room / "a.txt").write_bytes(b"add-nodes 32 voters=(1) index=10\n----\n" + b"".join(line + b"\n" for line in expected) + b"\n")
+        shown = run(room, "a.txt")[1].split(b"\n")[1:-3]
+        common = most_in_common(expected, output)
+        signs = [sum(line.startswith(sign) for line in shown) for sign in (b"- ", b"+ ")]
+        if expected != output and signs != [len(expected) - common, len(output) - common]:
+            yield f"{signs} signs, where {common} lines are in common, of {expected!r}"
+        # With the folds filled in, both sides can be read off it.
+        whole, at = [], 0
+        for line in shown:
+            folded = re.fullmatch(rb"  \.\. (\d+) lines?", line)
+            lines = [b"  " + it for it in expected[at:at + int(folded[1])]] if folded else [line]
+            whole += lines
+            at += sum(not it.startswith(b"+ ") for it in lines)
+        for sign, due in ((b"- ", expected), (b"+ ", output)):
+            if expected != output and [line[2:] for line in whole if line.startswith((sign, b"  "))] != due:
+                yield f"{sign!r}: {shown!r}, of {expected!r}"
+
+
+def test_too_much_to_compare(room: pathlib.Path) -> Iterator[str]:
+    """Two lists of 2,100 lines with one in common in the middle: there each side is shown whole. Of 1,900 lines it is found."""
+    for count, sign in ((1900, b"  "), (2100, b"- ")):
+        quiet = ["add-nodes 1 voters=(1) index=10 log-level=none", "campaign 1 log-level=none", "stabilize log-level=none", *["propose 1 a"] * count, "stabilize log-level=none"]
+        wrong = [b'1/1000 "a"' if line == 500 else b"%d" % line for line in range(count)]
+        text = "".join(f"{head}\n----\nok\n\n" for head in quiet).encode() + b"raft-log 1\n----\n" + b"".join(line + b"\n" for line in wrong) + b"\n"
+        (room / "a.txt").write_bytes(text)
+        began = time.monotonic()
+        status, shown, _ = run(room, "a.txt")
+        lines = shown.split(b"\n")
+        if status != 1 or sign + wrong[500] not in lines or sum(line.startswith(b"- ") for line in lines) != count - (sign == b"  ") or time.monotonic() - began > 10:
+            yield f"{count}: {status} after {time.monotonic() - began:.1f} s: {shown[:300]!r}"
+
+
+def latin(text: str) -> bytes:
+    """The bytes of a text of JSON."""
+    return text.encode("latin-1")
+
+
+ODD = "campaign 1\n----\n----\n\tcaf\u00e9 \"a\\b\", 100%: x\r y\n\n".encode() + bytes(range(1, 9)) + b"\x7f\x80\xff\n----\n----\n"
+
+
+def odd_files(room: pathlib.Path) -> list[dict[str, Any]]:
+    """Scripts of each kind, with the objects that are told of them."""
+    refused = b"this is not a name with arguments; usually a parenthesis is not closed, a backslash is missing, or an empty line cut the output above"
+    called = b"this looks like a directive inside an expectation: an empty line is missing before it"
+    files(room, a_txt=BAD + b"\n" + ODD, b__c_txt=b"campain  1,2 k=(x)\n----\n" + UNKNOWN + b"\n", d_txt=GOOD, e_txt=b"\nset (\n----\n",
+          f_txt=BAD + b"log-level none\n")
+    return [
+        {"script": b"a.txt", "line": 1, "directive": b"log-level info", "status": b"mismatch", "expected": [b"no"], "output": [b"ok"]},
+        {"script": b"a.txt", "line": 5, "directive": b"campaign 1", "status": b"mismatch",
+         "expected": ["\tcaf\u00e9 \"a\\b\", 100%: x\r y".encode(), b"", bytes(range(1, 9)) + b"\x7f\x80\xff"], "output": [b"error: no node 1"]},
+        {"script": b"b/c.txt", "line": 1, "directive": b"campain 1,2 k=x", "status": b"error", "expected": [UNKNOWN], "output": [UNKNOWN]},
+        {"script": b"e.txt", "line": 2, "status": b"refused", "message": refused},
+        {"script": b"f.txt", "line": 4, "status": b"warning", "message": called},
+        {"script": b"f.txt", "line": 1, "directive": b"log-level info", "status": b"mismatch", "expected": [b"no", b"log-level none"], "output": [b"ok"]},
+        {"script": b"nothing", "line": None, "status": b"failed", "message": b"no such file or folder"},
+    ]
+
+
+def in_bytes(value: Any) -> Any:
+    if isinstance(value, str):
+        return latin(value)
+    if isinstance(value, list):
+        return [in_bytes(it) for it in value]
+    return {name: in_bytes(it) for name, it in value.items()} if isinstance(value, dict) else value
+
+
+ODD_PATHS = ("a.txt", "b", "d.txt", "e.txt", "f.txt", "nothing")
+
+
+def test_json(room: pathlib.Path) -> Iterator[str]:
+    """What fails comes first, since it is found first; each object is a line, and gives the bytes back."""
+    wanted = odd_files(room)
+    for words in ((), ("--brief",), ("--first",), ("--verbose",), ("--color", "always")):
+        status, output, told = run(room, "--format", "json", *words, *ODD_PATHS)
+        lines = output.split(b"\n")
+        if (status, lines[-1], told) != (run(room, *ODD_PATHS)[0], b"", b"nothing: no such file or folder\n") or not output.isascii():
+            yield f"{words}: {status} {told!r} {output!r}"
+        came = [in_bytes(json.loads(line)) for line in lines[:-1]]
+        for here, due in itertools.zip_longest(came, wanted[-1:] + wanted[:-1]):
+            if here != due or list(here) != list(due):
+                yield f"{words}: {here}, and not {due}"
+    yield from differs("quiet", run(room, "--format=json", "-q", "a.txt"), (1, b"", b""))
+    yield from differs("what matches", run(room, "--format=json", "d.txt"), (0, b"", b""))
+
+
+def workflow_command(line: bytes) -> tuple[bytes, dict[bytes, bytes], bytes]:
+    """The command, its properties and its message, as GitHub's runner reads them."""
+    found = re.fullmatch(rb"::(\w+) ([^\r\n]*?)::([^\r\n]*)", line)
+    assert found, f"no command: {line!r}"
+    properties = {name: value for name, _, value in (it.partition(b"=") for it in found[2].split(b","))}
+    signs = [(b"%0D", b"\r"), (b"%0A", b"\n"), (b"%3A", b":"), (b"%2C", b","), (b"%25", b"%")]
+    for name, value in properties.items():
+        for sign, byte in signs:
+            value = value.replace(sign, byte)
+        properties[name] = value
+    message = found[3]
+    for sign, byte in signs[:2] + signs[4:]:
+        message = message.replace(sign, byte)
+    return found[1], properties, message
+
+
+def test_github(room: pathlib.Path) -> Iterator[str]:
+    """A message is the diff that the text shows, with what its signs mean."""
+    wanted = odd_files(room)
+    status, output, _ = run(room, "--format", "github", *ODD_PATHS)
+    if status != run(room, *ODD_PATHS)[0]:
+        yield f"status {status}"
+    lines = output.split(b"\n")
+    commands = {b"mismatch": b"error", b"refused": b"error", b"failed": b"error", b"error": b"warning", b"warning": b"warning"}
+    for line, due in itertools.zip_longest(lines[:-1], wanted[-1:] + wanted[:-1]):
+        command, properties, message = workflow_command(line)
+        title = due.get("directive", b"raftbench")
+        at = {} if due["line"] is None else {b"line": b"%d" % due["line"]}
+        if (command, properties) != (commands[due["status"]], {b"file": due["script"], **at, b"title": title}):
+            yield f"{line!r}, of {due}"
+        if due["status"] == b"mismatch":
+            shown = run(room, due["script"].decode())[1]
+            heading = b"%s:%d: %s\n" % (due["script"], due["line"], title)
+            text = shown.split(heading, 1)[1].split(b"\n\n", 1)[0] + b"\n(- expected, + output)"
+        else:
+            text = due.get("message", due.get("output", [b""])[0])
+        if message != text:
+            yield f"{message!r}, and not {text!r}"
+    (room / "x,y:z%.txt").write_bytes(BAD)
+    yield from differs("path", run(room, "--format=github", "x,y:z%.txt"),
+                       (1, b"::error file=x%2Cy%3Az%25.txt,line=1,title=log-level info::- no%0A+ ok%0A(- expected, + output)\n", b""))
+
+
+def test_accepting_for_programs(room: pathlib.Path) -> Iterator[str]:
+    files(room, a_txt=BAD + b"\ncampain 1\n----\n", b_txt=BAD + b"log-level none\n")
+    status, output, told = run(room, "--accept", "--format", "json", ".")
+    came = [(it["script"], it["line"], it["status"], it.get("message")) for it in map(json.loads, output.splitlines())]
+    wanted = [
+        ("./a.txt", 1, "mismatch", None), ("./a.txt", 5, "mismatch", None),
+        ("./a.txt", 5, "left", "this new error was not accepted; --accept-errors accepts it too"),
+        ("./a.txt", None, "accepted", "accepted 1 output"),
+        ("./b.txt", 4, "warning", "this looks like a directive inside an expectation: an empty line is missing before it"),
+        ("./b.txt", 1, "mismatch", None),
+        ("./b.txt", None, "left", "nothing was accepted, since it has warnings; --force accepts all the same"),
+    ]
+    if (status, told) != (1, b"") or came != wanted:
+        yield f"{status} {told!r} {came}"
+
+
+def test_format_that_there_is_not(room: pathlib.Path) -> Iterator[str]:
+    yield from differs("it", run(room, "--format", "xml", "."), (2, b"", b"raftbench: --format xml: text, json or github\n"))

@@ -1,0 +1,89 @@
+"""Opens a script in Neovim without a screen, with the files of editors/vim and editors/nvim, and looks at what is shown: a mismatch is marked when it is
+typed, what came is shown at a key, and the mismatch is gone when it is mended, or accepted at a key, and the script saved.
+"""
+import pathlib
+import subprocess
+import tempfile
+from collections.abc import Iterator
+from typing import Any
+
+from tests.harness import TOP
+
+MOST_SECONDS = 120
+SCRIPT = "log-level debug\n----\nok\n"
+
+# Waits until there are as many diagnostics as are due, and writes them.
+DRIVER = """
+local function say(...)
+  io.stderr:write(table.concat(vim.tbl_map(tostring, { ... }), ' ') .. '\\n')
+end
+local function wait_for(count)
+  local is_there = vim.wait(60000, function() return #vim.diagnostic.get(0) == count end, 20)
+  local found = vim.diagnostic.get(0)
+  say(is_there and 'there' or 'missing', #found)
+  for _, it in ipairs(found) do say(it.lnum, it.severity, it.code or '', (it.message:gsub('\\n', '|'))) end
+end
+local function clients()
+  if vim.lsp.get_clients then return vim.lsp.get_clients({ bufnr = 0 }) end
+  return vim.lsp.buf_get_clients(0)
+end
+local function attached()
+  for _, it in pairs(clients()) do
+    if it.initialized then return true end
+  end
+  return false
+end
+-- The window that shows what came, its first line and how many there are.
+local function shown()
+  for _, window in ipairs(vim.api.nvim_list_wins()) do
+    if vim.api.nvim_win_get_config(window).relative ~= '' then
+      return vim.api.nvim_buf_get_lines(vim.api.nvim_win_get_buf(window), 0, -1, true)
+    end
+  end
+end
+local function press(keys)
+  vim.api.nvim_feedkeys(keys, 'x', false)
+end
+vim.ui.select = function(items, _, choose) choose(items[1], 1) end
+local is_attached = vim.wait(60000, attached, 20)
+say(vim.bo.filetype, is_attached)
+wait_for(0)
+vim.api.nvim_buf_set_lines(0, 2, 3, true, { 'no' })
+wait_for(1)
+vim.api.nvim_buf_set_lines(0, 2, 3, true, { 'ok' })
+wait_for(0)
+vim.api.nvim_buf_set_lines(0, 2, 3, true, { 'another' })
+wait_for(1)
+vim.api.nvim_win_set_cursor(0, { 1, 0 })
+press('K')
+vim.wait(60000, shown, 20)
+say('shown', unpack(shown() or {}))
+press('gra')
+wait_for(0)
+say('')
+vim.cmd('silent write | qall!')
+"""
+DUE = ["raftbench true", "there 0", "there 1", "0 1 mismatch - no|+ ok", "there 0", "there 1", "0 1 mismatch - another|+ ok",
+       "shown ok raft-state ok on their way no messages", "there 0"]
+
+
+def shown(program: pathlib.Path, room: pathlib.Path) -> Any:
+    """What the driver writes, and the script that is left."""
+    script, driver = room / "script.txt", room / "driver.lua"
+    script.write_text(SCRIPT)
+    driver.write_text(DRIVER)
+    words = ["nvim", "--headless", "--clean", "--cmd", f"set runtimepath+={TOP}/editors/vim,{TOP}/editors/nvim", "--cmd", f"let g:raftbench_program = '{program}'",
+             str(script), "-c", f"luafile {driver}"]
+    done = subprocess.run(words, capture_output=True, timeout=MOST_SECONDS, text=True, stdin=subprocess.DEVNULL)
+    lines = [line.rstrip("\r") for line in (done.stderr + done.stdout).split("\n")]
+    return [" ".join(line.split()) for line in lines if line.strip() and not line.startswith('"')], script.read_text()
+
+
+def look(program: pathlib.Path) -> Iterator[str]:
+    """Texts for what is not as it must be."""
+    with tempfile.TemporaryDirectory() as room:
+        lines, left = shown(program, pathlib.Path(room))
+    if (lines := [line for line in lines if line.split()[0] in ("raftbench", "there", "missing", "0", "shown")]) != DUE:
+        yield f"shown: {lines}"
+    if left != SCRIPT:
+        yield f"left: {left!r}"

@@ -1,0 +1,265 @@
+"""What a server must offer of a text alone: folds, an outline, the canonical text, and words to go on with.
+
+By docs/SCRIPT-FORMAT.md, docs/DIRECTIVES.md and the protocol's specification (LSP 3.17). Texts are Python's: offsets count characters. Scripts are
+read by the plain bench in plain/.
+"""
+import re
+from collections.abc import Sequence
+from typing import Any
+
+from plain import script
+from tests.editors.oracle import line_starts, position
+from tests.harness import TOP, matched
+
+FUNCTION, PROPERTY, VALUE = 3, 10, 12
+EVENT = 24
+LONGEST_NAME = 80
+CODE = re.compile(r"`([^`]*)`")
+TOKEN = r"[^ \t=()]"
+WHOLE_NAME = re.compile(rf"[ \t]*({TOKEN}+)(?=[ \t])")
+WHOLE_ARGUMENT = re.compile(rf"[ \t]+{TOKEN}+(?:=(?:\([^()]*\)|(?!\()[^ \t]*))?(?=[ \t])")
+NAME = re.compile(rf"[ \t]*({TOKEN}*)\Z")
+ARGUMENT = re.compile(rf"[ \t]+({TOKEN}*)\Z")
+VALUE_OF = re.compile(rf"[ \t]+({TOKEN}*)=(?!\()([^ \t]*)\Z")
+LIST_OF = re.compile(rf"[ \t]+({TOKEN}*)=\(([^()]*)\Z")
+BEGUN = re.compile(rf"[ \t]+({TOKEN}*)")
+NUMBER = re.compile(r"[0-9]{1,10}\Z")
+MOST_NODES, MOST_WORDS = 32, 64
+
+
+# ---- where blocks stand
+
+def blocks(text: str) -> Any:
+    """Of each block the first line of its head, the line behind that head, the line below its separator, and the line behind its last line that
+    isn't blank; lines count from 0, and end at LF. None where the text is no script."""
+    data = text.encode()
+    try:
+        script.read_script(data)
+    except script.Fault:
+        return None
+    lines, found = script.lines_of(data), []
+    reader = script.Reader(lines)
+    while isinstance(block := reader.block(True), script.Block):
+        head = reader.heads[-1] - 1
+        behind = head + len(block.head)
+        separator = next(n for n in range(behind, len(lines)) if lines[n].strip(b" \t") == b"----")
+        end = reader.at
+        while script.is_blank(lines[end - 1]):
+            end -= 1
+        found.append((head, behind, separator + 1, end))
+    return found
+
+
+def start_of(text: str, line: int, encoding: str) -> Any:
+    """Where a script's line begins, or the text's end."""
+    starts = line_starts(text)
+    return position(text, starts[line] if line < len(starts) else len(text), encoding)
+
+
+def fold(text: str, first: int, behind: int) -> Any:
+    """The fold of a script's lines: an editor's last line is the one on which the last byte stands."""
+    starts = line_starts(text)
+    last = (starts[behind] if behind < len(starts) else len(text)) - 1
+    return {"startLine": start_of(text, first, "utf-8")["line"], "endLine": position(text, last, "utf-8")["line"]}
+
+
+def folds(text: str, _encoding: str) -> Any:
+    """One a block, and one an expectation of more than one line."""
+    found = []
+    for head, _, below, end in blocks(text) or []:
+        found.append(fold(text, head, end))
+        if end - below > 1:
+            found.append(fold(text, below, end))
+    return found
+
+
+def symbols(text: str, encoding: str) -> Any:
+    """One a block: the first line of its head is the name, as far as a name goes."""
+    found, lines = [], text.split("\n")
+    for head, behind, _, end in blocks(text) or []:
+        start = start_of(text, head, encoding)
+        name = lines[head].rstrip("\r").lstrip(" \t")[:LONGEST_NAME]
+        range_ = {"start": start, "end": start_of(text, end, encoding)}
+        found.append({"name": name, "kind": EVENT, "range": range_, "selectionRange": {"start": start, "end": start_of(text, behind, encoding)}})
+    return found
+
+
+# ---- the canonical text
+
+def is_cut(text: str, at: int) -> bool:
+    """Whether a place stands between CR and LF."""
+    return text[at - 1:at + 1] == "\r\n"
+
+
+def formatting(text: str, encoding: str) -> Any:
+    """One edit of what differs from the canonical text, around which the texts are the same."""
+    try:
+        new = script.read_script(text.encode()).text().decode()
+    except script.Fault:
+        return []
+    if new == text:
+        return []
+    front = next((n for n, (a, b) in enumerate(zip(text, new)) if a != b), min(len(text), len(new)))
+    front -= is_cut(text, front)
+    back, most = 0, min(len(text), len(new)) - front
+    while back < most and text[-1 - back] == new[-1 - back]:
+        back += 1
+    stop = len(text) - back
+    stop += is_cut(text, stop)
+    range_ = {"start": position(text, front, encoding), "end": position(text, stop, encoding)}
+    return [{"range": range_, "newText": new[front:len(new) - (len(text) - stop)]}]
+
+
+# ---- words to go on with
+
+def cells(line: str) -> list[str]:
+    return [cell.strip() for cell in line.strip().strip("|").split("|")]
+
+
+def id_places(words: str) -> int:
+    """How many of a directive's words are ids, which are the first."""
+    if words.startswith("ids"):
+        return MOST_WORDS
+    return next((n for n, word in enumerate(words.split(", ")) if word not in ("id", "from", "to")), len(words.split(", ")))
+
+
+def table_of_directives() -> Any:
+    """Of each directive's name its options, what it does, and how many of its words are ids, by the document's table; of each option its values,
+    where it has some alone; and the options whose values are ids."""
+    lines = (TOP / "docs" / "DIRECTIVES.md").read_text().splitlines()
+    at = lines.index("| Directive | Words | Options | Does |")
+    rows = [cells(line) for line in lines[at + 2:lines.index("", at)]]
+    directives = {matched(CODE.pattern, name)[1]: ([*CODE.findall(options), "log-level"], does, id_places(words)) for name, words, options, does in rows}
+    at = lines.index("| What | Is |")
+    rows = [cells(line) for line in lines[at + 2:lines.index("", at)]]
+    values = {key: CODE.findall(is_.split(";")[0].split(", in")[0]) for what, is_ in rows for key in CODE.findall(what)}
+    ids = {key for what, is_ in rows if "an id" in what or "number of ids" in is_ for key in CODE.findall(what)}
+    at = next(n for n, line in enumerate(lines) if line.startswith("| Message |"))
+    types = [name for line in lines[at + 2:lines.index("", at)] for name in cells(line)[0].split(", ")]
+    kept = {key: values[key] for key in ("prevote", "checkquorum", "step-down-on-removal", "v1", "transition", "log-level")}
+    return directives, kept | {"type": [*types, "MsgUnreachable"]}, ids
+
+
+DIRECTIVES, VALUES, ID_KEYS = table_of_directives()
+
+
+def joined(head: Sequence[str]) -> str:
+    return "".join(line.rstrip(" \t")[:-1] + " " for line in head[:-1]) + head[-1]
+
+
+def heads_before(lines: list[str], front: str) -> tuple[list[str], str | None]:
+    """The heads in these lines, and the one in which the line stands that begins so, below these, or None: each joined."""
+    at = 0
+    heads: list[str] = []
+    while True:
+        while at < len(lines) and is_lead(lines[at]):
+            at += 1
+        if at == len(lines):
+            return heads, None if front.lstrip(" \t").startswith("#") else front
+        start = at
+        while at < len(lines) and is_continued(lines[at]):
+            at += 1
+        if at == len(lines):
+            return heads, joined(lines[start:] + [front])
+        at += 1
+        heads.append(joined(lines[start:at]))
+        while at < len(lines) and lines[at].strip(" \t") != "----":
+            at += 1
+        behind = behind_expectation(lines, at + 1)
+        if behind is None:
+            return heads, None
+        at = behind
+
+
+def is_blank(line: str) -> bool:
+    return not line.strip(" \t")
+
+
+def is_lead(line: str) -> bool:
+    return is_blank(line) or line.lstrip(" \t").startswith("#")
+
+
+def is_continued(line: str) -> bool:
+    return line.rstrip(" \t").endswith("\\")
+
+
+def behind_expectation(lines: list[str], at: int) -> int | None:
+    """The line behind the end of the expectation that begins on a line, or None where it hasn't ended."""
+    if at >= len(lines):
+        return None
+    if lines[at] == "----":
+        return next((n + 2 for n in range(at + 1, len(lines) - 1) if lines[n] == lines[n + 1] == "----"), None)
+    return next((n + 1 for n in range(at, len(lines)) if is_blank(lines[n])), None)
+
+
+def first_word(head: str) -> str:
+    """The first argument of a joined head that has no key, as far as it goes."""
+    name = WHOLE_NAME.match(head)
+    at = name.end() if name else len(head)
+    while found := BEGUN.match(head, at):
+        if head[found.end():found.end() + 1] != "=":
+            return found[1]
+        whole = WHOLE_ARGUMENT.match(head, at)
+        at = whole.end() if whole else len(head)
+    return ""
+
+
+def ids_by(heads: list[str]) -> list[str]:
+    """The ids of the nodes that there would be by these heads: each `add-nodes` adds as many as it says, unless they would be too many."""
+    nodes = 0
+    for head in heads:
+        more = int(first_word(head)) if name_of(head) == "add-nodes" and NUMBER.match(first_word(head)) else 0
+        nodes += more if nodes + more <= MOST_NODES else 0
+    return [str(id) for id in range(1, nodes + 1)]
+
+
+def wanted(head: str, ids: list[str]) -> tuple[list[tuple[str, int]], str] | None:
+    """What a joined head ends in: the words that may stand there, each with what it is, and what stands of one; None where nothing is known."""
+    if found := NAME.match(head):
+        return [(name, FUNCTION) for name in DIRECTIVES], found[1]
+    if not (name := WHOLE_NAME.match(head)):
+        return None
+    at, words = name.end(), 0
+    while whole := WHOLE_ARGUMENT.match(head, at):
+        at, words = whole.end(), words + ("=" not in whole[0])
+    options, _, places = DIRECTIVES.get(name[1], (["log-level"], "", 0))
+    if found := ARGUMENT.match(head, at):
+        return [(key, PROPERTY) for key in options] + [(id, VALUE) for id in ids if words < places], found[1]
+    if found := VALUE_OF.match(head, at) or LIST_OF.match(head, at):
+        prefix = found[2] if found.re is VALUE_OF else re.split(r"[ \t,]", found[2])[-1]
+        values = ids if found[1] in ID_KEYS else VALUES.get(found[1], [])
+        return [(value, VALUE) for value in values if found[1] in options], prefix
+    return None
+
+
+def name_of(head: str) -> str:
+    return matched(rf"\A[ \t]*({TOKEN}*)", head)[1]
+
+
+def completion(text: str, at: int, encoding: str) -> Any:
+    """The items at a place: each with its label, its kind, what it puts there, and what the document says that the directive does."""
+    start = text.rfind("\n", 0, at) + 1
+    lines = [line.rstrip("\r") for line in text[:start].split("\n")[:-1]]
+    above, head = heads_before(lines, text[start:at])
+    asked = None if head is None else wanted(head, ids_by([*above, head]))
+    if head is None or not asked:
+        return []
+    words, prefix = asked
+    range_ = {"start": position(text, at - len(prefix), encoding), "end": position(text, at, encoding)}
+    items = []
+    for word, kind in words:
+        if word.startswith(prefix):
+            label = word + ("=" if kind == PROPERTY else "")
+            does = DIRECTIVES.get(word if kind == FUNCTION else name_of(head), ([], "", 0))[1]
+            items.append({"label": label, "kind": kind, "does": CODE.sub(r"\1", does), "textEdit": {"range": range_, "newText": label}})
+    return items
+
+
+def as_told(items: Any) -> Any:
+    """Items as they came, with what the directive does, which stands behind its usage in the documentation."""
+    told = []
+    for item in items:
+        documentation = re.split(r"\n {4}(?! )", item["documentation"])
+        does = " ".join(documentation[-1].split()) if len(documentation) > 1 else item["documentation"]
+        told.append({"label": item["label"], "kind": item["kind"], "does": does, "textEdit": item["textEdit"]})
+    return told

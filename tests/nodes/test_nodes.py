@@ -1,0 +1,465 @@
+"""Nodes behind the protocol of docs/OWN-NODES.md, beside the reference.
+
+Our plain node behind it gives no difference; each example of the document is sent; nodes that misbehave in each of many ways end their script with a
+sentence, and the next script goes on; planted bugs are found; what nodes are without is left out on both sides; switches, accepted
+differences and the words of nodes/run and nodes/explore do what the document says. A word chooses parts by their names.
+"""
+import itertools
+import json
+import multiprocessing
+import os
+import pathlib
+import re
+import shutil
+import signal
+import subprocess
+import tempfile
+import time
+import xml.etree.ElementTree
+from collections.abc import Iterator
+
+from nodes.hosted.compare import Comparison, run_beside
+from nodes.hosted.dice import steps_of
+from nodes.hosted.judge import Judge
+from nodes.hosted.likes import LIKE, SWITCHES, kind_like, switches_of
+from nodes.hosted.planted import first_found
+from nodes.hosted.planting import BUGS
+from nodes.hosted.process import Process
+from nodes.hosted.promises import Promises, name_of
+from nodes.hosted.protocol import CALLS, CHANGES, OPTIONS, READY, STATES
+from nodes.hosted.script import Step
+from nodes.hosted.steps import step_of
+from plain.cluster import Cluster
+from plain.config import Config
+from plain.node import Node
+from plain.records import Entry
+from plain.script import Fault, read_script
+from tests.harness import TESTS, TOP, Result
+from tests.nodes.scripts import write_scripts
+from tests.nodes.units import UNITS
+
+PLAIN = str(TOP / "nodes" / "plain")
+BAD = str(TESTS / "nodes" / "bad_node.py")
+DOCUMENT = TOP / "docs" / "OWN-NODES.md"
+CONVERSATION = TOP / "nodes" / "conversation.txt"
+PROGRAM = Judge().program
+SEEDS = [("weighted", 250), ("plain", 150), ("sane", 100)]
+JOBS = min(4, len(os.sched_getaffinity(0)))
+
+
+def tool(name, *words, **environment):
+    """Runs nodes/run or nodes/explore: the output, what stands on standard error, and the status."""
+    done = subprocess.run([TOP / "nodes" / name, *map(str, words)], capture_output=True, text=True, errors="replace", timeout=600, env={**os.environ, **environment})
+    return done.stdout, done.stderr, done.returncode
+
+
+def blocks_of(*heads):
+    return [Step(head).block() if isinstance(head, str) else (head if isinstance(head, Step) else Step(*head)).block() for head in heads]
+
+
+def beside(command, blocks, **chosen):
+    """One script by a new process."""
+    process = Process(command, chosen.pop("seconds", 5.0))
+    try:
+        return run_beside(blocks, process, Comparison(**chosen))
+    finally:
+        process.close()
+
+
+# Each part generates pairs of a name and what is wrong, or None.
+
+
+def part_judge():
+    """Without the program the other parts hold nodes to the plain reference, and nothing holds that to the program."""
+    yield "the program is built", None if PROGRAM.exists() else f"{PROGRAM} isn't there: ./raftbench --help builds it"
+    with tempfile.TemporaryDirectory() as folder:
+        judge = pathlib.Path(folder) / "judge"
+        for text, wanted in [(f"'{PROGRAM}' \"$@\" | sed s/candidate/boss/", "the reference is wrong here"), ("exit 9", "the reference could not be judged"), (None, "Permission denied")]:
+            judge.write_text(f"#!/bin/sh\n{text}\n")
+            judge.chmod(0o755 if text else 0o644)
+            for name, words in (("run", [TOP / "examples/tour/01-election.txt"]), ("explore", ["--count", 2, "--jobs", 2, "--dice", "weighted"])):
+                output, errors, status = tool(name, "--with", PLAIN, *words, RAFTBENCH=str(judge))
+                yield f"{name}, judged by {text}", None if status == 4 and wanted in errors and "Traceback" not in errors else f"{status} {output} {errors}"
+
+
+def part_same_scripts():
+    with tempfile.TemporaryDirectory() as folder:
+        write_scripts(pathlib.Path(folder))
+        output, _, status = tool("run", "--with", PLAIN, "--compare", "lines", TOP / "examples" / "tour", folder)
+    found = re.search(r"(\d+) scripts, (\d+) without a difference; (\d+) of (\d+) directives agree", output)
+    is_same = found and status == 0 and int(found[1]) > 130 and found[1] == found[2] and found[3] == found[4] and int(found[3]) > 1500
+    yield "the tour and tests/cases, every line", None if is_same else output[-500:]
+
+
+def part_same_seeds():
+    for dice, count in SEEDS:
+        output, errors, status = tool("explore", "--with", PLAIN, "--compare", "lines", "--dice", dice, "--count", count, "--jobs", JOBS)
+        is_same = status == 0 and f"{count} scripts, {count} without a finding" in output
+        yield f"{count} seeds of {dice} dice, every line", None if is_same else output[-500:] + errors
+    for compare in ("lines", "auto"):
+        output, errors, status = tool("explore", "--with", PLAIN, "--compare", compare, "--count", 150, "--jobs", JOBS)
+        yield f"150 scripts with themes and steps of the runner, {compare}", None if status == 0 else output[-500:] + errors
+    output, errors, status = tool("explore", "--with", PLAIN, "--begin-at-0", "--count", 60, "--jobs", JOBS)
+    yield "60 scripts that begin at index 0", None if status == 0 else output[-500:] + errors
+    output, errors, status = tool("promises", "--with", PLAIN, "--count", 60, "--jobs", JOBS)
+    yield "60 scripts by the promises alone", None if status == 0 else output[-500:] + errors
+
+
+def block_of(beginning):
+    """What docs/OWN-NODES.md shows, indented, from this line on."""
+    lines = DOCUMENT.read_text().splitlines()
+    block = itertools.takewhile(lambda line: line.startswith("    "), lines[lines.index("    " + beginning):])
+    return "\n".join(line[4:] for line in block)
+
+
+def without_times(text):
+    return re.sub(r"[\d.]+ s$", "", text.rstrip(), flags=re.MULTILINE)
+
+
+def part_examples():
+    """The recorded conversation is what nodes/plain says, begins as the document shows, and has each call of its table of calls."""
+    text, recorded = DOCUMENT.read_text(), CONVERSATION.read_text()
+    shown = "".join(re.findall(r"^    ([<>] .*\n)", text, re.MULTILINE))
+    yield "the document shows its beginning", None if len(shown) > 1000 and recorded.startswith(shown) else shown[:200]
+    pairs = re.findall(r"^> (.*)\n< (.*)$", recorded, re.MULTILINE)
+    given = "".join(call + "\n" for call, _ in pairs)
+    said = subprocess.run([PLAIN], input=given, capture_output=True, text=True, errors="replace", timeout=60).stdout.splitlines()
+    yield "as many answers as calls", None if len(said) == len(pairs) > 20 else f"{len(said)} of {len(pairs)}"
+    for (call, wanted), came in zip(pairs, said):
+        yield call[:60], None if json.loads(wanted) == json.loads(came) else f"{came} and not {wanted}"
+    sent = {json.loads(call)["call"] for call, _ in pairs}
+    table = "".join(part.split("\n\n")[0] + "\n" for part in text.split("| Call | Parts | Answer |\n|---|---|---|\n")[1:])
+    documented = {name for row in table.splitlines() for name in re.findall(r"`(\w+)`", row.split("|")[1])}
+    yield "each call has an example", None if sent == documented else f"{sent ^ documented}"
+    process = Process(PLAIN)
+    process.record = []
+    run_beside(blocks_of(*EVERY_CALL), process, Comparison(aspects=frozenset({"views"})))
+    process.close()
+    used = {call["call"] for call, _ in process.record}
+    yield "each call is one that the bench makes", None if used == documented else f"{used ^ documented}"
+
+
+EVERY_CALL = [
+    "add-nodes 2 voters=(1,2) index=10", "set-randomized-election-timeout 1 timeout=4", "campaign 1", "stabilize", "propose 1 a",
+    ("propose-conf-change 1", ("v2",)), "tick-heartbeat 1", "report-unreachable 1 2", "send-snapshot 1 2", "compact 1 11",
+    "transfer-leadership from=1 to=2", "forget-leader 2", "stabilize", Step("deliver-msgs drop=(2)", (), (step_of("# node: read 1"), step_of("# node: snapshot-lost 1 2"))),
+    "tick-heartbeat 1", "tick-heartbeat 2", "process-ready 1 2", "deliver-msgs drop=(1,2)", Step("stabilize", (), (step_of("# node: restart 1"),)),
+]
+
+
+# What a node does wrong, the call at which it does (or none: from the 12th on), and what the sentence has to have in it.
+WRONG = [
+    ("hangs", None, "no answer within 1 s"), ("late", None, "no answer within 1 s"), ("drips", None, "no answer within 1 s"),
+    ("dies", None, "it ended with status 7; on standard error: out of luck"), ("crashes", None, "it ended by signal 11"),
+    ("closes", None, "it closed its output"), ("floods", None, "a line of more than 128 MiB"), ("long-line", None, "a line of more than 128 MiB"),
+    ("leaves-child", None, "no answer within 1 s"), ("babbles", None, 'no JSON: "INFO 1 became leader"'), ("list", None, "not an object: [1, 2]"),
+    ("nothing", None, 'no JSON: ""'), ("nested", None, "no JSON"), ("huge-number", None, "no JSON"), ("not-utf8", None, "no JSON"),
+    ("twice", None, "it said what it wasn't asked"), ("errs", None, "error: not today"), ("odd-error", None, "error: {"),
+    ("no-state", "campaign", "state is missing"), ("lacks-term", "campaign", "state.term is missing"), ("lacks-ready", "campaign", "state.ready is missing"),
+    ("text-term", "campaign", 'state.term: "1" is not a number'), ("true-term", "campaign", "state.term: true is not a number"),
+    ("negative-commit", "campaign", "state.commit: -1 is not a number"), ("great-commit", "campaign", "is not a number from 0"),
+    ("float-vote", "campaign", "state.vote: 1.0 is not a number"), ("odd-role", "campaign", 'state.role: "boss" is not one of'),
+    ("number-config", "campaign", "state.config: 5 is not an object"), ("text-voters", "campaign", 'state.config.voters: ["1"] is not a list of ids'),
+    ("no-base64", "campaign", 'state.content: "?" is not base64'), ("odd-events", "campaign", 'events: ["LOUD", "x"] is not a pair'),
+    ("odd-ready", "ready", "ready.messages[0].from is missing"), ("odd-type", "ready", 'ready.messages[0].type: "a b" is not a type'),
+    ("odd-change", "ready", 'ready.entries[0].change.words: "x" is not a word'), ("odd-log", "log", "index 13, where 11 is due"),
+    ("odd-view", "status", 'views[0].state: "asleep" is not one of'), ("odd-snapshot", "snapshot", "message.snapshot is missing"),
+]
+SHORT = ["add-nodes 1", "raft-state"]
+LONG = [
+    "add-nodes 3 voters=(1,2,3) index=10", "campaign 1", "stabilize", "propose 1 a", "stabilize", "status 1", "send-snapshot 1 2", "tick-heartbeat 1", "stabilize",
+]
+# A node that floods standard error, and answers well, is no bad one; nor is one whose messages stand in a part that the bench doesn't know.
+FINE = ["floods-errors", "owns"]
+
+
+def part_misbehaving():
+    with multiprocessing.Pool(JOBS) as pool:
+        wrong = pool.starmap(survived, WRONG)
+    for (kind, _, _), problem in zip(WRONG, wrong):
+        yield f"a node that {kind}", problem
+    for kind in FINE:
+        outcome = beside([BAD, kind], blocks_of(*LONG))
+        yield f"a node that {kind}", outcome.first and str(outcome.first)
+    process = Process([BAD, "slow"], script_seconds=1.0)
+    first, after = (run_beside(blocks_of(*heads), process).first for heads in (LONG, SHORT))
+    process.close()
+    yield "a script that takes too long", None if first and "the script took more than 1 s" in first.came[0] and after is None else f"{first} {after}"
+
+
+def survived(kind, at_call, wanted):
+    """What is wrong with how a script ends, and with whether the next one goes on."""
+    process = Process([BAD, kind, *([at_call] if at_call else [])], seconds=1.0 if wanted.startswith("no answer") else 5.0)
+    begun = time.monotonic()
+    try:
+        first = run_beside(blocks_of(*LONG), process, Comparison(aspects=frozenset({"views"}))).first
+        process.seconds = 5.0
+        after = run_beside(blocks_of(*SHORT), process) if at_call != "log" else None
+    finally:
+        process.close()
+    if first is None or not first.field.startswith("failed ") or wanted not in first.came[0]:
+        return f"{first and first.came} and not {wanted}"
+    if not re.match(r"\w+ of node \d+: ", first.came[0]):
+        return f"{first.came[0]} doesn't begin with the call and the node"
+    if at_call and not first.came[0].startswith(at_call):
+        return f"{first.came[0]} isn't of {at_call}"
+    if after and after.first:
+        return f"the next script: {after.first}"
+    return None if time.monotonic() - begun < 20 else "it took more than 20 seconds"
+
+
+def part_starting():
+    for command, wanted in [
+        ("exit 3", "hello: it ended with status 3"), ("echo '{\"name\": \"x\", \"protocol\": 2}'; sleep 9", "this bench speaks 1, and not 2"),
+        ("no-such-command-here", "not found"), ("echo '{\"name\": \"x\", \"protocol\": 1, \"without\": [\"gravity\"]}'; sleep 9", "is not something that nodes may be without"),
+        ("echo '{\"protocol\": 1}'; sleep 9", "name is missing"), ("cat", "name is missing"),
+    ]:
+        for name, words in (("run", [TOP / "examples" / "tour"]), ("explore", ["--count", 3, "--jobs", 2])):
+            output, errors, status = tool(name, "--with", command, *words)
+            yield f"{name} --with {command}", None if status == 4 and wanted in errors and "Traceback" not in errors else f"{status} {output} {errors}"
+
+
+def bug_rows():
+    """The bugs, and in how many scripts of the default search each shows: tests/nodes/bugs.txt."""
+    for line in (TESTS / "nodes" / "bugs.txt").read_text().splitlines():
+        if line and not line.startswith("#"):
+            bug, most = line.split()
+            yield bug, int(most)
+
+
+def part_bugs():
+    rows = list(bug_rows())
+    yield "each bug has a row", None if sorted(row[0] for row in rows) == sorted(BUGS) and len(rows) >= 55 else "rows and bugs differ"
+    shown = subprocess.run([PLAIN, "--bugs"], capture_output=True, text=True, errors="replace").stdout.splitlines()
+    yield "each bug says what it does", None if [line.split(maxsplit=1) for line in shown] == [[name, bug.__doc__] for name, bug in BUGS.items()] else f"{shown}"
+    with multiprocessing.Pool(JOBS, maxtasksperchild=1) as pool:
+        for (bug, most), found in zip(rows, pool.starmap(first_found, [(bug, most, "auto") for bug, most in rows])):
+            yield f"bug {bug}", None if 0 < found.script <= most else f"not in {most} scripts"
+        found = pool.apply(first_found, ("", 400, "auto"))
+        yield "the node without a bug shows nothing", None if found.script == 0 else f"{found}"
+
+
+class Told:
+    """A node as it tells of itself: entries are terms and bodies, from index 1 on."""
+
+    base = 0
+
+    def __init__(self, id, term, role="follower", vote=0, commit=0, applied=0, content=b"", log=()):
+        self.id, self.term, self.role, self.vote, self.commit, self.applied, self.content = id, term, role, vote, commit, applied, content
+        self.log, self.config = [Entry(*entry) for entry in log], Config(frozenset())
+
+    def entries_from(self, index):
+        return list(enumerate(self.log, 1))[index - 1:]
+
+
+A, B = (1, b"a"), (1, b"b")
+# What nodes say, one after the other, and the promise that is broken by it, if one is (Ongaro's thesis, figure 3.2, and 3.4).
+TOLD = [
+    ("one leader a term", [Told(1, 2, "leader"), Told(2, 2, "leader")]),
+    (None, [Told(1, 2, "leader"), Told(2, 3, "leader"), Told(1, 4, "leader")]),
+    ("one vote a term", [Told(1, 2, vote=1), Told(1, 2, vote=2)]),
+    ("one vote a term", [Told(1, 2, vote=1), Told(1, 2), Told(1, 2, vote=3)]),
+    (None, [Told(1, 2, vote=1), Told(1, 3, vote=2), Told(2, 3, vote=1)]),
+    ("terms and commits don't fall", [Told(1, 2), Told(1, 1)]),
+    ("terms and commits don't fall", [Told(1, 2, commit=1, log=[A]), Told(1, 2, log=[A])]),
+    ("terms and commits don't fall", [Told(1, 2, commit=1, applied=1, log=[A]), Told(1, 2, commit=1, log=[A])]),
+    ("logs match", [Told(1, 2, log=[A, (2, b"c")]), Told(2, 2, log=[B, (2, b"c")])]),
+    ("logs match", [Told(1, 2, log=[A]), Told(2, 2, log=[B])]),
+    (None, [Told(1, 2, log=[A, (2, b"c")]), Told(2, 3, log=[A, (3, b"d")])]),
+    ("no two commit different entries", [Told(1, 2, commit=1, log=[A]), Told(2, 2, commit=1, log=[(2, b"a")])]),
+    ("no two apply different entries", [Told(1, 2, commit=1, applied=1, content=b"a", log=[A]), Told(2, 2, commit=1, applied=1, content=b"aa", log=[A])]),
+    ("a leader has what was committed", [Told(1, 2, commit=1, log=[A]), Told(2, 3, "leader")]),
+    ("a leader has what was committed", [Told(1, 2, commit=1, log=[A]), Told(2, 3, "leader", log=[(3, b"")])]),
+    (None, [Told(1, 2, commit=1, log=[A]), Told(2, 3, "leader", log=[A, (3, b"")])]),
+]
+
+
+def part_promises():
+    """Each promise, broken and kept."""
+    for number, (wanted, nodes) in enumerate(TOLD, 1):
+        promises, cluster = Promises(), Cluster()
+        for node in nodes:
+            cluster.nodes[node.id], cluster.touched = node, {node.id}
+            promises.look(node, cluster.nodes)
+            promises.look_at_logs(cluster.nodes, cluster.touched)
+        broken = set(map(name_of, promises.broken))
+        yield f"{wanted or 'nothing'} is broken, {number}", None if broken == ({wanted} if wanted else set()) else f"{promises.broken}"
+
+
+def part_explore():
+    """A bug from explore's command to a short script that shows it, by the same words the same."""
+    with tempfile.TemporaryDirectory() as folder:
+        words = ["--with", f"{PLAIN} --bug votes-twice", "--count", 30, "--jobs", 2]
+        output, errors, status = tool("explore", *words, "--out", folder, "--json", f"{folder}/1.json", "--junit", f"{folder}/1.xml")
+        files = sorted(pathlib.Path(folder).glob("*.txt"))
+        yield "a bug is found", None if status == 1 and files else output + errors
+        again, _, _ = tool("explore", *words[:-1], 1)
+        yield "the same seeds give the same result", None if without_times(output) == without_times(again) else again
+        block = block_of("promise broken: one vote a term: in 4 scripts, the first with seed 0; 15 directives, shrunk to 4")
+        yield "it is shown as in the document, and first", None if output.startswith(block) else output
+        shortest = min((len(read_script(file.read_bytes()).blocks) for file in files), default=99)
+        yield "its script is short", None if shortest <= 4 else f"{shortest} directives"
+        mine, _, status = tool("run", "--with", PLAIN, folder)
+        yield "and shows nothing of the node without it", None if status == 0 else mine
+        theirs, _, status = tool("run", "--with", f"{PLAIN} --bug votes-twice", folder)
+        shown = re.search(r"^\S+\.txt:\d+: [a-z-]+: \w+ .* of node \d+ after .*\n- \d .*\n\+ \d .*$", theirs, re.MULTILINE)
+        yield "and shows the bug, as check shows mismatches", None if status == 1 and shown else theirs
+        votes = pathlib.Path(folder) / "votes.txt"
+        votes.write_text("".join(f"{head}\n----\nok\n\n" for head in ("add-nodes 2 voters=(1,2) index=2", "campaign 1", "campaign 2", "stabilize")))
+        came, _, _ = tool("run", "--with", f"{PLAIN} --bug votes-twice", votes)
+        block = block_of("votes.txt:13: stabilize: role leader for follower of node 1 after MsgVote at a candidate")
+        yield "nodes/run shows it as in the document", None if without_times(came.replace(f"{folder}/", "")) == without_times(block) else came
+        yield from results_of(folder, output, words)
+        longer = pathlib.Path(folder) / "longer.txt"
+        longer.write_text(votes.read_text().replace("stabilize", "raft-state\n----\nok\n\ntick-heartbeat 2\n----\nok\n\nstabilize"))
+        less, told, status = tool("shrink", "--with", f"{PLAIN} --bug votes-twice", longer)
+        is_less = status == 0 and "6 directives, shrunk to 4" in told and len(read_script(less.encode()).blocks) == 4
+        yield "nodes/shrink shrinks a script", None if is_less else less + told
+        if not PROGRAM.exists():
+            return
+        # The program knows no steps of the runner, and what is found by the promises alone has no expectations.
+        beside = [it for it in files if "promise-broken" not in it.name and not re.search(r"^# (node|network):", it.read_text("latin-1"), re.MULTILINE)]
+        checked = subprocess.run([PROGRAM, "check", *map(str, beside)], capture_output=True, text=True, errors="replace", timeout=60)
+        yield "its expectations are the program's", None if checked.returncode == 0 else checked.stdout + checked.stderr
+
+
+def results_of(folder, output, words):
+    """Results for machines: JSON, shards that are merged, JUnit."""
+    result = json.loads(pathlib.Path(f"{folder}/1.json").read_text())
+    yield "JSON has the first finding", None if result["kinds"][0]["kind"] == "promise broken: one vote a term" and len(result["kinds"][0]["steps"]) == 4 else f"{result}"
+    suite = xml.etree.ElementTree.parse(f"{folder}/1.xml").getroot()[0]
+    failures = [case.get("name") for case in suite if case.find("failure") is not None]
+    yield "JUnit has each kind", None if failures == [kind["kind"] for kind in result["kinds"]] and suite.get("failures") == str(len(failures)) else f"{failures}"
+    for shard in (1, 2):
+        tool("explore", *words[:2], "--count", 15, "--jobs", 2, "--shard", f"{shard}/2", "--json", f"{folder}/shard{shard}.json")
+    merged, errors, status = tool("merge", f"{folder}/shard1.json", f"{folder}/shard2.json")
+    yield "shards are merged", None if status == 1 and " 30 scripts, " in merged and "one vote a term" in merged else merged + errors
+    _, errors, status = tool("merge", f"{folder}/1.xml")
+    yield "merge takes results alone", None if status == 4 and "1.xml" in errors else errors
+
+
+def part_interrupt():
+    with tempfile.TemporaryDirectory() as folder:
+        begun = pathlib.Path(folder) / "begun"
+        words = ["--with", f"touch '{begun}'; exec '{PLAIN}' --bug votes-twice", "--count", "9999", "--jobs", "2"]
+        running = subprocess.Popen([TOP / "nodes/explore", *words], stdout=subprocess.PIPE, stderr=subprocess.PIPE, text=True, errors="replace")
+        while not begun.exists() and running.poll() is None:
+            time.sleep(0.1)
+        running.send_signal(signal.SIGINT)
+        came, errors = running.communicate(timeout=300)
+        yield "an interrupt", None if running.returncode in (0, 1) and "without a finding" in came and "Traceback" not in errors else f"{running.returncode} {came} {errors}"
+
+
+def part_first():
+    """The way of docs/OWN-NODES.md from nothing to the first difference, where Perl is."""
+    if subprocess.run(["perl", "-MJSON::PP", "-e", "1"], capture_output=True).returncode if shutil.which("perl") else True:
+        print("not tried: perl isn't here")
+        return
+    with tempfile.TemporaryDirectory() as folder:
+        hello, switches = pathlib.Path(folder) / "first", pathlib.Path(folder) / "mine.txt"
+        hello.write_text(block_of("#!/usr/bin/perl"))
+        output, _, status = tool("run", "--with", f"perl {hello}", TOP / "examples/tour/01-election.txt")
+        yield "hello alone", None if status == 1 and block_of("+ start of node 1: state is missing") in output else output
+        output, _, status = tool("run", "--with", TOP / "nodes/first", TOP / "examples/tour")
+        wanted = block_of("examples/tour/01-election.txt:160: deliver-msgs: role candidate for follower of node 3 after MsgVoteResp at a candidate")
+        yield "the tour", None if status == 1 and without_times(output.replace(f"{TOP}/", "")) == without_times(wanted) else output
+        switches.write_text(block_of("own-answers-at-once   we count our own vote when we give it"))
+        output, _, _ = tool("run", "--with", TOP / "nodes/first", "--like", switches, TOP / "examples/tour")
+        yield "its switch", None if "14 scripts, 14 without a difference" in output and "promise" not in output else output
+
+
+def part_without():
+    """Nodes that lack something: the rest compares, and is the same."""
+    for word in (*CALLS, *OPTIONS, *CHANGES, *STATES, *READY):
+        outcomes = list(without(word))
+        first = next((outcome.first for outcome in outcomes if outcome.first), None)
+        yield f"without {word}", first and str(first)
+    few = list(without(*(word for word in (*CALLS, *OPTIONS, *CHANGES, *STATES, *READY) if word != "campaign")))
+    compared = sum(outcome.compared for outcome in few)
+    yield "eight calls are enough", None if compared > 80 and not any(outcome.first for outcome in few) else f"{compared} compared"
+    leaves_out = sum(outcome.left_out for outcome in without("propose_change"))
+    yield "directives are left out", None if leaves_out > 5 else f"{leaves_out}"
+
+
+def without(*words):
+    process = Process([str(TESTS / "nodes" / "lacking_node.py"), *words])
+    try:
+        for seed in range(6):
+            yield run_beside([step.block() for step in steps_of(seed, "weighted")], process, Comparison(aspects=frozenset({"views", "ready"})))
+    finally:
+        process.close()
+
+
+def part_switches():
+    names = {name for file in LIKE.glob("*.txt") for name in switches_of(file.read_text())}
+    theirs, others = ((TOP / "docs/NODE.md").read_text().split(title)[1].split("\n## ")[0] for title in ("## Where it isn't etcd's raft", "## Where it isn't other libraries"))
+    named, more = ({name for row in re.findall(r"^\| .* \| .* \| ([a-z0-9, -]+) \|$", part, re.MULTILINE) for name in row.split(", ")} for part in (theirs, others))
+    yield "docs/NODE.md names each switch of etcd's at its rule", None if named == {name for file in LIKE.glob("etcd*.txt") for name in switches_of(file.read_text())} else f"{named}"
+    yield "and those of other libraries", None if named | more == set(SWITCHES) and names <= set(SWITCHES) else f"{(named | more) ^ set(SWITCHES)}"
+    yield "lists differ", None if kind_like("etcd-3.4").switches != kind_like("etcd-3.5").switches else "they don't"
+    output, _, status = tool("run", "--with", PLAIN, "--like", "etcd-3.5", TOP / "examples" / "tour")
+    yield "a switched reference differs from the plain node", None if status == 1 and "role candidate for leader after campaign at a follower" in output else output
+    for words, wanted in [(["--like", "/nowhere"], "known are etcd-3.4, etcd-3.5"), (["--accepted", "/nowhere"], "No such file")]:
+        _, errors, status = tool("run", "--with", PLAIN, *words, TOP / "examples" / "tour")
+        yield f"{words[0]} of nothing", None if status == 2 and wanted in errors else errors
+    with tempfile.NamedTemporaryFile("w", suffix=".txt") as file:
+        file.write("no-such-switch why\n")
+        file.flush()
+        _, errors, status = tool("explore", "--with", PLAIN, "--like", file.name, "--count", 1)
+        yield "an unknown switch", None if status == 2 and "there is no switch no-such-switch" in errors else errors
+
+
+def part_words():
+    with tempfile.TemporaryDirectory() as folder:
+        script, refused, accepted = (pathlib.Path(folder) / name for name in ("votes.txt", "bad.txt", "accepted"))
+        script.write_text("add-nodes 1 voters=1 index=10\n----\nok\n\n# here\n\ncampaign 1\n----\nok\n\nstabilize\n----\nok\n")
+        refused.write_text("campaign 1\n")
+        bug = f"{PLAIN} --bug no-empty-entry"
+        output, _, status = tool("run", "--with", bug, script)
+        found = re.search(rf"^{re.escape(str(script))}:11: stabilize: commit behind of node 1 after stabilize\n- 1 leader .*\n\+ 1 leader .*$", output, re.MULTILINE)
+        yield "a difference has its line", None if status == 1 and found else output
+        kind = re.search(r"^ +1  (.*)$", output, re.MULTILINE)
+        yield "and its kind in the table", None if kind and kind[1] == "commit behind after stabilize" else output
+        _, errors, status = tool("run", "--with", PLAIN, script, refused)
+        yield "a refused script", None if status == 3 and f"{refused}: script refused: NoSeparator at line 1" in errors else errors
+        _, errors, status = tool("run", "--with", PLAIN, pathlib.Path(folder) / "none.txt", script)
+        yield "a file that isn't there", None if status == 4 and "No such file" in errors else errors
+        output, errors, status = tool("run", "--with", PLAIN, folder, "--filter", "nothing")
+        yield "no script", None if status == 4 and "no script was found" in errors else errors
+        output, _, status = tool("run", "--with", PLAIN, "--verbose", script)
+        yield "what the nodes print", None if f"{script}:7: campaign 1\n  INFO 1 became candidate at term 1\n" in output else output
+        accepted.write_text(f"# known\n{script.name}\tcommit behind after stabilize\tour leaders begin without it\n")
+        output, _, status = tool("run", "--with", bug, "--accepted", accepted, script)
+        yield "an accepted difference", None if status == 0 and "accepted: our leaders begin without it" in output else output
+        accepted.write_text("votes.txt without tabs\n")
+        _, errors, status = tool("run", "--with", bug, "--accepted", accepted, script)
+        yield "a wrong line of accepted differences", None if status == 2 and f"{accepted}:1: a script, a kind and a reason" in errors else errors
+
+
+def part_etcd():
+    """etcd's nodes behind the protocol, where there is Go and etcd's source."""
+    done = subprocess.run([TESTS / "nodes" / "etcd"], capture_output=True, text=True, errors="replace", timeout=600)
+    *told, last = done.stdout.splitlines() or [""]
+    if last == "0 passed, 0 failed" and any(line.startswith("not tried: ") for line in told):
+        print("\n".join(told))
+        return
+    found = re.fullmatch(r"(\d+) passed, 0 failed", last)
+    yield "etcd's nodes", None if found and int(found[1]) > 0 and done.returncode == 0 else done.stdout[-2000:] + done.stderr[-500:]
+
+
+PARTS = [
+    part_judge, part_same_scripts, part_same_seeds, part_examples, part_misbehaving, part_starting, part_bugs, part_promises, part_explore, part_interrupt, part_first, part_without, part_switches,
+    part_words, part_etcd, *UNITS,
+]
+
+
+def results(word: str) -> Iterator[Result]:
+    """What each part tells."""
+    for part in PARTS:
+        name = part.__name__.removeprefix("part_").replace("_", "-")
+        if word not in name:
+            continue
+        begun = time.monotonic()
+        for what, wrong in part():
+            yield Result(f"{name}: {what}", () if wrong is None else (str(wrong),))
+        print(f"{name}: {time.monotonic() - begun:.1f} s", flush=True)

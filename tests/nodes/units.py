@@ -1,0 +1,317 @@
+"""Parts of nodes/ and of the plain node, each by itself: the runner's steps, restarts, reads, limits, promises over restarts, shrinking, children of
+scripts, exceptions. Each part generates pairs of a name and what is wrong, or None.
+"""
+from __future__ import annotations
+
+import re
+from collections.abc import Iterator
+from typing import Callable
+
+from nodes.hosted.accepted import exceptions_of
+from nodes.hosted.alone import run_alone
+from nodes.hosted.compare import Comparison
+from nodes.hosted.dice import steps_of
+from nodes.hosted.likes import Unknown, kind_with
+from nodes.hosted.mutate import Mutator
+from nodes.hosted.process import Process
+from nodes.hosted.promises import PROMISES, name_of
+from nodes.hosted.script import Step, blocks_of
+from nodes.hosted.shrink import Shrinker, with_joined_nodes
+from nodes.hosted.stage import Reference
+from nodes.hosted.steps import step_of, steps_above
+from nodes.hosted.watched import WatchedReference
+from plain.config import Change, Config
+from plain.node import Node
+from plain.records import Entry, Message, Options
+from tests.harness import TOP
+
+Checks = Iterator[tuple[str, "str | None"]]
+THREE = Config(frozenset({1, 2, 3}))
+
+
+def is_equal(came: object, wanted: object) -> str | None:
+    return None if came == wanted else f"{came!r}, and not {wanted!r}"
+
+
+def script(*lines: str) -> list[Step]:
+    """Steps, one a line; the runner's steps stand before their directive, with ` / ` between."""
+    return [Step(parts[-1], (), tuple(step for part in parts[:-1] if (step := step_of(part)))) for parts in (line.split(" / ") for line in lines)]
+
+
+def run(cluster: Reference, *lines: str) -> Reference:
+    for block in blocks_of(script(*lines)):
+        cluster.carry_out(steps_above(block))
+        cluster.run(block.directive())
+    return cluster
+
+
+def node_of(*entries: Entry) -> Node:
+    """A follower of three whose log begins at 0 and has these entries, all saved."""
+    node = Node(1, THREE, 0, b"", Options())
+    if entries:
+        node.step(Message("MsgApp", 2, 1, entries[-1].term, 0, 0, 0, entries))
+    node.ready()
+    node.advance()
+    return node
+
+
+def log(node: Node) -> list[tuple[int, bytes]]:
+    return [(entry.term, entry.body) for _, entry in node.entries_from(node.base + 1) if isinstance(entry.body, bytes)]
+
+
+# The runner's steps
+
+
+def part_steps() -> Checks:
+    """Each step of the document is read, and written as it was."""
+    table = (TOP / "docs/OWN-NODES.md").read_text().split("| Step | Does |")[1].split("\n\n")[0]
+    texts = [text for row in table.splitlines()[2:] for text in re.findall(r"`(# [^`]*|before advance|release 2 1|snapshot-arrived 1 2)`", row.split("|")[1])]
+    full = [{"before advance": "# node: crash 2 before advance", "release 2 1": "# network: release 2 1", "snapshot-arrived 1 2": "# node: snapshot-arrived 1 2"}.get(text, text) for text in texts]
+    yield "the document names all", is_equal(len(full), 16)
+    for text in full:
+        step = step_of(text)
+        yield text, is_equal(step and step.text(), text)
+    for text in ("# network: reverse", "# node: crash 2", "# node: crash 2 after lunch", "# network: hold 2", "network: reverse 2"):
+        yield f"{text!r} is none", is_equal(step_of(text), None)
+
+
+def part_network() -> Checks:
+    """What is held back waits, also what is sent later; late and doubled messages come in the order that the document says."""
+    begun = ("add-nodes 3 voters=(1,2,3) index=10", "campaign 1", "process-ready 1")
+    cluster = run(Reference(), *begun, "# network: hold 1 2 / deliver-msgs 2 3", "campaign 1", "process-ready 1", "deliver-msgs 2")
+    yield "held messages wait", is_equal([cluster.nodes[id].term for id in (2, 3)], [0, 1])
+    run(cluster, "# network: release 1 2 / deliver-msgs 2")
+    yield "and are delivered when they are released", is_equal(cluster.nodes[2].term, 2)
+    for name, wanted in (("late", [2, 3, 1]), ("reverse", [3, 2, 1]), ("double", [1, 2, 3, 3, 2, 1])):
+        cluster = run(Reference(), "add-nodes 2 voters=(1,2) index=10", *["campaign 1", "process-ready 1"] * 3, f"# network: {name} 2 / raft-state")
+        yield name, is_equal([m.term for m in cluster.network.pending if m.to == 2], wanted)
+    cluster = run(Reference(), "add-nodes 2 voters=(1,2) index=10", "campaign 1", "stabilize", "propose 1 a", "propose 1 b", "process-ready 1", "# network: cut 2 0 / raft-state")
+    yield "cut", is_equal([len(m.entries) for m in cluster.network.pending], [0, 0])
+
+
+# Restarts: what is saved is there, and nothing else (thesis, 3.8)
+
+
+def part_restarts() -> Checks:
+    vote = Message("MsgVote", 2, 1, 5, 0, 0)
+    for saved, wanted in (("nothing", (0, 0)), ("entries", (0, 0)), ("all", (5, 2))):
+        node = Node(1, THREE, 0, b"", Options())
+        node.step(vote)
+        node.ready()
+        node.restart(saved)
+        yield f"a vote of which {saved} was saved", is_equal((node.term, node.vote, node.role, node.lead), (*wanted, "follower", 0))
+    node = node_of(Entry(1, b"a"))
+    node.step(vote)
+    node.restart()
+    yield "a vote after the last save", is_equal((node.term, node.vote, log(node)), (1, 0, [(1, b"a")]))
+    for saved, entries in (("nothing", [(1, b"a")]), ("entries", [(1, b"a"), (1, b"b")]), ("all", [(1, b"a"), (1, b"b")])):
+        node = node_of(Entry(1, b"a"))
+        node.step(Message("MsgApp", 2, 1, 1, 1, 1, 1, (Entry(1, b"b"),)))
+        node.ready()
+        node.restart(saved)
+        yield f"an entry of which {saved} was saved", is_equal(log(node), entries)
+        yield f"and its commit, {saved}", is_equal((node.commit, node.applied), (1 if saved == "all" else 0, 0))
+    node = node_of(Entry(1, b"a"), Entry(1, b"b"))
+    node.step(Message("MsgApp", 3, 1, 2, 1, 1, 0, (Entry(2, b"c"),)))
+    node.restart()
+    yield "an entry that was overwritten and not saved is what it was", is_equal(log(node), [(1, b"a"), (1, b"b")])
+    node.step(Message("MsgApp", 3, 1, 2, 1, 1, 2, (Entry(2, b"c"),)))
+    node.ready()
+    node.advance()
+    yield "what is applied", is_equal(node.content, b"ac")
+    node.compact(1)
+    node.restart()
+    yield "a restart applies again from where the log begins", is_equal((node.base, node.applied, node.content, node.commit), (1, 1, b"a", 2))
+
+
+def part_between() -> Checks:
+    """What arrives between `ready` and `advance` isn't saved by that advance."""
+    node = node_of()
+    node.step(Message("MsgApp", 2, 1, 1, 0, 0, 0, (Entry(1, b"a"),)))
+    node.ready()
+    node.step(Message("MsgApp", 2, 1, 1, 1, 1, 0, (Entry(1, b"b"),)))
+    node.advance()
+    yield "a later entry is still to be saved", is_equal((node.durable, [m.index for m in node.ready().messages]), (1, [2]))
+    node = node_of()
+    node.step(Message("MsgApp", 2, 1, 1, 0, 0, 0, (Entry(1, b"a"), Entry(1, b"b"))))
+    node.ready()
+    node.step(Message("MsgApp", 3, 1, 2, 1, 1, 0, (Entry(2, b"c"),)))
+    node.advance()
+    yield "one in the place of another too", is_equal((node.durable, [index for index, _ in node.ready().entries]), (1, [2]))
+
+
+def part_reads() -> Checks:
+    """A leader serves a read once a quorum has answered heartbeats that it sent after the read was asked for, and once it has committed in its term (6.4)."""
+    cluster = run(Reference(), "add-nodes 3 voters=(1,2,3) index=10", "campaign 1", "stabilize", "tick-heartbeat 1", "process-ready 1", "deliver-msgs 2", "process-ready 2")
+    leader = cluster.nodes[1]
+    run(cluster, "# node: read 1 / deliver-msgs 1")
+    yield "an earlier answer doesn't count", is_equal(leader.ready().reads, ())
+    run(cluster, "process-ready 1", "deliver-msgs 2", "process-ready 2", "deliver-msgs 1")
+    yield "a later one does", is_equal([(read.id, read.index) for read in leader.ready().reads], [(1, 11)])
+    new = run(Reference(), "add-nodes 3 voters=(1,2,3) index=10", "campaign 1", "process-ready 1", "deliver-msgs 2", "process-ready 2", "# node: read 1 / deliver-msgs 1", "# node: read 1 / stabilize")
+    yield "a new leader declines", is_equal([line for line in new.lines if "can't read 2" in line or "reads" in line][:1], [])
+    yield "and has none under way", is_equal(isinstance(new.nodes[1], Node) and new.nodes[1].reads, {})
+
+
+def part_limits() -> Checks:
+    for limit, wanted in ((0, 4), (1, 1), (2, 2), (4, 3)):
+        node = Node(1, THREE, 0, b"", Options(max_size_per_msg=limit))
+        entries = tuple(Entry(1, body) for body in (b"a", b"", b"bc", b"d"))
+        yield f"a limit of {limit}", is_equal(len(node.limited(entries)), wanted)
+
+
+# Promises
+
+
+def broken_by(kind: type[Node], *lines: str) -> set[str]:
+    cluster = WatchedReference(kind)
+    for block in blocks_of(script(*lines)):
+        cluster.carry_out(steps_above(block))
+        cluster.look_at_logs()
+        cluster.run(block.directive())
+        cluster.look_at_logs()
+    return set(map(name_of, cluster.promises.broken))
+
+
+class ForgetsVote(Node):
+    def restart(self, saved: str = "nothing") -> None:
+        super().restart(saved)
+        self.vote = 0
+
+
+class ForgetsEntries(Node):
+    def restart(self, saved: str = "nothing") -> None:
+        super().restart(saved)
+        self.entries, self.durable = [], self.base
+
+
+class Acknowledges(Node):
+    def send(self, kind: str, to: int, **parts: object) -> None:
+        if kind == "MsgAppResp" and to != self.id and not parts.get("refused"):
+            parts["index"] = self.last() + 1
+        super().send(kind, to, **parts)
+
+
+class CommitsAlone(Node):
+    def commits(self) -> bool:
+        moves, self.commit = self.last() > self.commit, self.last()
+        return moves
+
+
+BEGUN = ("add-nodes 3 voters=(1,2,3) index=10", "campaign 1", "stabilize", "propose 1 a", "stabilize")
+BREAKING: list[tuple[type[Node], tuple[str, ...], set[str]]] = [
+    (Node, (*BEGUN, "# node: restart 2 / raft-state", "# node: crash 1 before save / stabilize"), set()),
+    (Node, (*BEGUN, "campaign 2", "# node: crash 2 before save / raft-state", "campaign 2", "stabilize"), set()),
+    (ForgetsVote, (*BEGUN, "# node: restart 2 / raft-state"), {"a restart keeps term and vote"}),
+    (ForgetsEntries, (*BEGUN, "# node: restart 2 / raft-state"), {"a restart keeps saved entries", "a restart keeps what was acknowledged"}),
+    (ForgetsEntries, ("add-nodes 3 voters=(1,2,3) index=10", "# node: restart 2 / raft-state"), set()),
+    (Acknowledges, BEGUN, {"what is acknowledged is held"}),
+    (CommitsAlone, ("add-nodes 3 voters=(1,2,3) index=10", "campaign 1", "process-ready 1", "deliver-msgs 2", "process-ready 2", "deliver-msgs 1", "propose 1 a", "process-ready 1"), {"a quorum holds what a leader commits"}),
+]
+
+
+def part_promises_of_restarts() -> Checks:
+    for number, (kind, lines, wanted) in enumerate(BREAKING, 1):
+        yield f"{kind.__name__}, {number}", is_equal(broken_by(kind, *lines), wanted)
+    shown = (TOP / "nodes/hosted/promises.py").read_text()
+    noted = set(re.findall(r"(?:note\(f\"|note\(self\.length, f\"|note\(place, f\")([a-z',\- ]+):", shown + (TOP / "nodes/hosted/alone.py").read_text()))
+    yield "each promise is in the table", None if noted <= set(PROMISES) and len(PROMISES) == 20 else f"{noted - set(PROMISES)}"
+
+
+def part_alone() -> Checks:
+    """A leader that asks a follower for ever is found by healing; the plain node heals."""
+    lines = script(*BEGUN, "propose 1 b", "process-ready 1", "deliver-msgs 2 drop=(3)", "process-ready 2", "deliver-msgs 1", "campaign 2", "process-ready 2")
+    for bug, wanted in (((), []), (("--bug", "never-steps-back"), ["promise broken: comes to rest"])):
+        process = Process([str(TOP / "nodes/plain"), *bug])
+        try:
+            kinds = [kind for kind, _ in run_alone(blocks_of(lines), process, Comparison()).kinds()]
+        finally:
+            process.close()
+        yield f"nodes/plain {' '.join(bug)}", is_equal(kinds, wanted)
+
+
+def part_exceptions() -> Checks:
+    yield "a promise with its reason", is_equal(exceptions_of(["one vote a term: we know"]), frozenset({"one vote a term"}))
+    for wrong in ("one vote a term", "no such promise: why", "one vote a term: "):
+        try:
+            exceptions_of([wrong])
+            yield wrong, "is taken"
+        except Unknown:
+            yield wrong, None
+
+
+# Switches that libraries other than etcd's need
+
+
+def switched(name: str, *lines: str) -> Reference:
+    return run(Reference(kind_with({name})), *lines)
+
+
+def part_other_switches() -> Checks:
+    split = ("add-nodes 3 voters=(1,2,3) index=10", "campaign 1", "campaign 2", "process-ready 1 2", "deliver-msgs 1 2 3", "process-ready 1 2 3", "deliver-msgs 1 2")
+    roles = [[run(Reference(), *split).nodes[id].role for id in (1, 2)], [switched("refused-candidate-stays", *split).nodes[id].role for id in (1, 2)]]
+    yield "refused-candidate-stays", is_equal([sorted(pair) for pair in roles], [["candidate", "leader"], ["candidate", "leader"]] if "follower" not in roles[0] else [["follower", "leader"], ["candidate", "leader"]])
+    changed = ("add-nodes 3 voters=(1,2,3) index=10", "campaign 1", "stabilize")
+    cluster = switched("change-counts-when-appended", *changed)
+    cluster.nodes[1].propose_change(Change("auto", (("l", 3),)))
+    yield "change-counts-when-appended", is_equal(cluster.nodes[1].config, Config(frozenset({1, 2}), learners=frozenset({3})))
+    usual = run(Reference(), *changed)
+    usual.nodes[1].propose_change(Change("auto", (("l", 3),)))
+    yield "and not without it", is_equal(usual.nodes[1].config, THREE)
+    sent = ("propose 1 a", "process-ready 1", "deliver-msgs 2", "process-ready 2", "deliver-msgs 1", "process-ready 1")
+    commits = [[m.commit for m in cluster.network.pending if m.to == 2] for cluster in (run(Reference(), *changed, *sent), switched("commit-told-later", *changed, *sent))]
+    yield "commit-told-later", is_equal(commits, [[12], []])
+    at_follower = ("propose 2 b", "process-ready 2")
+    yield "proposal-refused", is_equal([len(run(Reference(), *changed, *at_follower).network.pending), len(switched("proposal-refused", *changed, *at_follower).network.pending)], [1, 0])
+    asks = ("campaign 3", "process-ready 3", "deliver-msgs 2")
+    yield "known-leader-refuses", is_equal([run(Reference(), *changed, *asks).nodes[2].term, switched("known-leader-refuses", *changed, *asks).nodes[2].term], [2, 1])
+    yield "lead-is-kept", is_equal([run(Reference(), *changed, *asks).nodes[2].lead, switched("lead-is-kept", *changed, *asks).nodes[2].lead], [0, 1])
+    applied = ("propose 1 a", "stabilize", "# node: restart 2 / raft-state")
+    yield "restart-keeps-applied", is_equal([run(Reference(), *changed, *applied).nodes[2].content, switched("restart-keeps-applied", *changed, *applied).nodes[2].content], [b"", b"a"])
+    snapshots = [cluster.nodes[1].snapshot_for(2).snapshot for cluster in (run(Reference(), *changed), switched("last-snapshot-sent", *changed))]
+    yield "last-snapshot-sent", is_equal([snapshot and snapshot.index for snapshot in snapshots], [11, 10])
+    alone = ("add-nodes 1 voters=1 index=10", "campaign 1")
+    nodes = [switched(name, *alone).nodes[1] for name in ("own-vote-at-once", "own-answers-at-once")]
+    yield "own-vote-at-once", is_equal([(node.role, node.commit) for node in nodes], [("leader", 10), ("leader", 11)])
+
+
+# Shrinking, and children
+
+
+def part_shrinking() -> Checks:
+    def campaigns(steps: list[Step]) -> bool:
+        return any(step.head in ("campaign 2", "tick-election 2") for step in steps)
+
+    steps = script("add-nodes 3 voters=(1,2,3) index=10", "raft-state", "tick-election 2", "status 1")
+    yield "ticks give way to a campaign", is_equal(Shrinker(campaigns, 200).shrunk(steps), script("campaign 2"))
+    joined = next(with_joined_nodes(script("add-nodes 1 voters=(1,2) index=10", "raft-state", "add-nodes 1")), None)
+    yield "two add-nodes are one", is_equal(joined, script("add-nodes 2 voters=(1,2) index=10", "raft-state"))
+
+    def leads(steps: list[Step]) -> bool:
+        cluster = run(Reference(), *(step.text() for step in steps))
+        return any(node.role == "leader" for node in cluster.nodes.values())
+
+    shrunk = Shrinker(leads, 400).shrunk(script("add-nodes 5 voters=(1,2,3,4,5) index=10", "raft-state", "campaign 3", "stabilize log-level=none", "propose 3 abc", "stabilize"))
+    yield "nodes that aren't needed go", is_equal([step.head for step in shrunk], ["add-nodes 1 voters=(1) index=2", "campaign 1", "stabilize"])
+    asked: list[int] = []
+
+    def never(steps: list[Step]) -> bool:
+        asked.append(len(steps))
+        return False
+
+    Shrinker(never, 7).shrunk(script(*["raft-state"] * 20))
+    yield "it is asked as often as it may be", None if len(asked) <= 7 else f"{len(asked)}"
+
+
+def part_children() -> Checks:
+    parents = [steps_of(seed) for seed in range(8)]
+    children = [Mutator(seed).child(parents[seed], parents[-1 - seed]) for seed in range(8)]
+    yield "the same seed gives the same child", is_equal(children, [Mutator(seed).child(parents[seed], parents[-1 - seed]) for seed in range(8)])
+    yield "children differ from their parents", is_equal([child != parent for child, parent in zip(children, parents)], [True] * 8)
+    yield "and are scripts", is_equal([len(blocks_of(child)) for child in children], [len(child) for child in children])
+    yield "the same seed gives the same script", is_equal(parents, [steps_of(seed) for seed in range(8)])
+
+
+UNITS: list[Callable[[], Checks]] = [
+    part_steps, part_network, part_restarts, part_between, part_reads, part_limits, part_promises_of_restarts, part_alone, part_exceptions, part_other_switches, part_shrinking, part_children,
+]

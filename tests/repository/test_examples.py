@@ -1,0 +1,110 @@
+"""Runs the scripts of examples/, which expect what comes, and holds the recorded conversation. The conversation in
+docs/SESSION.md is the recorded one. Each script that a document shows answers as it stands there, or is refused as the
+line below it says; what README.md shows first and of the tour's first script, and what docs/SESSION.md shows of a mismatch in that, is so, and README.md
+names the whole tour.
+"""
+import pathlib
+import re
+import subprocess
+import tempfile
+from collections.abc import Iterator
+
+from tests.harness import PROGRAM, TOP
+
+TALK = TOP / "examples" / "conversation"
+
+
+def answer(*words: str | pathlib.Path, given: bytes = b"") -> tuple[int, bytes, bytes]:
+    """The status, the output and the errors."""
+    done = subprocess.run([PROGRAM, *words], input=given, capture_output=True)
+    return done.returncode, done.stdout, done.stderr
+
+
+def test_scripts() -> Iterator[str]:
+    """Each script matches, and is rewritten to itself."""
+    for path in sorted(TOP.glob("examples/**/*.txt")):
+        if path.parent == TALK and path.name != "script.txt":
+            continue
+        status, report, told = answer("run", path)
+        if status != 0 or not re.fullmatch(rb"\d+ directives, 0 mismatches\n", report) or told:
+            yield f"{path.relative_to(TOP)}: status {status}, {report + told!r}"
+        # What is expected is what comes, so that rewriting changes no expectation.
+        status, rewritten, told = answer("rewrite", path)
+        if status != 0 or rewritten.rstrip(b"\n") != path.read_bytes().rstrip(b"\n") or told:
+            yield f"{path.relative_to(TOP)}: is rewritten to {rewritten + told!r}"
+
+
+def test_conversation() -> Iterator[str]:
+    """The recorded conversation is held again, and docs/SESSION.md shows it."""
+    sent, wanted = (TALK / "sent.txt").read_bytes(), (TALK / "answered.txt").read_bytes()
+    came = answer("session", TALK / "script.txt", given=sent)
+    if came != (0, wanted, b""):
+        yield f"the conversation: {came!r}"
+    shown = (TOP / "docs" / "SESSION.md").read_bytes().split(b"## A conversation")[1].split(b"```\n")[3].splitlines(True)
+    if b"".join(line[2:] for line in shown if line.startswith(b"> ")) != sent:
+        yield "docs/SESSION.md shows another conversation"
+    if b"".join(line for line in shown if not line.startswith(b"> ")) != wanted:
+        yield "docs/SESSION.md shows other answers"
+
+
+def fences(path: pathlib.Path) -> Iterator[tuple[str, str]]:
+    """What stands between two fences, each with the line of text that follows it."""
+    parts = re.split(r"^```\n", path.read_text(), flags=re.M)
+    for i in range(1, len(parts) - 1, 2):
+        yield parts[i], parts[i + 1].strip().split("\n")[0]
+
+
+def test_documents() -> Iterator[str]:
+    """What the documents show is so."""
+    readme, session = TOP / "README.md", TOP / "docs" / "SESSION.md"
+    ran = 0
+    for path in sorted((TOP / "docs").glob("*.md")):
+        for text, after in fences(path):
+            if "\n----\n" not in text or path == session:
+                continue
+            ran += 1
+            came = answer("run", "-", given=text.encode())
+            refused = re.match(r"This is refused, `(\w+)` at line (\d+)", after)
+            wanted = (3, b"", "raftbench: script refused: {} at line {}\n".format(*refused.groups()).encode()) if refused else None
+            if came != wanted if refused else came[0] != 0 or not came[1].endswith(b" 0 mismatches\n"):
+                yield f"{path.name}: {text[:60]!r} answers {came!r}"
+    if not ran:
+        yield "no document shows a script"
+    tour = (TOP / "examples" / "tour" / "01-election.txt").read_text()
+    first, check, edit, shown, record = [text for text, _ in fences(readme)]
+    report = next(text for text, _ in fences(session) if text.startswith("mismatch "))
+    yield from check_first_screen(first, check, edit)
+    if not tour.startswith(shown):
+        yield "README.md shows another script than examples/tour/01-election.txt"
+    # The first election that is won, with another word.
+    before, _, after = tour.partition(": won\n")
+    wrong = before + ": pending\n" + after
+    if answer("run", "-", given=wrong.encode()) != (1, report.encode(), b""):
+        yield "docs/SESSION.md shows another report"
+    named = set(re.findall(r"\b\d\d-[a-z-]+\.txt", readme.read_text()))
+    if named != {path.name for path in TOP.glob("examples/tour/*.txt")}:
+        yield "README.md names other scripts than examples/tour has"
+    recorded = answer("rewrite", "-", given=record.encode())
+    if recorded[0] != 0 or not answer("run", "-", given=recorded[1])[1].endswith(b" 0 mismatches\n"):
+        yield "README.md shows a script that can't be recorded"
+    if next(fences(session))[0] != (TALK / "script.txt").read_text():
+        yield "docs/SESSION.md shows another script than examples/conversation/script.txt"
+
+
+def check_first_screen(script: str, report: str, edit: str) -> Iterator[str]:
+    """What README.md shows first: a script, what `check` says of it, an edit of a script of 10,000 directives, and a first report."""
+    timeless = re.compile(rb"\d+\.\d{3} s\n\Z")
+    done = subprocess.run([PROGRAM, "check", "examples/tour"], cwd=TOP, capture_output=True)
+    if done.returncode != 0 or b"\n\n    " + timeless.sub(b"", done.stdout) not in (TOP / "README.md").read_bytes():
+        yield f"README.md shows another first report: {done!r}"
+    with tempfile.TemporaryDirectory() as room:
+        path = pathlib.Path(room, "scripts", "first.txt")
+        path.parent.mkdir()
+        path.write_text(script)
+        done = subprocess.run([PROGRAM, "check", "scripts"], cwd=room, capture_output=True)
+        if (done.returncode, timeless.sub(b"", done.stdout)) != (1, timeless.sub(b"", report.encode())):
+            yield f"README.md shows another report of its first script: {done!r}"
+        path.write_text("add-nodes 1 voters=(1) index=10\n----\nINFO 1 started at 1/10 with voters=(1)\n\n" + "log-level info\n----\nok\n\n" * 9_999)
+        asked, _, answered = edit.partition("done ")
+        if answer("session", path, given=asked.encode())[1] != f"done {answered}".encode():
+            yield "README.md shows another edit"

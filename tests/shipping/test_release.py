@@ -1,0 +1,272 @@
+"""Releases from a small clone whose program only pretends, and looks at the archive: what is in it, what PROOF says, and that a second run,
+by another clone and under other settings, gives the same bytes. Where the program is built, it is started in a bare root folder
+that has nothing but what the system's loader lists, and docs/CI.md's hook and jobs are carried out with an archive of it.
+"""
+import hashlib
+import os
+import pathlib
+import re
+import shutil
+import subprocess
+import tarfile
+from typing import Any
+
+from tests.harness import BUILT, TOP, NotHere, matched
+from tests.shipping.places import Place, kept, put_program
+
+KIT = "kit-1 logic ab"
+PRETENDING = f"#!/bin/sh\n[ \"$1\" = --version ] && echo 'raftbench 1.2.3, proved with {KIT}'\nexit 0\n"
+# It proves nothing, and makes a program if it is told to prove first, with what is kept of a build.
+WRAPPER = """#!/bin/sh
+[ "$RAFTBENCH_PROVE_FIRST ${RAFTBENCH_BUILT_AFTER-no} ${RAFTBENCH_UNPROVED-no}" = "1 no no" ] || exit 9
+cd "$(dirname "$0")" && mkdir -p crates/raftbench/out && cp made crates/raftbench/out/raftbench
+printf '%s\\n' 'a sum' 'another' low mid raftbench >crates/raftbench/out/built.sums
+"""
+CRATES = ("low", "mid", "other", "raftbench")
+SAVE = ["-c", "user.name=x", "-c", "user.email=x@x", "commit", "-q", "-m", "one"]
+MATCHING = "add-nodes 1 voters=(1) index=10\n----\nINFO 1 started at 1/10 with voters=(1)\n"
+
+
+class Clone(Place):
+    """A small clone with a commit."""
+
+    def __init__(self, room: pathlib.Path) -> None:
+        # No setting of whoever runs this.
+        os.environ.update(GIT_CONFIG_GLOBAL=os.devnull, GIT_CONFIG_NOSYSTEM="1")
+        super().__init__(room, "release", "install", "README.md", "share", "editors", "docs", "examples")
+        for name in CRATES:
+            self.write(f"crates/{name}/src/lib.rt", f"{name}\n")
+        self.write(".gitignore", "out/\n")
+        self.write("raftbench", WRAPPER)
+        self.write("made", PRETENDING)
+        self.git("init", "-q")
+        self.save()
+
+    def take_the_built(self) -> None:
+        """The program that is built, where it is."""
+        if not BUILT.exists():
+            raise NotHere
+        shutil.copy(BUILT, self.clone / "made")
+        self.save()
+
+    def git(self, *words: str | pathlib.Path, at: pathlib.Path | None = None) -> str:
+        status, output, told = self.call(words, program="git", cwd=at or self.clone)
+        assert status == 0, (words, told)
+        return output.strip()
+
+    def save(self) -> None:
+        self.git("add", "-A")
+        self.git(*SAVE)
+
+    def archive(self, *words: str, **how: Any) -> pathlib.Path:
+        status, output, told = self.call(words, **how)
+        assert (status, told) == (0, ""), (status, output, told)
+        return self.room / output.strip()
+
+
+def test_has_what_is_used(place: Clone) -> None:
+    path = place.archive()
+    assert path.name == f"raftbench-1.2.3-{os.uname().machine}.tar.gz", path
+    with tarfile.open(path) as packed:
+        members = packed.getmembers()
+    name = path.name.removesuffix(".tar.gz")
+    assert [it.name for it in members] == sorted((it.name for it in members), key=lambda it: it.split("/")), "not in order"
+    there = {it.name.removeprefix(f"{name}/") for it in members if it.isfile()}
+    wanted = {"PROOF", "README.md", "bin/raftbench", "bin/raftbench-from-etcd"}
+    wanted |= {f"{it}/{path}" for it in ("docs", "examples") for path in kept(TOP / it)}
+    wanted |= {f"share/{path}" for path in kept(TOP / "share")}
+    wanted |= {f"share/raftbench/editors/{path}" for path in kept(TOP / "editors") if path != "from-etcd"}
+    assert there == wanted, there ^ wanted
+    when = int(place.git("log", "-1", "--format=%ct"))
+    for it in members:
+        assert (it.uid, it.gid, it.mtime) == (0, 0, when), it.get_info()
+        assert it.mode == (0o755 if it.isdir() or f"{name}/bin/" in it.name else 0o644), it.get_info()
+    assert not list(place.room.glob(".raftbench*")), "something is left"
+
+
+def read_from(path: pathlib.Path, name: str) -> bytes:
+    with tarfile.open(path) as packed:
+        file = packed.extractfile(f"{path.name.removesuffix('.tar.gz')}/{name}")
+        assert file, f"{name} is no file"
+        return file.read()
+
+
+def test_says_what_was_proved(place: Clone) -> None:
+    path = place.archive()
+    told = read_from(path, "PROOF").decode()
+    commit = place.git("rev-parse", "HEAD")
+    assert told.startswith(f"raftbench 1.2.3 for {os.uname().machine}\n"), told
+    assert f"\ncommit    {commit}\nkit       {KIT}\nprogram   bin/raftbench, sha256 {hashlib.sha256(PRETENDING.encode()).hexdigest()}\nloads     nothing\n" in told, told
+    # Each crate of the program after those that it stands on, and no other.
+    rows = re.findall(r"^(\w+) +proved +([0-9a-f]{40,})$", told, re.M)
+    assert rows == [(name, place.git("rev-parse", f"HEAD:crates/{name}")) for name in ("low", "mid", "raftbench")], rows
+    assert f"    git checkout {commit}\n" in told and "sha256sum crates/raftbench/out/raftbench" in told, told
+
+
+def test_gives_the_same_bytes(place: Clone) -> None:
+    first = place.archive().read_bytes()
+    other = place.room / "another clone"
+    place.git("clone", "-q", ".", other)
+    for path in other.rglob("*.md"):
+        os.utime(path, (1, 1))
+    (place.room / "to").mkdir()
+    old = os.umask(0o077)
+    try:
+        around = {"TZ": "Asia/Tokyo", "LC_ALL": "C.UTF-8", "HOME": str(place.room), "RAFTBENCH_BUILT_AFTER": "/", "RAFTBENCH_UNPROVED": "1"}
+        second = place.archive("to", program=other / "release", around=around).read_bytes()
+    finally:
+        os.umask(old)
+    assert first == second
+    # Another commit gives others.
+    (place.clone / "README.md").write_text("another\n")
+    place.save()
+    assert place.archive().read_bytes() != first
+
+
+def test_packs_a_commit_alone(place: Clone) -> None:
+    (place.clone / "crates/low/src/lib.rt").write_text("changed\n")
+    status, told, error = place.call("")
+    assert (status, told) == (1, "") and "crates/low/src/lib.rt" in error, (status, told, error)
+    place.git("checkout", "-q", ".")
+    (place.clone / "new").write_text("new\n")
+    assert place.call("")[0] == 1
+    (place.clone / "new").unlink()
+    shutil.rmtree(place.clone / ".git")
+    status, told, error = place.call("", around={"GIT_CEILING_DIRECTORIES": str(place.room)})
+    assert (status, told) == (1, "") and "no clone" in error, (status, told, error)
+    assert not list(place.room.glob("*.tar.gz"))
+
+
+def test_fails_plainly(place: Clone) -> None:
+    assert place.call("--help") == (0, "usage: ./release [FOLDER]\n", "")
+    assert place.call("a b")[0] == 2 and place.call("--nothing")[0] == 2
+    status, told, error = place.call("nowhere")
+    assert (status, told) == (1, "") and "nowhere is no folder" in error, error
+    (place.clone / "made").write_text("#!/bin/sh\necho otherwise\n")
+    place.save()
+    status, told, error = place.call("")
+    assert (status, told) == (1, "") and "otherwise" in error, error
+    (place.clone / "raftbench").write_text("#!/bin/sh\nexit 70\n")
+    place.save()
+    assert place.call("")[0] == 70
+    assert not list(place.room.glob("*.tar.gz")) and not list(place.room.glob(".raftbench*"))
+
+
+def loaded_with(program: pathlib.Path, before: str = "") -> list[str]:
+    """The files that the system's loader lists behind this, and the loader itself, which stands without an arrow."""
+    if not shutil.which("ldd"):
+        raise NotHere
+    listed = subprocess.run(["ldd", program], capture_output=True, text=True, check=True).stdout
+    return re.findall(rf"{before}(/\S+) \(0x", listed, re.M)
+
+
+def in_root(root: pathlib.Path, *words: str) -> subprocess.CompletedProcess[str]:
+    """A call in a root folder of its own; by a user's namespace, where this isn't the root user."""
+    chroot, unshare = (shutil.which(name, path=f"{os.environ['PATH']}:/usr/sbin:/sbin") or "" for name in ("chroot", "unshare"))
+    if not chroot or os.geteuid() and not unshare:
+        raise NotHere("chroot or unshare")
+    around = [unshare, "--user", "--map-root-user"] if os.geteuid() else []
+    nothing: dict[str, str] = {}
+    return subprocess.run([*around, chroot, root, *words], capture_output=True, text=True, env=nothing)
+
+
+def test_starts_in_a_bare_root(place: Clone) -> None:
+    """Nothing of the toolchain, no shell and no other file is there."""
+    if not BUILT.exists():
+        raise NotHere
+    root = place.room / "root"
+    for path in loaded_with(BUILT):
+        target = root / path.lstrip("/")
+        target.parent.mkdir(parents=True, exist_ok=True)
+        shutil.copy(path, target)
+    assert len(kept(root)) <= 5 and all(re.match(r"(?:.*/)?(?:ld-|ld64|lib(?:c|m|gcc_s)\.so)", name) for name in kept(root)), kept(root)
+    shutil.copy(BUILT, root / "raftbench")
+    shutil.copytree(TOP / "examples/tour", root / "tour")
+    done = in_root(root, "/raftbench", "--version")
+    if re.search(r"not permitted|denied|unshare failed", done.stderr):
+        raise NotHere
+    assert done.returncode == 0 and done.stdout.startswith("raftbench "), done
+    done = in_root(root, "/raftbench", "check", "/tour")
+    assert done.returncode == 0 and re.match(r"\d+ scripts, \d+ directives, 0 mismatches, 0 refused, ", done.stdout), done
+    (root / "tour/01-election.txt").write_text("add-nodes 1\n----\nno\n")
+    assert in_root(root, "/raftbench", "check", "/tour").returncode == 1
+
+
+def shown_in(document: pathlib.Path, language: str) -> list[str]:
+    """What a document shows in this language, in order."""
+    return re.findall(rf"^```{language}\n(.*?)^```$", document.read_text(), re.M | re.S)
+
+
+def put_archive(place: Clone, into: pathlib.Path) -> pathlib.Path:
+    path = place.archive()
+    with tarfile.open(path) as packed:
+        packed.extractall(into)
+    return into / path.name.removesuffix(".tar.gz")
+
+
+def test_stops_a_commit(place: Clone) -> None:
+    """By docs/CI.md's hook, in both of its forms, with the unpacked archive's program in the path; PROOF names what that loads."""
+    place.take_the_built()
+    hook, for_changes, *_ = shown_in(TOP / "docs/CI.md", "sh")
+    folder = put_archive(place, place.room)
+    loads = matched(r"^loads     (.*)$", (folder / "PROOF").read_text())[1]
+    assert sorted(loads.split(",")[0].split()) == sorted(pathlib.Path(it).name for it in loaded_with(BUILT, "=> ")), loads
+    around = {"PATH": f"{folder / 'bin'}:{os.environ['PATH']}"}
+    theirs = place.room / "theirs"
+    (theirs / "tests").mkdir(parents=True)
+    script = theirs / "tests/one.txt"
+    script.write_text(MATCHING)
+    place.git("init", "-q", at=theirs)
+    put_program(theirs / ".git/hooks/pre-commit", hook)
+
+    def commit() -> tuple[int, str, str]:
+        place.git("add", "-A", at=theirs)
+        return place.call(SAVE, program="git", cwd=theirs, around=around)
+
+    status, *told = commit()
+    assert status == 0, told
+    for text in (hook, re.sub(r"^git ls-files .*\n", lambda _: for_changes, hook, flags=re.M)):
+        put_program(theirs / ".git/hooks/pre-commit", text)
+        script.write_text(MATCHING.replace("1/10", "1/11"))
+        status, *told = commit()
+        assert status != 0 and "tests/one.txt:1: add-nodes" in "".join(told), told
+        # What is staged counts, whatever the working copy is.
+        script.write_text(MATCHING)
+        status, *told = place.call(SAVE, program="git", cwd=theirs, around=around)
+        assert status != 0 and "tests/one.txt:1: add-nodes" in "".join(told), told
+
+
+def carried_out(job: str, folder: pathlib.Path) -> subprocess.CompletedProcess[str]:
+    """The first of a job's commands that fails, or the last: they stand behind `run:`, or in the list below `script:`."""
+    commands = re.findall(r"^ *- run: (.*)$", job, re.M) + re.findall(r"^    - (?!uses|run)(.*)$", job, re.M)
+    assert len(commands) > 1, job
+    for command in commands:
+        done = subprocess.run(["sh", "-e", "-c", command], cwd=folder, capture_output=True, text=True)
+        if done.returncode:
+            break
+    return done
+
+
+def test_carries_out_the_jobs(place: Clone) -> None:
+    """Each job's commands, in a folder that has the archive and its sum, as docs/CI.md says."""
+    place.take_the_built()
+    archive = place.archive()
+    jobs = [job for job in shown_in(TOP / "docs/CI.md", "yaml") if "raftbench check" in job]
+    assert len(jobs) == 2, jobs
+    name = matched(r"raftbench-[0-9.]+-x86_64\.tar\.gz", jobs[0])[0]
+    for at, job in enumerate(jobs):
+        theirs = place.room / f"job {at}"
+        (theirs / "tests").mkdir(parents=True)
+        (theirs / "tools").mkdir()
+        (theirs / "tests/one.txt").write_text(MATCHING)
+        shutil.copy(archive, theirs / "tools" / name)
+        (theirs / "tools/raftbench.sha256").write_text(f"{hashlib.sha256(archive.read_bytes()).hexdigest()}  tools/{name}\n")
+        done = carried_out(job, theirs)
+        told = ("", "::error file=tests/one.txt,line=1,") if "--format github" in job else ("1 script, 1 directive, 0 mismatches", "tests/one.txt:1: add-nodes")
+        assert done.returncode == 0 and told[0] in done.stdout, (job, done)
+        (theirs / "tests/one.txt").write_text(MATCHING.replace("1/10", "1/11"))
+        done = carried_out(job, theirs)
+        assert done.returncode == 1 and told[1] in done.stdout, done
+        (theirs / "tools" / name).write_bytes(b"another archive")
+        done = carried_out(job, theirs)
+        assert done.returncode == 1 and "FAILED" in done.stdout, done
