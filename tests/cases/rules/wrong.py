@@ -2,20 +2,39 @@
 folder names those that it must notice.
 """
 
+from __future__ import annotations
+
+import contextlib
+from collections.abc import Callable, Iterator
+
 import nodes.hosted.bugs  # noqa: F401 (fills BUGS)
 from nodes.hosted.planting import BUGS
-from plain.config import changed
-from plain.node import Node
-
-
-def wrong(Kind):
-    """Puts a kind of node under its name, in small letters with hyphens."""
-    name = "".join(f"-{letter.lower()}" if letter.isupper() else letter for letter in Kind.__name__)
-    WRONG[name.lstrip("-")] = Kind
-    return Kind
-
+from plain.config import Change, changed
+from plain.node import Node, View
+from plain.records import Message, Ready, Snapshot
 
 WRONG = dict(BUGS)
+
+
+def wrong(kind: type[Node]) -> type[Node]:
+    """Puts a kind of node under its name, in small letters with hyphens."""
+    name = "".join(f"-{letter.lower()}" if letter.isupper() else letter for letter in kind.__name__)
+    WRONG[name.lstrip("-")] = kind
+    return kind
+
+
+@contextlib.contextmanager
+def replaced(node: Node, name: str, stand_in: Callable[..., object]) -> Iterator[None]:
+    """Puts another function in the place of one node's method for a while."""
+    setattr(node, name, stand_in)
+    yield
+    delattr(node, name)
+
+
+def snapshot_of(m: Message) -> Snapshot:
+    """The snapshot that a MsgSnap has."""
+    assert m.snapshot is not None
+    return m.snapshot
 
 
 # Terms
@@ -23,13 +42,13 @@ WRONG = dict(BUGS)
 
 @wrong
 class LeaseBindsTransfers(Node):
-    def is_undisturbed(self, m) -> bool:
+    def is_undisturbed(self, m: Message) -> bool:
         return super().is_undisturbed(m._replace(by_transfer=False))
 
 
 @wrong
 class LeadsOnInALaterTerm(Node):
-    def raise_term(self, m) -> None:
+    def raise_term(self, m: Message) -> None:
         if self.role == "leader":
             self.term = m.term
         else:
@@ -38,7 +57,7 @@ class LeadsOnInALaterTerm(Node):
 
 @wrong
 class AsksAndLeads(Node):
-    def raise_term(self, m) -> None:
+    def raise_term(self, m: Message) -> None:
         super().raise_term(m)
         if m.kind == "MsgVote":
             self.lead = m.sender
@@ -46,31 +65,31 @@ class AsksAndLeads(Node):
 
 @wrong
 class QuestionRaisesTerm(Node):
-    def raise_term(self, m) -> None:
+    def raise_term(self, m: Message) -> None:
         self.follow(m.term, 0) if m.kind == "MsgPreVote" else super().raise_term(m)
 
 
 @wrong
 class QuestionOfOldIsIgnored(Node):
-    def answer_older(self, m) -> None:
+    def answer_older(self, m: Message) -> None:
         self.ignore(m) if m.kind == "MsgPreVote" else super().answer_older(m)
 
 
 @wrong
 class LeaderOfOldIsIgnored(Node):
-    def answer_older(self, m) -> None:
+    def answer_older(self, m: Message) -> None:
         self.ignore(m) if m.kind in ("MsgApp", "MsgHeartbeat") else super().answer_older(m)
 
 
 @wrong
 class LeaderOfOldIsAnswered(Node):
-    def answer_older(self, m) -> None:
+    def answer_older(self, m: Message) -> None:
         self.send("MsgAppResp", m.sender) if m.kind in ("MsgApp", "MsgHeartbeat") else super().answer_older(m)
 
 
 @wrong
 class ProposalsHaveATerm(Node):
-    def step(self, m) -> None:
+    def step(self, m: Message) -> None:
         if m.term < self.term and m.kind == "MsgProp":
             self.ignore(m)
         else:
@@ -82,7 +101,7 @@ class ProposalsHaveATerm(Node):
 
 @wrong
 class VotesUnderALeader(Node):
-    def answer_candidate(self, m) -> None:
+    def answer_candidate(self, m: Message) -> None:
         lead, self.lead = self.lead, 0
         super().answer_candidate(m)
         self.lead = lead
@@ -90,7 +109,7 @@ class VotesUnderALeader(Node):
 
 @wrong
 class VoteKeepsTheTimer(Node):
-    def answer_candidate(self, m) -> None:
+    def answer_candidate(self, m: Message) -> None:
         elapsed = self.elapsed
         super().answer_candidate(m)
         self.elapsed = elapsed
@@ -98,7 +117,7 @@ class VoteKeepsTheTimer(Node):
 
 @wrong
 class PreVoteIsBound(Node):
-    def answer_candidate(self, m) -> None:
+    def answer_candidate(self, m: Message) -> None:
         if m.kind == "MsgPreVote" and (self.lead or self.vote not in (0, m.sender)):
             self.send("MsgPreVoteResp", m.sender, refused=True)
         else:
@@ -113,20 +132,21 @@ class PrecandidateLeads(Node):
 
 @wrong
 class StandsOnWhenLost(Node):
-    def follow(self, term, lead) -> None:
+    def follow(self, term: int, lead: int) -> None:
         if term != self.term or lead or self.role == "leader":
             super().follow(term, lead)
 
 
 @wrong
 class CountsVotesForEver(Node):
-    def by_role(self, m) -> None:
+    def by_role(self, m: Message) -> None:
         self.count_vote(m) if m.kind == "MsgVoteResp" else super().by_role(m)
 
 
 @wrong
 class CandidateAppends(Node):
-    def drop(self, m) -> None:
+    def drop(self, m: Message) -> None:
+        assert m.body is not None
         self.append(m.body)
 
 
@@ -135,53 +155,53 @@ class CandidateAppends(Node):
 
 @wrong
 class ProposalsAreDropped(Node):
-    def pass_proposal(self, m) -> None:
+    def pass_proposal(self, m: Message) -> None:
         self.drop(m)
 
 
 @wrong
 class ProposalsAreLost(Node):
-    def pass_proposal(self, m) -> None:
+    def pass_proposal(self, m: Message) -> None:
         if self.lead:
             super().pass_proposal(m)
 
 
 @wrong
 class TransfersAreIgnored(Node):
-    def pass_transfer(self, m) -> None:
+    def pass_transfer(self, m: Message) -> None:
         self.ignore(m)
 
 
 @wrong
 class AsksBeforeATransfer(Node):
-    def campaign_by_transfer(self, _) -> None:
+    def campaign_by_transfer(self, _: Message) -> None:
         self.campaign()
 
 
 @wrong
 class BeatsCommitNothing(Node):
-    def take_beat(self, m) -> None:
+    def take_beat(self, m: Message) -> None:
         super().take_beat(m._replace(commit=0))
 
 
 @wrong
 class HintsAtNothing(Node):
-    def hint(self, index, term) -> int:
+    def hint(self, index: int, term: int) -> int:
         return 0
 
 
 @wrong
 class TakesBelowCommit(Node):
-    def take_append(self, m) -> None:
+    def take_append(self, m: Message) -> None:
         if m.index < self.commit:
             past = self.commit - m.index
-            m = m._replace(index=self.commit, log_term=self.term_at(self.commit), entries=m.entries[past:])
+            m = m._replace(index=self.commit, log_term=self.known_term(self.commit), entries=m.entries[past:])
         super().take_append(m)
 
 
 @wrong
 class ConflictIsAnswered(Node):
-    def tell(self, level, text: str) -> None:
+    def tell(self, level: str, text: str) -> None:
         super().tell(level, text)
         if text.startswith("conflict"):
             self.send("MsgAppResp", self.lead, index=self.commit)
@@ -189,23 +209,24 @@ class ConflictIsAnswered(Node):
 
 @wrong
 class SnapshotWithoutContent(Node):
-    def take_snapshot(self, m) -> None:
-        super().take_snapshot(m._replace(snapshot=m.snapshot._replace(content=self.content)))
+    def take_snapshot(self, m: Message) -> None:
+        super().take_snapshot(m._replace(snapshot=snapshot_of(m)._replace(content=self.content)))
 
 
 @wrong
 class SnapshotIsAlwaysRestored(Node):
-    def take_snapshot(self, m) -> None:
-        if m.snapshot.index > self.commit:
+    def take_snapshot(self, m: Message) -> None:
+        if snapshot_of(m).index > self.commit:
             self.entries = self.entries[:self.commit - self.base]
         super().take_snapshot(m)
 
 
 @wrong
 class SnapshotIsHeldByItsIndex(Node):
-    def take_snapshot(self, m):
-        held = self.commit < m.snapshot.index <= self.last()
-        super().take_snapshot(m._replace(snapshot=m.snapshot._replace(term=self.term_at(m.snapshot.index))) if held else m)
+    def take_snapshot(self, m: Message) -> None:
+        snapshot = snapshot_of(m)
+        held = self.commit < snapshot.index <= self.last()
+        super().take_snapshot(m._replace(snapshot=snapshot._replace(term=self.known_term(snapshot.index))) if held else m)
 
 
 # Leaders
@@ -213,15 +234,14 @@ class SnapshotIsHeldByItsIndex(Node):
 
 @wrong
 class TellsNobody(Node):
-    def take_proposal(self, m) -> None:
-        self.tell_all = lambda: None
-        super().take_proposal(m)
-        del self.tell_all
+    def take_proposal(self, m: Message) -> None:
+        with replaced(self, "tell_all", lambda: None):
+            super().take_proposal(m)
 
 
 @wrong
 class ChangesWhileJoint(Node):
-    def append_change(self, change) -> None:
+    def append_change(self, change: Change) -> None:
         if change.words and self.config.is_joint() and self.pending_change <= self.applied:
             self.append(change)
             self.tell_all()
@@ -231,7 +251,7 @@ class ChangesWhileJoint(Node):
 
 @wrong
 class LeavesNothing(Node):
-    def append_change(self, change) -> None:
+    def append_change(self, change: Change) -> None:
         if change.words or self.config.is_joint():
             super().append_change(change)
         else:
@@ -252,21 +272,20 @@ class FirstAnswerCommits(Node):
 
 @wrong
 class AnswersBringNothing(Node):
-    def take_acceptance(self, m, view) -> None:
-        self.sends = lambda *_: None
-        super().take_acceptance(m, view)
-        del self.sends
+    def take_acceptance(self, m: Message, view: View) -> None:
+        with replaced(self, "sends", lambda *_: None):
+            super().take_acceptance(m, view)
 
 
 @wrong
 class BeatAnswersWakeNobody(Node):
-    def take_beat_answer(self, m) -> None:
+    def take_beat_answer(self, m: Message) -> None:
         self.views[m.sender].active = True
 
 
 @wrong
 class TransferWaitsForAnAnswer(Node):
-    def start_transfer(self, m) -> None:
+    def start_transfer(self, m: Message) -> None:
         sent = len(self.sent)
         super().start_transfer(m)
         self.sent = self.sent[:sent] + [it for it in self.sent[sent:] if it.kind != "MsgTimeoutNow"]
@@ -274,7 +293,7 @@ class TransferWaitsForAnAnswer(Node):
 
 @wrong
 class SendsBehindASnapshot(Node):
-    def sends(self, id, mode) -> None:
+    def sends(self, id: int, mode: str) -> None:
         if id in self.views and self.views[id].state == "snapshot":
             self.views[id].to_replicate()
             self.views[id].next = self.last()
@@ -283,7 +302,7 @@ class SendsBehindASnapshot(Node):
 
 @wrong
 class ProbesGoOn(Node):
-    def sends(self, id, mode) -> None:
+    def sends(self, id: int, mode: str) -> None:
         if id in self.views and self.views[id].state == "probe":
             self.views[id].waiting = False
         super().sends(id, mode)
@@ -294,28 +313,28 @@ class ProbesGoOn(Node):
 
 @wrong
 class LeaderCampaigns(Node):
-    def why_not(self):
+    def why_not(self) -> str | None:
         why = super().why_not()
         return None if why == "leader" else why
 
 
 @wrong
 class LearnerCampaigns(Node):
-    def why_not(self):
+    def why_not(self) -> str | None:
         why = super().why_not()
         return None if why == "not a voter" else why
 
 
 @wrong
 class CampaignsUnsaved(Node):
-    def why_not(self):
+    def why_not(self) -> str | None:
         why = super().why_not()
         return None if why == "snapshot pending" else why
 
 
 @wrong
 class PendingChangeCampaigns(Node):
-    def why_not(self):
+    def why_not(self) -> str | None:
         why = super().why_not()
         return None if why == "change pending" else why
 
@@ -364,7 +383,7 @@ class LearnerTimesOut(Node):
 
 @wrong
 class TransferStopsTheLook(Node):
-    def keeps_lead(self):
+    def keeps_lead(self) -> bool:
         if not self.transferee:
             return super().keeps_lead()
         self.elapsed = 0
@@ -374,7 +393,7 @@ class TransferStopsTheLook(Node):
 
 @wrong
 class TransferGoesOn(Node):
-    def keeps_lead(self):
+    def keeps_lead(self) -> bool:
         transferee, self.transferee = self.transferee, 0
         leads = super().keeps_lead()
         self.transferee = transferee
@@ -386,19 +405,19 @@ class TransferGoesOn(Node):
 
 @wrong
 class AlwaysSaves(Node):
-    def ready(self):
+    def ready(self) -> Ready:
         return super().ready()._replace(hard=self.hard_state())
 
 
 @wrong
 class AnswersGoFirst(Node):
-    def ready(self):
+    def ready(self) -> Ready:
         return super().ready()._replace(messages=[m for m in self.waiting if m.to != self.id] + self.sent)
 
 
 @wrong
 class ChangesTakeEffectAtOnce(Node):
-    def append_change(self, change) -> None:
+    def append_change(self, change: Change) -> None:
         super().append_change(change)
         self.config = changed(self.config, change)
 
@@ -406,17 +425,15 @@ class ChangesTakeEffectAtOnce(Node):
 @wrong
 class NewMembersWait(Node):
     def view_members(self) -> None:
-        self.sends = lambda *_: None
-        super().view_members()
-        del self.sends
+        with replaced(self, "sends", lambda *_: None):
+            super().view_members()
 
 
 @wrong
 class NewQuorumWaits(Node):
     def view_members(self) -> None:
-        self.commits = lambda: False
-        super().view_members()
-        del self.commits
+        with replaced(self, "commits", lambda: False):
+            super().view_members()
 
 
 @wrong
@@ -429,14 +446,14 @@ class TransferOutlivesItsTarget(Node):
 
 @wrong
 class RefusedChangesAreSilent(Node):
-    def tell(self, level, text: str) -> None:
+    def tell(self, level: str, text: str) -> None:
         if not text.startswith("refused change"):
             super().tell(level, text)
 
 
 @wrong
 class RemovedLeaderLeadsOn(Node):
-    def apply_change(self, index, change) -> None:
+    def apply_change(self, index: int, change: Change) -> None:
         options, self.options = self.options, self.options._replace(step_down_on_removal=False)
         super().apply_change(index, change)
         self.options = options
@@ -444,7 +461,7 @@ class RemovedLeaderLeadsOn(Node):
 
 @wrong
 class EarlierChangesAreForgotten(Node):
-    def become(self, role):
+    def become(self, role: str) -> None:
         if role == "leader":
             self.pending_change = 0
         super().become(role)
@@ -455,7 +472,7 @@ class EarlierChangesAreForgotten(Node):
 
 @wrong
 class LeaderForgetsItself(Node):
-    def forget_leader(self):
+    def forget_leader(self) -> None:
         self.lead = 0
 
 
@@ -467,13 +484,13 @@ class NeverForgets(Node):
 
 @wrong
 class GoesOnReplicating(Node):
-    def report_unreachable(self, id) -> None:
+    def report_unreachable(self, id: int) -> None:
         pass
 
 
 @wrong
 class TimeoutStays(Node):
-    def reset(self, term) -> None:
+    def reset(self, term: int) -> None:
         timeout = self.timeout
         super().reset(term)
         self.timeout = timeout
