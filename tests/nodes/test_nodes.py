@@ -4,6 +4,8 @@ Our plain node behind it gives no difference; each example of the document is se
 sentence, and the next script goes on; planted bugs are found; what nodes are without is left out on both sides; switches, accepted
 differences and the words of nodes/run and nodes/explore do what the document says. A word chooses parts by their names.
 """
+from __future__ import annotations
+
 import itertools
 import json
 import multiprocessing
@@ -16,27 +18,27 @@ import subprocess
 import tempfile
 import time
 import xml.etree.ElementTree
-from collections.abc import Iterator
+from collections.abc import Iterator, Sequence
 
-from nodes.hosted.compare import Comparison, run_beside
+from nodes.hosted.compare import Comparison, Outcome, run_beside
 from nodes.hosted.dice import steps_of
 from nodes.hosted.judge import Judge
-from nodes.hosted.likes import LIKE, SWITCHES, kind_like, switches_of
+from nodes.hosted.likes import LIKE, SWITCHES, switches_of
 from nodes.hosted.planted import first_found
 from nodes.hosted.planting import BUGS
 from nodes.hosted.process import Process
 from nodes.hosted.promises import Promises, name_of
 from nodes.hosted.protocol import CALLS, CHANGES, OPTIONS, READY, STATES
-from nodes.hosted.script import Step
-from nodes.hosted.steps import step_of
+from nodes.hosted.script import Step, blocks_of
+from nodes.hosted.steps import RunnerStep, step_of
 from plain.cluster import Cluster
 from plain.config import Config
 from plain.node import Node
-from plain.records import Entry
-from plain.script import Fault, read_script
+from plain.records import Entry, Options
+from plain.script import Block, read_script
 from tests.harness import TESTS, TOP, Result
 from tests.nodes.scripts import write_scripts
-from tests.nodes.units import UNITS
+from tests.nodes.units import UNITS, Checks
 
 PLAIN = str(TOP / "nodes" / "plain")
 BAD = str(TESTS / "nodes" / "bad_node.py")
@@ -47,21 +49,22 @@ SEEDS = [("weighted", 250), ("plain", 150), ("sane", 100)]
 JOBS = min(4, len(os.sched_getaffinity(0)))
 
 
-def tool(name, *words, **environment):
-    """Runs nodes/run or nodes/explore: the output, what stands on standard error, and the status."""
+def tool(name: str, *words: object, **environment: str) -> tuple[str, str, int]:
+    """Runs a tool of nodes/: its output, its standard error and its status."""
     done = subprocess.run([TOP / "nodes" / name, *map(str, words)], capture_output=True, text=True, errors="replace", timeout=600, env={**os.environ, **environment})
     return done.stdout, done.stderr, done.returncode
 
 
-def blocks_of(*heads):
-    return [Step(head).block() if isinstance(head, str) else (head if isinstance(head, Step) else Step(*head)).block() for head in heads]
+def directives(*heads: str | Step) -> list[Block]:
+    """The blocks of heads, or of steps."""
+    return blocks_of([Step(head) if isinstance(head, str) else head for head in heads])
 
 
-def beside(command, blocks, **chosen):
-    """One script by a new process."""
-    process = Process(command, chosen.pop("seconds", 5.0))
+def beside(command: str | Sequence[str], blocks: Sequence[Block], comparison: Comparison) -> Outcome:
+    """Runs one script on a new process."""
+    process = Process(command)
     try:
-        return run_beside(blocks, process, Comparison(**chosen))
+        return run_beside(blocks, process, comparison)
     finally:
         process.close()
 
@@ -69,7 +72,7 @@ def beside(command, blocks, **chosen):
 # Each part generates pairs of a name and what is wrong, or None.
 
 
-def part_judge():
+def part_judge() -> Checks:
     """Without the program the other parts hold nodes to the plain reference, and nothing holds that to the program."""
     yield "the program is built", None if PROGRAM.exists() else f"{PROGRAM} isn't there: ./raftbench --help builds it"
     with tempfile.TemporaryDirectory() as folder:
@@ -77,12 +80,12 @@ def part_judge():
         for text, wanted in [(f"'{PROGRAM}' \"$@\" | sed s/candidate/boss/", "the reference is wrong here"), ("exit 9", "the reference could not be judged"), (None, "Permission denied")]:
             judge.write_text(f"#!/bin/sh\n{text}\n")
             judge.chmod(0o755 if text else 0o644)
-            for name, words in (("run", [TOP / "examples/tour/01-election.txt"]), ("explore", ["--count", 2, "--jobs", 2, "--dice", "weighted"])):
-                output, errors, status = tool(name, "--with", PLAIN, *words, RAFTBENCH=str(judge))
+            for name, words in (("run", f"{TOP}/examples/tour/01-election.txt"), ("explore", "--count 2 --jobs 2 --dice weighted")):
+                output, errors, status = tool(name, "--with", PLAIN, *words.split(), RAFTBENCH=str(judge))
                 yield f"{name}, judged by {text}", None if status == 4 and wanted in errors and "Traceback" not in errors else f"{status} {output} {errors}"
 
 
-def part_same_scripts():
+def part_same_scripts() -> Checks:
     with tempfile.TemporaryDirectory() as folder:
         write_scripts(pathlib.Path(folder))
         output, _, status = tool("run", "--with", PLAIN, "--compare", "lines", TOP / "examples" / "tour", folder)
@@ -91,7 +94,7 @@ def part_same_scripts():
     yield "the tour and tests/cases, every line", None if is_same else output[-500:]
 
 
-def part_same_seeds():
+def part_same_seeds() -> Checks:
     for dice, count in SEEDS:
         output, errors, status = tool("explore", "--with", PLAIN, "--compare", "lines", "--dice", dice, "--count", count, "--jobs", JOBS)
         is_same = status == 0 and f"{count} scripts, {count} without a finding" in output
@@ -105,18 +108,18 @@ def part_same_seeds():
     yield "60 scripts by the promises alone", None if status == 0 else output[-500:] + errors
 
 
-def block_of(beginning):
+def block_of(beginning: str) -> str:
     """What docs/OWN-NODES.md shows, indented, from this line on."""
     lines = DOCUMENT.read_text().splitlines()
     block = itertools.takewhile(lambda line: line.startswith("    "), lines[lines.index("    " + beginning):])
     return "\n".join(line[4:] for line in block)
 
 
-def without_times(text):
+def without_times(text: str) -> str:
     return re.sub(r"[\d.]+ s$", "", text.rstrip(), flags=re.MULTILINE)
 
 
-def part_examples():
+def part_examples() -> Checks:
     """The recorded conversation is what nodes/plain says, begins as the document shows, and has each call of its table of calls."""
     text, recorded = DOCUMENT.read_text(), CONVERSATION.read_text()
     shown = "".join(re.findall(r"^    ([<>] .*\n)", text, re.MULTILINE))
@@ -133,17 +136,22 @@ def part_examples():
     yield "each call has an example", None if sent == documented else f"{sent ^ documented}"
     process = Process(PLAIN)
     process.record = []
-    run_beside(blocks_of(*EVERY_CALL), process, Comparison(aspects=frozenset({"views"})))
+    run_beside(directives(*EVERY_CALL), process, Comparison(aspects=frozenset({"views"})))
     process.close()
     used = {call["call"] for call, _ in process.record}
     yield "each call is one that the bench makes", None if used == documented else f"{used ^ documented}"
 
 
-EVERY_CALL = [
+def runner_steps(*lines: str) -> tuple[RunnerStep, ...]:
+    """The runner's steps that lines ask for."""
+    return tuple(step for line in lines if (step := step_of(line)))
+
+
+EVERY_CALL: list[str | Step] = [
     "add-nodes 2 voters=(1,2) index=10", "set-randomized-election-timeout 1 timeout=4", "campaign 1", "stabilize", "propose 1 a",
-    ("propose-conf-change 1", ("v2",)), "tick-heartbeat 1", "report-unreachable 1 2", "send-snapshot 1 2", "compact 1 11",
-    "transfer-leadership from=1 to=2", "forget-leader 2", "stabilize", Step("deliver-msgs drop=(2)", (), (step_of("# node: read 1"), step_of("# node: snapshot-lost 1 2"))),
-    "tick-heartbeat 1", "tick-heartbeat 2", "process-ready 1 2", "deliver-msgs drop=(1,2)", Step("stabilize", (), (step_of("# node: restart 1"),)),
+    Step("propose-conf-change 1", ("v2",)), "tick-heartbeat 1", "report-unreachable 1 2", "send-snapshot 1 2", "compact 1 11",
+    "transfer-leadership from=1 to=2", "forget-leader 2", "stabilize", Step("deliver-msgs drop=(2)", (), runner_steps("# node: read 1", "# node: snapshot-lost 1 2")),
+    "tick-heartbeat 1", "tick-heartbeat 2", "process-ready 1 2", "deliver-msgs drop=(1,2)", Step("stabilize", (), runner_steps("# node: restart 1")),
 ]
 
 
@@ -173,28 +181,28 @@ LONG = [
 FINE = ["floods-errors", "owns"]
 
 
-def part_misbehaving():
+def part_misbehaving() -> Checks:
     with multiprocessing.Pool(JOBS) as pool:
         wrong = pool.starmap(survived, WRONG)
     for (kind, _, _), problem in zip(WRONG, wrong):
         yield f"a node that {kind}", problem
     for kind in FINE:
-        outcome = beside([BAD, kind], blocks_of(*LONG))
+        outcome = beside([BAD, kind], directives(*LONG), Comparison())
         yield f"a node that {kind}", outcome.first and str(outcome.first)
     process = Process([BAD, "slow"], script_seconds=1.0)
-    first, after = (run_beside(blocks_of(*heads), process).first for heads in (LONG, SHORT))
+    first, after = (run_beside(directives(*heads), process).first for heads in (LONG, SHORT))
     process.close()
     yield "a script that takes too long", None if first and "the script took more than 1 s" in first.came[0] and after is None else f"{first} {after}"
 
 
-def survived(kind, at_call, wanted):
+def survived(kind: str, at_call: str | None, wanted: str) -> str | None:
     """What is wrong with how a script ends, and with whether the next one goes on."""
     process = Process([BAD, kind, *([at_call] if at_call else [])], seconds=1.0 if wanted.startswith("no answer") else 5.0)
     begun = time.monotonic()
     try:
-        first = run_beside(blocks_of(*LONG), process, Comparison(aspects=frozenset({"views"}))).first
+        first = run_beside(directives(*LONG), process, Comparison(aspects=frozenset({"views"}))).first
         process.seconds = 5.0
-        after = run_beside(blocks_of(*SHORT), process) if at_call != "log" else None
+        after = run_beside(directives(*SHORT), process) if at_call != "log" else None
     finally:
         process.close()
     if first is None or not first.field.startswith("failed ") or wanted not in first.came[0]:
@@ -208,18 +216,18 @@ def survived(kind, at_call, wanted):
     return None if time.monotonic() - begun < 20 else "it took more than 20 seconds"
 
 
-def part_starting():
+def part_starting() -> Checks:
     for command, wanted in [
         ("exit 3", "hello: it ended with status 3"), ("echo '{\"name\": \"x\", \"protocol\": 2}'; sleep 9", "this bench speaks 1, and not 2"),
         ("no-such-command-here", "not found"), ("echo '{\"name\": \"x\", \"protocol\": 1, \"without\": [\"gravity\"]}'; sleep 9", "is not something that nodes may be without"),
         ("echo '{\"protocol\": 1}'; sleep 9", "name is missing"), ("cat", "name is missing"),
     ]:
-        for name, words in (("run", [TOP / "examples" / "tour"]), ("explore", ["--count", 3, "--jobs", 2])):
-            output, errors, status = tool(name, "--with", command, *words)
+        for name, words in (("run", f"{TOP}/examples/tour"), ("explore", "--count 3 --jobs 2")):
+            output, errors, status = tool(name, "--with", command, *words.split())
             yield f"{name} --with {command}", None if status == 4 and wanted in errors and "Traceback" not in errors else f"{status} {output} {errors}"
 
 
-def bug_rows():
+def bug_rows() -> Iterator[tuple[str, int]]:
     """The bugs, and in how many scripts of the default search each shows: tests/nodes/bugs.txt."""
     for line in (TESTS / "nodes" / "bugs.txt").read_text().splitlines():
         if line and not line.startswith("#"):
@@ -227,7 +235,7 @@ def bug_rows():
             yield bug, int(most)
 
 
-def part_bugs():
+def part_bugs() -> Checks:
     rows = list(bug_rows())
     yield "each bug has a row", None if sorted(row[0] for row in rows) == sorted(BUGS) and len(rows) >= 55 else "rows and bugs differ"
     shown = subprocess.run([PLAIN, "--bugs"], capture_output=True, text=True, errors="replace").stdout.splitlines()
@@ -239,21 +247,20 @@ def part_bugs():
         yield "the node without a bug shows nothing", None if found.script == 0 else f"{found}"
 
 
-class Told:
-    """A node as it tells of itself: entries are terms and bodies, from index 1 on."""
+class Told(Node):
+    """A node that has these numbers and this log, whose entries are terms and bodies from index 1 on."""
 
-    base = 0
-
-    def __init__(self, id, term, role="follower", vote=0, commit=0, applied=0, content=b"", log=()):
-        self.id, self.term, self.role, self.vote, self.commit, self.applied, self.content = id, term, role, vote, commit, applied, content
-        self.log, self.config = [Entry(*entry) for entry in log], Config(frozenset())
-
-    def entries_from(self, index):
-        return list(enumerate(self.log, 1))[index - 1:]
+    def __init__(
+        self, id: int, term: int, role: str = "follower", vote: int = 0, commit: int = 0, applied: int = 0, content: bytes = b"",
+        log: Sequence[tuple[int, bytes]] = (),
+    ) -> None:
+        super().__init__(id, Config(frozenset()), 0, content, Options())
+        self.term, self.role, self.vote, self.commit, self.applied = term, role, vote, commit, applied
+        self.entries = [Entry(*entry) for entry in log]
 
 
 A, B = (1, b"a"), (1, b"b")
-# What nodes say, one after the other, and the promise that is broken by it, if one is (Ongaro's thesis, figure 3.2, and 3.4).
+# Nodes, one after the other, and the promise that is broken by it, if one is (Ongaro's thesis, figure 3.2, and 3.4).
 TOLD = [
     ("one leader a term", [Told(1, 2, "leader"), Told(2, 2, "leader")]),
     (None, [Told(1, 2, "leader"), Told(2, 3, "leader"), Told(1, 4, "leader")]),
@@ -274,7 +281,7 @@ TOLD = [
 ]
 
 
-def part_promises():
+def part_promises() -> Checks:
     """Each promise, broken and kept."""
     for number, (wanted, nodes) in enumerate(TOLD, 1):
         promises, cluster = Promises(), Cluster()
@@ -286,7 +293,7 @@ def part_promises():
         yield f"{wanted or 'nothing'} is broken, {number}", None if broken == ({wanted} if wanted else set()) else f"{promises.broken}"
 
 
-def part_explore():
+def part_explore() -> Checks:
     """A bug from explore's command to a short script that shows it, by the same words the same."""
     with tempfile.TemporaryDirectory() as folder:
         words = ["--with", f"{PLAIN} --bug votes-twice", "--count", 30, "--jobs", 2]
@@ -323,7 +330,7 @@ def part_explore():
         yield "its expectations are the program's", None if checked.returncode == 0 else checked.stdout + checked.stderr
 
 
-def results_of(folder, output, words):
+def results_of(folder: str, output: str, words: Sequence[object]) -> Checks:
     """Results for machines: JSON, shards that are merged, JUnit."""
     result = json.loads(pathlib.Path(f"{folder}/1.json").read_text())
     yield "JSON has the first finding", None if result["kinds"][0]["kind"] == "promise broken: one vote a term" and len(result["kinds"][0]["steps"]) == 4 else f"{result}"
@@ -338,7 +345,7 @@ def results_of(folder, output, words):
     yield "merge takes results alone", None if status == 4 and "1.xml" in errors else errors
 
 
-def part_interrupt():
+def part_interrupt() -> Checks:
     with tempfile.TemporaryDirectory() as folder:
         begun = pathlib.Path(folder) / "begun"
         words = ["--with", f"touch '{begun}'; exec '{PLAIN}' --bug votes-twice", "--count", "9999", "--jobs", "2"]
@@ -350,7 +357,7 @@ def part_interrupt():
         yield "an interrupt", None if running.returncode in (0, 1) and "without a finding" in came and "Traceback" not in errors else f"{running.returncode} {came} {errors}"
 
 
-def part_first():
+def part_first() -> Checks:
     """The way of docs/OWN-NODES.md from nothing to the first difference, where Perl is."""
     if subprocess.run(["perl", "-MJSON::PP", "-e", "1"], capture_output=True).returncode if shutil.which("perl") else True:
         print("not tried: perl isn't here")
@@ -368,7 +375,7 @@ def part_first():
         yield "its switch", None if "14 scripts, 14 without a difference" in output and "promise" not in output else output
 
 
-def part_without():
+def part_without() -> Checks:
     """Nodes that lack something: the rest compares, and is the same."""
     for word in (*CALLS, *OPTIONS, *CHANGES, *STATES, *READY):
         outcomes = list(without(word))
@@ -381,22 +388,22 @@ def part_without():
     yield "directives are left out", None if leaves_out > 5 else f"{leaves_out}"
 
 
-def without(*words):
+def without(*words: str) -> Iterator[Outcome]:
     process = Process([str(TESTS / "nodes" / "lacking_node.py"), *words])
     try:
         for seed in range(6):
-            yield run_beside([step.block() for step in steps_of(seed, "weighted")], process, Comparison(aspects=frozenset({"views", "ready"})))
+            yield run_beside(blocks_of(steps_of(seed, "weighted")), process, Comparison(aspects=frozenset({"views", "ready"})))
     finally:
         process.close()
 
 
-def part_switches():
+def part_switches() -> Checks:
     names = {name for file in LIKE.glob("*.txt") for name in switches_of(file.read_text())}
     theirs, others = ((TOP / "docs/NODE.md").read_text().split(title)[1].split("\n## ")[0] for title in ("## Where it isn't etcd's raft", "## Where it isn't other libraries"))
     named, more = ({name for row in re.findall(r"^\| .* \| .* \| ([a-z0-9, -]+) \|$", part, re.MULTILINE) for name in row.split(", ")} for part in (theirs, others))
     yield "docs/NODE.md names each switch of etcd's at its rule", None if named == {name for file in LIKE.glob("etcd*.txt") for name in switches_of(file.read_text())} else f"{named}"
     yield "and those of other libraries", None if named | more == set(SWITCHES) and names <= set(SWITCHES) else f"{(named | more) ^ set(SWITCHES)}"
-    yield "lists differ", None if kind_like("etcd-3.4").switches != kind_like("etcd-3.5").switches else "they don't"
+    yield "lists differ", None if len({frozenset(switches_of((LIKE / f"etcd-{version}.txt").read_text())) for version in ("3.4", "3.5")}) == 2 else "they don't"
     output, _, status = tool("run", "--with", PLAIN, "--like", "etcd-3.5", TOP / "examples" / "tour")
     yield "a switched reference differs from the plain node", None if status == 1 and "role candidate for leader after campaign at a follower" in output else output
     for words, wanted in [(["--like", "/nowhere"], "known are etcd-3.4, etcd-3.5"), (["--accepted", "/nowhere"], "No such file")]:
@@ -409,7 +416,7 @@ def part_switches():
         yield "an unknown switch", None if status == 2 and "there is no switch no-such-switch" in errors else errors
 
 
-def part_words():
+def part_words() -> Checks:
     with tempfile.TemporaryDirectory() as folder:
         script, refused, accepted = (pathlib.Path(folder) / name for name in ("votes.txt", "bad.txt", "accepted"))
         script.write_text("add-nodes 1 voters=1 index=10\n----\nok\n\n# here\n\ncampaign 1\n----\nok\n\nstabilize\n----\nok\n")
@@ -436,7 +443,7 @@ def part_words():
         yield "a wrong line of accepted differences", None if status == 2 and f"{accepted}:1: a script, a kind and a reason" in errors else errors
 
 
-def part_etcd():
+def part_etcd() -> Checks:
     """etcd's nodes behind the protocol, where there is Go and etcd's source."""
     done = subprocess.run([TESTS / "nodes" / "etcd"], capture_output=True, text=True, errors="replace", timeout=600)
     *told, last = done.stdout.splitlines() or [""]
