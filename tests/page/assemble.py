@@ -4,11 +4,15 @@
     assemble.py page < JSON        writes a whole page
     assemble.py sources            writes the sources of rb_frame, in which the program has the same
 """
+from __future__ import annotations
+
 import base64
 import hashlib
+import itertools
 import pathlib
 import re
 import sys
+from collections.abc import Sequence
 
 sys.dont_write_bytecode = True
 sys.path[:1] = [str(pathlib.Path(__file__).resolve().parents[2])]
@@ -31,23 +35,23 @@ NAME = re.compile(r"^(?:export )?(?:const|let|function|class) (\w+)", re.MULTILI
 EXPORT = re.compile(r"^export (?=(?:const|function|class) )", re.MULTILINE)
 
 
-def text_of(name):
+def text_of(name: str) -> str:
     return (ASSETS / name).read_text(encoding="utf-8")
 
 
-def hash_of(text):
+def hash_of(text: str) -> str:
     return "'sha256-" + base64.b64encode(hashlib.sha256(text.encode()).digest()).decode() + "'"
 
 
-def style():
+def style() -> str:
     return "\n" + text_of("page.css")
 
 
-def modules():
+def modules() -> list[str]:
     """The names of the page's modules, each after those that it imports."""
-    order = []
+    order: list[str] = []
 
-    def visit(name, path):
+    def visit(name: str, path: list[str]) -> None:
         if name in path:
             raise ValueError(f"{' imports '.join([*path, name])}")
         for imported in IMPORT.findall(text_of(name)):
@@ -61,19 +65,19 @@ def modules():
     return order
 
 
-def codes():
+def codes() -> list[str]:
     """The modules as parts of one strict script, in their order: without imports and exports, which one scope doesn't need, and without types."""
     parts = ["\n" + TYPES.sub("", EXPORT.sub("", IMPORT.sub("", text_of(name)))) for name in modules()]
     return ['\n"use strict";' + parts[0], *parts[1:]]
 
 
-def elements():
+def elements() -> list[str]:
     """The parts of the page's own elements: those around the style, the rows and the code."""
     policy = f"default-src 'none'; style-src {hash_of(style())}; script-src {hash_of(''.join(codes()))}; base-uri 'none'; form-action 'none'"
     return re.split("{style}|{steps}|{code}", text_of("page.html").replace("{policy}", policy))
 
 
-def parts():
+def parts() -> tuple[str, str]:
     """What stands before the JSON text, and what stands after it."""
     head, body, between, end = elements()
     return head + style() + body, between + "".join(codes()) + end
@@ -82,7 +86,7 @@ def parts():
 # As sources
 
 
-def literal(text):
+def literal(text: str) -> str:
     """A text as bytes of a source, a line of it a line."""
     escaped = text.replace("\\", "\\\\").replace('"', '\\"')
     inside = "".join(it if it.isascii() else "".join(f"\\x{byte:02x}" for byte in it.encode()) for it in escaped).split("\n")
@@ -91,22 +95,22 @@ def literal(text):
     return 'b"\\\n' + "\n".join(re.sub("^ ", r"\\x20", line) for line in lines) + '"'
 
 
-def source(said, texts):
+def source(said: tuple[str, str, dict[str, str]], texts: list[str]) -> str:
     about, asset, constants = said
     items = [f"/// {does}\n#[rattlefmt::skip]\npub(crate) const {name}: &[u8] = {literal(text)};\n" for (name, does), text in zip(constants.items(), texts)]
     return "\n".join([f"//! {about} Made of assets/{asset} by `tests/page/assemble.py sources`.\n", *items])
 
 
-def constant_of(module):
+def constant_of(module: str) -> str:
     return module.removesuffix(".js").upper()
 
 
-def order():
+def order() -> str:
     """Which constants are before the rows and which are after them, in order."""
     names = [constant_of(module) for module in modules()]
     uses = sorted(["use crate::html::{BETWEEN, BODY, END, HEAD};", *(f"use crate::{name.lower()}::{name};" for name in [*names, "STYLE"])])
 
-    def function(said, name, parts):
+    def function(said: str, name: str, parts: Sequence[str]) -> str:
         facts = " ∷ ".join(f"{part}.now" for part in parts)
         return (
             f"/// {said}\n#[rattlefmt::skip]\npub fn {name}() -> [&'static [u8]; {len(parts)}]\n"
@@ -121,7 +125,7 @@ def order():
     ])
 
 
-def library():
+def library() -> str:
     """The root of the crate."""
     names = sorted(["frame", "html", "style", *(constant_of(module).lower() for module in modules())])
     return "\n".join([
@@ -135,7 +139,7 @@ def library():
     ])
 
 
-def sources():
+def sources() -> dict[pathlib.Path, str]:
     """Each source that is made, with its text."""
     made = {"html": source(HTML, elements()), "style": source(STYLE, [style()]), "frame": order(), "lib": library()}
     for module, text in zip(modules(), codes()):
@@ -144,13 +148,14 @@ def sources():
     return {CRATE / "src" / f"{name}.rt": text for name, text in made.items()}
 
 
-def first_comment(module):
+def first_comment(module: str) -> str:
     """What a module says of itself, as one sentence of a source."""
-    said = re.match(r"(?:// .*\n)+", text_of(module))[0].replace("// ", "").replace("\n", " ")
+    comment = "".join(itertools.takewhile(lambda line: line.startswith("// "), text_of(module).splitlines(keepends=True)))
+    said = comment.replace("// ", "").replace("\n", " ")
     return "Code of a page. " + said.split(". ")[0].rstrip(". ") + "."
 
 
-def write_sources():
+def write_sources() -> str:
     made = sources()
     for path in (CRATE / "src").glob("*.rt"):
         if path not in made:
@@ -160,7 +165,7 @@ def write_sources():
     return ""
 
 
-def main():
+def main() -> None:
     before, after = parts()
     text = {"before": lambda: before, "after": lambda: after, "page": lambda: before + sys.stdin.read() + after, "sources": write_sources}
     sys.stdout.write(text[sys.argv[1]]())

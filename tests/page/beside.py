@@ -1,17 +1,21 @@
 """What a browser shows of each script, beside what the script prints where everything is shown: each arrow from end to end, each mark,
 each band and all that stands after each step.
 """
+from __future__ import annotations
+
 import functools
 from collections import Counter
+from collections.abc import Iterator
+from typing import Any
 
 from tests.page import standing
 from tests.page.assemble import parts
 from tests.page.plain_steps import json_text, rows_of
-from tests.page.printed import steps_of
-from tests.page.reader import TALL
+from tests.page.printed import Node, Step, steps_of
+from tests.page.reader import TALL, Reader
 from tests.page.scripts import FULL, HOSTILE, LOST, MANY, NOBODY, RARE, SELF, TOUR, Failed, page_of, same
 from tests.page.seen import CODE, Sheet
-from tests.page.told import SIGNS, gist, happened_in, marks_of, messages_of_lines, messages_of_rows, notes_of, turns_of
+from tests.page.told import SIGNS, Arrow, gist, happened_in, marks_of, messages_of_lines, messages_of_rows, notes_of, turns_of
 
 OWN = {"self": SELF, "nobody": NOBODY, "rare": RARE, "lost": LOST, "hostile": HOSTILE, "many": MANY}
 SCRIPTS = {path.stem: path.read_bytes() for path in TOUR} | OWN
@@ -22,14 +26,14 @@ BY_STRENGTH = ("follower", "candidate", "precandidate", "leader")
 UNSEEN = {"raftbench", "text", "output", "mismatch", "expected", "same", "actual", "ready"}
 
 
-def same_counts(what, came, wanted):
+def same_counts(what: str, came: Counter[Any], wanted: Counter[Any]) -> None:
     """Fails with what there is of one and not of the other."""
     if came != wanted:
         more, less = list((came - wanted).elements()), list((wanted - came).elements())
         raise Failed(f"{what}: {len(more)} should not be, as {more[:MOST_TOLD]}, and {len(less)} are wanting, as {less[:MOST_TOLD]}")
 
 
-def rows_tell_what_is_printed():
+def rows_tell_what_is_printed() -> None:
     """Without a browser: by a page's rows messages take the course that they take by what is printed."""
     for name, data in {**SCRIPTS, "full": FULL}.items():
         printed, rows = messages_of_lines(steps_of(data)), messages_of_rows(rows_of(data, name))
@@ -40,7 +44,7 @@ def rows_tell_what_is_printed():
 # One script
 
 
-def arrows_as_printed(name, data, sheet):
+def arrows_as_printed(name: str, data: bytes, sheet: Sheet) -> None:
     """Also within a step: from the top downwards arrows begin in the order in which messages are sent, and end in that in which they are met."""
     messages, arrows = messages_of_lines(steps_of(data)), sheet.arrows()
     wanted = [message.arrow(len(sheet.columns)) for message in messages]
@@ -50,7 +54,7 @@ def arrows_as_printed(name, data, sheet):
     same_counts(f"the labels of {name}", sheet.labels(), Counter(message.label() for message in messages))
 
 
-def same_arrows(what, came, wanted):
+def same_arrows(what: str, came: list[Arrow], wanted: list[Arrow]) -> None:
     """Where an arrow ends that leads to no node doesn't matter."""
     more, less = Counter(came) - Counter(wanted), Counter(wanted) - Counter(came)
     same_counts(what, Counter(arrow._replace(to=None) for arrow in more.elements()), less)
@@ -59,12 +63,12 @@ def same_arrows(what, came, wanted):
         same(f"{what} in place {at}", came[at], arrow)
 
 
-def marks_as_printed(name, data, sheet):
+def marks_as_printed(name: str, data: bytes, sheet: Sheet) -> None:
     same_counts(f"the marks of {name}", sheet.marks(), marks_of(steps_of(data)))
     same_counts(f"the notes of {name}", sheet.notes(), notes_of(steps_of(data)))
 
 
-def bands_as_printed(name, data, sheet):
+def bands_as_printed(name: str, data: bytes, sheet: Sheet) -> None:
     roles = {(step.line, id): node.role for step in steps_of(data) for id, node in step.nodes.items()}
     same(f"the bands of {name}", sheet.roles(), roles)
     same_counts(f"the beginnings of bands of {name}", sheet.turns(), turns_of(steps_of(data)))
@@ -72,7 +76,7 @@ def bands_as_printed(name, data, sheet):
     same(f"the roles of {name} by how wide their bands are", strong, [role for role in BY_STRENGTH if role in set(strong)])
 
 
-def states_as_printed(name, data, reader):
+def states_as_printed(name: str, data: bytes, reader: Reader) -> None:
     """The page is open."""
     steps, messages = steps_of(data), messages_of_lines(steps_of(data))
     states = reader.browser.value(f"{CODE}.states({len(steps)})")
@@ -82,7 +86,7 @@ def states_as_printed(name, data, reader):
     reader.quiet()
 
 
-def state_as_printed(where, seen, step, pending):
+def state_as_printed(where: str, seen: Any, step: Step, pending: Any) -> None:
     happened, nodes = happened_in(step), {id: standing.wanted(node) for id, node in step.nodes.items()}
     same(f"how much happened {where}", seen["count"], f"What happened ({len(happened)})")
     same(f"what happened {where}", standing.messages_told(seen["happened"]), standing.listed(happened))
@@ -94,7 +98,7 @@ def state_as_printed(where, seen, step, pending):
     logs_as_printed(where, seen["logs"], step.nodes)
 
 
-def logs_as_printed(where, logs, nodes):
+def logs_as_printed(where: str, logs: Any, nodes: dict[int, Node]) -> None:
     """The table of logs: its columns, and of each node the cells; below them the leader's match and next."""
     if not nodes:
         return
@@ -109,7 +113,7 @@ def logs_as_printed(where, logs, nodes):
 # All of them, in a browser
 
 
-def open_sheet(reader, name, page):
+def open_sheet(reader: Reader, name: str, page: str) -> Sheet:
     """Opens a page, and reads its whole picture."""
     reader.browser.size(1500, TALL)
     reader.open_page(page, name)
@@ -120,17 +124,17 @@ def open_sheet(reader, name, page):
 
 
 @functools.cache
-def sheet_of(reader, name, data):
+def sheet_of(reader: Reader, name: str, data: bytes) -> Sheet:
     return open_sheet(reader, name, page_of(data, name))
 
 
-def arrows_lead_where_messages_went(reader):
+def arrows_lead_where_messages_went(reader: Reader) -> None:
     for name, data in {**SCRIPTS, "full": FULL}.items():
         arrows_as_printed(name, data, sheet_of(reader, name, data))
 
 
-def marks_stand_where_it_happened(reader):
-    seen = Counter()
+def marks_stand_where_it_happened(reader: Reader) -> None:
+    seen: Counter[str] = Counter()
     for name, data in SCRIPTS.items():
         marks_as_printed(name, data, sheet_of(reader, name, data))
         seen.update(signs[0] for _, _, _, signs in sheet_of(reader, name, data).marks().elements() if signs)
@@ -138,18 +142,18 @@ def marks_stand_where_it_happened(reader):
     print("marks that stand where it happened: " + ", ".join(f"{seen[sign]} {sign}" for sign in SIGNS))
 
 
-def bands_are_of_the_roles(reader):
+def bands_are_of_the_roles(reader: Reader) -> None:
     for name, data in SCRIPTS.items():
         bands_as_printed(name, data, sheet_of(reader, name, data))
 
 
-def what_stands_is_what_is_printed(reader):
+def what_stands_is_what_is_printed(reader: Reader) -> None:
     for name, data in SCRIPTS.items():
         reader.open(data, name)
         states_as_printed(name, data, reader)
 
 
-def pages_without_a_row():
+def pages_without_a_row() -> Iterator[tuple[str, str, bytes, str]]:
     """For each kind of row the shortest script that has such rows, and its page without the last of them."""
     tried, (before, after) = set(UNSEEN), parts()
     for name, data in sorted(SCRIPTS.items(), key=lambda pair: len(pair[1])):
@@ -160,7 +164,7 @@ def pages_without_a_row():
             yield kind, name, data, before + json_text(rows[:last] + rows[last + 1:]) + after
 
 
-def each_row_is_looked_at(reader):
+def each_row_is_looked_at(reader: Reader) -> None:
     """That the tests above see what they look for: a page in which one row is wanting is found by some of them."""
     kinds = []
     for kind, name, data, page in pages_without_a_row():
@@ -170,7 +174,7 @@ def each_row_is_looked_at(reader):
     print(f"seen where one is wanting: rows {', '.join(kinds)}")
 
 
-def is_found(reader, name, data, page):
+def is_found(reader: Reader, name: str, data: bytes, page: str) -> bool:
     """Whether something of the page isn't as it is printed."""
     try:
         sheet = open_sheet(reader, "wanting", page)

@@ -8,7 +8,8 @@ from plain.script import read_script
 from tests.page.plain_difference import difference_rows
 from tests.page.plain_steps import json_text, rows_of
 from tests.page.assemble import parts
-from tests.page.program import PROGRAM, found, put
+from tests.harness import PROGRAM
+from tests.page.program import found, put
 from tests.page.reader import Reader
 from tests.page.scripts import TOUR, same
 

@@ -6,6 +6,8 @@ title, the script's notes and heads, and a sentence for each thing that happened
 
     plain_chart.py FILE [UNTIL [FROM]]     writes the picture of a script, or of its directives up to the one at a line, from one on
 """
+from __future__ import annotations
+
 import bisect
 import itertools
 import os
@@ -13,7 +15,9 @@ import pathlib
 import re
 import sys
 from collections import defaultdict
+from collections.abc import Callable, Iterator, Sequence
 from dataclasses import dataclass, field
+from typing import Any
 from xml.sax.saxutils import escape
 
 sys.dont_write_bytecode = True
@@ -42,6 +46,8 @@ KINDS = {
     "MsgHeartbeat": "heartbeat", "MsgHeartbeatResp": "heartbeat", "MsgSnap": "snapshot", "MsgProp": "proposal",
     "MsgTransferLeader": "proposal", "MsgTimeoutNow": "vote",
 }
+# Words, and how they look.
+Mark = tuple[str, str]
 # How things look, and the tips of arrows, of which there is one a kind.
 STYLE = (pathlib.Path(__file__).resolve().parents[2] / "crates" / "rb_chart" / "assets" / "style.svg").read_text()
 
@@ -50,7 +56,7 @@ STYLE = (pathlib.Path(__file__).resolve().parents[2] / "crates" / "rb_chart" / "
 UNSEEN = re.compile("[\x00-\x1f\x7f-\x9f\xad\u061c\u200b-\u200f\u2028-\u202e\u2060-\u2069\ufeff\ufffe\uffff]")
 
 
-def shown(data):
+def shown(data: bytes) -> str:
     """Bytes as people read them: UTF-8 where they are, and else each byte past ASCII by its number; so is what can't be seen."""
     try:
         text = data.decode()
@@ -59,7 +65,7 @@ def shown(data):
     return UNSEEN.sub(lambda found: f"\\u{ord(found[0]):04x}", text)
 
 
-def said(kind, cells):
+def said(kind: str, cells: Sequence[Any]) -> str:
     """What matters of a message, in few words."""
     if kind in ("MsgVote", "MsgPreVote"):
         return f"last {cells[0]}/{cells[1]}" + (" transfer" if cells[2] else "")
@@ -73,27 +79,29 @@ def said(kind, cells):
         return f"commit {cells[0]}"
     if kind == "MsgSnap":
         return f"{cells[0]}/{cells[1]}"
-    return {"MsgProp": lambda: cells[0], "MsgTransferLeader": lambda: f"to {cells[0]}"}.get(kind, lambda: "")()
+    if kind == "MsgProp":
+        return str(cells[0])
+    return f"to {cells[0]}" if kind == "MsgTransferLeader" else ""
 
 
-def message_words(kind, term, cells):
+def message_words(kind: str, term: int, cells: Sequence[Any]) -> str:
     """A message's type, its term where it is of one, and what matters of it."""
     return " ".join(filter(None, [kind[3:], f"t{term}" if term else "", said(kind, cells)]))
 
 
-def label_of(kind, term, cells):
+def label_of(kind: str, term: int, cells: Sequence[Any]) -> str:
     """The same at its line: without the term where there is no room for it."""
     words = message_words(kind, term, cells)
     return words if columns_of(words) <= MOST_LABEL else fitted(message_words(kind, 0, cells), MOST_LABEL)
 
 
-def vote_mark(id, kind, granted, sender, result):
+def vote_mark(id: int, kind: str, granted: int, sender: int, result: str) -> Mark:
     whose = "own vote" if sender == id else f"vote of {sender}" if granted else f"no vote of {sender}"
     return f"{whose}: {result}", "quiet"
 
 
 # What a node tells: its words beside the band, and how they look.
-MARKS = {
+MARKS: dict[str, Callable[..., Mark]] = {
     "became": lambda id, role, term: (f"★ leader, t{term}", "won") if role == "leader" else (f"{role}, t{term}", "turn"),
     "cannot-campaign": lambda id, why: (f"! can't campaign: {why}", "bad"),
     "vote": vote_mark,
@@ -112,7 +120,7 @@ MARKS = {
     "compacted": lambda id, index: (f"▣ compacted to {index}", "installed"),
     "saved": lambda id, first, last: (f"saves {first}" if first == last else f"saves {first}–{last}", "quiet"),
 }
-NOTES = {
+NOTES: dict[str, Callable[..., Mark]] = {
     "no-messages": lambda: ("no messages", "quiet"),
     "stopped": lambda rounds: (f"stopped after {rounds} rounds", "quiet"),
     "error": lambda text: (f"error: {text}", "bad"),
@@ -128,7 +136,7 @@ class Arrow:
     place: int
     text: int
     label: str
-    cells: tuple
+    cells: tuple[Any, ...]
 
 
 @dataclass
@@ -144,14 +152,14 @@ class Row:
 class Chart:
     """Elements of a picture: what lies below, the lines of messages, and texts."""
     title: str
-    under: list = field(default_factory=list)
-    over: list = field(default_factory=list)
-    texts: list = field(default_factory=list)
-    told: list = field(default_factory=list)
+    under: list[str] = field(default_factory=list)
+    over: list[str] = field(default_factory=list)
+    texts: list[str] = field(default_factory=list)
+    told: list[str] = field(default_factory=list)
     width: int = 0
     height: int = HEADING
 
-    def reach(self, x):
+    def reach(self, x: int) -> None:
         """Something is drawn as far as this to the right."""
         self.width = max(self.width, x + EDGE)
 
@@ -159,12 +167,17 @@ class Chart:
 class Drafter:
     """Goes over the rows of a script and places what they say."""
 
-    def __init__(self, title):
-        self.chart, self.row = Chart(title), None
-        self.mail, self.commits, self.bases, self.bands = defaultdict(list), {}, {}, {}
-        self.ready, self.sent, self.saves = 0, 0, None
+    def __init__(self, title: str) -> None:
+        self.chart = Chart(title)
+        self.rows: list[Row] = []
+        self.mail: defaultdict[Any, list[Arrow]] = defaultdict(list)
+        self.commits: dict[int, int] = {}
+        self.bases: dict[int, int] = {}
+        self.bands: dict[int, tuple[str, int]] = {}
+        self.ready, self.sent = 0, 0
+        self.saves: tuple[int, int] | None = None
 
-    def begin_after(self, above, line):
+    def begin_after(self, above: Drafter, line: int) -> None:
         """Takes over what is so after the directives that another drafter has read: nodes, roles and what is on its way, which comes in from
         above, each message in a slot of the first row."""
         self.commits, self.bases = above.commits, above.bases
@@ -172,7 +185,8 @@ class Drafter:
         for id in self.bands:
             self.words("name", x_of(id), 22, f"node {id}")
         waiting = sorted((arrow for queue in above.mail.values() for arrow in queue), key=lambda arrow: arrow.text)
-        self.row, self.sent = Row(line, HEADING), 0
+        self.rows.append(Row(line, HEADING))
+        self.sent = 0
         for id, (role, _) in self.bands.items():
             self.tell(f"node {id} is {role}")
         if waiting:
@@ -181,9 +195,9 @@ class Drafter:
         for arrow in waiting:
             self.send(*arrow.cells)
         if not waiting:
-            self.row = None
+            self.rows.clear()
 
-    def read(self, name, *cells):
+    def read(self, name: str, *cells: Any) -> None:
         if name != "save":
             self.end_saves()
         read = getattr(self, "read_" + name.replace("-", "_"), None)
@@ -200,37 +214,43 @@ class Drafter:
 
     # Rows
 
-    def slot(self):
+    @property
+    def row(self) -> Row:
+        """The row that is drawn."""
+        return self.rows[-1]
+
+    def slot(self) -> int:
         self.row.slots += 1
         return self.row.top + ROW_TOP + SLOT * self.row.slots - SLOT // 2
 
-    def end_row(self):
-        if self.row:
+    def end_row(self) -> None:
+        if self.rows:
             self.end_saves()
             self.chart.height = self.row.top + ROW_TOP + SLOT * max(self.row.slots, self.row.notes) + ROW_BOTTOM
 
-    def begin_row(self, line, head):
+    def begin_row(self, line: int, head: str) -> None:
         self.end_row()
-        self.row, self.sent = Row(line, self.chart.height), 0
+        self.rows.append(Row(line, self.chart.height))
+        self.sent = 0
         self.chart.under.append(f'<rect class="edge" y="{self.row.top}" width="100%" height="1"/>')
         self.words("line", LINE_X, self.row.top + 17, str(line))
         self.words("head", HEAD_X, self.row.top + 17, fitted(head, MOST_HEAD))
         self.tell(head)
 
-    def note(self, text, look):
+    def note(self, text: str, look: str) -> None:
         self.row.notes += 1
         self.tell(text)
         self.words(look, HEAD_X, self.row.top + ROW_TOP + SLOT * self.row.notes - SLOT // 2, fitted(text, MOST_NOTE))
 
-    def words(self, look, x, y, text):
+    def words(self, look: str, x: int, y: int, text: str) -> None:
         if look not in ("line", "name") and not look.endswith(" end"):
             self.chart.reach(x + width_of(text))
         self.chart.texts.append(f'<text class="{look}" x="{x}" y="{y}">{escape(text)}</text>')
 
-    def tell(self, sentence):
+    def tell(self, sentence: str) -> None:
         self.chart.told.append(f"Line {self.row.line}: {sentence}.")
 
-    def tell_notes(self, line, lines):
+    def tell_notes(self, line: int, lines: Any) -> None:
         """The comments among these lines, the first of which is this one; those that follow one another are one note."""
         is_in_note = False
         for number, text in enumerate(lines, line):
@@ -241,52 +261,52 @@ class Drafter:
 
     # Nodes
 
-    def end_band(self, id, bottom):
+    def end_band(self, id: int, bottom: int) -> str:
         role, top = self.bands[id]
         half = HALVES[role]
         return f'<rect class="{role}" x="{x_of(id) - half}" y="{top}" width="{2 * half}" height="{bottom - top}"/>'
 
-    def read_started(self, id):
+    def read_started(self, id: int) -> None:
         self.bands[id] = "follower", self.row.top
         self.words("name", x_of(id), 22, f"node {id}")
 
-    def read_became(self, id, role, term):
+    def read_became(self, id: int, role: str, term: int) -> None:
         y = self.mark("became", id, role, term)
         self.chart.under.append(self.end_band(id, y))
         self.bands[id] = role, y
 
-    def read_ready(self, id):
+    def read_ready(self, id: int) -> None:
         self.ready, self.sent = id, 0
 
-    def read_save(self, index, term, body):
+    def read_save(self, index: int, term: int, body: str) -> None:
         self.saves = (self.saves[0] if self.saves else index, index)
 
-    def end_saves(self):
+    def end_saves(self) -> None:
         if self.saves:
             first, last = self.saves
             self.saves = None
             self.mark("saved", self.ready, first, last)
 
-    def read_hard(self, term, vote, commit):
+    def read_hard(self, term: int, vote: int, commit: int) -> None:
         if commit > self.commits[self.ready]:
             self.commits[self.ready] = commit
             self.mark("committed", self.ready, commit)
 
-    def read_restored(self, id, term, index):
+    def read_restored(self, id: int, term: int, index: int) -> None:
         self.commits[id] = self.bases[id] = index
         self.mark("restored", id, term, index)
 
-    def read_node(self, id, role, term, vote, lead, commit, *rest):
+    def read_node(self, id: int, role: str, term: int, vote: int, lead: int, commit: int, *rest: Any) -> None:
         if commit > self.commits.setdefault(id, commit):
             self.commits[id] = commit
             self.mark("committed", id, commit)
 
-    def read_log(self, id, term, base, stays):
+    def read_log(self, id: int, term: int, base: int, stays: int) -> None:
         if base > self.bases.setdefault(id, base):
             self.bases[id] = base
             self.mark("compacted", id, base)
 
-    def mark(self, name, *cells):
+    def mark(self, name: str, *cells: Any) -> int:
         words, look = MARKS[name](*cells)
         y = self.slot()
         self.words(look, x_of(cells[0]) + HALF_BAND + 5, y - 2, fitted(words, MOST_MARK))
@@ -295,7 +315,7 @@ class Drafter:
 
     # Messages
 
-    def send(self, sender, to, kind, term, *cells):
+    def send(self, sender: int, to: int, kind: str, term: int, *cells: Any) -> None:
         label, is_left = label_of(kind, term, cells), to < sender
         arrow = Arrow(sender, self.slot(), len(self.chart.over), len(self.chart.texts), label, (sender, to, kind, term, *cells))
         self.chart.over += line(sender, to, kind, arrow.start, "waiting")
@@ -306,7 +326,7 @@ class Drafter:
         self.sent += 1
         self.tell(f"node {sender} sends {message_words(kind, term, cells)} to node {to}")
 
-    def meet(self, fate, sender, to, kind, term, *cells):
+    def meet(self, fate: str, sender: int, to: int, kind: str, term: int, *cells: Any) -> None:
         arrow, end = self.mail[to, kind].pop(0), self.slot()
         is_short = fate == "dropped" and to not in self.bands
         if fate == "delivered":
@@ -315,7 +335,7 @@ class Drafter:
         self.draw_anew(arrow.place, line(sender, to, kind, arrow.start, "given up" if is_short else fate, end))
         self.tell_end(fate, sender, to, message_words(kind, term, cells))
 
-    def read_no_room(self, sender, to, kind, term, *cells):
+    def read_no_room(self, sender: int, to: int, kind: str, term: int, *cells: Any) -> None:
         if not self.sent:
             self.send(sender, to, kind, term, *cells)
         arrow = self.mail[to, kind].pop()
@@ -323,16 +343,16 @@ class Drafter:
         self.draw_anew(arrow.place, line(sender, to, kind, arrow.start, "given up"))
         self.tell_end("given up", sender, to, message_words(kind, term, cells))
 
-    def draw_anew(self, place, drawn):
+    def draw_anew(self, place: int, drawn: Any) -> None:
         self.chart.over[place] = drawn[0]
         self.chart.over += drawn[1:]
 
-    def tell_end(self, fate, sender, to, words):
+    def tell_end(self, fate: str, sender: int, to: int, words: str) -> None:
         self.tell(f"{words} from node {sender} to node {to} is {fate}")
 
     # The end
 
-    def done(self):
+    def done(self) -> Chart:
         self.end_row()
         for to, kind in sorted(self.mail, key=lambda queue: (queue[0], [*KINDS].index(queue[1]))):
             for arrow in self.mail[to, kind]:
@@ -342,12 +362,12 @@ class Drafter:
         return self.chart
 
 
-def title_of(name, until, start):
+def title_of(name: str, until: int | None, start: int | None) -> str:
     title = shown(name if isinstance(name, bytes) else os.fsencode(name))
     return title + (f", from line {start}" if start is not None else "") + (f", up to line {until}" if until is not None else "")
 
 
-def chart_of(data, name, until=None, start=None):
+def chart_of(data: bytes, name: str, until: int | None = None, start: int | None = None) -> Chart:
     """All that a script's picture has; of the directives up to the one at a line, and from one at a line on, where there are these."""
     title = title_of(name, until, start)
     above, drafter = None, Drafter(title)
@@ -378,31 +398,31 @@ def chart_of(data, name, until=None, start=None):
 # Drawing
 
 
-def x_of(id):
+def x_of(id: int) -> int:
     return FIRST + GAP * (id - 1)
 
 
-def width_of(text):
+def width_of(text: str) -> int:
     return sum(NARROW_WIDTH if c in NARROW else BROAD_WIDTH if c in BROAD or c > "\x7f" else WIDTH for c in text)
 
 
-def aim(to):
+def aim(to: int) -> str:
     """To whom a message is, before its label."""
     return f"→{to} "
 
 
-def columns_of(text):
+def columns_of(text: str) -> int:
     """How many columns it takes: letters of some scripts, and pictures, take two."""
     return sum(1 + (c >= "\u3000") for c in text)
 
 
-def fitted(text, most):
+def fitted(text: str, most: int) -> str:
     """As much of a text as fits into so many columns; where that is not all, an ellipsis behind it."""
     taken = list(itertools.accumulate(1 + (c >= "\u3000") for c in text))
     return text if not taken or taken[-1] <= most else text[:bisect.bisect(taken, most - 1)] + "…"
 
 
-def line(sender, to, kind, start, fate, end=0):
+def line(sender: Any, to: Any, kind: str, start: Any, fate: str, end: int = 0) -> list[str]:
     """The line of a message, along its label and from there to where it ends; and a cross where it is lost."""
     kind, side = KINDS[kind], -1 if to < sender else 1
     x, bend = x_of(sender) + side * HALF_BAND, x_of(sender) + side * LEAD
@@ -420,7 +440,7 @@ def line(sender, to, kind, start, fate, end=0):
     return [f'<path class="arrow {kind} {look}" d="{path}"/>', *crosses]
 
 
-def svg_lines(chart):
+def svg_lines(chart: Chart) -> Iterator[str]:
     width, height = chart.width, chart.height
     yield (f'<svg xmlns="http://www.w3.org/2000/svg" role="img" aria-labelledby="title" aria-describedby="what" '
            f'viewBox="0 0 {width} {height}" width="{width}" height="{height}">')
@@ -434,12 +454,12 @@ def svg_lines(chart):
     yield "</svg>"
 
 
-def svg_of(data, name, until=None, start=None):
+def svg_of(data: bytes, name: str, until: int | None = None, start: int | None = None) -> str:
     """The picture of a script, as the text of an SVG file."""
     return "\n".join(svg_lines(chart_of(data, name, until, start))) + "\n"
 
 
-def main():
+def main() -> None:
     path = pathlib.Path(sys.argv[1])
     sys.stdout.write(svg_of(path.read_bytes(), path.name, *map(int, sys.argv[2:])))
 

@@ -3,14 +3,18 @@
 Each directive runs at level `debug`, and behind it each node's state, log and views are printed. docs/DIRECTIVES.md has the lines. The
 program prints them where it is built, and else the plain bench.
 """
+from __future__ import annotations
+
 import functools
 import re
 import subprocess
+from collections.abc import Sequence
 from typing import NamedTuple
 
 from plain.cluster import Cluster
-from plain.script import joined_head, parsed_head, read_script, read_with_lines
-from tests.page.program import MOST_SECONDS, PROGRAM, found
+from plain.script import Block, joined_head, read_script, read_with_lines
+from tests.harness import PROGRAM
+from tests.page.program import MOST_SECONDS, found
 
 MOST_NODES = 32
 LEVEL = re.compile(rb"[ \t]log-level=[^ \t]*")
@@ -36,29 +40,29 @@ class Node(NamedTuple):
     """A node as it is printed. Entries are a term and a body by index; a view is what its line has, in order, or None."""
     role: str
     numbers: Numbers
-    content: tuple
-    entries: dict
+    content: tuple[int, str]
+    entries: dict[int, tuple[int, str]]
     config: str
-    views: list
+    views: list[tuple[str, ...]]
 
-    def last(self):
+    def last(self) -> int:
         return max(self.entries, default=self.numbers.base)
 
 
 class Step(NamedTuple):
     """A directive: the line of its head, what it printed, and each node after it by id."""
     line: int
-    lines: list
-    nodes: dict
+    lines: list[str]
+    nodes: dict[int, Node]
 
 
-def most_nodes(blocks):
+def most_nodes(blocks: Sequence[Block]) -> int:
     """How many nodes there are at most."""
-    added = [arguments[0].key for name, arguments in (parsed_head(joined_head(block.head)) for block in blocks) if name == b"add-nodes"]
+    added = [it.arguments[0].key for it in (block.directive() for block in blocks) if it.name == b"add-nodes"]
     return min(MOST_NODES, sum(int(count) for count in added if count.isdigit()))
 
 
-def shown_script(data):
+def shown_script(data: bytes) -> tuple[bytes, int]:
     """The script with everything shown: in the place of each directive so many."""
     blocks = read_script(data).blocks
     ids = range(1, most_nodes(blocks) + 1)
@@ -70,7 +74,7 @@ def shown_script(data):
     return b"".join(texts), len(asked) + 2
 
 
-def outputs_of(script):
+def outputs_of(script: bytes) -> list[list[str]]:
     """What each directive prints, as lists of lines."""
     if found():
         done = subprocess.run([PROGRAM, "rewrite", "-"], input=script, capture_output=True, check=True, timeout=MOST_SECONDS)
@@ -79,17 +83,24 @@ def outputs_of(script):
     return [cluster.run(block.directive()) for block in read_script(script).blocks]
 
 
-def node_of(state, log, status):
+def parts_of(form: re.Pattern[str], line: str) -> tuple[str, ...]:
+    """The groups of a line that has this form."""
+    found = form.fullmatch(line)
+    assert found, line
+    return found.groups()
+
+
+def node_of(state: str, log: Sequence[str], status: Sequence[str]) -> tuple[int, Node]:
     """A node of its line of `raft-state` and of what `raft-log` and `status` print of it."""
-    id, role, *hard, length, end = STATE.fullmatch(state).groups()
-    entries = [ENTRY.fullmatch(line).groups() for line in log[1:]]
-    views = [VIEW.fullmatch(line).groups() for line in status[1:]]
-    numbers = Numbers(*map(int, [*hard, *BASE.fullmatch(log[0]).groups()]))
+    id, role, *hard, length, end = parts_of(STATE, state)
+    entries = [parts_of(ENTRY, line) for line in log[1:]]
+    views = [parts_of(VIEW, line) for line in status[1:]]
+    numbers = Numbers(*map(int, [*hard, *parts_of(BASE, log[0])]))
     bodies = {int(index): (int(term), body) for term, index, body, _ in entries}
     return int(id), Node(role, numbers, (int(length), end), bodies, status[0], views)
 
 
-def nodes_of(states, printed):
+def nodes_of(states: Sequence[str], printed: Sequence[Sequence[str]]) -> dict[int, Node]:
     """Each node by id, of the lines of `raft-state`, and of all logs and then all that `status` printed."""
     half = len(printed) // 2
     states = [] if states == ["ok"] else states
@@ -97,7 +108,7 @@ def nodes_of(states, printed):
 
 
 @functools.cache
-def steps_of(data):
+def steps_of(data: bytes) -> list[Step]:
     """What each directive of a script printed and left standing."""
     script, group = shown_script(data)
     outputs = outputs_of(script)

@@ -1,8 +1,11 @@
 """What `raftbench page` writes, byte for byte beside the page that is made of the plain bench's rows, and how it ends: as `run` does."""
+from __future__ import annotations
+
 import pathlib
 import subprocess
 import tempfile
 import time
+from collections.abc import Sequence
 
 from tests.harness import PROGRAM
 from tests.page.scripts import HOSTILE, LONG, LOST, MANY, TOUR, long_page, mismatched, page_of, same
@@ -22,30 +25,30 @@ REFUSED = {
 }
 
 
-def found():
+def found() -> pathlib.Path | None:
     """The program, where it is built."""
     return PROGRAM if PROGRAM.exists() else None
 
 
-def answer(words, given=b""):
+def answer(words: Sequence[str | pathlib.Path], given: bytes = b"") -> tuple[bytes, bytes, int]:
     """What the program writes to these words, what it says of itself, and its status."""
     done = subprocess.run([PROGRAM, *words], input=given, capture_output=True, timeout=MOST_SECONDS)
     return done.stdout, done.stderr, done.returncode
 
 
-def put(room, name, data):
+def put(room: str | pathlib.Path, name: str, data: bytes) -> pathlib.Path:
     path = pathlib.Path(room) / name
     path.write_bytes(data)
     return path
 
 
-def writes_the_plain_page(what, words, given, page, status):
+def writes_the_plain_page(what: str, words: Sequence[str | pathlib.Path], given: bytes, page: str, status: int) -> None:
     output, errors, came = answer(["page", *words], given)
     same(f"the page of {what}", output, page.encode())
     same(f"how the page of {what} ends", (errors, came), (b"", status))
 
 
-def pages_are_those_of_the_plain_rows():
+def pages_are_those_of_the_plain_rows() -> None:
     scripts = {path.name: (path.read_bytes(), 0) for path in TOUR}
     scripts |= {"hostile.txt": (HOSTILE, 1), "mismatch.txt": (mismatched()[0], 1), "many.txt": (MANY, 1), "lost.txt": (LOST, 1), "empty.txt": (b"", 0)}
     with tempfile.TemporaryDirectory() as room:
@@ -53,7 +56,7 @@ def pages_are_those_of_the_plain_rows():
             writes_the_plain_page(name, [put(room, name, data)], b"", page_of(data, name, FORMAT), status)
 
 
-def names_are_told_as_they_are():
+def names_are_told_as_they_are() -> None:
     data = TOUR[0].read_bytes()
     with tempfile.TemporaryDirectory() as room:
         for name in ("<!--<script>&'\"", "ключ \u202e.txt"):
@@ -61,15 +64,15 @@ def names_are_told_as_they_are():
     writes_the_plain_page("standard input", ["-"], data, page_of(data, "standard input", FORMAT), 0)
 
 
-def every_changes_no_page():
+def every_changes_no_page() -> None:
     data, page = HOSTILE, page_of(HOSTILE, "standard input", FORMAT)
     for words in (["--every", "1", "-"], ["-", "--every", "64"], ["-", "--every=16"]):
         writes_the_plain_page(" ".join(words), words, data, page, 1)
 
 
-def refusals_are_those_of_run():
+def refusals_are_those_of_run() -> None:
     with tempfile.TemporaryDirectory() as room:
-        cases = [[], ["--every", "4"], [room], [f"{room}/none"], ["-", "--every", "0"], ["-", "--every", "65"], ["-", "--every", "x"], [f"{room}/none", "--every", "0"]]
+        cases: list[list[str | pathlib.Path]] = [[], ["--every", "4"], [room], [f"{room}/none"], ["-", "--every", "0"], ["-", "--every", "65"], ["-", "--every", "x"], [f"{room}/none", "--every", "0"]]
         cases += [[put(room, name, data)] for name, data in REFUSED.items()]
         for words in cases:
             wanted = answer(["run", *words])
@@ -77,17 +80,18 @@ def refusals_are_those_of_run():
             same(f"what is answered to {words}", answer(["page", *words]), wanted)
 
 
-def full_devices_are_told():
+def full_devices_are_told() -> None:
     with open("/dev/full", "wb") as full:
         done = subprocess.run([PROGRAM, "page", TOUR[0]], stdout=full, stderr=subprocess.PIPE, timeout=MOST_SECONDS)
     same("what is said of a full device", (done.stderr, done.returncode), (FAILED, 4))
 
 
-def readers_that_go_away_are_told():
+def readers_that_go_away_are_told() -> None:
     """Who reads some and goes away has a beginning of the page, of which a pipe holds a part alone."""
     whole = page_of(HOSTILE, "standard input", FORMAT).encode()
     for count in (0, 1, 4096, 30_000):
         with subprocess.Popen([PROGRAM, "page", "-"], stdin=subprocess.PIPE, stdout=subprocess.PIPE, stderr=subprocess.PIPE) as running:
+            assert running.stdin and running.stdout and running.stderr
             running.stdin.write(HOSTILE)
             running.stdin.close()
             came = running.stdout.read(count)
@@ -96,7 +100,7 @@ def readers_that_go_away_are_told():
         same("what came", came, whole[:count])
 
 
-def twenty_thousand_directives_are_written():
+def twenty_thousand_directives_are_written() -> None:
     page = long_page(FORMAT)
     with tempfile.TemporaryDirectory() as room:
         path = put(room, "long", LONG)

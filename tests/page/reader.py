@@ -1,13 +1,18 @@
 """What a reader sees of pages in a browser, and does with them: keys, clicks, the place in the address, texts that would act."""
+from __future__ import annotations
+
 import contextlib
 import html
+import pathlib
 import re
 import statistics
 import time
+from collections.abc import Callable, Iterable, Sequence
+from contextlib import AbstractContextManager
 
-from plain.script import read_script
+from plain.script import Block, read_script
 from tests.page.browser import Browser, found
-from tests.page.plain_steps import rows_of
+from tests.page.plain_steps import Row, rows_of
 from tests.page.scripts import FULL, HOSTILE, LESS, LOST, MANY, OUTPUT, TOUR, Failed, long_page, mismatched, page_of, same
 
 TALL = 12000
@@ -44,48 +49,48 @@ STEPS = """async (key, count) => {
 class Reader:
     """A reader with a browser, who may keep what is seen."""
 
-    def __init__(self, browser, room, kept):
+    def __init__(self, browser: Browser, room: pathlib.Path, kept: pathlib.Path | None) -> None:
         self.browser, self.room, self.kept = browser, room, kept
 
-    def open(self, data, name, place=""):
+    def open(self, data: bytes, name: str, place: str = "") -> float:
         return self.open_page(page_of(data, name), name, place)
 
-    def open_page(self, page, name, place=""):
+    def open_page(self, page: str, name: str, place: str = "") -> float:
         path = self.room / f"{name}.html"
         path.write_text(page)
         seconds = self.browser.open(path, place)
         self.keep(name + place.replace("#", "-"))
         return seconds
 
-    def keep(self, name):
+    def keep(self, name: str) -> None:
         self.quiet()
         if self.kept:
             self.browser.picture(self.kept / f"{name}.png")
 
-    def quiet(self):
+    def quiet(self) -> None:
         same("what the console has", self.browser.faults, [])
 
-    def comes_to(self, code, wanted):
+    def comes_to(self, code: str, wanted: object) -> None:
         """Waits until an expression has this value: what happens in a frame isn't waited for by others."""
         until = time.monotonic() + MOST_SECONDS
         while (value := self.browser.value(code)) != wanted and time.monotonic() < until:
             self.browser.settle()
         same(code, value, wanted)
 
-    def where(self):
-        return self.browser.value("document.getElementById('where').textContent")
+    def where(self) -> str:
+        return self.text("where")
 
-    def place(self):
-        return int(re.match(r"step (\d+) of", self.where())[1])
+    def place(self) -> int:
+        return int(self.where().removeprefix("step ").split()[0])
 
-    def text(self, id):
-        return self.browser.value(f"document.getElementById({id!r}).textContent")
+    def text(self, id: str) -> str:
+        return str(self.browser.value(f"document.getElementById({id!r}).textContent"))
 
-    def count(self, selector):
-        return self.browser.value(f"document.querySelectorAll({selector!r}).length")
+    def count(self, selector: str) -> int:
+        return int(self.browser.value(f"document.querySelectorAll({selector!r}).length"))
 
 
-def counted(rows):
+def counted(rows: Iterable[Row]) -> tuple[int, int, int]:
     """How many messages were delivered, how many were lost, and how many are on their way at the end."""
     names = [row[0] for row in rows]
     given_up = names.count("no-room")
@@ -94,13 +99,13 @@ def counted(rows):
     return names.count("deliver"), names.count("drop") + given_up, sent - given_up - met
 
 
-def drawn(reader):
+def drawn(reader: Reader) -> tuple[int, ...]:
     """The same, as the picture has them."""
     path = "[...document.querySelectorAll('#drawing path{}')].map((it) => it.getAttribute('d')).join('').split('M').length - 1"
     return tuple(reader.browser.value(path.format(look)) for look in (".tip", ".cross", ".arrow.waiting"))
 
 
-def marks_of(rows, blocks):
+def marks_of(rows: Iterable[Row], blocks: Sequence[Block]) -> list[int]:
     """How many elections were won, configurations changed, snapshots restored and logs compacted."""
     errors = sum(row[0] == "error" for row in rows)
     compacts = sum(block.head[0].startswith(b"compact ") for block in blocks)
@@ -109,7 +114,7 @@ def marks_of(rows, blocks):
     return [won, names.count("switched"), names.count("restored"), compacts - (errors if compacts else 0)]
 
 
-def marks_drawn(reader):
+def marks_drawn(reader: Reader) -> list[int]:
     texts = reader.browser.value("[...document.querySelectorAll('#drawing .mark title')].map((it) => it.textContent)")
     return [sum(text.startswith(sign) for text in texts) for sign in ("★ leader", "◆ ", "▣ snapshot", "▣ compacted")]
 
@@ -123,7 +128,7 @@ IN_VIEW = """['script .block.chosen', 'drawing .row.chosen'].every((it) => {
 })"""
 
 
-def tour_is_right_to_the_arrow(reader):
+def tour_is_right_to_the_arrow(reader: Reader) -> None:
     for path in TOUR:
         data = path.read_bytes()
         rows, blocks = list(rows_of(data, path.name)), read_script(data).blocks
@@ -139,7 +144,7 @@ def tour_is_right_to_the_arrow(reader):
         reader.keep(path.stem + "-end")
 
 
-def lost_messages_end_in_crosses(reader):
+def lost_messages_end_in_crosses(reader: Reader) -> None:
     reader.browser.size(1500, 900)
     reader.open(LOST, "lost")
     same("the arrows", drawn(reader), (0, 1, 3))
@@ -152,7 +157,7 @@ def lost_messages_end_in_crosses(reader):
     same("how many are on their way", seen, [f"{text} on {'its' if text == '1 message' else 'their'} way" for text in wanted])
 
 
-def keys_and_clicks_step(reader):
+def keys_and_clicks_step(reader: Reader) -> None:
     reader.open(TOUR[0].read_bytes(), "keys", "#5")
     places = [reader.place()]
     for key in ["ArrowDown", "j", "ArrowUp", "k", "PageDown", "PageUp", "End", "ArrowDown", "Home", "ArrowUp"]:
@@ -173,13 +178,13 @@ def keys_and_clicks_step(reader):
     reader.quiet()
 
 
-def strange_places_are_answered(reader):
+def strange_places_are_answered(reader: Reader) -> None:
     for place, wanted in [("#0", 1), ("#999", 20), ("#x", 1), ("#<b>", 1), ("#20", 20)]:
         reader.open(TOUR[0].read_bytes(), "places", place)
         same(f"the place of {place}", reader.place(), wanted)
 
 
-def mismatch_is_a_difference(reader):
+def mismatch_is_a_difference(reader: Reader) -> None:
     data, places = mismatched()
     reader.open(data, "mismatch")
     same("the counts", reader.text("counts"), "20 directives, 1 mismatch, 3 nodes")
@@ -192,7 +197,7 @@ def mismatch_is_a_difference(reader):
     reader.keep("mismatch-chosen")
 
 
-def hostile_texts_are_text(reader):
+def hostile_texts_are_text(reader: Reader) -> None:
     same("what the page would hold of it", page_of(b"", "x").count("alert"), 0)
     reader.browser.size(1500, 5000)
     reader.open(HOSTILE, "hostile")
@@ -209,7 +214,7 @@ def hostile_texts_are_text(reader):
     reader.browser.size(1500, 900)
 
 
-def hostile_names_are_text(reader):
+def hostile_names_are_text(reader: Reader) -> None:
     name = "</title></script><img src=x onerror=alert`7`>"
     path = reader.room / "named.html"
     path.write_text(page_of(TOUR[0].read_bytes(), name))
@@ -219,7 +224,7 @@ def hostile_names_are_text(reader):
     reader.quiet()
 
 
-def foreign_code_is_refused(reader):
+def foreign_code_is_refused(reader: Reader) -> None:
     """The policy itself, with a page that somebody has tampered with: code of others in it doesn't run."""
     path = reader.room / "tampered.html"
     code = "document.title = 'run'"
@@ -231,7 +236,7 @@ def foreign_code_is_refused(reader):
     same("whether the browser says so", len(refused) > 0, True)
 
 
-def what_is_cut_off_is_told(reader):
+def what_is_cut_off_is_told(reader: Reader) -> None:
     path = reader.room / "cut.html"
     path.write_text(page_of(TOUR[0].read_bytes(), "x")[:60_000].split('["end"')[0])
     reader.browser.open(path)
@@ -239,7 +244,7 @@ def what_is_cut_off_is_told(reader):
     same("whether the notice stands", "cut off" in reader.text("notice") and not is_hidden, True)
 
 
-def thirty_two_nodes_stand_side_by_side(reader):
+def thirty_two_nodes_stand_side_by_side(reader: Reader) -> None:
     reader.open(MANY, "many")
     same("the counts", reader.text("counts"), "5 directives, 5 mismatches, 32 nodes")
     reader.browser.press("End")
@@ -248,7 +253,7 @@ def thirty_two_nodes_stand_side_by_side(reader):
     reader.keep("many-end")
 
 
-def full_mailbox_is_told(reader):
+def full_mailbox_is_told(reader: Reader) -> None:
     """4,096 messages are on their way: not all of them are listed, and those that found no room aren't."""
     reader.open(FULL, "full", "#270")
     same("the step", reader.where(), "step 270 of 274, line 808")
@@ -260,7 +265,7 @@ def full_mailbox_is_told(reader):
     same("how many are on their way behind those that were met", reader.browser.value(PENDING)[0], "3830 messages on their way")
 
 
-def long_output_is_shown_to_its_end(reader):
+def long_output_is_shown_to_its_end(reader: Reader) -> None:
     reader.browser.size(1500, 900)
     reader.open(OUTPUT, "output")
     reader.browser.press("End")
@@ -273,11 +278,11 @@ def long_output_is_shown_to_its_end(reader):
     reader.keep("output-end")
 
 
-def framed(page, attributes):
+def framed(page: str, attributes: str) -> str:
     return f"<!DOCTYPE html><title>outer</title><body><iframe id=frame {attributes} width=1400 height=800 srcdoc='{html.escape(page)}'></iframe>"
 
 
-def click_into(reader, asking, place):
+def click_into(reader: Reader, asking: Callable[[], AbstractContextManager[None]], place: str) -> None:
     """Clicks into a frame until that chooses another directive: before the frame is drawn a click goes past it."""
     until = time.monotonic() + MOST_SECONDS
     chosen = FIRST
@@ -289,11 +294,12 @@ def click_into(reader, asking, place):
     same("whether a click into a frame chooses nothing", chosen == FIRST, False)
 
 
-def frames_step_without_an_address(reader):
+def frames_step_without_an_address(reader: Reader) -> None:
     """A frame that was given its document as a text, as a code review may show what is attached; also where scripts alone may run."""
     page = page_of(TOUR[0].read_bytes(), "framed")
     inner = "document.getElementById('frame').contentDocument"
-    for attributes, asking, document in [("", contextlib.nullcontext, inner), ("sandbox=allow-scripts", reader.browser.inside, "document")]:
+    ways: list[tuple[str, Callable[[], AbstractContextManager[None]], str]] = [("", contextlib.nullcontext, inner), ("sandbox=allow-scripts", reader.browser.inside, "document")]
+    for attributes, asking, document in ways:
         reader.open_page(framed(page, attributes), "framed")
         place = f"{document}.getElementById('where').textContent.split(',')[0]"
         with asking():
@@ -306,7 +312,7 @@ def frames_step_without_an_address(reader):
         reader.keep("framed-" + (attributes.partition("=")[0] or "alone"))
 
 
-def twenty_thousand_directives_open(reader):
+def twenty_thousand_directives_open(reader: Reader) -> None:
     seconds = reader.open_page(long_page(), "long")
     same("the counts", reader.text("counts"), "20000 directives, 0 mismatches, 3 nodes")
     same("whether few elements stand", reader.count("*") < MOST_ELEMENTS, True)
@@ -320,7 +326,7 @@ def twenty_thousand_directives_open(reader):
     print(f"20,000 directives open in {seconds:.1f} s, a step takes {median:.0f} ms and touches {most} elements")
 
 
-def steps_take_no_more_work_in_a_long_script(reader):
+def steps_take_no_more_work_in_a_long_script(reader: Reader) -> None:
     """By how often parts of the page's code run, which is the same on each machine: of 2,000 directives and of 20,000."""
     (opened, steps), (opened_long, steps_long) = runs_of(reader, "less", page_of(LESS, "less")), runs_of(reader, "long", long_page())
     print(f"opening runs {opened:,} and {opened_long:,} parts of the page's code, steps run {steps} and {steps_long}")
@@ -329,9 +335,9 @@ def steps_take_no_more_work_in_a_long_script(reader):
         same(f"whether {more} is hardly more than {less}", 0 < more < 1.25 * less, True)
 
 
-def runs_of(reader, name, page):
+def runs_of(reader: Reader, name: str, page: str) -> tuple[int, list[int]]:
     """How often parts of the code run when a page is opened, and at each of some steps; in a browser that has seen none of its code."""
-    with Browser(found()) as browser, browser.counting():
+    with Browser(found() or "") as browser, browser.counting():
         another = Reader(browser, reader.room, reader.kept)
         another.open_page(page, name)
         opened, steps = browser.runs(), []
@@ -342,7 +348,7 @@ def runs_of(reader, name, page):
     return opened, steps
 
 
-def light_and_dark_differ(reader):
+def light_and_dark_differ(reader: Reader) -> None:
     colours = {}
     for scheme in ("light", "dark"):
         reader.browser.scheme(scheme)

@@ -1,4 +1,6 @@
 """Scripts that tests of pages are made of: the tour, a mismatch, texts that would act, messages that are lost, 32 nodes, 20,000 directives."""
+from __future__ import annotations
+
 import functools
 
 from plain.script import read_script
@@ -58,12 +60,12 @@ class Failed(AssertionError):
     """What a test finds wrong."""
 
 
-def same(what, came, wanted):
+def same(what: str, came: object, wanted: object) -> None:
     if came != wanted:
         raise Failed(f"{what} is {came!r:.300}, and not {wanted!r:.300}")
 
 
-def mismatched():
+def mismatched() -> tuple[bytes, list[int]]:
     """The tour's election with one line changed, and the place of its directive."""
     data = TOUR[0].read_bytes()
     same("how often the line stands", data.count(b"from 2: won"), 1)
@@ -71,12 +73,12 @@ def mismatched():
     return changed, [place for place, block in enumerate(read_script(changed).blocks, 1) if b"from 2: other" in block.text()]
 
 
-def page_of(data, name, format=EVENTS_TOO):
+def page_of(data: bytes, name: str, format: int = EVENTS_TOO) -> str:
     before, after = parts()
     return before + json_text(rows_of(data, name, format)) + after
 
 
 @functools.cache
-def long_page(format=EVENTS_TOO):
+def long_page(format: int = EVENTS_TOO) -> str:
     """The page of 20,000 directives, which takes the plain bench a minute."""
     return page_of(LONG, "long", format)

@@ -1,7 +1,12 @@
 """What stands after a step in a page's right pane, beside what is printed of the nodes (printed.py)."""
+from __future__ import annotations
+
 import re
+from collections.abc import Sequence
+from typing import Any
 
 from tests.page.told import gist
+from tests.page.printed import Node
 
 FACTS = re.compile(r"\d+|no vote|no leader")
 CONTENT = re.compile(r", content (\d+) bytes?: …?(.*)")
@@ -11,7 +16,7 @@ MOST_ENTRIES = 24
 MOST_LISTED = 200
 
 
-def told(article):
+def told(article: dict[str, Any]) -> dict[str, Any]:
     """What is told of a node: its role twice, its numbers, its content, its configuration, its boxes and its views."""
     first, second, config = article["facts"]
     numbers, *content = CONTENT.split(second)
@@ -24,7 +29,7 @@ def told(article):
     }
 
 
-def wanted(node):
+def wanted(node: Node) -> dict[str, Any]:
     """The same of a node as it is printed."""
     term, vote, lead, commit, applied, _, _, durable = node.numbers
     first = [f"{term}", f"{vote}" if vote else "no vote", f"{lead}" if lead else "no leader"]
@@ -37,7 +42,7 @@ def wanted(node):
     }
 
 
-def columns_wanted(nodes, seen):
+def columns_wanted(nodes: dict[int, Node], seen: Sequence[int]) -> list[int]:
     """Which indexes a table of logs has: the last 24, up to the last entry of all nodes, and to what their leader sends next; no others but
     those of entries that gave way."""
     leaders = sorted((node for node in nodes.values() if node.role == "leader"), key=lambda node: -node.numbers.term)
@@ -47,7 +52,7 @@ def columns_wanted(nodes, seen):
     return list(range(first, last + 1))
 
 
-def row_wanted(node, columns):
+def row_wanted(node: Node, columns: Sequence[int]) -> list[Any]:
     """The cells of a node's log in these columns: signs and texts."""
     cells = []
     for index in columns:
@@ -61,7 +66,7 @@ def row_wanted(node, columns):
     return cells
 
 
-def row_told(row, columns):
+def row_told(row: Any, columns: Sequence[int]) -> list[Any]:
     """The same of a row of the table; a cell in which an entry gave way to none isn't counted."""
     told = []
     for cell in row["cells"]:
@@ -71,7 +76,7 @@ def row_told(row, columns):
     return told
 
 
-def marks_wanted(nodes, id, columns):
+def marks_wanted(nodes: dict[int, Node], id: int, columns: Sequence[int]) -> list[Any]:
     """What the leader of the latest term knows of a node, where its columns are shown."""
     leaders = sorted((node for node in nodes.values() if node.role == "leader"), key=lambda node: -node.numbers.term)
     for member, _, match, next, *_ in leaders[0].views if leaders else []:
@@ -80,17 +85,17 @@ def marks_wanted(nodes, id, columns):
     return []
 
 
-def view(member, state, match, next, inflight, waiting, pending, inactive):
+def view(member: Any, state: Any, match: Any, next: Any, inflight: Any, waiting: Any, pending: Any, inactive: Any) -> list[Any]:
     words = state + (", waiting" if waiting else f" {pending}" if pending else "") + (", inactive" if inactive else "")
     return [member, words, match, next, inflight]
 
 
-def listed(told):
+def listed(told: list[Any]) -> list[Any]:
     """Of what is told in a list as much as a page shows, and how much more there is."""
     more = len(told) - MOST_LISTED
     return told[:MOST_LISTED] + [(f"{more}",)] * (more > 0)
 
 
-def messages_told(texts):
+def messages_told(texts: list[str]) -> list[Any]:
     """What a list tells of messages, of anything else nothing; and at its end how much more there is."""
     return [gist(text) if "→" in text else () for text in texts[:MOST_LISTED]] + list(map(gist, texts[MOST_LISTED:]))

@@ -8,19 +8,22 @@ browser, this says so.
 
 With SEEN=FOLDER in the environment it writes what is seen into a folder, to look at.
 """
+from __future__ import annotations
+
 import os
 import pathlib
 import re
 import subprocess
 import tempfile
 import xml.etree.ElementTree
-from collections.abc import Iterator
+from collections.abc import Iterable, Iterator, Sequence
+from typing import Any
 
 from plain.script import read_script
 from tests.harness import PROGRAM, TOP, Result, results_of
 from tests.page.browser import Browser, found
 from tests.page.plain_chart import svg_of
-from tests.page.plain_steps import rows_of
+from tests.page.plain_steps import Row, rows_of
 from tests.page.scripts import HOSTILE, LOST, MANY, PAYLOADS, TOUR, same
 
 ELECTION = TOP / "docs" / "pictures" / "election.svg"
@@ -48,20 +51,20 @@ NOTES = [
 REFUSED = {"BadLine": b"add-nodes =x\n----\n", "NoSeparator": b"add-nodes 1\n", "LineTooLong": b"raft-state\n----\n" + b"x" * 65_537}
 
 
-def parts_of(svg):
+def parts_of(svg: str) -> list[xml.etree.ElementTree.Element]:
     return list(xml.etree.ElementTree.fromstring(svg).iter())
 
 
-def described(svg):
+def described(svg: str) -> list[str]:
     """What is told to readers who can't see, in lines."""
     [told] = [part.text for part in parts_of(svg) if part.tag == SVG + "desc"]
-    return told.splitlines()
+    return (told or "").splitlines()
 
 
 # Without the program
 
 
-def picture_is_named_and_described():
+def picture_is_named_and_described() -> None:
     """As WAI-ARIA has it: an image, with a name and a description by the elements that have these ids."""
     root, *parts = parts_of(svg_of(TOUR[0].read_bytes(), "a name", 39))
     ids = {part.get("id"): part.tag.removeprefix(SVG) for part in parts if part.get("id")}
@@ -69,15 +72,15 @@ def picture_is_named_and_described():
     same("its role, its name and its description", [root.get("role"), *named], ["img", "title", "desc"])
 
 
-def labels_of(parts):
+def labels_of(parts: list[xml.etree.ElementTree.Element]) -> tuple[list[tuple[int, str]], list[str]]:
     """The labels of messages: those to whom no arrow leads, with the node that they name, and the others."""
     kinds = {"vote", "append", "heartbeat", "snapshot", "proposal"}
-    texts = [part.text for part in parts if part.tag == SVG + "text" and kinds & set(part.get("class").split())]
-    found = [re.fullmatch(r"(?:→(\d+) )?(.*)", text, re.DOTALL).groups() for text in texts]
+    texts = [part.text or "" for part in parts if part.tag == SVG + "text" and kinds & set(part.get("class", "").split())]
+    found = [groups for text in texts for groups in re.findall(r"\A(?:→(\d+) )?(.*)\Z", text, re.DOTALL)]
     return [(int(to), text) for to, text in found if to], [text for to, text in found if not to]
 
 
-def unmet(rows):
+def unmet(rows: Iterable[Row]) -> tuple[list[int], Any]:
     """The receivers of messages that were not delivered, and how many were."""
     sent, delivered = [], 0
     for name, *cells in rows:
@@ -89,7 +92,7 @@ def unmet(rows):
     return sorted(to for _, to, _ in sent), delivered
 
 
-def what_no_arrow_leads_to_is_named():
+def what_no_arrow_leads_to_is_named() -> None:
     """The labels of messages that are lost or on their way say to whom they are, and no others do."""
     for data in [LOST, SELF, HOSTILE, *(path.read_bytes() for path in TOUR)]:
         aimed, others = labels_of(parts_of(svg_of(data, "x")))
@@ -98,17 +101,17 @@ def what_no_arrow_leads_to_is_named():
         same("how many were delivered", len(others), delivered)
 
 
-def labels_say_type_and_term():
+def labels_say_type_and_term() -> None:
     """Each label begins with etcd's name of the type, and has the term, where the message is of one, and there is room."""
     for data in [LOST, SELF, *(path.read_bytes() for path in TOUR)]:
         sent = [row[3:5] for row in rows_of(data, "x") if row[0] in ("send", "queue")]
         wanted = sorted(" ".join([kind[3:], *([f"t{term}"] if term else [])]) for kind, term in sent)
         aimed, others = labels_of(parts_of(svg_of(data, "x")))
         texts = [*(text for _, text in aimed), *others]
-        same("the types and terms", sorted(re.match(r"\w+( t\d+)?", text)[0] for text in texts), wanted)
+        same("the types and terms", sorted(found[0] for text in texts if (found := re.match(r"\w+( t\d+)?", text))), wanted)
 
 
-def labels_have_room():
+def labels_have_room() -> None:
     """Where a term has no room its label has none, and ends in an ellipsis where it has no room even so; all of it is told."""
     svg = svg_of(LONG, "x")
     _, labels = labels_of(parts_of(svg))
@@ -117,7 +120,7 @@ def labels_have_room():
     same("whether all of it is told", [told in line for line in described(svg)].count(True), 1)
 
 
-def notes_are_told():
+def notes_are_told() -> None:
     """The script's comments and heads, and nothing that looks like one."""
     told = described(svg_of(NOTED, "x"))
     wanted = [text if line is None else f"Line {line}: note: {text}" for line, text in NOTES]
@@ -133,7 +136,7 @@ def notes_are_told():
                 same(f"whether {text!r} of {path.name} is told", text in words, True)
 
 
-def what_is_on_its_way_is_told():
+def what_is_on_its_way_is_told() -> None:
     told = described(svg_of(LOST, "x"))
     wanted = [
         "Vote t2 last 1/10 from node 1 to node 2 is on its way.", "Vote t1 last 1/10 from node 1 to node 3 is on its way.",
@@ -147,19 +150,19 @@ def what_is_on_its_way_is_told():
 # What the program does
 
 
-def answer(words, given=b""):
+def answer(words: Sequence[Any], given: bytes = b"") -> tuple[bytes, bytes, int]:
     """What the program writes to these words, what it says of itself, and its status."""
     done = subprocess.run([PROGRAM, *words], input=given, capture_output=True, timeout=MOST_SECONDS)
     return done.stdout, done.stderr, done.returncode
 
 
-def election_of_the_documents_is_the_program_s():
+def election_of_the_documents_is_the_program_s() -> None:
     """Byte for byte; tests/page holds it to the plain program's too, which made it."""
     for words in (["--until", "39", TOUR[0]], [TOUR[0], "--until", "39"], [TOUR[0], "--until=39"]):
         same("the election", answer(["chart", *words]), (ELECTION.read_bytes(), b"", 0))
 
 
-def pictures_are_the_plain_ones():
+def pictures_are_the_plain_ones() -> None:
     """Of what tests/page doesn't draw; and a status as of `run`, whatever the picture shows."""
     for data, status in [(NOTED, 1), (SELF, 1), (b"", 0), (b"# A note.\n", 0), (TOUR[3].read_bytes(), 0)]:
         same("the picture", answer(["chart", "-"], data), (svg_of(data, "standard input").encode(), b"", status))
@@ -167,9 +170,9 @@ def pictures_are_the_plain_ones():
             same(f"up to line {line}", answer(["chart", "-", "--until", str(line)], data)[0].decode(), svg_of(data, "standard input", line))
 
 
-def refusals_are_those_of_run():
+def refusals_are_those_of_run() -> None:
     with tempfile.TemporaryDirectory() as room:
-        cases = [[], [room], [f"{room}/none"], ["-", "--unknown"], ["-", "-"], [b"\xff"]]
+        cases: list[list[str | bytes]] = [[], [room], [f"{room}/none"], ["-", "--unknown"], ["-", "-"], [b"\xff"]]
         for name, data in REFUSED.items():
             pathlib.Path(room, name).write_bytes(data)
             cases.append([f"{room}/{name}"])
@@ -178,22 +181,23 @@ def refusals_are_those_of_run():
             same(f"whether run refuses {words}", (output, status > 1), (b"", True))
             wanted = output, errors.replace(b"Usage: raftbench run ", b"Usage: raftbench chart "), status
             same(f"what is answered to {words}", answer(["chart", *words]), wanted)
-    for words in (["-", "--every", "4"], ["-", "--until"], ["-", "--until", "x"], ["-", "--until", "-1"], ["-", "--until", "1", "--until", "2"]):
-        output, errors, status = answer(["chart", *words], b"")
-        same(f"what is answered to {words}", (output, errors.startswith((b"error: ", b"raftbench: ")), status), (b"", True, 2))
+    for few in (["-", "--every", "4"], ["-", "--until"], ["-", "--until", "x"], ["-", "--until", "-1"], ["-", "--until", "1", "--until", "2"]):
+        output, errors, status = answer(["chart", *few], b"")
+        same(f"what is answered to {few}", (output, errors.startswith((b"error: ", b"raftbench: ")), status), (b"", True, 2))
 
 
-def full_devices_are_told():
+def full_devices_are_told() -> None:
     with open("/dev/full", "wb") as full:
         done = subprocess.run([PROGRAM, "chart", TOUR[0]], stdout=full, stderr=subprocess.PIPE, timeout=MOST_SECONDS)
     same("what is said of a full device", (done.stderr, done.returncode), (FAILED, 4))
 
 
-def readers_that_go_away_are_told():
+def readers_that_go_away_are_told() -> None:
     """Who reads some and goes away has a beginning of the picture, of which a pipe holds a part alone."""
     whole = svg_of(MANY, "standard input").encode()
     for count in (0, 1, 4096, 30_000):
         with subprocess.Popen([PROGRAM, "chart", "-"], stdin=subprocess.PIPE, stdout=subprocess.PIPE, stderr=subprocess.PIPE) as running:
+            assert running.stdin and running.stdout and running.stderr
             running.stdin.write(MANY)
             running.stdin.close()
             came = running.stdout.read(count)
@@ -202,12 +206,12 @@ def readers_that_go_away_are_told():
         same("what came", came, whole[:count])
 
 
-def closed_outputs_are_told():
+def closed_outputs_are_told() -> None:
     done = subprocess.run(["sh", "-c", 'exec "$0" chart - >&-', PROGRAM], input=b"", stderr=subprocess.PIPE, timeout=MOST_SECONDS)
     same("what is said of an output that is closed", (done.stderr, done.returncode), (FAILED, 4))
 
 
-def hostile_texts_are_text():
+def hostile_texts_are_text() -> None:
     """Each payload stands as text in the picture's description, and as much of it as there is room for in its place."""
     svg, errors, status = answer(["chart", "-"], HOSTILE)
     same("how it ends", (errors, status), (b"", 1))
@@ -217,11 +221,11 @@ def hostile_texts_are_text():
     for text in ["</script><script>alert`1`</script>", "<!--<script>", "\"'><svg/onload>", "&lt;b&gt;", "ключ\\u202e日本語", "\\x80\\x81", "x" * 1024]:
         same(f"whether {text!r:.40} is told", text in told, True)
     same("the note", "Line 1: note: <img src=x onerror=alert(3)> </script><script>alert(4)</script>" in told, True)
-    heads = [part.text for part in parts if part.get("class") == "head"]
+    heads = [part.text or "" for part in parts if part.get("class") == "head"]
     same("what there is no room for", sum(head.endswith("…") for head in heads), 5)
 
 
-def hostile_names_are_text():
+def hostile_names_are_text() -> None:
     name = "<&>\"'</title><script>.txt"
     with tempfile.TemporaryDirectory() as room:
         path = pathlib.Path(room, name.replace("/", ":"))
@@ -248,11 +252,11 @@ COLOURS = """(() => {
 })()"""
 
 
-def drawn(browser, room, name, svg, kept):
+def drawn(browser: Browser, room: pathlib.Path, name: str, svg: str, kept: pathlib.Path | None) -> None:
     """Opens a picture at its own size."""
     path = pathlib.Path(room) / f"{name}.svg"
     path.write_text(svg)
-    width, height = (int(parts_of(svg)[0].get(side)) for side in ("width", "height"))
+    width, height = (int(parts_of(svg)[0].get(side, "")) for side in ("width", "height"))
     browser.size(width, min(height, 12_000))
     browser.open(path)
     same(f"what the console has of {name}", browser.faults, [])
@@ -260,7 +264,7 @@ def drawn(browser, room, name, svg, kept):
         browser.picture(kept / f"{name}.png")
 
 
-def all_is_within_the_picture(browser, room, kept):
+def all_is_within_the_picture(browser: Browser, room: pathlib.Path, kept: pathlib.Path | None) -> None:
     """Whatever is drawn is seen: nothing goes past an edge, and no head into a column."""
     far_down = b"#\n" * 99_000 + TOUR[0].read_bytes()
     given = {path.stem: path.read_bytes() for path in TOUR}
@@ -269,7 +273,7 @@ def all_is_within_the_picture(browser, room, kept):
         same(f"what goes past an edge of {name}", browser.value(PAST), [])
 
 
-def light_and_dark_differ(browser, room, kept):
+def light_and_dark_differ(browser: Browser, room: pathlib.Path, kept: pathlib.Path | None) -> None:
     seen = {}
     for scheme in ("light", "dark"):
         browser.scheme(scheme)
@@ -280,7 +284,7 @@ def light_and_dark_differ(browser, room, kept):
     same("how many colours are the same", sum(light == dark for light, dark in zip(*seen.values())), 0)
 
 
-def hostile_texts_act_in_no_browser(browser, room, kept):
+def hostile_texts_act_in_no_browser(browser: Browser, room: pathlib.Path, kept: pathlib.Path | None) -> None:
     drawn(browser, room, "acting", svg_of(HOSTILE, "<script>alert(1)</script>"), kept)
     same("elements of others", browser.value("document.querySelectorAll('script, img, iframe, foreignObject, a, b').length"), 0)
     texts = browser.value("[...document.querySelectorAll('.head')].map((it) => it.textContent)")

@@ -11,8 +11,11 @@ the page's modules (types_of_modules.py). Where there is no browser, or no progr
 
 With SEEN=FOLDER in the environment it writes what is seen into a folder, to look at.
 """
+from __future__ import annotations
+
 import ast
 import base64
+import dataclasses
 import hashlib
 import html.parser
 import json
@@ -23,11 +26,12 @@ import subprocess
 import tempfile
 import xml.etree.ElementTree
 from collections.abc import Iterator
+from typing import Any
 
 from plain.cluster import Cluster
 from plain.script import Fault, read_script, read_with_lines
 from tests.cases.case import scripts_below
-from tests.harness import TESTS, TOP, Result, results_of
+from tests.harness import PROGRAM, TESTS, TOP, Result, results_of
 from tests.page import access, assemble, beside, chart_parts, difference, events, finding, paper, program, stepping, types_of_modules
 from tests.page.browser import Browser, found
 from tests.page.plain_chart import svg_of
@@ -43,58 +47,70 @@ ACTING = "|".join([
 CHARTS = TOP / "crates" / "rb_chart"
 
 
+@dataclasses.dataclass
+class Element:
+    """An element that the page makes, with what is in it."""
+
+    tag: str
+    given: dict[str, str | None]
+    text: str = ""
+
+
 class Marks(html.parser.HTMLParser):
     """The elements of a page that hold text as it is, and its policy."""
 
-    def __init__(self, text):
+    def __init__(self, text: str) -> None:
         super().__init__(convert_charrefs=False)
-        self.elements, self.policy, self.attributes, self.open = [], None, set(), None
+        self.elements: list[Element] = []
+        self.policy = ""
+        self.attributes: set[str] = set()
+        self.open: Element | None = None
         self.feed(text)
 
-    def handle_starttag(self, tag, attributes):
+    def handle_starttag(self, tag: str, attributes: list[tuple[str, str | None]]) -> None:
         given = dict(attributes)
         self.attributes |= set(given)
         if given.get("http-equiv") == "Content-Security-Policy":
-            self.policy = given["content"]
+            self.policy = given["content"] or ""
         self.open = None
         if tag in ("script", "style"):
-            self.open = [tag, given, ""]
+            self.open = Element(tag, given)
             self.elements.append(self.open)
 
-    def handle_endtag(self, tag):
+    def handle_endtag(self, tag: str) -> None:
         self.open = None
 
-    def handle_data(self, data):
+    def handle_data(self, data: str) -> None:
         if self.open:
-            self.open[2] += data
+            self.open.text += data
 
 
-def hash_of(text):
+def hash_of(text: str) -> str:
     return "'sha256-" + base64.b64encode(hashlib.sha256(text.encode()).digest()).decode() + "'"
 
 
-def policy_names_its_own_by_hash():
+def policy_names_its_own_by_hash() -> None:
     marks = Marks(page_of(HOSTILE, "x"))
-    wanted = [("style", {}), ("script", {"type": "application/json", "id": "steps"}), ("script", {})]
-    same("the elements", [(tag, given) for tag, given, _ in marks.elements], wanted)
-    style, _, code = (text for _, _, text in marks.elements)
+    elements: list[tuple[str, dict[str, str | None]]] = [("style", {}), ("script", {"type": "application/json", "id": "steps"}), ("script", {})]
+    same("the elements", [(it.tag, it.given) for it in marks.elements], elements)
+    style, _, code = (it.text for it in marks.elements)
     wanted = {"default-src 'none'", f"style-src {hash_of(style)}", f"script-src {hash_of(code)}", "base-uri 'none'", "form-action 'none'"}
     same("the policy", set(marks.policy.split("; ")), wanted)
     same("the attributes that act", {name for name in marks.attributes if name.startswith("on") or name in ("src", "href", "style")}, set())
 
 
-def sources_are_made_of_the_files():
+def sources_are_made_of_the_files() -> None:
     for path, text in assemble.sources().items():
         same(f"{path.name}, which tests/page/assemble.py makes", path.read_text(), text)
 
 
-def no_code_makes_marks():
+def no_code_makes_marks() -> None:
     for name, code in zip(assemble.modules(), assemble.codes(), strict=True):
         same(f"what acts in {name}", re.findall(ACTING, code), [])
     same("what the look sees", len(re.findall(ACTING, "a.innerHTML = b; eval(c); d.onclick = e;")), 3)
 
 
-def rows_are_inert_and_read_back():
+def rows_are_inert_and_read_back() -> None:
     for data in [HOSTILE, *(path.read_bytes() for path in TOUR)]:
         rows = list(rows_of(data, "<&>é"))
         text = json_text(rows)
@@ -104,7 +120,7 @@ def rows_are_inert_and_read_back():
     same("a cell", cell(b'a"\\<\x00\xff'), '"a\\u0022\\u005c\\u003c\\u0000\\u00ff"')
 
 
-def changes_add_up():
+def changes_add_up() -> None:
     """What the rows of changes leave standing after each directive is the state of a cluster that ran without being watched."""
     for path in TOUR:
         cluster, standing = Cluster(), Standing()
@@ -119,10 +135,14 @@ def changes_add_up():
 class Standing:
     """What stands, by the rows of changes."""
 
-    def __init__(self):
-        self.nodes, self.entries, self.views, self.base, self.log, self.begun = {}, {}, {}, {}, None, False
+    def __init__(self) -> None:
+        self.nodes: dict[int, list[Any]] = {}
+        self.entries: dict[int, dict[int, int]] = {}
+        self.views: dict[tuple[int, ...], list[Any]] = {}
+        self.base: dict[int, int] = {}
+        self.log, self.begun = 0, False
 
-    def read(self, row):
+    def read(self, row: Any) -> None:
         name, *cells = row
         if name == "step":
             self.begun = True
@@ -139,24 +159,24 @@ class Standing:
         elif name == "no-view":
             del self.views[tuple(cells)]
 
-    def seen(self):
+    def seen(self) -> tuple[Any, ...]:
         return self.nodes, self.base, self.entries, self.views
 
 
-def seen_of(cluster):
+def seen_of(cluster: Cluster) -> tuple[Any, ...]:
     nodes = cluster.nodes.items()
     return (
         {id: [n.role, n.term, n.vote, n.lead, n.commit, n.applied, n.durable, len(n.content), n.content[-32:]] for id, n in nodes},
         {id: node.base for id, node in nodes},
         {id: {index: entry.term for index, entry in node.entries_from(node.base + 1)} for id, node in nodes},
         {
-            (id, member): [v.state, v.match, v.next, len(v.window), int(v.waiting), v.pending, int(v.active)]
+            (id, member): [v.state, v.match, v.next, v.inflight, int(v.waiting), v.pending, int(v.active)]
             for id, node in nodes for member, v in node.views.items()
         },
     )
 
 
-def charts_have_every_message():
+def charts_have_every_message() -> None:
     """A picture has an arrow, a cross or a dotted line for each message, and nothing that acts."""
     for data in [LOST, SELF, NOBODY, HOSTILE, MANY, *(path.read_bytes() for path in TOUR)]:
         parts = list(xml.etree.ElementTree.fromstring(svg_of(data, "<&>")).iter())
@@ -166,28 +186,28 @@ def charts_have_every_message():
         kinds = {part.tag.removeprefix("{http://www.w3.org/2000/svg}") for part in parts}
         same("the elements", kinds, {"svg", "title", "desc", "style", "defs", "marker", "path", "rect", "text"})
         same("what fetches or acts", [name for part in parts for name in part.keys() if "href" in name or name.startswith("on")], [])
-        same("the title", parts[1].text[:3], "<&>")
-        same("whether what happens is told", parts[2].text.count("\n") >= sum(came), True)
+        same("the title", (parts[1].text or "")[:3], "<&>")
+        same("whether what happens is told", (parts[2].text or "").count("\n") >= sum(came), True)
 
 
-def pictures_of_documents_are_the_plain_ones():
+def pictures_of_documents_are_the_plain_ones() -> None:
     kept = (TOP / "docs" / "pictures" / "election.svg").read_text()
     same("the election", kept, svg_of(TOUR[0].read_bytes(), TOUR[0].name, 39))
     same("how it ends", kept.count("★ leader, t1"), 2)
 
 
-def page_of_documents_is_the_plain_one():
+def page_of_documents_is_the_plain_one() -> None:
     """The page that can be opened before anything is built: `plain_steps.py examples/tour/01-election.txt | assemble.py page` writes it."""
     same("the page of the election", (TOP / "docs" / "pictures" / "election.html").read_text(), page_of(TOUR[0].read_bytes(), TOUR[0].name))
 
 
-def style_of_pictures_is_its_file():
+def style_of_pictures_is_its_file() -> None:
     """What the program writes of how a picture looks is the file that people read and change."""
     inside = (CHARTS / "src" / "style.rt").read_text().split(' = b"', 1)[1].removesuffix('";\n')
     same("the style", ast.literal_eval(f'b"""{inside}"""'), (CHARTS / "assets" / "style.svg").read_bytes())
 
 
-def charts_of_the_program_are_the_plain_ones():
+def charts_of_the_program_are_the_plain_ones() -> None:
     """Byte for byte, of each script of the cases and the tour, and of hostile, long and broken ones; also up to a line."""
     with tempfile.TemporaryDirectory() as room:
         given = [LOST, HOSTILE, MANY, SELF, NOBODY, b"", b"# nothing\n"]
@@ -200,7 +220,7 @@ def charts_of_the_program_are_the_plain_ones():
         same("how many are charted", len(charted) > 150, True)
 
 
-def is_charted_as_plainly(path):
+def is_charted_as_plainly(path: pathlib.Path) -> bool:
     """Whether the script can be read; where it can, its whole picture and that of its first half are looked at."""
     data = path.read_bytes()
     try:
@@ -211,7 +231,7 @@ def is_charted_as_plainly(path):
     status = int(list(rows_of(data, path.name))[-1][2] > 0)
     for until in [None, *lines[len(lines) // 2:][:1]]:
         words = [] if until is None else ["--until", str(until)]
-        done = subprocess.run([program.PROGRAM, "chart", path, *words], stdout=subprocess.PIPE, stderr=subprocess.PIPE)
+        done = subprocess.run([PROGRAM, "chart", path, *words], stdout=subprocess.PIPE, stderr=subprocess.PIPE)
         same(f"what is told of {path.name}", (done.returncode, done.stderr), (status, b""))
         same(f"the picture of {path.name} {' '.join(words)}", done.stdout.decode(), svg_of(data, path.name, until))
     return True

@@ -1,13 +1,17 @@
 """What a run's messages and nodes come to in a picture: by the lines that everything was shown in (printed.py), and of messages by
 the rows of a page too.
 """
+from __future__ import annotations
+
 import re
 from collections import Counter, defaultdict
+from collections.abc import Callable, Iterable
 from dataclasses import dataclass
-from typing import NamedTuple
+from typing import Any, NamedTuple
 
-from tests.page.plain_chart import KINDS, MARKS
-from tests.page.plain_steps import event_row
+from tests.page.plain_chart import KINDS, MARKS, Mark
+from tests.page.plain_steps import Row, event_row
+from tests.page.printed import Node, Step
 
 # What is told of a message in whatever words: who, to whom, which type, and the numbers and answers in it; and what became of it.
 GIST = re.compile(r"Msg\w+|\d+|granted|refused|transfer|delivered|dropped|given up|on its way")
@@ -22,7 +26,7 @@ IDLE = re.compile(r"(\d+) has nothing ready")
 NOTE = re.compile(r"no messages|stopped after \d+ rounds|error: .*")
 FATES = {"deliver": "delivered", "drop": "dropped"}
 # The words of marks that a picture alone doesn't have.
-PAGE_MARKS = {
+PAGE_MARKS: dict[str, Callable[..., Mark]] = {
     "started": lambda id: ("started", "quiet"),
     "nothing-ready": lambda id: ("nothing ready", "quiet"),
     "appended": lambda id, index, body: (f"+ {index} {body}", "quiet"),
@@ -30,7 +34,7 @@ PAGE_MARKS = {
 }
 
 
-def gist(text):
+def gist(text: str) -> tuple[str, ...]:
     return tuple(GIST.findall(text))
 
 
@@ -41,7 +45,7 @@ class Arrow(NamedTuple):
     """An arrow: how it looks, from which line and node it leads to which side, in which line it ends, at which node, and in which sign."""
     kind: str
     sent: int
-    sender: int
+    sender: int | None
     side: int
     end: int
     to: int | None
@@ -61,40 +65,43 @@ class Message:
     text: str = ""
     order: int = 0
 
-    def course(self):
+    def course(self) -> tuple[Any, ...]:
         """All but its text."""
         return self.sender, self.to, self.kind, self.sent, self.met, self.fate
 
-    def gist(self):
+    def gist(self) -> tuple[str, ...]:
         """What is told of it; a message of term 0 is told without a term."""
         return gist(self.text.replace(" term=0", ""))
 
-    def label(self):
+    def label(self) -> tuple[str, ...]:
         """What is told of it, and of what became of it."""
         fate = {"waiting": "on its way", "delivered": f"delivered at line {self.met}"}.get(self.fate, self.fate)
         return self.gist() + gist(fate)
 
-    def arrow(self, nodes):
+    def arrow(self, nodes: int) -> Arrow:
         """Its arrow where there are so many nodes; one that comes to no node ends anywhere on its way."""
         sign = {"delivered": "tip", "waiting": "dots"}.get(self.fate, "cross")
         side = -1 if self.to < self.sender else 1
         to = self.to if self.is_met() and self.to <= nodes else None
         return Arrow(KINDS[self.kind], self.sent, self.sender, side, self.met or self.sent, to, sign)
 
-    def is_met(self):
+    def is_met(self) -> bool:
         return self.fate in FATES.values()
 
-    def is_pending_after(self, line):
+    def is_pending_after(self, line: int) -> bool:
         return self.sent <= line and (self.met is None or self.met > line)
 
 
 class Mail:
     """Messages and what becomes of them. Of those with one key the earliest is the one that is met, and the latest the one without room."""
 
-    def __init__(self):
-        self.messages, self.waiting, self.ready, self.met = [], defaultdict(list), [], 0
+    def __init__(self) -> None:
+        self.messages: list[Message] = []
+        self.waiting: defaultdict[object, list[Message]] = defaultdict(list)
+        self.ready: list[tuple[object, Message]] = []
+        self.met = 0
 
-    def read(self, verb, key, message):
+    def read(self, verb: str, key: object, message: Message) -> None:
         """Takes a message as sent or met; what met it is the line where the given one was sent."""
         if verb in FATES:
             self.end(self.waiting[key].pop(0), message, FATES[verb])
@@ -109,12 +116,12 @@ class Mail:
             self.waiting[key].append(message)
             self.ready += [(key, message)] if verb == "send" else []
 
-    def end(self, message, at, fate):
+    def end(self, message: Message, at: Message, fate: str) -> None:
         message.met, message.fate, message.order = at.sent, fate, self.met
         self.met += 1
 
 
-def messages_of_lines(steps):
+def messages_of_lines(steps: Iterable[Step]) -> list[Message]:
     """The messages of what was printed, in the order in which they were sent; those with one text are alike."""
     mail = Mail()
     for step in steps:
@@ -129,7 +136,7 @@ def messages_of_lines(steps):
     return mail.messages
 
 
-def messages_of_rows(rows):
+def messages_of_rows(rows: Iterable[Row]) -> list[Message]:
     """The messages of a page's rows. Those to one node and of one type are met in their order."""
     mail, line = Mail(), 0
     for name, *cells in rows:
@@ -147,12 +154,16 @@ def messages_of_rows(rows):
 class Marker:
     """Goes over what was printed and tells which marks come of it: lists of a line, a node, a look, and a sign with numbers."""
 
-    def __init__(self):
-        self.marks, self.commits, self.before = [], {}, {}
-        self.step, self.ready, self.saves, self.restored = None, 0, [], set()
+    def __init__(self) -> None:
+        self.marks: list[tuple[int, int, str, tuple[str, ...]]] = []
+        self.commits: dict[int, int] = {}
+        self.before: dict[int, Node] = {}
+        self.line, self.ready = 0, 0
+        self.saves: list[int] = []
+        self.restored: set[int] = set()
 
-    def read(self, step):
-        self.step, self.restored = step, set()
+    def read(self, step: Step) -> None:
+        self.line, self.restored = step.line, set()
         for line in step.lines:
             self.read_line(line)
         self.end_saves()
@@ -160,11 +171,11 @@ class Marker:
             self.end_node(id, node)
         self.before = step.nodes
 
-    def mark(self, name, id, *cells):
+    def mark(self, name: str, id: int, *cells: Any) -> None:
         words, look = (MARKS.get(name) or PAGE_MARKS[name])(id, *cells)
-        self.marks.append((self.step.line, id, look, tuple(SIGN.findall(words))))
+        self.marks.append((self.line, id, look, tuple(SIGN.findall(words))))
 
-    def read_line(self, line):
+    def read_line(self, line: str) -> None:
         found = OF_READY.fullmatch(line)
         if found and found[3] == "save":
             self.saves.append(int(found[4]))
@@ -179,23 +190,23 @@ class Marker:
         elif found := EVENT.fullmatch(line):
             self.event(*event_row(found[1]))
 
-    def event(self, name, id, *cells):
+    def event(self, name: str, id: int, *cells: Any) -> None:
         self.mark(name, id, *cells)
         if name == "restored":
             self.commits[id] = cells[1]
             self.restored.add(id)
 
-    def commit(self, id, index):
+    def commit(self, id: int, index: int) -> None:
         if index > self.commits[id]:
             self.commits[id] = index
             self.mark("committed", id, index)
 
-    def end_saves(self):
+    def end_saves(self) -> None:
         if self.saves:
             self.mark("saved", self.ready, self.saves[0], self.saves[-1])
             self.saves = []
 
-    def end_node(self, id, node):
+    def end_node(self, id: int, node: Node) -> None:
         """What no line tells: a commit that no ready has shown, a log that begins later, and entries that came or gave way."""
         if id not in self.before:
             self.commits[id] = node.numbers.commit
@@ -210,7 +221,7 @@ class Marker:
             self.mark("appended", id, node.last(), node.entries[node.last()][1])
 
 
-def stays_of(old, new):
+def stays_of(old: Node, new: Node) -> int:
     """Up to which index a log is as it was."""
     index = new.numbers.base
     while index + 1 in new.entries and old.entries.get(index + 1) == new.entries[index + 1]:
@@ -218,26 +229,26 @@ def stays_of(old, new):
     return index
 
 
-def marks_of(steps):
+def marks_of(steps: Iterable[Step]) -> Counter[Any]:
     marker = Marker()
     for step in steps:
         marker.read(step)
     return Counter(marker.marks)
 
 
-def notes_of(steps):
+def notes_of(steps: Iterable[Step]) -> Counter[Any]:
     """What is said of directives as a whole."""
     return Counter((step.line, line) for step in steps for line in step.lines if NOTE.fullmatch(line))
 
 
-def turns_of(steps):
+def turns_of(steps: Iterable[Step]) -> Counter[Any]:
     """Where each role begins: how often by line, node and role."""
     events = [(step.line, found[1]) for step in steps for line in step.lines if (found := EVENT.fullmatch(line))]
     rows = [(line, event_row(text)) for line, text in events if " started at " in text or " became " in text]
     return Counter((line, id, rest[0] if name == "became" else "follower") for line, (name, id, *rest) in rows)
 
 
-def happened_in(step):
+def happened_in(step: Step) -> list[tuple[str, ...]]:
     """What happened in a directive, in order: of a message what is told of it, of anything else nothing."""
     forms = (MESSAGE, OF_READY, EVENT, IDLE, NOTE)
     happened = [line for line in step.lines if any(form.fullmatch(line) for form in forms)]
