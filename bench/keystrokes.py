@@ -10,6 +10,7 @@ and the worst time in microseconds; and what it takes to open the document.
     bench/keystrokes.py [ROUNDS]     RAFTBENCH names a program that is built elsewhere
 """
 import os
+import pathlib
 import statistics
 import subprocess
 import sys
@@ -23,7 +24,7 @@ sys.path[:1] = [os.path.dirname(os.path.dirname(os.path.abspath(__file__)))]
 from bench import measured  # noqa: E402
 from tests.editors import client  # noqa: E402
 
-PROGRAM = os.environ.get("RAFTBENCH", measured.PROGRAM)
+PROGRAM = pathlib.Path(os.environ.get("RAFTBENCH", measured.PROGRAM))
 DIRECTIVES = (200, 10_000, 20_000)
 NODES = "add-nodes 3 voters=(1,2,3) index=10\n----\n\n"
 STATE = "# as it stands\nraft-state\n----\n\n"

@@ -2,7 +2,7 @@
 import os
 import pathlib
 import socket
-from collections.abc import Iterator
+from collections.abc import Callable, Iterator
 
 from tests.check.checking import ACCEPTED, BAD, GOOD, as_nobody, differs, everyones, files, mismatch, run, totals, tree
 
@@ -81,10 +81,12 @@ def test_what_is_ignored_is_no_file(room: pathlib.Path) -> Iterator[str]:
     """Where what a folder ignores can't be read, nothing of the folder is looked at."""
     files(room, a__a_txt=GOOD, b_txt=GOOD)
     names = room / "a" / ".raftbenchignore"
-    for make, why in [
-            (lambda: os.mkfifo(names), b"it is neither a file nor a folder"),
-            (lambda: names.symlink_to("/dev/zero"), b"it is neither a file nor a folder"),
-            (lambda: names.symlink_to(names.name), b"its links lead round in a loop")]:
+    ways: list[tuple[Callable[[], None], bytes]] = [
+        (lambda: os.mkfifo(names), b"it is neither a file nor a folder"),
+        (lambda: names.symlink_to("/dev/zero"), b"it is neither a file nor a folder"),
+        (lambda: names.symlink_to(names.name), b"its links lead round in a loop"),
+    ]
+    for make, why in ways:
         make()
         yield from differs(why, run(room, "."), (4, totals(1, 1, failed=1), b"./a/.raftbenchignore: " + why + b"\n"))
         names.unlink()

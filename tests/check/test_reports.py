@@ -5,7 +5,7 @@ import pathlib
 import random
 import re
 import time
-from collections.abc import Iterator
+from collections.abc import Callable, Iterator
 from typing import Any
 
 from tests.check.checking import ACCEPTED, BAD, GOOD, UNKNOWN, UNWRITTEN, differs, files, listed, mismatch, run, totals, tree
@@ -103,8 +103,10 @@ def test_signs_are_as_few_as_can_be(room: pathlib.Path) -> Iterator[str]:
     output = [b"INFO %d started at 1/10 with voters=(1)" % node for node in range(1, 33)]
     dice = random.Random(1)
     for _ in range(150):
-        kinds = dice.choices((lambda line: [line], lambda line: [], lambda line: [line, line], lambda line: [b"x"], lambda line: [dice.choice(output)]),
-                             weights=(dice.choice((1, 5, 20)), 1, 1, 1, 1), k=len(output))
+        ways: list[Callable[[bytes], list[bytes]]] = [
+            lambda line: [line], lambda line: [], lambda line: [line, line], lambda line: [b"x"], lambda line: [dice.choice(output)],
+        ]
+        kinds = dice.choices(ways, weights=(dice.choice((1, 5, 20)), 1, 1, 1, 1), k=len(output))
         expected = [new for line, kind in zip(output, kinds) for new in kind(line)]
         (room / "a.txt").write_bytes(b"add-nodes 32 voters=(1) index=10\n----\n" + b"".join(line + b"\n" for line in expected) + b"\n")
         shown = run(room, "a.txt")[1].split(b"\n")[1:-3]

@@ -139,12 +139,12 @@ def first(path: str, differ: int, directives: int, line: int = 1) -> bytes:
 def test_review(room: pathlib.Path) -> Iterator[str]:
     """What is said yes to is accepted, and the bytes of all else stay."""
     blocks = [b"# %d\r\n" % number + BAD.replace(b"\n", b"\r\n") for number in range(4)]
-    text, line = b"\r\n".join(blocks), lambda number: 2 + 5 * number
+    text = b"\r\n".join(blocks)
     for answers in itertools.product((b"y", b"n"), repeat=4):
         (room / "a.txt").write_bytes(text)
         status, got = reviewed(room, answers, "a.txt")
         yes = answers.count(b"y")
-        wanted = first("a.txt", 4, 4, 2) + b"".join(mismatch("a.txt", line(number)) + QUESTION for number in range(4))
+        wanted = first("a.txt", 4, 4, 2) + b"".join(mismatch("a.txt", 2 + 5 * number) + QUESTION for number in range(4))
         wanted += (b"a.txt: accepted %d output%s\n" % (yes, b"s" * (yes != 1))) * (yes > 0) + totals(1, 4, 4 - yes, accepted=yes)
         due = b"\r\n".join(block.replace(b"no", b"ok") if answer == b"y" else block for block, answer in zip(blocks, answers))
         if (status, got) != (0 if yes == 4 else 1, wanted) or (room / "a.txt").read_bytes() != due:

@@ -73,13 +73,13 @@ def conversation() -> list[Any]:
 class Refusing:
     """The server in that conversation, where allocations are refused."""
 
-    def __init__(self, program, folder: pathlib.Path) -> None:
-        self.program, self.library = program, pathlib.Path(folder, "refuse.so")
+    def __init__(self, program: pathlib.Path, folder: pathlib.Path) -> None:
+        self.program, self.library = program, folder / "refuse.so"
         self.sent = b"".join(framed(body) for body in conversation())
         subprocess.run(["cc", "-shared", "-fPIC", "-O2", "-o", self.library, TOP / "tests" / "faults" / "refuse.c", "-ldl"], check=True)
         self.due, _, _ = self.talked(0, False)
 
-    def talked(self, at: int, onwards: bool) -> tuple[list[Any], int, bool]:
+    def talked(self, at: int, onwards: bool) -> tuple[list[Any], bool, int]:
         """What it writes where this allocation is refused, and those behind it too or not; whether there was such a one; and its status."""
         around = dict(os.environ, REFUSE_AT=str(at), LD_PRELOAD=str(self.library), **({"FROM_THERE_ON": "1"} if onwards else {}))
         done = subprocess.run([self.program, "lsp"], input=self.sent, capture_output=True, env=around, timeout=MOST_SECONDS)
@@ -95,7 +95,7 @@ class Refusing:
             low, high = (middle, high) if self.talked(middle, False)[1] else (low, middle)
         return low
 
-    def look(self, at: int, onwards: bool) -> str | None:
+    def look(self, at: int, onwards: bool) -> tuple[str | None, list[str]]:
         """What is wrong where this allocation is refused, or None; and which messages said that there was no memory."""
         came, _, status = self.talked(at, onwards)
         wanting = [n for n, (it, due) in enumerate(zip(came, self.due)) if it != due]
@@ -109,14 +109,14 @@ class Refusing:
 def is_want(came: Any, due: Any) -> bool:
     """Whether a message says that there was no memory, in the place of one that is due."""
     if "error" in came:
-        return came == {"jsonrpc": "2.0", "id": due["id"], "error": NO_ANSWER}
-    return came == due | {"params": due["params"] | {"diagnostics": [NO_RUN]}}
+        return bool(came == {"jsonrpc": "2.0", "id": due["id"], "error": NO_ANSWER})
+    return bool(came == due | {"params": due["params"] | {"diagnostics": [NO_RUN]}})
 
 
 def refused_allocations(program: pathlib.Path) -> Iterator[str]:
     """Each is refused in turn, or some of them, where there are many: what is wrong."""
     with tempfile.TemporaryDirectory() as room, concurrent.futures.ThreadPoolExecutor(os.cpu_count()) as lanes:
-        server = Refusing(program, room)
+        server = Refusing(program, pathlib.Path(room))
         count = server.count()
         tried = [(at, onwards) for at in range(1, count + 1, max(1, count // MOST_RUNS)) for onwards in (False, True)]
         looks = list(lanes.map(lambda it: server.look(*it), tried))

@@ -98,7 +98,9 @@ class Model:
 
     def of_or(self, type_: Json, value: Any, where: str) -> Iterator[str]:
         """What is wrong by the item that comes nearest."""
-        return iter(min((list(self.faults(item, value, where)) for item in type_["items"]), key=len))
+        ways = [list(self.faults(item, value, where)) for item in type_["items"]]
+        ways.sort(key=len)
+        yield from ways[0]
 
 
 def params_faults(model: "Model", method: Json, message: Json, where: str) -> Iterator[str]:
@@ -162,11 +164,11 @@ def read(path: pathlib.Path) -> "Model":
     return Model(json.loads(path.read_text()))
 
 
-HOVER = {"jsonrpc": "2.0", "id": 1, "method": "textDocument/hover", "params": {"textDocument": {"uri": "file:///a"}, "position": {"line": 0, "character": 0}}}
+HOVER: dict[str, Any] = {"jsonrpc": "2.0", "id": 1, "method": "textDocument/hover", "params": {"textDocument": {"uri": "file:///a"}, "position": {"line": 0, "character": 0}}}
 PLACE = {"line": 0, "character": 0}
 RANGE = {"start": PLACE, "end": PLACE}
 # Conversations with something wrong in the last message: of each what a client asks, and what the server tells.
-WRONG = [
+WRONG: list[tuple[dict[str, Any], ...]] = [
     (HOVER, {"jsonrpc": "2.0", "id": 1, "result": {"range": RANGE}}),
     (HOVER, {"jsonrpc": "2.0", "id": 1, "result": {"contents": {"kind": "plain", "value": ""}}}),
     (HOVER, {"jsonrpc": "2.0", "id": 1, "result": {"contents": "", "range": {**RANGE, "end": {"line": -1, "character": 0}}}}),

@@ -31,8 +31,8 @@ def position(text: str, offset: int, encoding: str) -> dict[str, int]:
 def whole_line(text: str, line: int, encoding: str) -> dict[str, dict[str, int]]:
     """The range of a line of a script, which counts from 1."""
     starts = line_starts(text)
-    place = lambda n: position(text, starts[n] if n < len(starts) else len(text), encoding)
-    return {"start": place(line - 1), "end": place(line)}
+    start, end = (position(text, starts[n] if n < len(starts) else len(text), encoding) for n in (line - 1, line))
+    return {"start": start, "end": end}
 
 
 def diagnostic(text: str, line: int, encoding: str, severity: int, code: str, message: str) -> dict[str, Any]:

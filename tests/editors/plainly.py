@@ -53,8 +53,8 @@ def line_of(text: str, place: dict[str, int], encoding: str) -> int:
 
 def range_of(text: str, first: int, behind: int, encoding: str) -> dict[str, Any]:
     starts = line_starts(text)
-    place = lambda n: position(text, starts[n] if n < len(starts) else len(text), encoding)
-    return {"start": place(first), "end": place(behind)}
+    start, end = (position(text, starts[n] if n < len(starts) else len(text), encoding) for n in (first, behind))
+    return {"start": start, "end": end}
 
 
 def asked(cluster: Cluster, head: Any) -> Any:

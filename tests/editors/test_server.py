@@ -11,6 +11,7 @@ Two looks need what few machines have, and say so where they aren't tried. LSP_M
 protocol, which is in the npm package vscode-languageserver-protocol and the source of Debian's node-vscode-lsp: each message that the server and the
 editors' clients send must be of it (metamodel.py). MONACO names the folder of Monaco that has vs/ (Debian's node-monaco-editor, where it isn't given).
 """
+import functools
 import itertools
 import json
 import os
@@ -20,7 +21,7 @@ import re
 import shutil
 import subprocess
 import tempfile
-from collections.abc import Callable, Iterator
+from collections.abc import Callable, Iterable, Iterator
 from typing import Any
 
 from tests.harness import PROGRAM, TOP, NotHere, Result, result_of
@@ -39,6 +40,8 @@ CASES = sorted((HERE / "cases").glob("*.json"))
 URI = "file:///script.txt"
 # Some editors tell of capabilities that the protocol doesn't have.
 OWN_CAPABILITY = re.compile(r"initialize\.params\.capabilities[.\w]*: the type has no ")
+# What columns may count in, and what a client says that it takes then.
+ENCODINGS: list[tuple[str, list[str]]] = [("utf-16-le", []), ("utf-8", ["utf-8"])]
 # By docs/SCRIPT-FORMAT.md.
 MOST_BYTES, MOST_DIRECTIVES = 4_194_304, 20_000
 NOT_OPEN = {"code": -32602, "message": "the document isn't open"}
@@ -50,7 +53,7 @@ MOST_DOCUMENTS = 1_000
 PUT_IN = ["", "\n", "\r\n", "\r", "----\n", "ok\n", "# é\n", "\U0001d11e", "log-level debug\n----\nok\n\n", "campaign 1\n", " ", "(", "status 9\n----\n\n", "error: x\n"]
 
 
-def talked(entries: list[dict[str, Any]], program: pathlib.Path = PROGRAM) -> list[Any]:
+def talked(entries: list[dict[str, Any]], program: pathlib.Path = PROGRAM) -> tuple[bytes, int]:
     """What a server writes for these messages, and its status, where all of them come at once."""
     sent = b"".join(framed(it["raw"].encode() if "raw" in it else it["send"]) for it in entries)
     done = subprocess.run([program, "lsp"], input=sent, capture_output=True, timeout=MOST_SECONDS)
@@ -76,6 +79,7 @@ def one_byte_at_a_time(_edits: int) -> Iterator[str]:
     case = json.loads((HERE / "cases" / "life.json").read_text())
     sent = b"".join(framed(it["send"]) for it in case["talk"])
     with Client(PROGRAM) as client:
+        assert client.server.stdin
         for byte in sent:
             client.server.stdin.write(bytes([byte]))
             client.server.stdin.flush()
@@ -112,6 +116,7 @@ def reader_that_goes(_edits: int) -> Iterator[str]:
     """Where nobody reads any more the server ends with status 4."""
     with Client(PROGRAM) as client:
         client.begin()
+        assert client.server.stdout
         client.server.stdout.close()
         try:
             for version in range(1, 4):
@@ -159,7 +164,7 @@ def too_many_documents(_edits: int) -> Iterator[str]:
             yield "a document in the place of a closed one"
 
 
-def scripts() -> list[str]:
+def scripts() -> list[pathlib.Path]:
     found = sorted((TOP / "examples" / "tour").glob("*.txt")) + sorted((TOP / "tests" / "cases").rglob("*.txt"))
     return [it for it in found if it.stat().st_size < 20_000]
 
@@ -202,7 +207,7 @@ def random_edits(edits: int) -> Iterator[str]:
 def editing_lists(_edits: int) -> Iterator[str]:
     """After each of 500 lists of changes, a list a message, the diagnostics are what `check` says of the text: many documents of one server."""
     dice, found = random.Random(43), scripts()
-    for encoding, offered in (("utf-16-le", []), ("utf-8", ["utf-8"])):
+    for encoding, offered in ENCODINGS:
         with Client(PROGRAM) as client:
             client.begin(*offered)
             for number in range(EDITING_LISTS // 2):
@@ -243,7 +248,7 @@ def ends_of_lines(_edits: int) -> Iterator[str]:
     """Texts with each kind of line end, with letters of two units, and with nothing in them."""
     texts = ["", "\n", "\r", "a\r\n", "log-level debug\r\n----\r\nno\r\n", "# \U0001d11e\rlog-level debug\n----\nno\n", "log-level x\n----\n", "# é\n\nraft-state \U0001d11e\n----\nok\n",
              "log-level debug\n----\n\U0001d11eé\n"]
-    for encoding, offered in (("utf-16-le", []), ("utf-8", ["utf-8"])):
+    for encoding, offered in ENCODINGS:
         with Client(PROGRAM) as client:
             client.begin(*offered)
             for version, text in enumerate(texts):
@@ -279,7 +284,7 @@ def what_came(edits: int) -> Iterator[str]:
     for number, path in enumerate(dice.sample(scripts(), min(len(scripts()), 25))):
         text = path.read_bytes().decode()
         encoding, offered = ("utf-8", ["utf-8"]) if number % 2 else ("utf-16-le", [])
-        related = {22: False, 23: "true", 24: None}.get(number, True)
+        related: Any = {22: False, 23: "true", 24: None}.get(number, True)
         with Client(PROGRAM) as client:
             client.begin(*offered, related=related)
             for version in range(1, edits + 1):
@@ -336,8 +341,8 @@ def questions(edits: int) -> Iterator[str]:
             for version in range(1, edits + 1):
                 client.send(opened(URI, text, version))
                 client.receive()
-                start, end = sorted(dice.randrange(len(text) + 1) for _ in range(2))
-                start, end = position(text, start, encoding), position(text, dice.choice([start, end]), encoding)
+                first, last = sorted(dice.randrange(len(text) + 1) for _ in range(2))
+                start, end = position(text, first, encoding), position(text, dice.choice([first, last]), encoding)
                 told = answer_of(client, version, "codeAction", range={"start": start, "end": end}, context={"diagnostics": []})
                 yield from (f"{path.name}, version {version}, {start}: {it}" for it in other_actions(text, start, end, encoding, told))
                 if (told := answer_of(client, -version, "hover", position=start)) != (due := plainly.hover(text, start, encoding)):
@@ -377,10 +382,10 @@ def offered_texts(dice: random.Random, edits: int) -> Iterator[str]:
             yield text
 
 
-def asked_of(provider: str, method: str, due: Callable[[str, str], Any], edits: int, told: Callable[[Any], Any] = lambda result: result) -> Iterator[str]:
+def asked_of(provider: str, method: str, due: Callable[[random.Random, str, str], Iterable[tuple[dict[str, Any], Any]]], edits: int, told: Callable[[Any], Any] = lambda result: result) -> Iterator[str]:
     """Each text's result of a request, beside what is due: of the text, and of what columns count in."""
     dice = random.Random(37)
-    for encoding, offered in (("utf-16-le", []), ("utf-8", ["utf-8"])):
+    for encoding, offered in ENCODINGS:
         with Client(PROGRAM) as client:
             client.begin(*offered)
             if provider not in client.capabilities:
@@ -410,7 +415,7 @@ def formatted(edits: int) -> Iterator[str]:
     yield from asked_of("documentFormattingProvider", "textDocument/formatting", lambda _, text, encoding: [(options, offers.formatting(text, encoding))], edits)
 
 
-def completions_due(dice: random.Random, text: str, encoding: str) -> Iterator[Any]:
+def completions_due(dice: random.Random, text: str, encoding: str) -> Iterator[tuple[dict[str, Any], Any]]:
     """Those at the end, and at some other places that aren't between CR and LF."""
     places = [at for at in range(len(text) + 1) if not offers.is_cut(text, at)]
     for at in {len(text), *dice.sample(places, min(len(places), 40))}:
@@ -450,23 +455,26 @@ def in_monaco(_edits: int) -> Iterator[str]:
 
 def conversation() -> Any:
     """What is said where texts are opened, one in the place of another, and asked about at some places."""
-    dice, empty = random.Random(43), {"diagnostics": []}
+    dice, options = random.Random(43), {"options": {"tabSize": 4, "insertSpaces": True}}
     with Client(PROGRAM, keeps=True) as client:
         client.begin(related=True)
         number = itertools.count(1)
         for version, text in enumerate(offered_texts(dice, 1)):
             client.send(opened(URI, text, version))
             client.receive()
-            for method, more in (("foldingRange", {}), ("documentSymbol", {}), ("formatting", {"options": {"tabSize": 4, "insertSpaces": True}})):
+            for method in ("foldingRange", "documentSymbol", "formatting"):
+                more: dict[str, Any] = options if method == "formatting" else {}
                 client.ask(next(number), f"textDocument/{method}", textDocument={"uri": URI}, **more)
             for at in dice.choices(range(len(text) + 1), k=4):
                 place = position(text, at, "utf-16-le")
-                for method, more in (("hover", {"position": place}), ("completion", {"position": place}), ("codeAction", {"range": {"start": place, "end": place}, "context": empty})):
+                acted = {"range": {"start": place, "end": place}, "context": {"diagnostics": []}}
+                asked: list[tuple[str, dict[str, Any]]] = [("hover", {"position": place}), ("completion", {"position": place}), ("codeAction", acted)]
+                for method, more in asked:
                     client.ask(next(number), f"textDocument/{method}", textDocument={"uri": URI}, **more)
     return client.talk
 
 
-def editors_conversations() -> Iterator[str]:
+def editors_conversations() -> Iterator[tuple[str, Any]]:
     """What is said between the server and each editor's client that is here."""
     for name, look in (("nvim", in_neovim), ("node", in_vscode)):
         with tempfile.TemporaryDirectory() as room:
@@ -478,9 +486,9 @@ def editors_conversations() -> Iterator[str]:
 
 def by_the_meta_model(_edits: int) -> Iterator[str]:
     """What the server tells is of the protocol, and what the editors' clients send, by the specification's own model of it."""
-    if not (path := os.environ.get("LSP_METAMODEL")):
+    if not (named := os.environ.get("LSP_METAMODEL")):
         raise NotHere("the specification's metaModel.json (LSP_METAMODEL)")
-    model = metamodel.read(pathlib.Path(path))
+    model = metamodel.read(pathlib.Path(named))
     yield from metamodel.unseen(model)
     for path in CASES:
         talk = [pair for it in json.loads(path.read_text())["talk"] for pair in [(True, it.get("send")), *((False, due) for due in it["due"])]]
@@ -489,7 +497,7 @@ def by_the_meta_model(_edits: int) -> Iterator[str]:
         yield from (f"{name}: {it}" for it in metamodel.faults(model, talk) if not OWN_CAPABILITY.match(it))
 
 
-FUNCTIONS = [in_neovim, in_vscode, in_monaco, by_the_meta_model, one_byte_at_a_time, cut_off, no_message, reader_that_goes, many_documents, too_many_documents, other_texts, ends_of_lines, sizes, want_of_memory, refused_allocations, random_edits, editing_lists, what_came, folds, outlines, formatted, completed, questions, accepted_by_check]
+FUNCTIONS: list[Callable[[int], Iterator[str]]] = [in_neovim, in_vscode, in_monaco, by_the_meta_model, one_byte_at_a_time, cut_off, no_message, reader_that_goes, many_documents, too_many_documents, other_texts, ends_of_lines, sizes, want_of_memory, refused_allocations, random_edits, editing_lists, what_came, folds, outlines, formatted, completed, questions, accepted_by_check]
 
 
 def results(word: str) -> Iterator[Result]:
@@ -498,8 +506,8 @@ def results(word: str) -> Iterator[Result]:
     for path in CASES:
         if word in path.stem:
             case = json.loads(path.read_text())
-            yield result_of(path.stem, lambda case=case: look_at_case(case))
+            yield result_of(path.stem, functools.partial(look_at_case, case))
     for look in FUNCTIONS:
         name = look.__name__.replace("_", "-")
         if word in name:
-            yield result_of(name, lambda look=look: look(edits))
+            yield result_of(name, functools.partial(look, edits))

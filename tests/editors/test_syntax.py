@@ -177,7 +177,8 @@ class Grammar:
                 match = re.compile(pattern).search(line, at)
             if match:
                 found.append((match.start(), i, match, None if ends else inner))
-        return min(found, default=None, key=lambda it: it[:2])
+        found.sort(key=lambda it: it[:2])
+        return found[0] if found else None
 
     def names(self, text: str) -> list[str]:
         """Of each line, the names that its parts have."""

@@ -3,6 +3,7 @@ takes for a script, its snippets and its list of problems, and Emacs's; the dire
 
 Directives, options and values are compared with those of docs/DIRECTIVES.md. An editor that isn't here is not tried.
 """
+import functools
 import json
 import os
 import pathlib
@@ -11,10 +12,10 @@ import shutil
 import subprocess
 import sys
 import tempfile
-from collections.abc import Iterator, Sequence
+from collections.abc import Callable, Iterator, Sequence
 from typing import Any
 
-from tests.harness import PROGRAM, TOP, NotHere, Result, result_of
+from tests.harness import PROGRAM, TOP, NotHere, Result, matched, result_of
 
 VIM = TOP / "editors/vim"
 VSCODE = TOP / "editors/vscode"
@@ -53,13 +54,13 @@ def by(editor: str, text: str, commands: Sequence[str]) -> Any:
     """What the editor writes down by these commands, each an expression, in a buffer with this script; s:F is the file."""
     if not shutil.which(editor):
         raise NotHere
-    with tempfile.TemporaryDirectory() as room:
-        room = pathlib.Path(room)
+    with tempfile.TemporaryDirectory() as folder:
+        room = pathlib.Path(folder)
         (room / "a script.txt").write_text(text)
         lines = ["set nocompatible", "filetype plugin on", f"let g:raftbench_program = '{PROGRAM}'", "execute 'edit ' . fnameescape($SCRIPT)"]
         (room / "asked.vim").write_text("\n".join([*lines, "let s:out = []", *commands, "call writefile(s:out, $SHOWN)", "qall!", ""]))
         around = {**os.environ, "HOME": str(room), "SCRIPT": str(room / "a script.txt"), "SHOWN": str(room / "shown")}
-        words = [editor, "-es", "-u", "NONE", "-i", "NONE", "--cmd", f"set runtimepath^={VIM}", "-S", room / "asked.vim"]
+        words: list[str | pathlib.Path] = [editor, "-es", "-u", "NONE", "-i", "NONE", "--cmd", f"set runtimepath^={VIM}", "-S", room / "asked.vim"]
         subprocess.run(words, env=around, timeout=60, capture_output=True, stdin=subprocess.DEVNULL, cwd=room)
         return (room / "shown").read_text().splitlines()
 
@@ -105,14 +106,14 @@ def completes(editor: str) -> None:
     ], came
 
 
-def knows_each_option(_: object = None) -> None:
+def knows_each_option() -> None:
     text = (VIM / "autoload/raftbench.vim").read_text().split("let s:directives = {")[1].split("}")[0]
     found = {name: re.findall(r"'([^']+)'", options) for name, options in re.findall(r"'([a-z-]+)': \[([^\]]*)\]", text)}
     wanted = {name: options for name, options in table().items()}
     assert {name: sorted(options) for name, options in found.items()} == {name: sorted(options) for name, options in wanted.items()}, found
 
 
-def is_a_script_to_vscode(_: object = None) -> None:
+def is_a_script_to_vscode() -> None:
     if not shutil.which("node"):
         raise NotHere
     texts = [
@@ -126,7 +127,7 @@ def is_a_script_to_vscode(_: object = None) -> None:
     assert json.loads(done.stdout) == [wanted for _, wanted in texts], done.stdout
 
 
-def tells_vscode(_: object = None) -> None:
+def tells_vscode() -> None:
     """The extension, over an editor that only notes what is asked of it."""
     if not shutil.which("node"):
         raise NotHere
@@ -168,7 +169,7 @@ def expanded(body: Any) -> str:
     return re.sub(r"\$\{\d+\|([^,|]*)[^}]*\}", r"\1", text).replace("$0", "")
 
 
-def has_snippets(_: object = None) -> None:
+def has_snippets() -> None:
     """One for each directive; below a cluster with a leader each does something, and is no error."""
     found = snippets()
     assert sorted(it["prefix"] for it in found.values()) == sorted([*table(), "elected"]), found
@@ -185,10 +186,10 @@ def has_snippets(_: object = None) -> None:
 def task() -> Any:
     """The task of editors/README.md."""
     text = (TOP / "editors/README.md").read_text()
-    return json.loads(re.search(r"^    (\{ \"version\".*?\}\] \})$", text, re.M | re.S)[1])["tasks"][0]
+    return json.loads(matched(r"(?s)^    (\{ \"version\".*?\}\] \})$", text)[1])["tasks"][0]
 
 
-def lists_problems_in_vscode(_: object = None) -> None:
+def lists_problems_in_vscode() -> None:
     """What the task of editors/README.md shows, by the matcher that it names; by JavaScript's expressions, where node is here."""
     matcher = json.loads((VSCODE / "package.json").read_text())["contributes"]["problemMatchers"][0]
     pattern, asked = matcher["pattern"], task()
@@ -221,7 +222,7 @@ EMACS = """
 """
 
 
-def lists_problems_in_emacs(_: object = None) -> None:
+def lists_problems_in_emacs() -> None:
     """By what it knows itself; a line of an output that looks like a place in a file is one more to it."""
     if not shutil.which("emacs"):
         raise NotHere
@@ -233,12 +234,12 @@ def lists_problems_in_emacs(_: object = None) -> None:
     assert done.returncode == 0 and done.stdout.splitlines() == ["a script.txt 2", "a script.txt 13"], done
 
 
-def is_named_by_git(_: object = None) -> None:
+def is_named_by_git() -> None:
     """By the two lines of editors/README.md."""
     text = (TOP / "editors/README.md").read_text()
-    attributes = re.search(r"^    echo '(\S+) (diff=raftbench)' >> \.gitattributes$", text, re.M)
-    pattern = re.search(r"^    git config diff\.raftbench\.xfuncname '(.*)'$", text, re.M).group(1)
-    named = re.search(r"\(((?:[a-z-]+\|)+[a-z-]+)\)", pattern).group(1).split("|")
+    attributes = matched(r"^    echo '(\S+) (diff=raftbench)' >> \.gitattributes$", text)
+    pattern = matched(r"^    git config diff\.raftbench\.xfuncname '(.*)'$", text)[1]
+    named = matched(r"\(((?:[a-z-]+\|)+[a-z-]+)\)", pattern)[1].split("|")
     assert sorted(named) == sorted(table()), named
     with tempfile.TemporaryDirectory() as room:
         scripts = pathlib.Path(room, "scripts")
@@ -350,7 +351,7 @@ INFO 1 [term 1] starts to transfer leadership to 2
 """
 
 
-def from_etcd(*words: str) -> Any:
+def from_etcd(*words: str | pathlib.Path) -> tuple[int, str, str]:
     done = subprocess.run([sys.executable, TOP / "editors/from-etcd", *words], capture_output=True, text=True)
     return done.returncode, done.stdout, done.stderr
 
@@ -359,9 +360,9 @@ def heads_of(text: str) -> list[str]:
     return [line for before, line in zip(["", *text.splitlines()], text.splitlines()) if before == "" or before.startswith("#") if line[:1] not in ("", "#")]
 
 
-def takes_scripts_of_etcd(_: object = None) -> None:
-    with tempfile.TemporaryDirectory() as room:
-        room = pathlib.Path(room)
+def takes_scripts_of_etcd() -> None:
+    with tempfile.TemporaryDirectory() as folder:
+        room = pathlib.Path(folder)
         path = room / "theirs.txt"
         path.write_text(FROM_ETCD)
         status, text, told = from_etcd(path)
@@ -383,7 +384,7 @@ def takes_scripts_of_etcd(_: object = None) -> None:
             assert (status, told.count("added `process-ready 1`")) == (0, count), (text, told)
 
 
-def takes_later_scripts_of_etcd(_: object = None) -> None:
+def takes_later_scripts_of_etcd() -> None:
     """Nothing is put in, and each directive is known."""
     with tempfile.TemporaryDirectory() as room:
         path = pathlib.Path(room, "theirs.txt")
@@ -393,9 +394,9 @@ def takes_later_scripts_of_etcd(_: object = None) -> None:
     assert heads_of(text) == heads_of(LATER_FROM_ETCD) and "error: " not in text and "INFO 1 became leader at term 1" in text, text
 
 
-def says_what_it_leaves(_: object = None) -> None:
-    with tempfile.TemporaryDirectory() as room:
-        room = pathlib.Path(room)
+def says_what_it_leaves() -> None:
+    with tempfile.TemporaryDirectory() as folder:
+        room = pathlib.Path(folder)
         path = room / "theirs.txt"
         path.write_text("add-nodes 3 voters=(1,2,3) index=10 async-storage-writes=true\n----\nok\n\nprocess-append-thread 1\n----\nok\n")
         status, _, told = from_etcd(path)
@@ -418,7 +419,7 @@ NEED = {
 }
 
 
-def takes_the_scripts_of_etcd_that_are_here(_: object = None) -> None:
+def takes_the_scripts_of_etcd_that_are_here() -> None:
     """Those of Debian's golang-etcd-server-dev: nothing is left, no proposal is dropped that etcd takes, who leads there in a term leads in it here too,
     and what is put in is what they need."""
     found = sorted(pathlib.Path(os.environ.get("ETCD_TESTDATA", "/usr/share/gocode/src/go.etcd.io/etcd/raft/testdata")).glob("*.txt"))
@@ -433,8 +434,8 @@ def takes_the_scripts_of_etcd_that_are_here(_: object = None) -> None:
         assert put == NEED.get(path.stem, []), (path, told)
 
 
-CHECKS = [
-    *((f"{check.__name__} in {editor}", lambda check=check, editor=editor: check(editor)) for check in (lists_problems, folds, completes) for editor in ("vim", "nvim")),
+CHECKS: list[tuple[str, Callable[[], object]]] = [
+    *((f"{check.__name__} in {editor}", functools.partial(check, editor)) for check in (lists_problems, folds, completes) for editor in ("vim", "nvim")),
     *((check.__name__, check) for check in (knows_each_option, is_a_script_to_vscode, tells_vscode, has_snippets, lists_problems_in_vscode, lists_problems_in_emacs, is_named_by_git, takes_scripts_of_etcd, takes_later_scripts_of_etcd, says_what_it_leaves, takes_the_scripts_of_etcd_that_are_here)),
 ]
 

@@ -126,7 +126,7 @@ def cover(data: bytes, covered: Covered, met: "collections.Counter[tuple[str, st
 def script(seed: int) -> Seen:
     """What one script shows; its directives are counted."""
     data, covered = script_of(seed), Covered()
-    met = collections.Counter()
+    met: collections.Counter[tuple[str, str]] = collections.Counter()
     count = cover(data, covered, met)
     for mode in ("rewrite", "run"):
         wanted = wanted_of(data, mode)

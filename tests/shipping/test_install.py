@@ -3,7 +3,6 @@ lets each step fail in turn; looks at the program's man page; and drives the com
 What is installed for editors is used as they do, where the program is built.
 """
 import itertools
-import os
 import pathlib
 import re
 import shutil
@@ -12,7 +11,7 @@ import subprocess
 import sys
 
 from tests.harness import BUILT, TOP, NotHere
-from tests.shipping.places import Place, kept, put_program
+from tests.shipping.places import Place, kept
 
 MAN = TOP / "share/man/man1/raftbench.1"
 # What takes a spacing, and what takes none.

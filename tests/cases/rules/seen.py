@@ -5,7 +5,6 @@ import pathlib
 import re
 from collections.abc import Iterator
 
-from nodes.hosted.planting import BUGS
 from plain.cluster import Cluster
 from plain.node import Node
 from plain.script import Script, read_script
