@@ -7,7 +7,6 @@ use Rattle.std.proofs.lemmas.List.Elements.{All-contains, All-contains_itself, C
 use Rattle.rb_raftlog.specs.declared.entry.Entry.{Entry}
 use Rattle.rb_raftlog.specs.Log.{LogValue, last, last_term, term_at, term_of}
 use Rattle.rb_raftlog.proofs.TermLaws.{term_base, term_past}
-use Rattle.rb_tracker.specs.Sets.{has}
 use Rattle.rb_message.specs.Appends.{PlainAppend}
 use Rattle.rb_message.specs.declared.kind.MessageKind.{MessageKind}
 use Rattle.rb_message.specs.declared.kind.MessageKind.TheVariants as kind

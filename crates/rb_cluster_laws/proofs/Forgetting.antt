@@ -1,11 +1,10 @@
 -- A history without candidacies and acknowledgements that no other node may have heard of: what rests on the others stays known. Nothing here
 -- is about what a node does.
-use Rattle.std.proofs.Common.{◌≡◌, ◌⊎◌, ℕ, ◌+◌, ◌<◌, ◌≤◌, List, true, refl, sym, subst, inl, inr}
+use Rattle.std.proofs.Common.{◌≡◌, ◌⊎◌, ℕ, ◌+◌, ◌<◌, ◌≤◌, List, refl, sym, subst, inl, inr}
 use Rattle.std.specs.Prelude.{Contains, slice_index_or}
 use Rattle.rb_raftlog.specs.Log.{last_term}
 use Rattle.rb_tracker.specs.Commits.{match_of}
 use Rattle.rb_tracker.specs.declared.config.Config.{Config}
-use Rattle.rb_message.specs.Appends.{PlainAppend}
 use Rattle.rb_message.specs.declared.kind.MessageKind.{MessageKind}
 use Rattle.rb_message.specs.declared.kind.MessageKind.TheVariants as kind
 use Rattle.rb_message.specs.declared.message.Message.{Message}
@@ -13,11 +12,11 @@ use Rattle.rb_node.specs.Node.{PlainNode}
 use Rattle.rb_cluster_laws.proofs.Links.{Link, Extends}
 use Rattle.rb_cluster_laws.proofs.LinkedLogs.{log_from}
 use Rattle.rb_cluster_laws.proofs.Spots.{Spot, spot, site, Descends, still_descends}
-use Rattle.rb_cluster_laws.proofs.Completeness.{Election, Ack, History, out_of, IsTip, IsOfTerm, IsAcked, Lacks, HasStill, IsCommitted, IsSettled}
+use Rattle.rb_cluster_laws.proofs.Completeness.{Election, Ack, History, out_of, IsTip, IsOfTerm, IsAcked, HasStill, IsCommitted, IsSettled}
 use Rattle.rb_cluster_laws.proofs.KeptEntries.{IsOn}
 use Rattle.rb_cluster_laws.proofs.Histories.{HasStood, IsPledged}
 use Rattle.rb_cluster_laws.proofs.Tips.{tip}
-use Rattle.rb_cluster_laws.proofs.NodeKnowledge.{Ground, election, all_said, mine, IsSaidUpTo, HasSaidUpTo, TellsAppend, TellsCommit, TellsBy, TellsTrue, HasAcked, IsCounted, Knows}
+use Rattle.rb_cluster_laws.proofs.NodeKnowledge.{Ground, election, mine, IsSaidUpTo, HasSaidUpTo, TellsCommit, TellsBy, TellsTrue, IsCounted, Knows}
 use Rattle.rb_cluster_laws.proofs.FollowerMoves.{IsWhole}
 
 -- ---- what is never forgotten
@@ -51,15 +50,20 @@ since_has old new x bound l since h =
       | inl there ↦ inl (still_descends old.links new.links x (site l) since.links there)
       | inr lacks ↦
           let k = lacks.3 in
-          inr (lacks.0, lacks.1, lacks.2, record {
-            election = k.election;
-            among = since.elections k.election k.among;
-            of_term = k.of_term;
-            lacking = elim k.lacking as (λ _. (k.election.tip.index < l.index) ⊎ ((t : ℕ) × Descends new.links k.election.tip (spot l.index t) × (t ≡ l.entry.term → ⊥))) [
-              | inl short ↦ inl short
-              | inr other ↦ inr (other.0, still_descends old.links new.links k.election.tip (spot l.index other.0) since.links other.1, other.2)
-            ];
-          })
+          inr (
+            lacks.0,
+            lacks.1,
+            lacks.2,
+            record {
+              election = k.election;
+              among = since.elections k.election k.among;
+              of_term = k.of_term;
+              lacking = elim k.lacking as (λ _. (k.election.tip.index < l.index) ⊎ ((t : ℕ) × Descends new.links k.election.tip (spot l.index t) × (t ≡ l.entry.term → ⊥))) [
+                | inl short ↦ inl short
+                | inr other ↦ inr (other.0, still_descends old.links new.links k.election.tip (spot l.index other.0) since.links other.1, other.2)
+              ];
+            },
+          )
     ]
 
 pub since_settled : (root : Spot) (c : Config) (old new : History) (term : ℕ) (x : Spot) → IsSince old new → IsSettled root c old term x → IsSettled root c new term x

@@ -3,7 +3,7 @@
 -- history goes on.
 use Rattle.std.proofs.Common.{◌≡◌, ◌⊎◌, ℕ, ◌+◌, ◌<◌, ◌≤◌, Bool, true, max, List, Ok, refl, ap, ◌∙◌, inl, inr}
 use Rattle.std.specs.Prelude.{All, Contains, slice_index_or}
-use Rattle.rb_raftlog.specs.Log.{LogValue, last_term, term_at}
+use Rattle.rb_raftlog.specs.Log.{last_term, term_at}
 use Rattle.rb_tracker.specs.Commits.{match_of}
 use Rattle.rb_tracker.specs.Progresses.{PlainProgress}
 use Rattle.rb_message.specs.Appends.{PlainAppend}

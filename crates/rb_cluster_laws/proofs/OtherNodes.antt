@@ -11,9 +11,8 @@ use Rattle.rb_cluster_laws.proofs.Holding.{IsElected}
 use Rattle.rb_cluster_laws.proofs.Spots.{spot, still_descends}
 use Rattle.rb_cluster_laws.proofs.Completeness.{Election, Ack, History, IsVoted}
 use Rattle.rb_cluster_laws.proofs.KeptEntries.{IsOn}
-use Rattle.rb_cluster_laws.proofs.Tips.{tip}
 use Rattle.rb_cluster_laws.proofs.Histories.{with_link, with_ack, with_candidacy, with_election, more_link, more_election, IsTop, none_acked, held_before, lawful_link, held_link, IsLate, lawful_ack, held_ack, lawful_election, still_is_on}
-use Rattle.rb_cluster_laws.proofs.NodeKnowledge.{Ground, election, IsBack, AreBack, IsNoNews, Knows}
+use Rattle.rb_cluster_laws.proofs.NodeKnowledge.{Ground, IsBack, AreBack, IsNoNews, Knows}
 use Rattle.rb_cluster_laws.proofs.FollowerMoves.{IsWhole}
 use Rattle.rb_cluster_laws.proofs.OwnEntries.{back_all}
 

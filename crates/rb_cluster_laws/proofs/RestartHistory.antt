@@ -1,11 +1,10 @@
 -- A network whose nodes start again, and whose nodes begin at one spot: the history that tells of it forgets what a node did that it hadn't put out
 -- when it starts again. What is committed, and what is linked, stays (Ongaro's thesis, sections 3.6.3 and 3.8).
-use Rattle.std.proofs.Common.{◌≡◌, ◌⊎◌, ℕ, ◌+◌, true, List, [], ◌∷◌, ◌++◌, Option, Some, None, refl, sym, ap, subst, ◌∙◌, arith, inl, inr}
+use Rattle.std.proofs.Common.{◌≡◌, ℕ, ◌+◌, true, List, [], ◌∷◌, ◌++◌, Option, Some, None, refl, sym, ap, subst, ◌∙◌, arith, inl, inr}
 use Rattle.std.specs.Prelude.{All, Contains, slice_get, slice_set, slice_index_or}
 use Rattle.std.proofs.lemmas.List.Elements.{All-nil, All-same, All-append, Contains-push, Contains-append_left, Contains-append_right, Contains-append_cases}
 use Rattle.rb_message.specs.declared.event.Event.{Event}
 use Rattle.rb_message.specs.declared.message.Message.{Message}
-use Rattle.rb_message.specs.declared.role.Role.TheVariants as role
 use Rattle.rb_node.specs.Node.{PlainNode}
 use Rattle.rb_node.specs.Readying.{saved}
 use Rattle.rb_node_laws.specs.Calling.{Call, Step, Advance}

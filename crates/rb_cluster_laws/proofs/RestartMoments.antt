@@ -21,7 +21,7 @@ use Rattle.rb_cluster_laws.proofs.Holding.{Setting, IsElected, still_elected, st
 use Rattle.rb_cluster_laws.proofs.Electing.{one_elected}
 use Rattle.rb_cluster_laws.proofs.NetworkLaws.{IsSane}
 use Rattle.rb_cluster_laws.proofs.SafetyLaws.{setting_of, begun_sane, was_elect, its_id}
-use Rattle.rb_cluster_laws.proofs.Spots.{Spot, spot, still_descends}
+use Rattle.rb_cluster_laws.proofs.Spots.{spot, still_descends}
 use Rattle.rb_cluster_laws.proofs.Contents.{still_filled}
 use Rattle.rb_cluster_laws.proofs.Completeness.{History}
 use Rattle.rb_cluster_laws.proofs.Tips.{tip, base_spot}
@@ -31,8 +31,8 @@ use Rattle.rb_cluster_laws.proofs.CommittedLogs.{Had, had, leader_has, commits_a
 use Rattle.rb_cluster_laws.proofs.NetworkHistory.{AreAlike, begun_known, no_history}
 use Rattle.rb_cluster_laws.proofs.TwoMoments.{alike_at}
 use Rattle.rb_cluster_laws.proofs.Forgetting.{IsSince, since_tip, since_settled}
-use Rattle.rb_cluster_laws.proofs.RestartedNodes.{IsSavedWell, IsSaneWith, pass_sane}
-use Rattle.rb_cluster_laws.proofs.RestartHistory.{IsKnownWith, KnownThrough, pass_known}
+use Rattle.rb_cluster_laws.proofs.RestartedNodes.{IsSaneWith, pass_sane}
+use Rattle.rb_cluster_laws.proofs.RestartHistory.{IsKnownWith, pass_known}
 
 -- ---- the beginning
 

@@ -1,5 +1,5 @@
 -- What each node has saved is known by what others may have heard of, whatever one node adds to the history
-use Rattle.std.proofs.Common.{◌≡◌, ◌⊎◌, ℕ, ◌<◌, ◌≤◌, Bool, true, List, refl, sym, ◌∙◌, arith, inl, inr}
+use Rattle.std.proofs.Common.{◌≡◌, ℕ, ◌≤◌, Bool, true, List, refl, sym, ◌∙◌, arith, inl, inr}
 use Rattle.std.specs.Prelude.{Contains}
 use Rattle.rb_tracker.specs.Quorum.{IsQuorum, ShareVoter}
 use Rattle.rb_tracker.proofs.QuorumLaws.{quorums_meet}
@@ -8,7 +8,7 @@ use Rattle.rb_message.specs.declared.role.Role.TheVariants as role
 use Rattle.rb_node.specs.Node.{PlainNode}
 use Rattle.rb_cluster_laws.proofs.Links.{Link}
 use Rattle.rb_cluster_laws.proofs.Holding.{follower_leads, follower_stands}
-use Rattle.rb_cluster_laws.proofs.Completeness.{Election, History, out_of}
+use Rattle.rb_cluster_laws.proofs.Completeness.{History, out_of}
 use Rattle.rb_cluster_laws.proofs.Tips.{tip}
 use Rattle.rb_cluster_laws.proofs.Histories.{with_link, with_election, more_link, more_election, IsTop, IsPledged}
 use Rattle.rb_cluster_laws.proofs.NodeKnowledge.{Ground, election, nobody, still_knows}
