@@ -1,4 +1,4 @@
--- What holds of a network by a history, through all that happens in it; and so leader completeness and state machine safety
+-- Each call of a node keeps what holds of it, of the other nodes and of all messages, and the history goes on
 use Rattle.std.proofs.Common.{◌≡◌, ℕ, ◌-◌, ◌<◌, ◌≤◌, List, [], ◌++◌, length, drop, append-nil, length-drop, min, Result, Ok, Err, refl, sym, ap, subst, ◌∙◌, arith}
 use Rattle.std.proofs.lemmas.List.Elements.{All-nil}
 use Rattle.rb_raftlog.specs.declared.entry.Entry.{Entry}
@@ -28,9 +28,9 @@ use Rattle.rb_cluster_laws.proofs.Spots.{Spot, spot, same_spot, line, lower}
 use Rattle.rb_cluster_laws.proofs.Contents.{IsFilled, filled_of, next_filled}
 use Rattle.rb_cluster_laws.proofs.Completeness.{History}
 use Rattle.rb_cluster_laws.proofs.Tips.{tip, base_spot, last_is, last_held, tip_rooted, log_descends}
-use Rattle.rb_cluster_laws.proofs.NodeKnowledge.{Ground, IsCounted, IsLeading, IsStanding, TellsTrue}
+use Rattle.rb_cluster_laws.proofs.NodeKnowledge.{Ground, mine, IsCounted, IsLeading, IsStanding, TellsTrue, Knows}
 use Rattle.rb_cluster_laws.proofs.FollowerMoves.{acked_same}
-use Rattle.rb_cluster_laws.proofs.AmongOthers.{Around, Onwards, same_history, still_around}
+use Rattle.rb_cluster_laws.proofs.AmongOthers.{Company, Around, Onwards, same_history, still_around}
 use Rattle.rb_cluster_laws.proofs.StepMoves.{Brings, onward_more, follows_around, step_around}
 
 -- ---- compacting
@@ -45,36 +45,38 @@ compacted_tip v i term low at =
     let size : last w ≡ last v = compacted_last v i term low within in
     same_spot (tip w) (tip v) size (last_is w (last_term v) (ap (term_at w) size ∙ compacted-term v i term (last v) low at within ∙ last_held v))
 
+pub saves_knows : (g : Ground) (st : History) (id : ℕ) (n : PlainNode) → Knows g st id n → Knows g st id (saved n)
+saves_knows g st id n k = record {
+  log = record {
+    itself = k.log.itself;
+    linked = k.log.linked;
+    rooted = k.log.rooted;
+    old = k.log.old;
+    leads = k.log.leads;
+    stands = k.log.stands;
+    stood = k.log.stood;
+    led = k.log.led;
+    acked = k.log.acked;
+    pledged = k.log.pledged;
+    commit_term = k.log.commit_term;
+    commit_held = k.log.commit_held;
+    commit = k.log.commit;
+    filled = filled_of st.links g.root g.start n.log (made_durable n.log) n.applied n.content refl k.log.filled;
+  };
+  words = record {
+    counts = k.words.counts;
+    sent = All-nil (TellsTrue g st (mine id));
+    waiting = All-nil (TellsTrue g st (mine id));
+  };
+}
+
 -- ---- the moves of a call
 
-module _ {g : Ground} {said : List Message} {id : ℕ} {others : ℕ → PlainNode → Type 0} where
+module _ {g : Ground} {said : List Message} {id : ℕ} {others : Company} where
   saves_around : (st : History) (n : PlainNode) → Around g said id others st n → Onwards g said id others st (saved n)
   saves_around st n h =
-      let k = h.knows in
-      still_around st n (saved n) h
-      (record {
-        log = record {
-          itself = k.log.itself;
-          linked = k.log.linked;
-          rooted = k.log.rooted;
-          old = k.log.old;
-          leads = k.log.leads;
-          stands = k.log.stands;
-          stood = k.log.stood;
-          led = k.log.led;
-          acked = k.log.acked;
-          pledged = k.log.pledged;
-          commit_term = k.log.commit_term;
-          commit_held = k.log.commit_held;
-          commit = k.log.commit;
-          filled = filled_of st.links g.root g.start n.log (made_durable n.log) n.applied n.content refl k.log.filled;
-        };
-        words = record {
-          counts = k.words.counts;
-          sent = All-nil (TellsTrue g st);
-          waiting = All-nil (TellsTrue g st);
-        };
-      }) (record { voted = All-nil (λ (m : Message). IsYes m → (m.from ≡ id) × (m.term ≤ n.term)); none = All-nil (λ (m : Message). IsYes m → ⊥) }) (omega arith)
+      still_around st n (saved n) h (saves_knows g st id n h.knows)
+      (record { voted = All-nil (λ (m : Message). IsYes m → (m.from ≡ id) × (m.term ≤ n.term)); none = All-nil (λ (m : Message). IsYes m → ⊥) }) (omega arith)
 
   compacts_by : (st : History) (n : PlainNode) (i : ℕ) (r : Result ℕ LogFault) → term_at n.log i ≡ r → n.log.base < i → i ≤ n.applied → n.applied ≤ n.commit → Around g said id others st n → Onwards g said id others st (record n { log = compacted n.log i r })
   compacts_by st n i (Err fault) at low upto known h = still_around st n (record n { log = compacted n.log i (Err fault) }) h h.knows h.speaks (omega arith)
@@ -168,13 +170,13 @@ module _ {g : Ground} {said : List Message} {id : ℕ} {others : ℕ → PlainNo
       compacts_by st n i (term_at n.log i) refl within.0 (omega (arith, upto)) known h
 
 -- what holds of a node through a call
-record Through (g : Ground) (said : List Message) (id : ℕ) (others : ℕ → PlainNode → Type 0) (st : History) (w : World) (n : PlainNode) : Type 0 where
+record Through (g : Ground) (said : List Message) (id : ℕ) (others : Company) (st : History) (w : World) (n : PlainNode) : Type 0 where
   sound : IsSound n
   views : HasSoundViews n
   holds : Holds w n
   around : Onwards g said id others st n
 
-moves_around : {g : Ground} {said : List Message} {id : ℕ} {others : ℕ → PlainNode → Type 0} (st : History) {w : World} {v : Ways} {sound : Type 0} → sound → w.id ≡ id → IsSaid w.said said → w.setting ≡ g.setting → AreOnce said → Brings said id v → Hears w v
+moves_around : {g : Ground} {said : List Message} {id : ℕ} {others : Company} (st : History) {w : World} {v : Ways} {sound : Type 0} → sound → w.id ≡ id → IsSaid w.said said → w.setting ≡ g.setting → AreOnce said → Brings said id v → Hears w v
     → Allows (CallMove sound v) (λ a b. Through g said id others st w a → Through g said id others st w b)
 moves_around {g} {said} {id} {others} st {w} known own same set once brings hears = record {
   nothing = λ n p. p;
@@ -190,7 +192,7 @@ moves_around {g} {said} {id} {others} st {w} known own same set once brings hear
       });
 }
 
-pub called_around : {g : Ground} {said : List Message} {id : ℕ} {others : ℕ → PlainNode → Type 0} (st : History) (w : World) (c : Call) (t : Turn) → w.id ≡ id → IsSaid w.said said → w.setting ≡ g.setting → AreOnce said → Brings said id (ways c t) → Hears w (ways c t)
+pub called_around : {g : Ground} {said : List Message} {id : ℕ} {others : Company} (st : History) (w : World) (c : Call) (t : Turn) → w.id ≡ id → IsSaid w.said said → w.setting ≡ g.setting → AreOnce said → Brings said id (ways c t) → Hears w (ways c t)
     → IsSound t.node → HasSoundViews t.node → Holds w t.node → Around g said id others st t.node → Onwards g said id others st (after c t).node
 called_around {g} {said} {id} {others} st w c t own same set once brings hears s views hold h =
     let start : Through g said id others st w t.node = record { sound = s; views = views; holds = hold; around = record { history = st; more = same_history st; around = h } } in

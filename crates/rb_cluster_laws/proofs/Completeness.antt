@@ -29,6 +29,13 @@ pub record History : Type 0 where
   pub candidacies : List Election
   pub elections : List Election
   pub acks : List Ack
+  -- the candidacies and the acknowledgements that other nodes may have heard of
+  pub out_candidacies : List Election
+  pub out_acks : List Ack
+
+-- the part of it that other nodes may have heard of
+abbrev pub out_of : History → History
+out_of st = record st { candidacies = st.out_candidacies; acks = st.out_acks }
 
 -- A link of a term was made by who was elected in it: behind the tip of its log then, or behind another link of the term.
 pub record IsBuilt (st : History) (l : Link) : Type 0 where
@@ -150,6 +157,9 @@ pub record IsAcked (st : History) (voter : ℕ) (l : Link) : Type 0 where
   pub of_term : ack.term ≡ l.entry.term
   pub upto : l.index ≤ ack.index
 
+pub acked_within : (st : History) (v : ℕ) (l : Link) → ((a : Ack) → Contains st.out_acks a → Contains st.acks a) → IsAcked (out_of st) v l → IsAcked st v l
+acked_within st v l within h = record { ack = h.ack; among = within h.ack h.among; by = h.by; of_term = h.of_term; upto = h.upto }
+
 -- who was elected in a term has no such entry: its log was shorter, or had another there
 pub record Lacks (st : History) (term : ℕ) (l : Link) : Type 0 where
   pub election : Election
@@ -183,12 +193,12 @@ HasStill st x bound l = Descends st.links x (site l) ⊎ ((t : ℕ) × (l.entry.
 
 -- ---- what is committed
 
--- a quorum said that it holds a link's entry, in the entry's term
+-- a quorum said that it holds a link's entry, in the entry's term, and others may have heard so
 pub record IsCommitted (c : Config) (st : History) (l : Link) : Type 0 where
   pub among : Contains st.links l
   pub holders : ℕ → Bool
   pub quorum : IsQuorum c holders
-  pub held : (v : ℕ) → holders v ≡ true → IsAcked st v l
+  pub held : (v : ℕ) → holders v ≡ true → IsAcked (out_of st) v l
 
 -- Who was elected has of each of its voters what that one had said to hold in an earlier term, unless a leader between lacks it.
 pub record IsVoted (c : Config) (said : List Message) (st : History) (e : Election) : Type 0 where
@@ -200,6 +210,7 @@ pub record IsVoted (c : Config) (said : List Message) (st : History) (e : Electi
 pub record IsLawful (root : Spot) (c : Config) (said : List Message) (st : History) : Type 0 where
   pub history : IsHistory root st
   pub voted : (e : Election) → Contains st.elections e → IsVoted c said st e
+  pub within : (a : Ack) → Contains st.out_acks a → Contains st.acks a
 
 -- Leader completeness, by the terms between: the two quorums share a voter.
 complete_upto : (root : Spot) (c : Config) (said : List Message) (st : History) (n : ℕ) (e : Election) (l : Link) → IsLawful root c said st → e.term ≤ n → Contains st.elections e → IsCommitted c st l → l.entry.term < e.term → Descends st.links e.tip (site l)
@@ -207,7 +218,7 @@ complete_upto root c said st zero e l s low elected k later = absurd (omega (ari
 complete_upto root c said st (suc n) e l s low elected k later =
     let v = s.voted e elected in
     let both : ShareVoter c v.voters k.holders = quorums_meet c v.voters k.holders v.quorum k.quorum in
-    elim (v.each both.id both.first l k.among later (k.held both.id both.second)) as (λ _. Descends st.links e.tip (site l)) [
+    elim (v.each both.id both.first l k.among later (acked_within st both.id l s.within (k.held both.id both.second))) as (λ _. Descends st.links e.tip (site l)) [
       | inl has ↦ has
       | inr between ↦
           let lacks = between.3 in

@@ -8,7 +8,7 @@ use Rattle.rb_node_laws.specs.Choices.{bytes_of}
 use Rattle.rb_cluster_laws.proofs.Links.{Link, link, Extends, IsLinked}
 use Rattle.rb_cluster_laws.proofs.Spots.{Spot, spot, site, under, IsTree, same_link}
 
--- so many links up from the root
+-- a spot is this number of links above the root, and these are the bytes up to it
 abbrev pub Fills : List Link → Spot → List ℕ → ℕ → Spot → List ℕ → Type 0
 Fills ls root start zero x bytes = (x ≡ root) × (bytes ≡ start)
 Fills ls root start (suc d) x bytes =

@@ -1,5 +1,5 @@
 -- What a node knows by a history where it is elected, and where it counts a member's answer
-use Rattle.std.proofs.Common.{◌≡◌, ◌⊎◌, ℕ, ◌+◌, ◌≤◌, not, List, Some, refl, sym, ap, subst, ◌∙◌, arith, inl, inr}
+use Rattle.std.proofs.Common.{◌≡◌, ◌⊎◌, ℕ, ◌≤◌, not, List, Some, refl, sym, ap, subst, ◌∙◌, arith, inl, inr}
 use Rattle.std.specs.Prelude.{Contains}
 use Rattle.std.proofs.lemmas.List.Elements.{Contains-push, Contains-push_cases}
 use Rattle.rb_raftlog.specs.Log.{last}
@@ -20,8 +20,8 @@ use Rattle.rb_cluster_laws.proofs.Holding.{leader_stands}
 use Rattle.rb_cluster_laws.proofs.Spots.{spot}
 use Rattle.rb_cluster_laws.proofs.Completeness.{Election, History}
 use Rattle.rb_cluster_laws.proofs.Tips.{tip}
-use Rattle.rb_cluster_laws.proofs.Histories.{with_election, more_election, still_has, still_settled, still_is_on}
-use Rattle.rb_cluster_laws.proofs.NodeKnowledge.{Ground, election, IsCounted, IsSaidUpTo, Knows, still_all, still_pledged}
+use Rattle.rb_cluster_laws.proofs.Histories.{with_election, more_election, still_settled}
+use Rattle.rb_cluster_laws.proofs.NodeKnowledge.{Ground, election, mine, IsCounted, IsSaidUpTo, Knows, still_all, still_has_acked, still_pledged}
 use Rattle.rb_cluster_laws.proofs.FollowerMoves.{IsWhole}
 use Rattle.rb_cluster_laws.proofs.OtherNodes.{same_back}
 use Rattle.rb_cluster_laws.proofs.TermMoves.{vote_stays}
@@ -36,7 +36,7 @@ leads_seeing g said st id n views pending w stands none counts h =
     let e = election n.term id (tip n.log) in
     let new = with_election st e in
     let more = more_election st e in
-    let mine : Contains new.elections e = Contains-push st.elections e in
+    let there : Contains new.elections e = Contains-push st.elections e in
     record {
       log = record {
         itself = h.log.itself;
@@ -44,7 +44,7 @@ leads_seeing g said st id n views pending w stands none counts h =
         rooted = h.log.rooted;
         old = h.log.old;
         leads = λ _. record {
-          ends = record { election = e; among = mine; of_term = refl; is = inl refl };
+          ends = record { election = e; among = there; of_term = refl; is = inl refl };
           own = refl;
           highest = λ l among term. (let b = w.lawful.history.made l among in absurd (none b.election b.among (b.of_term ∙ term)));
         };
@@ -55,15 +55,9 @@ leads_seeing g said st id n views pending w stands none counts h =
               | inl before ↦ h.log.led x before own
               | inr now ↦ (let t = ap (λ (y : Election). y.term) now in omega (arith, t))
             ];
-        acked = λ a among by.
-            (let k = h.log.acked a among by in
-            record {
-              reached = k.reached;
-              now = λ same. (let x = k.now same in (x.0, x.1, still_is_on g.root g.setting.config st new a.term (spot a.index x.0) more x.2));
-              past = λ later l there term low. still_has st new (tip n.log) (n.term + 1) l more (k.past later l there term low);
-            });
-        pledged = vote_stays new id n.term n.term n.vote
-            (λ some. still_pledged st new id n.term n.vote more (λ l among _ acked. (among, record { ack = acked.ack; among = acked.among; by = acked.by; of_term = acked.of_term; upto = acked.upto })) (h.log.pledged some));
+        acked = λ a among by. still_has_acked g st new n.term (tip n.log) a more (λ l has _ _. has) (h.log.acked a among by);
+        pledged = vote_stays new (mine id) id n.term n.term n.vote
+            (λ some. still_pledged st new (mine id) id n.term n.vote more (λ l among _ acked. (among, record { ack = acked.ack; among = acked.among; by = acked.by; of_term = acked.of_term; upto = acked.upto })) (h.log.pledged some));
         commit_term = h.log.commit_term;
         commit_held = h.log.commit_held;
         commit = still_settled g.root g.setting.config st new n.term (spot n.commit h.log.commit_term) more h.log.commit;
@@ -73,10 +67,10 @@ leads_seeing g said st id n views pending w stands none counts h =
         counts = λ _ v.
             elim (counts v) as (λ _. IsCounted g new id n.term v (match_of views v)) [
               | inl nothing ↦ inl (omega (arith, nothing))
-              | inr own ↦ inr (inl (own.0 ∙ h.log.itself, (e, mine, refl, own.1)))
+              | inr own ↦ inr (inl (own.0 ∙ h.log.itself, (e, there, refl, own.1)))
             ];
-        sent = still_all g st new n.sent more (same_back st new n.sent (λ l among. among) (λ a among. among)) h.words.sent;
-        waiting = still_all g st new n.waiting more (same_back st new n.waiting (λ l among. among) (λ a among. among)) h.words.waiting;
+        sent = still_all g st new (mine id) n.sent more (same_back st new n.sent (λ l among. among) (λ a among. among)) h.words.sent;
+        waiting = still_all g st new (mine id) n.waiting more (same_back st new n.waiting (λ l among. among) (λ a among. among)) h.words.waiting;
       };
     }
 

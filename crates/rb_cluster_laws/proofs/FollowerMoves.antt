@@ -24,11 +24,11 @@ use Rattle.rb_cluster_laws.proofs.Holding.{IsElected, follower_leads, follower_s
 use Rattle.rb_cluster_laws.proofs.LinkedLogs.{log_from, none_linked, appended_linked}
 use Rattle.rb_cluster_laws.proofs.Spots.{Spot, spot, site, Descends, here, through, line, flat, lower, older, link_of, link_rooted}
 use Rattle.rb_cluster_laws.proofs.Contents.{IsContentAt, IsFilled, filled_of}
-use Rattle.rb_cluster_laws.proofs.Completeness.{Election, Ack, History, IsOfTerm, IsAcked, HasStill, IsCommitted, IsLawful, IsSettled, vote_keeps}
+use Rattle.rb_cluster_laws.proofs.Completeness.{Election, Ack, History, out_of, IsOfTerm, IsAcked, HasStill, IsCommitted, IsLawful, IsSettled, vote_keeps}
 use Rattle.rb_cluster_laws.proofs.KeptEntries.{IsOn, on_meet, still_on, still_kept}
 use Rattle.rb_cluster_laws.proofs.Histories.{AreHeld, IsPledged}
 use Rattle.rb_cluster_laws.proofs.Tips.{tip, base_spot, log_descends, log_holds, tip_rooted, appended_tip, restored_tip}
-use Rattle.rb_cluster_laws.proofs.NodeKnowledge.{Ground, TellsAppend, TellsCommit, HasAcked, Knows, election}
+use Rattle.rb_cluster_laws.proofs.NodeKnowledge.{Ground, TellsAppend, TellsCommit, HasAcked, Knows, election, mine}
 
 -- all that holds of a history
 pub record IsWhole (g : Ground) (said : List Message) (st : History) : Type 0 where
@@ -40,6 +40,7 @@ pub record IsWhole (g : Ground) (said : List Message) (st : History) : Type 0 wh
   pub late : (e : Election) → Contains st.elections e → e.tip.term ≤ e.term
   pub stood_rooted : (e : Election) → Contains st.candidacies e → Descends st.links e.tip g.root
   pub stood_late : (e : Election) → Contains st.candidacies e → e.tip.term ≤ e.term
+  pub stood_within : (e : Election) → Contains st.out_candidacies e → Contains st.candidacies e
   pub stood_once : (a b : Election) → Contains st.candidacies a → Contains st.candidacies b → a.term ≡ b.term → a.id ≡ b.id → a ≡ b
 
 -- ---- another end of the log
@@ -64,7 +65,7 @@ on_late g said st term x w on =
       ]
     ]
 
--- what it has said to hold, it has still
+-- with the other end it still has what it has said to hold
 acked_on : (g : Ground) (said : List Message) (st : History) (n m : PlainNode) (a : Ack) → IsWhole g said st → m.term ≡ n.term → Descends st.links (tip n.log) g.root
     → IsOn g.root g.setting.config st n.term (tip m.log) → (Descends st.links (tip n.log) (tip m.log) → ⊥) → HasAcked g st n.term (tip n.log) a → HasAcked g st m.term (tip m.log) a
 acked_on g said st n m a w same rooted on none h =
@@ -82,7 +83,7 @@ acked_on g said st n m a w same rooted on none h =
           (h.past (omega (arith, later, same)) l among term low));
     }
 
--- or it has the same end
+-- and so it has with the same end
 pub acked_same : (g : Ground) (st : History) (n m : PlainNode) (a : Ack) → m.term ≡ n.term → tip m.log ≡ tip n.log → HasAcked g st n.term (tip n.log) a → HasAcked g st m.term (tip m.log) a
 acked_same g st n m a same ends h =
     let reached = h.reached in
@@ -143,7 +144,7 @@ knows_by g st id n v lead clock follows h linked rooted old held filled acked = 
   };
 }
 
--- A node takes an append that its term's leader put out: what it knows it knows still.
+-- A node takes an append that its term's leader put out, and still knows what it knew.
 pub takes_knows : (g : Ground) (said : List Message) (st : History) (id : ℕ) (n : PlainNode) (from : ℕ) (append : PlainAppend) → IsWhole g said st → n.role ≡ role.Follower → n.applied ≤ n.commit → TellsAppend g st n.term append → Knows g st id n → Knows g st id (with_appended n from append)
 takes_knows g said st id n from append w follows known told h =
     let v = n.log in
@@ -227,16 +228,16 @@ restores_knows g said st id n s w follows settled content above other h =
 -- ---- a vote
 
 -- A node that votes for one that asked in its term is pledged to it.
-pub votes_knows : (g : Ground) (said : List Message) (st : History) (id : ℕ) (n : PlainNode) (m : Message) (last_term last_index : ℕ) → IsWhole g said st → m.term ≡ n.term → Contains st.candidacies (election m.term m.from (spot last_index last_term)) → grants n m last_term last_index false ≡ true
+pub votes_knows : (g : Ground) (said : List Message) (st : History) (id : ℕ) (n : PlainNode) (m : Message) (last_term last_index : ℕ) → IsWhole g said st → m.term ≡ n.term → Contains st.out_candidacies (election m.term m.from (spot last_index last_term)) → grants n m last_term last_index false ≡ true
     → Knows g st id n → Knows g st id (voted_for n m.from)
 votes_knows g said st id n m last_term last_index w same stood gives h =
     let stood_at = spot last_index last_term in
     let e = election m.term m.from stood_at in
     let newer = (as_new n.log last_index last_term).0 (and_parts (can_vote_for n m false) (is_up_to_date n.log last_index last_term) gives).1 in
-    let late : last_term ≤ m.term = w.stood_late e stood in
-    let pledged : IsPledged st id n.term m.from = record {
+    let late : last_term ≤ m.term = w.stood_late e (w.stood_within e stood) in
+    let pledged : IsPledged st (mine id) id n.term m.from = record {
       stood = e;
-      among = stood;
+      among = inl stood;
       of_term = same;
       of_id = refl;
       each = λ l among earlier acked.
@@ -245,7 +246,7 @@ votes_knows g said st id n m last_term last_index w same stood gives h =
           elim (k.past (omega (arith, of_term, earlier)) l among (sym acked.of_term) acked.upto) as (λ _. HasStill st stood_at (n.term + 1) l) [
             | inr lacks ↦ inr lacks
             | inl has ↦
-                vote_keeps g.root st (n.term + 1) (tip n.log) stood_at l w.lawful.history (tip_rooted g.root st.links n.log h.log.linked h.log.rooted) (w.stood_rooted e stood) (omega (arith, late, same))
+                vote_keeps g.root st (n.term + 1) (tip n.log) stood_at l w.lawful.history (tip_rooted g.root st.links n.log h.log.linked h.log.rooted) (w.stood_rooted e (w.stood_within e stood)) (omega (arith, late, same))
                 newer among has
           ]);
     } in
@@ -310,7 +311,7 @@ beat_settled g said st id n commit i w told above low within h =
     let s = w.lawful in
     let tree = s.history.tree in
     let said_it = told.held in
-    let k = (h.log.acked said_it.ack said_it.among said_it.by).now said_it.of_term in
+    let k = (h.log.acked said_it.ack (s.within said_it.ack said_it.among) said_it.by).now said_it.of_term in
     let acked = spot said_it.ack.index k.0 in
     let on : IsOn g.root g.setting.config st n.term acked = subst (λ (t : ℕ). IsOn g.root g.setting.config st t acked) said_it.of_term k.2 in
     let top = spot told.index told.index_term in
@@ -382,9 +383,9 @@ commits_settled g said st id n i w leads config some held past own h =
       quorum = quorum;
       held = λ v yes.
           (let matched : i ≤ match_of n.tracker.views v = leb-true i (match_of n.tracker.views v) yes in
-          elim (h.words.counts leads v) as (λ _. IsAcked st v l.0) [
+          elim (h.words.counts leads v) as (λ _. IsAcked (out_of st) v l.0) [
             | inl first ↦ absurd (omega (arith, first, matched, start, commit, past))
-            | inr rest ↦ elim rest as (λ _. IsAcked st v l.0) [
+            | inr rest ↦ elim rest as (λ _. IsAcked (out_of st) v l.0) [
               | inl itself ↦
                   let e = itself.1 in
                   let made = s.history.made l.0 l.1 in

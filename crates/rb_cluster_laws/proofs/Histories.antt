@@ -9,7 +9,7 @@ use Rattle.rb_message.specs.declared.message.Message.{Message}
 use Rattle.rb_cluster_laws.specs.Votes.{IsCast}
 use Rattle.rb_cluster_laws.proofs.Links.{Link, Extends, push_extends, push_single}
 use Rattle.rb_cluster_laws.proofs.Spots.{Spot, spot, site, under, Descends, IsTree, still_descends, lower}
-use Rattle.rb_cluster_laws.proofs.Completeness.{Election, Ack, History, IsBuilt, IsHistory, IsTip, IsOfTerm, IsAcked, Lacks, HasStill, IsCommitted, IsVoted, IsLawful, IsSettled, safe_of_term}
+use Rattle.rb_cluster_laws.proofs.Completeness.{Election, Ack, History, out_of, IsBuilt, IsHistory, IsTip, IsOfTerm, IsAcked, Lacks, HasStill, IsCommitted, IsVoted, IsLawful, IsSettled, safe_of_term}
 use Rattle.rb_cluster_laws.proofs.KeptEntries.{IsOn}
 
 -- ---- more of a history
@@ -19,6 +19,18 @@ pub record IsMore (old new : History) : Type 0 where
   pub candidacies : (e : Election) → Contains old.candidacies e → Contains new.candidacies e
   pub elections : (e : Election) → Contains old.elections e → Contains new.elections e
   pub acks : (a : Ack) → Contains old.acks a → Contains new.acks a
+  pub out_candidacies : (e : Election) → Contains old.out_candidacies e → Contains new.out_candidacies e
+  pub out_acks : (a : Ack) → Contains old.out_acks a → Contains new.out_acks a
+
+pub more_out : (old new : History) → IsMore old new → IsMore (out_of old) (out_of new)
+more_out old new more = record {
+  links = more.links;
+  candidacies = more.out_candidacies;
+  elections = more.elections;
+  acks = more.out_acks;
+  out_candidacies = more.out_candidacies;
+  out_acks = more.out_acks;
+}
 
 abbrev pub with_link : History → Link → History
 with_link st l = record st { links = st.links ++ l ∷ [] }
@@ -33,16 +45,16 @@ abbrev pub with_election : History → Election → History
 with_election st e = record st { elections = st.elections ++ e ∷ [] }
 
 pub more_link : (st : History) (l : Link) → IsMore st (with_link st l)
-more_link st l = record { links = push_extends st.links l; candidacies = λ e among. among; elections = λ e among. among; acks = λ a among. among }
+more_link st l = record { links = push_extends st.links l; candidacies = λ e among. among; elections = λ e among. among; acks = λ a among. among; out_candidacies = λ e among. among; out_acks = λ a among. among }
 
 pub more_ack : (st : History) (a : Ack) → IsMore st (with_ack st a)
-more_ack st a = record { links = λ l among. among; candidacies = λ e among. among; elections = λ e among. among; acks = λ b among. Contains-append_left st.acks (a ∷ []) b among }
+more_ack st a = record { links = λ l among. among; candidacies = λ e among. among; elections = λ e among. among; acks = λ b among. Contains-append_left st.acks (a ∷ []) b among; out_candidacies = λ e among. among; out_acks = λ b among. among }
 
 pub more_candidacy : (st : History) (e : Election) → IsMore st (with_candidacy st e)
-more_candidacy st e = record { links = λ l among. among; candidacies = λ x among. Contains-append_left st.candidacies (e ∷ []) x among; elections = λ x among. among; acks = λ a among. among }
+more_candidacy st e = record { links = λ l among. among; candidacies = λ x among. Contains-append_left st.candidacies (e ∷ []) x among; elections = λ x among. among; acks = λ a among. among; out_candidacies = λ e among. among; out_acks = λ a among. among }
 
 pub more_election : (st : History) (e : Election) → IsMore st (with_election st e)
-more_election st e = record { links = λ l among. among; candidacies = λ x among. among; elections = λ x among. Contains-append_left st.elections (e ∷ []) x among; acks = λ a among. among }
+more_election st e = record { links = λ l among. among; candidacies = λ x among. among; elections = λ x among. Contains-append_left st.elections (e ∷ []) x among; acks = λ a among. among; out_candidacies = λ e among. among; out_acks = λ a among. among }
 
 -- ---- what stays known
 
@@ -90,7 +102,7 @@ still_committed c old new l more h = record {
   among = more.links l h.among;
   holders = h.holders;
   quorum = h.quorum;
-  held = λ v holds. still_acked old new v l more (h.held v holds);
+  held = λ v holds. still_acked (out_of old) (out_of new) v l (more_out old new more) (h.held v holds);
 }
 
 pub still_settled : (root : Spot) (c : Config) (old new : History) (term : ℕ) (x : Spot) → IsMore old new → IsSettled root c old term x → IsSettled root c new term x
@@ -128,8 +140,8 @@ still_built old new l more h = record {
 abbrev pub AreHeld : Spot → Config → History → Type 0
 AreHeld root c st = (a : Ack) → Contains st.acks a → (t : ℕ) × IsOn root c st a.term (spot a.index t)
 
--- who was elected kept what it was asked to keep, where each thing that was said to hold is one that was said before
-still_voted : (c : Config) (said : List Message) (old new : History) (e : Election) → IsMore old new → ((v : ℕ) (l : Link) → IsCast said v e.term e.id → Contains new.links l → l.entry.term < e.term → IsAcked new v l → Contains old.links l × IsAcked old v l) → IsVoted c said old e → IsVoted c said new e
+-- an election stays as it was, if its voters have said nothing new of earlier terms
+pub still_voted : (c : Config) (said : List Message) (old new : History) (e : Election) → IsMore old new → ((v : ℕ) (l : Link) → IsCast said v e.term e.id → Contains new.links l → l.entry.term < e.term → IsAcked new v l → Contains old.links l × IsAcked old v l) → IsVoted c said old e → IsVoted c said new e
 still_voted c said old new e more back h = record {
   voters = h.voters;
   quorum = h.quorum;
@@ -270,6 +282,7 @@ lawful_link root c said st l s held top = record {
   history = story_link root st l s.history top;
   voted = λ e among. still_voted c said st (with_link st l) e (more_link st l)
       (λ v m _ there _ acked. held_before root c said st l m v s held top there acked) (s.voted e among);
+  within = s.within;
 }
 
 pub held_link : (root : Spot) (c : Config) (st : History) (l : Link) → AreHeld root c st → AreHeld root c (with_link st l)
@@ -300,6 +313,7 @@ lawful_ack root c said st a s late =
       history = record { tree = old.tree; once = old.once; rooted = old.rooted; made = λ l among. still_built st (with_ack st a) l more (old.made l among) };
       voted = λ e among. still_voted c said st (with_ack st a) e more
           (λ v l cast there earlier acked. (there, acked_before said st a v e.term e.id l late cast earlier acked)) (s.voted e among);
+      within = λ b among. Contains-append_left st.acks (a ∷ []) b (s.within b among);
     }
 
 pub held_ack : (root : Spot) (c : Config) (st : History) (a : Ack) (t : ℕ) → AreHeld root c st → IsOn root c st a.term (spot a.index t) → AreHeld root c (with_ack st a)
@@ -311,11 +325,18 @@ held_ack root c st a t held on = λ b among.
 
 -- ---- a vote, and an election
 
+-- a candidacy that others may have heard of, or one of the nodes that a fact is about
+abbrev pub HasStood : History → (ℕ → Type 0) → Election → Type 0
+HasStood st own e = Contains st.out_candidacies e ⊎ (own e.id × Contains st.candidacies e)
+
+pub still_stood : (old new : History) (own : ℕ → Type 0) (e : Election) → IsMore old new → HasStood old own e → HasStood new own e
+still_stood old new own e more h = elim h as (λ _. HasStood new own e) [ inl out ↦ inl (more.out_candidacies e out) | inr mine ↦ inr (mine.0, more.candidacies e mine.1) ]
+
 -- A node that votes for one that stood in a term, or may: what it has said to hold in earlier terms that one's log has, unless a leader up
 -- to that term lacks it.
-pub record IsPledged (st : History) (voter term candidate : ℕ) : Type 0 where
+pub record IsPledged (st : History) (own : ℕ → Type 0) (voter term candidate : ℕ) : Type 0 where
   pub stood : Election
-  pub among : Contains st.candidacies stood
+  pub among : HasStood st own stood
   pub of_term : stood.term ≡ term
   pub of_id : stood.id ≡ candidate
   pub each : (l : Link) → Contains st.links l → l.entry.term < term → IsAcked st voter l → HasStill st stood.tip (term + 1) l
@@ -367,4 +388,5 @@ lawful_election root c said st e s none rooted voted =
             | inl before ↦ still x (s.voted x before)
             | inr now ↦ subst (IsVoted c said new) now (still e voted)
           ];
+      within = s.within;
     }

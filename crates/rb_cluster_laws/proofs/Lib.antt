@@ -27,8 +27,14 @@ pub mod ElectionMoves
 pub mod CommittedLogs
 pub mod MessageTruth
 pub mod AmongOthers
+pub mod Forgetting
+pub mod SavedNodes
+pub mod PutOut
 pub mod StepMoves
 pub mod CallMoves
 pub mod NetworkHistory
 pub mod TwoMoments
+pub mod RestartedNodes
+pub mod RestartHistory
+pub mod RestartMoments
 pub mod ClusterHistory

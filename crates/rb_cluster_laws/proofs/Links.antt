@@ -1,4 +1,4 @@
--- Links: each entry of a log stands behind one of a term. Logs whose entries all stand as one list of links has them, in which an index has
+-- Links: each entry of a log comes after an entry of some term. Logs whose entries all stand as one list of links has them, in which an index has
 -- one link of a term, match (Ongaro's thesis, section 3.5).
 use Rattle.std.proofs.Common.{◌≡◌, ℕ, zero, suc, ◌+◌, ◌-◌, ◌<◌, ◌≤◌, List, [], ◌∷◌, ◌++◌, Option, Some, None, Ok, Err, refl, sym, ap, ◌∙◌, arith, inl, inr}
 use Rattle.std.specs.Prelude.{Contains}

@@ -1,6 +1,5 @@
--- What a node sends and answers is true by the history
+-- What a node sends and answers is true in the history
 use Rattle.std.proofs.Common.{◌≡◌, ◌⊎◌, ℕ, ◌+◌, ◌-◌, ◌<◌, ◌≤◌, List, length, Option, Result, Ok, Err, refl, sym, ap, subst, ◌∙◌, arith, inl, inr}
-use Rattle.std.specs.Prelude.{Contains}
 use Rattle.std.proofs.lemmas.Bool.{cases_lt}
 use Rattle.rb_raftlog.specs.declared.entry.Entry.{Entry}
 use Rattle.rb_raftlog.specs.declared.raft_log.LogFault.{LogFault}
@@ -26,7 +25,8 @@ use Rattle.rb_cluster_laws.proofs.Spots.{spot, line, lower}
 use Rattle.rb_cluster_laws.proofs.Contents.{IsContentAt}
 use Rattle.rb_cluster_laws.proofs.Completeness.{History, IsTip, IsOfTerm, IsSettled}
 use Rattle.rb_cluster_laws.proofs.Tips.{tip, base_spot, last_is, log_descends}
-use Rattle.rb_cluster_laws.proofs.NodeKnowledge.{Ground, election, TellsAppend, TellsCommit, TellsBy, TellsTrue, Knows}
+use Rattle.rb_cluster_laws.proofs.Histories.{HasStood}
+use Rattle.rb_cluster_laws.proofs.NodeKnowledge.{Ground, election, mine, TellsAppend, TellsCommit, TellsBy, TellsTrue, Knows}
 use Rattle.rb_cluster_laws.proofs.FollowerMoves.{IsWhole, behind_settled}
 
 -- ---- an append
@@ -140,16 +140,16 @@ tells_snapshot g said st id n term snapshot w s same is h =
 
 -- ---- a question for votes
 
-tells_vote : (g : Ground) (st : History) (id : ℕ) (n : PlainNode) (term from last_t last_i : ℕ) → n.role ≡ role.Candidate → term ≡ n.term → from ≡ n.id → last_t ≡ last_term n.log → last_i ≡ last n.log → Knows g st id n → Contains st.candidacies (election term from (spot last_i last_t))
+tells_vote : (g : Ground) (st : History) (id : ℕ) (n : PlainNode) (term from last_t last_i : ℕ) → n.role ≡ role.Candidate → term ≡ n.term → from ≡ n.id → last_t ≡ last_term n.log → last_i ≡ last n.log → Knows g st id n → HasStood st (mine id) (election term from (spot last_i last_t))
 tells_vote g st id n term from last_t last_i stands same own ends_term ends h =
-    subst (λ (t : ℕ). Contains st.candidacies (election t from (spot last_i last_t))) (sym same)
-    (subst (λ (i : ℕ). Contains st.candidacies (election n.term i (spot last_i last_t))) (sym (own ∙ h.log.itself))
-    (subst (λ (i : ℕ). Contains st.candidacies (election n.term id (spot i last_t))) (sym ends)
-    (subst (λ (t : ℕ). Contains st.candidacies (election n.term id (spot (last n.log) t))) (sym ends_term) (h.log.stands stands).stood)))
+    subst (λ (t : ℕ). HasStood st (mine id) (election t from (spot last_i last_t))) (sym same)
+    (subst (λ (i : ℕ). HasStood st (mine id) (election n.term i (spot last_i last_t))) (sym (own ∙ h.log.itself))
+    (subst (λ (i : ℕ). HasStood st (mine id) (election n.term id (spot i last_t))) (sym ends)
+    (subst (λ (t : ℕ). HasStood st (mine id) (election n.term id (spot (last n.log) t))) (sym ends_term) (inr (refl, (h.log.stands stands).stood)))))
 
 -- ---- what is sent
 
-tells_by : (g : Ground) (said : List Message) (st : History) (id : ℕ) (n : PlainNode) (k : MessageKind) (m : Message) → IsWhole g said st → IsSound n → HasSoundViews n → m.from ≡ n.id → SendsBy k n m → Knows g st id n → TellsBy g st k m
+tells_by : (g : Ground) (said : List Message) (st : History) (id : ℕ) (n : PlainNode) (k : MessageKind) (m : Message) → IsWhole g said st → IsSound n → HasSoundViews n → m.from ≡ n.id → SendsBy k n m → Knows g st id n → TellsBy g st (mine id) k m
 tells_by g said st id n (kind.Append append) m w s views own sent h = tells_append g said st id n m.term append w (sent.2 views) sent.0 sent.3 h
 tells_by g said st id n (kind.Heartbeat commit) m w s views own sent h = tells_beat g st id n m.term m.to commit views sent.0 sent.1 sent.2 sent.3 h
 tells_by g said st id n (kind.Snapshot snapshot) m w s views own sent h = tells_snapshot g said st id n m.term snapshot w s sent.0 sent.3 h
@@ -158,5 +158,5 @@ tells_by g said st id n (kind.VoteResponse granted) m w s views own sent h = abs
 tells_by g said st id n (kind.AppendResponse matched) m w s views own sent h = absurd sent
 tells_by g said st id n _ m w s views own sent h = tt
 
-pub tells_sent : (g : Ground) (said : List Message) (st : History) (id : ℕ) (n : PlainNode) (m : Message) → IsWhole g said st → IsSound n → HasSoundViews n → Sends n m → Knows g st id n → TellsTrue g st m
+pub tells_sent : (g : Ground) (said : List Message) (st : History) (id : ℕ) (n : PlainNode) (m : Message) → IsWhole g said st → IsSound n → HasSoundViews n → Sends n m → Knows g st id n → TellsTrue g st (mine id) m
 tells_sent g said st id n m w s views sent h = tells_by g said st id n m.kind m w s views sent.0 sent.1 h

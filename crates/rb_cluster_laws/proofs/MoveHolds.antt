@@ -1,4 +1,4 @@
--- What holds of each node holds after each of its moves (rb_node_laws' Moves), where what comes to it was put out so
+-- What holds of each node holds after each of its moves (rb_node_laws' Moves), if the messages that come to it were put out
 use Rattle.std.proofs.Common.{◌≡◌, ◌⊎◌, ℕ, ◌-◌, ◌≤◌, arith, Bool, true, false, not, List, [], length, min, None, Result, Ok, Err, refl, sym, ap, subst, ◌∙◌, inl, inr, if◌then◌else◌, ◌==◌}
 use Rattle.std.specs.Prelude.{All}
 use Rattle.std.proofs.lemmas.Bool.{false≢true}
@@ -44,7 +44,7 @@ use Rattle.rb_cluster_laws.proofs.LinkedLogs.{log_from, none_linked, part_linked
 use Rattle.rb_cluster_laws.proofs.Holding.{World, Stands, IsElect, IsOwn, IsChainBy, IsChain, IsFine, Essence, Fits, Holds, essence, becomes, turned, still_fits, with_log, says, waits, follower_stands, follower_leads, precandidate_stands, precandidate_leads, candidate_leads, leader_stands}
 use Rattle.rb_cluster_laws.proofs.Making.{own_entry_holds, elected_new}
 
--- ---- what comes
+-- ---- incoming messages
 
 -- an answer that gives the node a vote was cast
 abbrev pub Gives : World → Message → Type 0
@@ -73,7 +73,7 @@ sends_chain ls (kind.Append append) n m sent linked =
     (let is = sent.3 in part_linked ls n.log append.prev append.prev_term append.entries is.past_base is.prev_term is.entries linked)
 sends_chain ls _ n m sent linked = tt
 
--- no answer says what keeps or chains
+-- an answer is no append, no snapshot and no proposal
 answers_fine : (c : Config) (k : MessageKind) (n : PlainNode) (m : Message) → AnswersBy k n m → KeepsBy c k × ((ls : List Link) → IsChainBy ls k)
 answers_fine c (kind.Append append) n m answer = absurd answer
 answers_fine c (kind.Snapshot snapshot) n m answer = absurd answer

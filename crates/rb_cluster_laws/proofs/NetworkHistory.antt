@@ -39,11 +39,12 @@ use Rattle.rb_cluster_laws.proofs.Spots.{Spot, spot, Descends, here}
 use Rattle.rb_cluster_laws.proofs.Completeness.{History}
 use Rattle.rb_cluster_laws.proofs.Tips.{base_spot, last_is}
 use Rattle.rb_cluster_laws.proofs.Histories.{IsMore}
-use Rattle.rb_cluster_laws.proofs.NodeKnowledge.{Ground, TellsTrue, Knows, TellsBy}
+use Rattle.rb_cluster_laws.proofs.NodeKnowledge.{Ground, mine as is_mine, nobody, TellsTrue, Knows, TellsBy}
 use Rattle.rb_cluster_laws.proofs.FollowerMoves.{IsWhole}
-use Rattle.rb_cluster_laws.proofs.AmongOthers.{Speaks, Around, same_history}
+use Rattle.rb_cluster_laws.proofs.AmongOthers.{Speaks, Company, KnowsSaved, Around, same_history}
 use Rattle.rb_cluster_laws.proofs.StepMoves.{Brings, onward_more}
 use Rattle.rb_cluster_laws.proofs.CallMoves.{called_around}
+use Rattle.rb_cluster_laws.proofs.PutOut.{put_by, more_put, whole_put, put_tells, put_all, put_knows}
 
 -- ---- what holds
 
@@ -54,7 +55,7 @@ pub record IsKnown (g : Ground) (s : Network) (heard : List Message) (st : Histo
   pub whole : IsWhole g heard st
   pub knows : (k : ℕ) (n : PlainNode) → slice_get s.nodes k ≡ Some n → Knows g st (k + 1) n
   pub views : (k : ℕ) (n : PlainNode) → slice_get s.nodes k ≡ Some n → HasSoundViews n
-  pub told : All (TellsTrue g st) heard
+  pub told : All (TellsTrue g st nobody) heard
 
 pub whole_said : (g : Ground) (said now : List Message) (st : History) → IsSaid said now → IsWhole g said st → IsWhole g now st
 whole_said g said now st more w = record {
@@ -66,6 +67,7 @@ whole_said g said now st more w = record {
       cast = λ x yes. still_cast said now x e.term e.id more (v.cast x yes);
       each = v.each;
     });
+    within = w.lawful.within;
   };
   held = w.held;
   low = w.low;
@@ -74,6 +76,7 @@ whole_said g said now st more w = record {
   late = w.late;
   stood_rooted = w.stood_rooted;
   stood_late = w.stood_late;
+  stood_within = w.stood_within;
   stood_once = w.stood_once;
 }
 
@@ -88,9 +91,34 @@ speaks_of g s k n sane at =
 
 -- ---- a call
 
-told_out : (g : Ground) (st : History) (id : ℕ) (c : Call) (n : PlainNode) → Knows g st id n → All (TellsTrue g st) (put_out c n)
-told_out g st id Advance n h = All-append (TellsTrue g st) n.sent n.waiting h.words.sent h.words.waiting
-told_out g st id _ n h = All-nil (TellsTrue g st)
+-- what a call puts out goes into the history first
+record PutsOut (g : Ground) (s : Network) (heard : List Message) (st : History) (c : Call) (n : PlainNode) : Type 0 where
+  history : History
+  more : IsMore st history
+  known : IsKnown g s heard history
+  told : All (TellsTrue g history nobody) (put_out c n)
+
+no_words : (g : Ground) (s : Network) (heard : List Message) (st : History) → IsKnown g s heard st → IsMore st st × IsKnown g s heard st × All (TellsTrue g st nobody) []
+no_words g s heard st h = (same_history st, h, All-nil (TellsTrue g st nobody))
+
+pub known_put : (g : Ground) (s : Network) (heard : List Message) (st : History) (id : ℕ) → IsKnown g s heard st → IsKnown g s heard (put_by st id)
+known_put g s heard st id h = record {
+  said = h.said;
+  votes = h.votes;
+  whole = whole_put g heard st id h.whole;
+  knows = λ k n at. put_knows g st id (k + 1) n (h.knows k n at);
+  views = h.views;
+  told = put_all g st id heard h.told;
+}
+
+puts_out : (g : Ground) (s : Network) (heard : List Message) (st : History) (id : ℕ) (c : Call) (n : PlainNode) → Knows g st id n → IsKnown g s heard st → PutsOut g s heard st c n
+puts_out g s heard st id Advance n mine h = record {
+  history = put_by st id;
+  more = more_put st id;
+  known = known_put g s heard st id h;
+  told = put_tells g st id (n.sent ++ n.waiting) (All-append (TellsTrue g st (is_mine id)) n.sent n.waiting mine.words.sent mine.words.waiting);
+}
+puts_out g s heard st id _ n mine h = (let x = no_words g s heard st h in record { history = st; more = x.0; known = x.1; told = x.2 })
 
 genuine_after : (said out : List Message) (id : ℕ) (m : Message) → IsGenuine said id m → IsGenuine (said ++ out) id m
 genuine_after said out id m is = elim is as (λ _. IsGenuine (said ++ out) id m) [ inl among ↦ inl (Contains-append_left said out m among.0, among.1) | inr none ↦ inr none ]
@@ -138,9 +166,16 @@ votes_said said heard out votes m among gives =
       | inr now ↦ Contains-append_right said out m now
     ]
 
-pub called_known : (g : Ground) (s : Network) (heard : List Message) (place : ℕ) (c : Call) (told : List Event) (n : PlainNode) (st : History) (sane : IsSane g.setting s) → slice_get s.nodes place ≡ Some n → IsHonestCall g.setting.config s (place + 1) c → (g.setting.strict ≡ true → IsGenuineCall s c) → IsTrueCall heard (place + 1) c → IsKnown g s heard st
-    → (now : History) × IsMore st now × IsKnown g (called_network s place c told n) (heard ++ put_out c n) now
-called_known g s heard place c told n st sane at honest genuine true_call h =
+-- after a call, by a history that has what it puts out: what nodes have saved among it
+pub record KnownThen (g : Ground) (s : Network) (heard : List Message) (saved : ℕ → PlainNode → Type 0) (st : History) : Type 0 where
+  pub history : History
+  pub more : IsMore st history
+  pub known : IsKnown g s heard history
+  pub keeps : (j : ℕ) (y : PlainNode) → saved j y → KnowsSaved g history j y
+
+pub called_then : (g : Ground) (s : Network) (heard : List Message) (place : ℕ) (c : Call) (told : List Event) (n : PlainNode) (saved : ℕ → PlainNode → Type 0) (st : History) (sane : IsSane g.setting s) → slice_get s.nodes place ≡ Some n → IsHonestCall g.setting.config s (place + 1) c → (g.setting.strict ≡ true → IsGenuineCall s c) → IsTrueCall heard (place + 1) c → IsKnown g s heard st
+    → All (TellsTrue g st nobody) (put_out c n) → ((j : ℕ) (y : PlainNode) → saved j y → KnowsSaved g st j y) → KnownThen g (called_network s place c told n) (heard ++ put_out c n) saved st
+called_then g s heard place c told n saved st sane at honest genuine true_call h out_told keeps =
     let id = place + 1 in
     let out = put_out c n in
     let said = s.said ++ out in
@@ -155,11 +190,12 @@ called_known g s heard place c told n st sane at honest genuine true_call h =
     let w : World = world_of g.setting said sane.links place in
     let hold : Holds w n = still_holds g.setting s.said said sane.links sane.links place n more (λ strict. still_in g.setting s.said said id sane.links (essence n) more once (good.linked strict)) good.holds in
     let mine = h.knows place n at in
-    let others : ℕ → PlainNode → Type 0 = λ j x. (k : ℕ) × (j ≡ k + 1) × (slice_get s.nodes k ≡ Some x) in
+    let others : Company = record { nodes = λ j x. (k : ℕ) × (j ≡ k + 1) × (slice_get s.nodes k ≡ Some x); saved = saved } in
     let around : Around g now id others st n = record {
       whole = whole_said g heard now st (λ m among. Contains-append_left heard out m among) h.whole;
       knows = mine;
-      told = All-append (TellsTrue g st) heard out h.told (told_out g st id c n mine);
+      told = All-append (TellsTrue g st nobody) heard out h.told out_told;
+      saved = keeps;
       apart = λ j x other is. (
         subst (λ (i : ℕ). Knows g st i x) (sym is.1) (h.knows is.0 x is.2),
         subst (λ (i : ℕ). Speaks i x.term (words x)) (sym is.1) (speaks_of g.setting s is.0 x sane is.2),
@@ -173,10 +209,11 @@ called_known g s heard place c told n st sane at honest genuine true_call h =
     } in
     let hears = safe_hears c t (safe_call g.setting s place c n sane good honest genuine) hold in
     let o = called_around st w c t refl within refl once_now (brings_by heard id c t mine.log.itself true_call) hears good.sound (h.views place n at) hold around in
-    let next = (after c t).node in (
-      o.history,
-      o.more,
-      record {
+    let next = (after c t).node in
+    record {
+      history = o.history;
+      more = o.more;
+      known = record {
         said = within;
         votes = votes;
         whole = o.around.whole;
@@ -187,8 +224,16 @@ called_known g s heard place c told n st sane at honest genuine true_call h =
             each_set (λ (j : ℕ) (y : PlainNode). HasSoundViews y) s.nodes place n next at ((called_views c t).views good.sound (h.views place n at))
             (λ j y other there. h.views j y there) k x is;
         told = o.around.told;
-      },
-    )
+      };
+      keeps = o.around.saved;
+    }
+
+pub called_known : (g : Ground) (s : Network) (heard : List Message) (place : ℕ) (c : Call) (told : List Event) (n : PlainNode) (st : History) (sane : IsSane g.setting s) → slice_get s.nodes place ≡ Some n → IsHonestCall g.setting.config s (place + 1) c → (g.setting.strict ≡ true → IsGenuineCall s c) → IsTrueCall heard (place + 1) c → IsKnown g s heard st
+    → (now : History) × IsMore st now × IsKnown g (called_network s place c told n) (heard ++ put_out c n) now
+called_known g s heard place c told n st sane at honest genuine true_call h =
+    let p = puts_out g s heard st (place + 1) c n (h.knows place n at) h in
+    let o = called_then g s heard place c told n (λ _ _. ⊥) p.history sane at honest genuine true_call p.known p.told (λ j y none. absurd none) in
+    (o.history, onward_more st p.history o.history p.more o.more, o.known)
 
 -- ---- a snapshot of a node's state
 
@@ -200,7 +245,7 @@ pub state_known : (g : Ground) (s : Network) (heard : List Message) (st : Histor
 state_known g s heard st m sane x k =
     let n = x.node in
     let both = tells_snapshot g heard st (x.place + 1) n m.term (snapshot_of n) k.whole (sane.good x.place n x.at).sound x.term (of_state n) (k.knows x.place n x.at) in
-    let tells : TellsTrue g st m = subst (λ (y : MessageKind). TellsBy g st y m) (sym x.is) both in
+    let tells : TellsTrue g st nobody m = subst (λ (y : MessageKind). TellsBy g st nobody y m) (sym x.is) both in
     record {
       said = λ y among. Contains-append_left heard (m ∷ []) y (k.said y among);
       votes = λ y among gives.
@@ -211,12 +256,12 @@ state_known g s heard st m sane x k =
       whole = whole_said g heard (heard ++ m ∷ []) st (λ y among. Contains-append_left heard (m ∷ []) y among) k.whole;
       knows = k.knows;
       views = k.views;
-      told = All-push (TellsTrue g st) heard m k.told tells;
+      told = All-push (TellsTrue g st nobody) heard m k.told tells;
     }
 
 -- ---- all that happens
 
-true_more : (said heard : List Message) (id : ℕ) (c : Call) → IsSaid said heard → IsTrueCall said id c → IsTrueCall heard id c
+pub true_more : (said heard : List Message) (id : ℕ) (c : Call) → IsSaid said heard → IsTrueCall said id c → IsTrueCall heard id c
 true_more said heard id (Step m) more is = elim is as (λ _. IsGenuine heard id m) [ inl among ↦ inl (more m among.0, among.1) | inr none ↦ inr none ]
 true_more said heard id (Propose body) more is = is
 true_more said heard id _ more is = tt
@@ -259,7 +304,7 @@ abbrev pub AreAlike : Spot → List ℕ → List PlainNode → Type 0
 AreAlike root start nodes = (k : ℕ) (n : PlainNode) → slice_get nodes k ≡ Some n → (base_spot n.log ≡ root) × (n.content ≡ start)
 
 abbrev pub no_history : History
-no_history = record { links = []; candidacies = []; elections = []; acks = [] }
+no_history = record { links = []; candidacies = []; elections = []; acks = []; out_candidacies = []; out_acks = [] }
 
 nothing : {X : Type 0} → (x : X) → Contains [] x → ⊥
 nothing x among = in_nothing [] x refl among
@@ -279,6 +324,7 @@ begun_whole g low = record {
       made = λ l among. absurd (nothing l among);
     };
     voted = λ e among. absurd (nothing e among);
+    within = λ a among. among;
   };
   held = λ a among. absurd (nothing a among);
   low = low;
@@ -287,6 +333,7 @@ begun_whole g low = record {
   late = λ e among. absurd (nothing e among);
   stood_rooted = λ e among. absurd (nothing e among);
   stood_late = λ e among. absurd (nothing e among);
+  stood_within = λ e among. among;
   stood_once = λ a b one two term who. absurd (nothing a one);
 }
 
@@ -316,8 +363,8 @@ begun_knows g id start options same content =
       };
       words = record {
         counts = λ is. absurd (follower_leads is);
-        sent = All-nil (TellsTrue g no_history);
-        waiting = All-nil (TellsTrue g no_history);
+        sent = All-nil (TellsTrue g no_history (is_mine id));
+        waiting = All-nil (TellsTrue g no_history (is_mine id));
       };
     }
 
@@ -332,5 +379,5 @@ begun_known g members s low b alike = record {
       let content : is.start.content ≡ g.start = ap (λ (x : PlainNode). x.content) (sym is.is) ∙ (alike k n at).1 in
       subst (Knows g no_history (k + 1)) (sym is.is) (begun_knows g (k + 1) is.start is.options same content));
   views = λ k n at. (let is : IsStarted members (k + 1) n = b.started k n at in subst HasSoundViews (sym is.is) (no_views role.Follower));
-  told = All-same (TellsTrue g no_history) s.said [] b.silent (All-nil (TellsTrue g no_history));
+  told = All-same (TellsTrue g no_history nobody) s.said [] b.silent (All-nil (TellsTrue g no_history nobody));
 }

@@ -51,7 +51,7 @@ pub record IsSane (g : Setting) (s : Network) : Type 0 where
 
 -- ---- a node is called
 
--- what a node puts out of votes, it has waiting
+-- the votes that a call puts out waited in the node
 out_waits : (c : Call) (n : PlainNode) (m : Message) → HasPromises n → Contains (put_out c n) m → IsYes m → Contains n.waiting m
 out_waits Advance n m h out gives =
     elim (Contains-append_cases n.sent n.waiting m out) as (λ _. Contains n.waiting m) [
@@ -69,7 +69,7 @@ no_append : (ls : List Link) (k : MessageKind) → IsNoAppend k → IsChainBy ls
 no_append ls (kind.Append append) none = absurd none
 no_append ls _ none = tt
 
--- the call that happens is one that a node stands
+-- an honest call brings what a node needs to stay sane
 pub safe_call : (g : Setting) (s : Network) (place : ℕ) (c : Call) (n : PlainNode) (sane : IsSane g s) → IsGood g s.said sane.links place n → IsHonestCall g.config s (place + 1) c → (g.strict ≡ true → IsGenuineCall s c) → IsSafe (world_of g (s.said ++ put_out c n) sane.links place) c n
 safe_call g s place (Step m) n sane good honest genuine =
     let w = world_of g (s.said ++ []) sane.links place in
@@ -125,7 +125,7 @@ call_ends g said links place c told n once good safe =
       };
     }
 
--- the links that another node has made leave a node's own
+-- links that another node makes change nothing for a node's own
 others_in : (g : Setting) (said more : List Message) (old new : List Link) (place k : ℕ) (x n : PlainNode) → (k ≡ place → ⊥) → Extends old new → ((l : Link) → Contains new l → Contains old l ⊎ (l.maker ≡ place + 1)) → IsIn g (said ++ more) (place + 1) new (essence x) → (n.role ≡ role.Leader → IsElected g said (k + 1) n.term) → IsIn g said (k + 1) old (essence n) → IsIn g (said ++ more) (k + 1) new (essence n)
 others_in g said more old new place k x n other since own its leads c = record {
   once = its.once;
@@ -172,7 +172,7 @@ pledged g s place c n m sane at good among gives own =
       | inr now ↦ All-contains (Kept n) n.waiting m good.promises.kept (out_waits c n m good.promises now gives) gives
     ]
 
-out_own : (g : Setting) (said : List Message) (links : List Link) (place : ℕ) (c : Call) (n : PlainNode) (m : Message) → IsGood g said links place n → Contains (put_out c n) m → IsYes m → m.from ≡ place + 1
+pub out_own : (g : Setting) (said : List Message) (links : List Link) (place : ℕ) (c : Call) (n : PlainNode) (m : Message) → IsGood g said links place n → Contains (put_out c n) m → IsYes m → m.from ≡ place + 1
 out_own g said links place c n m good out gives =
     let w = world_of g said links place in
     (All-contains (IsOwn w) n.waiting m good.holds.waiting (out_waits c n m good.promises out gives)).0

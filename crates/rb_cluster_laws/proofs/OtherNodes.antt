@@ -1,8 +1,9 @@
--- What one node adds to a history is no news to the others, and leaves the history whole
-use Rattle.std.proofs.Common.{◌≡◌, ℕ, ◌<◌, ◌≤◌, List, sym, ap, subst, ◌∙◌, arith, inl, inr}
+-- What one node adds to a history changes nothing that the others know, and leaves the history whole
+use Rattle.std.proofs.Common.{◌≡◌, ◌⊎◌, ℕ, ◌<◌, ◌≤◌, List, sym, ap, subst, ◌∙◌, arith, inl, inr}
 use Rattle.std.specs.Prelude.{All, Contains, slice_index_or}
 use Rattle.std.proofs.lemmas.List.Elements.{Contains-push_cases}
 use Rattle.rb_message.specs.declared.message.Message.{Message}
+use Rattle.rb_message.specs.declared.role.Role.TheVariants as role
 use Rattle.rb_node.specs.Node.{PlainNode}
 use Rattle.rb_node_laws.specs.Words.{IsYes}
 use Rattle.rb_cluster_laws.proofs.Links.{Link}
@@ -10,9 +11,8 @@ use Rattle.rb_cluster_laws.proofs.Holding.{IsElected}
 use Rattle.rb_cluster_laws.proofs.Spots.{spot, still_descends}
 use Rattle.rb_cluster_laws.proofs.Completeness.{Election, Ack, History, IsVoted}
 use Rattle.rb_cluster_laws.proofs.KeptEntries.{IsOn}
-use Rattle.rb_cluster_laws.proofs.Tips.{tip}
 use Rattle.rb_cluster_laws.proofs.Histories.{with_link, with_ack, with_candidacy, with_election, more_link, more_election, IsTop, none_acked, held_before, lawful_link, held_link, IsLate, lawful_ack, held_ack, lawful_election, still_is_on}
-use Rattle.rb_cluster_laws.proofs.NodeKnowledge.{Ground, election, IsBack, AreBack, IsNoNews, Knows}
+use Rattle.rb_cluster_laws.proofs.NodeKnowledge.{Ground, IsBack, AreBack, IsNoNews, Knows}
 use Rattle.rb_cluster_laws.proofs.FollowerMoves.{IsWhole}
 use Rattle.rb_cluster_laws.proofs.OwnEntries.{back_all}
 
@@ -28,10 +28,11 @@ whole_link g said st l w top = record {
   late = w.late;
   stood_rooted = λ e among. still_descends st.links (with_link st l).links e.tip g.root (more_link st l).links (w.stood_rooted e among);
   stood_late = w.stood_late;
+  stood_within = w.stood_within;
   stood_once = w.stood_once;
 }
 
-pub no_news_link : (g : Ground) (said : List Message) (st : History) (id maker : ℕ) (n : PlainNode) (l : Link) → (id ≡ maker → ⊥) → IsWhole g said st → (top : IsTop g.root st l) → top.ends.election.id ≡ maker → Knows g st id n → IsNoNews st (with_link st l) id n
+pub no_news_link : (g : Ground) (said : List Message) (st : History) (id maker : ℕ) (n : PlainNode) (l : Link) → (n.role ≡ role.Leader → id ≡ maker → ⊥) → IsWhole g said st → (top : IsTop g.root st l) → top.ends.election.id ≡ maker → Knows g st id n → IsNoNews st (with_link st l) id n
 no_news_link g said st id maker n l other w top made h =
     let s = w.lawful.history in
     record {
@@ -41,9 +42,9 @@ no_news_link g said st id maker n l other w top made h =
             | inr now ↦
                 let k = h.log.leads leads in
                 let same = s.once k.ends.election top.ends.election k.ends.among top.ends.among (k.ends.of_term ∙ sym term ∙ sym (ap (λ (z : Link). z.entry.term) now) ∙ sym top.ends.of_term) in
-                absurd (other (sym k.own ∙ ap (λ (e : Election). e.id) same ∙ made))
+                absurd (other leads (sym k.own ∙ ap (λ (e : Election). e.id) same ∙ made))
           ];
-      elections = λ e among _. among;
+      elections = λ e among _. inl among;
       candidacies = λ e among _. among;
       acks = λ a among _. among;
       held = λ a x among there term low.
@@ -72,6 +73,7 @@ whole_ack g said st a t w late on = record {
   late = w.late;
   stood_rooted = w.stood_rooted;
   stood_late = w.stood_late;
+  stood_within = w.stood_within;
   stood_once = w.stood_once;
 }
 
@@ -98,7 +100,7 @@ back_acks st a ms late = λ k d low yes some. back_ack st a (slice_index_or ms k
 pub no_news_ack : (st : History) (id maker : ℕ) (n : PlainNode) (a : Ack) → (id ≡ maker → ⊥) → a.voter ≡ maker → All (AreReached a) n.sent → All (AreReached a) n.waiting → IsNoNews st (with_ack st a) id n
 no_news_ack st id maker n a other by sent waiting = record {
   links = λ _ x among _. among;
-  elections = λ e among _. among;
+  elections = λ e among _. inl among;
   candidacies = λ e among _. among;
   acks = λ b among own.
       elim (Contains-push_cases st.acks a b among) as (λ _. Contains st.acks b) [
@@ -119,7 +121,7 @@ same_back old new ms links acks = λ k d low _ _ x among _ acked. (links x among
 pub no_news_candidacy : (st : History) (id : ℕ) (n : PlainNode) (e : Election) → (id ≡ e.id → ⊥) → IsNoNews st (with_candidacy st e) id n
 no_news_candidacy st id n e other = record {
   links = λ _ x among _. among;
-  elections = λ x among _. among;
+  elections = λ x among _. inl among;
   candidacies = λ x among own.
       elim (Contains-push_cases st.candidacies e x among) as (λ _. Contains st.candidacies x) [
         | inl before ↦ before
@@ -132,13 +134,14 @@ no_news_candidacy st id n e other = record {
   waiting = same_back st (with_candidacy st e) n.waiting (λ x among. among) (λ a among. among);
 }
 
-pub no_news_election : (st : History) (id : ℕ) (n : PlainNode) (e : Election) → (id ≡ e.id → ⊥) → IsNoNews st (with_election st e) id n
-no_news_election st id n e other = record {
+-- of an election of its own a node may know that it has reached its term
+pub no_news_election : (st : History) (id : ℕ) (n : PlainNode) (e : Election) → (e.id ≡ id → (e.term ≤ n.term) × (n.role ≡ role.Candidate → ⊥)) → IsNoNews st (with_election st e) id n
+no_news_election st id n e late = record {
   links = λ _ x among _. among;
   elections = λ x among own.
-      elim (Contains-push_cases st.elections e x among) as (λ _. Contains st.elections x) [
-        | inl before ↦ before
-        | inr now ↦ absurd (other (sym own ∙ sym (ap (λ (y : Election). y.id) now)))
+      elim (Contains-push_cases st.elections e x among) as (λ _. Contains st.elections x ⊎ ((x.term ≤ n.term) × (n.role ≡ role.Candidate → ⊥))) [
+        | inl before ↦ inl before
+        | inr now ↦ inr (subst (λ (y : Election). (y.term ≤ n.term) × (n.role ≡ role.Candidate → ⊥)) now (late (ap (λ (y : Election). y.id) now ∙ own)))
       ];
   candidacies = λ x among _. among;
   acks = λ a among _. among;
@@ -172,5 +175,6 @@ whole_election g said st e w some none stood voted elected =
           ];
       stood_rooted = w.stood_rooted;
       stood_late = w.stood_late;
+      stood_within = w.stood_within;
       stood_once = w.stood_once;
     }

@@ -24,7 +24,7 @@ use Rattle.rb_cluster_laws.proofs.Contents.{filled_of, still_filled}
 use Rattle.rb_cluster_laws.proofs.Completeness.{Election, History, IsAcked, HasStill, IsVoted}
 use Rattle.rb_cluster_laws.proofs.Histories.{with_link, more_link, still_has, still_settled, still_is_on, IsTop, held_before, IsPledged, pledge_before}
 use Rattle.rb_cluster_laws.proofs.Tips.{tip, base_spot, last_held, tip_rooted, own_tip}
-use Rattle.rb_cluster_laws.proofs.NodeKnowledge.{Ground, election, AreBack, Knows, TellsTrue, still_tells, still_pledged, still_counted}
+use Rattle.rb_cluster_laws.proofs.NodeKnowledge.{Ground, election, mine, nobody, AreBack, Knows, TellsTrue, still_tells, still_pledged, still_counted}
 use Rattle.rb_cluster_laws.proofs.FollowerMoves.{IsWhole}
 
 -- ---- a leader's entry
@@ -32,7 +32,7 @@ use Rattle.rb_cluster_laws.proofs.FollowerMoves.{IsWhole}
 abbrev pub next_link : PlainNode → Entry → ℕ → Link
 next_link n e id = link (last n.log + 1) e (last_term n.log) id
 
--- its place is at the top of its term
+-- the new link is above all others of its term
 abbrev pub next_top : (g : Ground) (said : List Message) (st : History) (id : ℕ) (n : PlainNode) (e : Entry) → IsWhole g said st → n.role ≡ role.Leader → e.term ≡ n.term → Knows g st id n → IsTop g.root st (next_link n e id)
 next_top g said st id n e w leads term h =
     let k = h.log.leads leads in
@@ -61,10 +61,10 @@ next_top g said st id n e w leads term h =
 pub back_all : (g : Ground) (said : List Message) (st : History) (l : Link) (ms : List Message) → IsWhole g said st → IsTop g.root st l → All (AreBack st (with_link st l)) ms
 back_all g said st l ms w top = λ k d low _ _ m there _ acked. held_before g.root g.setting.config said st l m (slice_index_or ms k d).from w.lawful w.held top there acked
 
-pub tells_link : (g : Ground) (said : List Message) (st : History) (l : Link) (ms : List Message) → IsWhole g said st → IsTop g.root st l → All (TellsTrue g st) ms → All (TellsTrue g (with_link st l)) ms
-tells_link g said st l ms w top h = λ k d low. still_tells g st (with_link st l) (slice_index_or ms k d) (more_link st l) (back_all g said st l ms w top k d low) (h k d low)
+pub tells_link : (g : Ground) (said : List Message) (st : History) (l : Link) (own : ℕ → Type 0) (ms : List Message) → IsWhole g said st → IsTop g.root st l → All (TellsTrue g st own) ms → All (TellsTrue g (with_link st l) own) ms
+tells_link g said st l own ms w top h = λ k d low. still_tells g st (with_link st l) own (slice_index_or ms k d) (more_link st l) (back_all g said st l ms w top k d low) (h k d low)
 
--- what it knows by the link that it makes
+-- what the leader knows once it has made the link
 pub own_knows : (g : Ground) (said : List Message) (st : History) (id : ℕ) (n : PlainNode) (e : Entry) → IsWhole g said st → n.role ≡ role.Leader → e.term ≡ n.term → Knows g st id n → Knows g (with_link st (next_link n e id)) id (record n { log = own n.log e })
 own_knows g said st id n e w leads term h =
     let l = next_link n e id in
@@ -121,7 +121,7 @@ own_knows g said st id n e w leads term h =
                     ]
                   ];
             });
-        pledged = λ some. still_pledged st new id n.term n.vote more (λ x among earlier acked. back id n.term x among earlier acked) (h.log.pledged some);
+        pledged = λ some. still_pledged st new (mine id) id n.term n.vote more (λ x among earlier acked. back id n.term x among earlier acked) (h.log.pledged some);
         commit_term = h.log.commit_term;
         commit_held = own-term_held n.log e n.commit within ∙ h.log.commit_held;
         commit = still_settled g.root g.setting.config st new n.term (spot n.commit h.log.commit_term) more h.log.commit;
@@ -129,18 +129,18 @@ own_knows g said st id n e w leads term h =
       };
       words = record {
         counts = λ is v. still_counted g st new id n.term v (match_of n.tracker.views v) more (h.words.counts is v);
-        sent = tells_link g said st l n.sent w top h.words.sent;
-        waiting = tells_link g said st l n.waiting w top h.words.waiting;
+        sent = tells_link g said st l (mine id) n.sent w top h.words.sent;
+        waiting = tells_link g said st l (mine id) n.waiting w top h.words.waiting;
       };
     }
 
 -- ---- an election
 
 -- Who is elected by votes that were pledged to it has what its voters have said to hold.
-pub elected_voted : (g : Ground) (said : List Message) (st : History) (id : ℕ) (n : PlainNode) → IsWhole g said st → 0 < length g.setting.config.incoming → n.role ≡ role.Candidate → vote_result g.setting.config n.votes ≡ vote.Won → ((v : ℕ) → has n.votes.granted v ≡ true → IsCast said v n.term id × IsPledged st v n.term id)
+pub elected_voted : (g : Ground) (said : List Message) (st : History) (id : ℕ) (n : PlainNode) → IsWhole g said st → 0 < length g.setting.config.incoming → n.role ≡ role.Candidate → vote_result g.setting.config n.votes ≡ vote.Won → ((v : ℕ) → has n.votes.granted v ≡ true → IsCast said v n.term id × IsPledged st nobody v n.term id)
     → ((e : Election) → Contains st.elections e → e.term ≡ n.term → ⊥) → Knows g st id n → IsVoted g.setting.config said st (election n.term id (tip n.log))
 elected_voted g said st id n w some stands won votes none h =
-    let mine = (h.log.stands stands).stood in
+    let stands_there = (h.log.stands stands).stood in
     let decides = won_decides g.setting.config n.votes some won in
     record {
       voters = λ v. has n.votes.granted v;
@@ -148,7 +148,7 @@ elected_voted g said st id n w some stands won votes none h =
       cast = λ v yes. (votes v yes).0;
       each = λ v yes l among earlier acked.
           (let p = (votes v yes).1 in
-          let same : p.stood ≡ election n.term id (tip n.log) = w.stood_once p.stood (election n.term id (tip n.log)) p.among mine p.of_term p.of_id in
+          let same : p.stood ≡ election n.term id (tip n.log) = w.stood_once p.stood (election n.term id (tip n.log)) (elim p.among as (λ _. Contains st.candidacies p.stood) [ inl out ↦ w.stood_within p.stood out | inr its ↦ its.1 ]) stands_there p.of_term p.of_id in
           pledge_before st (tip n.log) n.term l none
           (subst (λ (e : Election). HasStill st e.tip (n.term + 1) l) same (p.each l among earlier acked)));
     }

@@ -83,10 +83,10 @@ begun_sane strict members single s b =
 -- ---- two leaders
 
 -- a leader was chosen, and has the id of its place
-was_elect : (g : Setting) (s : Network) (id term : ℕ) → IsSane g s → (l : Leads s.nodes id term) → IsElected g s.said (l.place + 1) term
+pub was_elect : (g : Setting) (s : Network) (id term : ℕ) → IsSane g s → (l : Leads s.nodes id term) → IsElected g s.said (l.place + 1) term
 was_elect g s id term sane l = subst (λ (n : ℕ). IsElected g s.said (l.place + 1) n) l.of_term ((sane.good l.place l.node l.stands).holds.leads l.leads)
 
-its_id : (g : Setting) (s : Network) (id term : ℕ) → IsSane g s → (l : Leads s.nodes id term) → l.place + 1 ≡ id
+pub its_id : (g : Setting) (s : Network) (id term : ℕ) → IsSane g s → (l : Leads s.nodes id term) → l.place + 1 ≡ id
 its_id g s id term sane l = sym (sane.good l.place l.node l.stands).holds.itself ∙ l.of_id
 
 pub one_leader : (members : ConfState) (s : Network) (earlier later : List Happening) (first second term : ℕ) → members.outgoing ≡ [] → IsBegun members s → AreHonest (config_of members) earlier s → AreHonest (config_of members) later (run earlier s) → Leads (run earlier s).nodes first term → Leads (run later (run earlier s)).nodes second term → second ≡ first

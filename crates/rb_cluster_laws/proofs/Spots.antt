@@ -22,7 +22,7 @@ site l = spot l.index l.entry.term
 abbrev pub under : Link → Spot
 under l = spot (l.index - 1) l.before
 
--- so many links down from a spot
+-- the second spot is this number of links below the first
 abbrev pub Down : List Link → Spot → ℕ → Spot → Type 0
 Down ls low zero x = x ≡ low
 Down ls low (suc d) x = (l : Link) × Contains ls l × (site l ≡ x) × Down ls low d (under l)

@@ -1,4 +1,4 @@
--- Each move of a node leaves what holds around it, with a history that goes on
+-- Each move of a node keeps what holds of it, of the other nodes and of all messages, and the history goes on
 use Rattle.std.proofs.Common.{◌≡◌, ◌⊎◌, ℕ, ◌+◌, ◌<◌, ◌≤◌, Bool, true, false, List, [], ◌∷◌, length, Some, Ok, refl, sym, ap, subst, ◌∙◌, arith, inl, inr, nat_lt}
 use Rattle.std.specs.Prelude.{All, Contains}
 use Rattle.std.proofs.lemmas.Bool.{cases_lt, and_parts, ltb-true, leb-true}
@@ -19,6 +19,7 @@ use Rattle.rb_tracker.specs.Sets.{has}
 use Rattle.rb_tracker.specs.declared.config.Config.{Config}
 use Rattle.rb_tracker.proofs.CommitLaws.{commit_is_held, commit_of_nobody}
 use Rattle.rb_tracker.proofs.QuorumLaws.{quorums_meet}
+use Rattle.rb_tracker.proofs.VoteLaws.{won_decides}
 use Rattle.rb_message.specs.Appends.{PlainAppend}
 use Rattle.rb_message.specs.declared.kind.MessageKind.{MessageKind}
 use Rattle.rb_message.specs.declared.kind.MessageKind.TheVariants as kind
@@ -33,8 +34,8 @@ use Rattle.rb_node.specs.Votes.{voted_for, grants}
 use Rattle.rb_node_laws.specs.Sound.{IsSound, HasSoundViews}
 use Rattle.rb_node_laws.specs.Words.{IsYes, SendsBy, Sends, Answers, AnswersBy}
 use Rattle.rb_node_laws.proofs.ChoiceLaws.{may_campaign}
-use Rattle.rb_node_laws.proofs.Goes.{Ways}
-use Rattle.rb_node_laws.proofs.Moves.{following, TellMove, Idle, Sent, Viewed, Commits, CameNow, MaySay, Learned, Known, By_append, By_beat, By_snapshot, StepMove, StepTells, Passes, Waits, Follows, Asks, Stands as Campaigns, Leads, Votes_for, Counts, Appends, Takes, Learns, Restores, Acks}
+use Rattle.rb_node_laws.proofs.Goes.{Ways, core}
+use Rattle.rb_node_laws.proofs.Moves.{Whole, following, TellMove, Idle, Sent, Viewed, Commits, CameNow, MaySay, Learned, Known, By_append, By_beat, By_snapshot, StepMove, StepTells, Passes, Waits, Follows, Asks, Stands as Campaigns, Leads, Votes_for, Counts, Appends, Takes, Learns, Restores, Acks}
 use Rattle.rb_node_laws.proofs.ProgressLaws.{same_match}
 use Rattle.rb_node_laws.proofs.Saying.{Words, words, with_sent, with_waiting}
 use Rattle.rb_cluster_laws.specs.Safety.{IsHarmless, IsGenuine}
@@ -46,16 +47,17 @@ use Rattle.rb_cluster_laws.proofs.Contents.{IsContentAt}
 use Rattle.rb_cluster_laws.proofs.Completeness.{Election, History, IsSettled}
 use Rattle.rb_cluster_laws.proofs.Tips.{tip, base_spot}
 use Rattle.rb_cluster_laws.proofs.Histories.{IsMore, with_link, with_candidacy, with_election, more_link, more_candidacy, more_election, IsPledged}
-use Rattle.rb_cluster_laws.proofs.NodeKnowledge.{Ground, election, IsCounted, TellsCommit, IsSaidUpTo, TellsBy, TellsTrue, still_knows, still_all, KnowsLog, KnowsWords, WordPart, log_part, word_part, log_of_whole, words_of_whole}
+use Rattle.rb_cluster_laws.proofs.NodeKnowledge.{Ground, election, mine, nobody, all_said, IsCounted, TellsCommit, IsSaidUpTo, TellsBy, TellsTrue, still_knows, still_all, KnowsLog, KnowsWords, WordPart, word_part, words_of_whole}
 use Rattle.rb_cluster_laws.proofs.FollowerMoves.{not_past, takes_knows, restores_knows, votes_knows, knows_commit, beat_settled, append_settled, commits_settled}
 use Rattle.rb_cluster_laws.proofs.OwnEntries.{next_link, next_top, tells_link, own_knows, elected_voted}
 use Rattle.rb_cluster_laws.proofs.OtherNodes.{whole_link, no_news_link, same_back, no_news_candidacy, no_news_election, whole_election}
 use Rattle.rb_cluster_laws.proofs.TermMoves.{follows_knows, whole_candidacy, stands_knows, sent_knows, waiting_knows}
 use Rattle.rb_cluster_laws.proofs.ElectionMoves.{leading_is, leads_knows, counts_knows}
 use Rattle.rb_cluster_laws.proofs.MessageTruth.{leads_or_not, tells_sent}
-use Rattle.rb_cluster_laws.proofs.AmongOthers.{genuine_tells, came_append, held_end, say_spot, Speaks, Around, Onwards, still_around, acks_around}
+use Rattle.rb_cluster_laws.proofs.SavedNodes.{saved_link, saved_election}
+use Rattle.rb_cluster_laws.proofs.AmongOthers.{genuine_tells, came_append, held_end, say_spot, Speaks, Company, saved_still, Around, Onwards, still_around, acks_around}
 
--- what comes to a node in a call: it is genuine, and what a leader counts by it was said to it
+-- the messages that come in a call are genuine, and a leader counts only answers among them
 pub record Brings (said : List Message) (id : ℕ) (v : Ways) : Type 0 where
   pub genuine : (m : Message) → v.came m → IsGenuine said id m
   pub matched : (term from i : ℕ) → v.matched term from i → (m : Message) × v.came m × (m.from ≡ from) × (m.term ≡ term) × (j : ℕ) × (m.kind ≡ kind.AppendResponse j) × (i ≤ j)
@@ -66,6 +68,8 @@ onward_more a b c p q = record {
   candidacies = λ e among. q.candidacies e (p.candidacies e among);
   elections = λ e among. q.elections e (p.elections e among);
   acks = λ x among. q.acks x (p.acks x among);
+  out_candidacies = λ e among. q.out_candidacies e (p.out_candidacies e among);
+  out_acks = λ x among. q.out_acks x (p.out_acks x among);
 }
 
 -- ---- what it says
@@ -93,14 +97,14 @@ no_length [] none = refl
 no_length (x ∷ xs) none = absurd (omega (arith, none))
 
 -- a vote that was cast was pledged
-cast_pledged : (g : Ground) (said : List Message) (st : History) (voter term id : ℕ) → All (TellsTrue g st) said → IsCast said voter term id → IsPledged st voter term id
+cast_pledged : (g : Ground) (said : List Message) (st : History) (voter term id : ℕ) → All (TellsTrue g st nobody) said → IsCast said voter term id → IsPledged st nobody voter term id
 cast_pledged g said st voter term id told c =
     let m = c.answer in
-    let tells : TellsTrue g st m = All-contains (TellsTrue g st) said m told c.among in
-    let p : IsPledged st m.from m.term m.to = subst (λ (k : MessageKind). TellsBy g st k m) c.gives.0 tells refl c.gives.1 in
-    subst (λ (v : ℕ). IsPledged st v term id) c.by (subst (λ (t : ℕ). IsPledged st m.from t id) c.of_term (subst (λ (x : ℕ). IsPledged st m.from m.term x) c.for_it p))
+    let tells : TellsTrue g st nobody m = All-contains (TellsTrue g st nobody) said m told c.among in
+    let p : IsPledged st nobody m.from m.term m.to = subst (λ (k : MessageKind). TellsBy g st nobody k m) c.gives.0 tells refl c.gives.1 in
+    subst (λ (v : ℕ). IsPledged st nobody v term id) c.by (subst (λ (t : ℕ). IsPledged st nobody m.from t id) c.of_term (subst (λ (x : ℕ). IsPledged st nobody m.from m.term x) c.for_it p))
 
-module _ {g : Ground} {said : List Message} {id : ℕ} {others : ℕ → PlainNode → Type 0} where
+module _ {g : Ground} {said : List Message} {id : ℕ} {others : Company} where
   says_around : (st : History) (n : PlainNode) (m : Message) → IsSound n → HasSoundViews n → Sends n m → Around g said id others st n → Onwards g said id others st (with_sent n m)
   says_around st n m s views sent h =
       still_around st n (with_sent n m) h (sent_knows g st id n m (tells_sent g said st id n m h.whole s views sent h.knows) h.knows) (speaks_sent id n m sent h.speaks) (omega arith)
@@ -138,9 +142,9 @@ module _ {g : Ground} {said : List Message} {id : ℕ} {others : ℕ → PlainNo
 
   tells_around : (st : History) {a b : PlainNode} → TellMove a b → IsSound a → HasSoundViews a → a.tracker.config ≡ g.setting.config → Around g said id others st a → Onwards g said id others st b
   tells_around st (Idle a b e) s views config h =
-      let is : log_part b ≡ log_part a = ap log_of_whole e in
+      let is : core b ≡ core a = ap (λ (x : Whole). x.core) e in
       let says : word_part b ≡ word_part a = ap words_of_whole e in
-      let log : KnowsLog g st id (log_part b) = subst (KnowsLog g st id) (sym is) h.knows.log in
+      let log : KnowsLog g st id (core b) = subst (KnowsLog g st id) (sym is) h.knows.log in
       let words : KnowsWords g st id (word_part b) = subst (KnowsWords g st id) (sym says) h.knows.words in
       still_around st a b h (record { log = log; words = words })
       (subst (λ (x : WordPart). Speaks id x.term (record { sent = x.sent; waiting = x.waiting })) (sym says) h.speaks) (let t = ap (λ (x : WordPart). x.term) says in omega (arith, t))
@@ -161,7 +165,7 @@ module _ {g : Ground} {said : List Message} {id : ℕ} {others : ℕ → PlainNo
 
   -- ---- what waits
 
-  waits_around : (st : History) (n : PlainNode) (m : Message) → Answers n m → TellsTrue g st m → Around g said id others st n → Onwards g said id others st (with_waiting n m)
+  waits_around : (st : History) (n : PlainNode) (m : Message) → Answers n m → TellsTrue g st (mine id) m → Around g said id others st n → Onwards g said id others st (with_waiting n m)
   waits_around st n m answer tells h =
       still_around st n (with_waiting n m) h (waiting_knows g st id n m tells h.knows) (speaks_waiting id n m h.knows.log.itself answer h.speaks) (omega arith)
 
@@ -170,12 +174,13 @@ module _ {g : Ground} {said : List Message} {id : ℕ} {others : ℕ → PlainNo
   acks_by st v n m i is s brings answer may h =
       let of_term : m.term ≡ n.term = (subst (λ (k : MessageKind). AnswersBy k n m) is answer.1).0 in
       elim (cases_lt g.root.index i) as (λ _. Onwards g said id others st (with_waiting n m)) [
-        | inr low ↦ waits_around st n m answer (subst (λ (k : MessageKind). TellsBy g st k m) (sym is) (inl low)) h
+        | inr low ↦ waits_around st n m answer (subst (λ (k : MessageKind). TellsBy g st (mine id) k m) (sym is) (inl low)) h
         | inl past ↦
             let a = acks_around st n i h (say_spot g said st id v n i h.whole h.told brings.genuine s h.knows past may) in
             let x = a.says in
-            let tells : IsSaidUpTo a.goes.history m.from m.term i = record { ack = x.ack; among = x.among; by = x.by ∙ sym (answer.0 ∙ h.knows.log.itself); of_term = x.of_term ∙ sym of_term; upto = x.upto } in
-            let b = waits_around a.goes.history n m answer (subst (λ (k : MessageKind). TellsBy g a.goes.history k m) (sym is) (inr tells)) a.goes.around in
+            let own : m.from ≡ id = answer.0 ∙ h.knows.log.itself in
+            let tells : IsSaidUpTo (all_said a.goes.history) m.from m.term i = record { ack = x.ack; among = x.among; by = x.by ∙ sym (answer.0 ∙ h.knows.log.itself); of_term = x.of_term ∙ sym of_term; upto = x.upto } in
+            let b = waits_around a.goes.history n m answer (subst (λ (k : MessageKind). TellsBy g a.goes.history (mine id) k m) (sym is) (inr (inr (own, tells)))) a.goes.around in
             record { history = b.history; more = onward_more st a.goes.history b.history a.goes.more b.more; around = b.around }
       ]
 
@@ -183,16 +188,16 @@ module _ {g : Ground} {said : List Message} {id : ℕ} {others : ℕ → PlainNo
   answers_around st v (kind.AppendResponse i) n m is s brings answer may h = acks_by st v n m i is s brings answer (may i is) h
   answers_around st v (kind.VoteResponse granted) n m is s brings answer may h =
       let said_it = subst (λ (k : MessageKind). AnswersBy k n m) is answer.1 in
-      let tells : granted ≡ true → 0 < m.to → IsPledged st m.from m.term m.to = λ yes some.
+      let tells : granted ≡ true → 0 < m.to → IsPledged st (mine id) m.from m.term m.to = λ yes some.
       (let to : n.vote ≡ m.to = said_it.1 yes in
-      subst (λ (i : ℕ). IsPledged st i m.term m.to) (sym (answer.0 ∙ h.knows.log.itself))
-      (subst (λ (t : ℕ). IsPledged st id t m.to) (sym said_it.0) (subst (λ (c : ℕ). IsPledged st id n.term c) to (h.knows.log.pledged (omega (arith, to, some)))))) in
-      waits_around st n m answer (subst (λ (k : MessageKind). TellsBy g st k m) (sym is) tells) h
+      subst (λ (i : ℕ). IsPledged st (mine id) i m.term m.to) (sym (answer.0 ∙ h.knows.log.itself))
+      (subst (λ (t : ℕ). IsPledged st (mine id) id t m.to) (sym said_it.0) (subst (λ (c : ℕ). IsPledged st (mine id) id n.term c) to (h.knows.log.pledged (omega (arith, to, some)))))) in
+      waits_around st n m answer (subst (λ (k : MessageKind). TellsBy g st (mine id) k m) (sym is) tells) h
   answers_around st v (kind.Append append) n m is s brings answer may h = absurd (subst (λ (k : MessageKind). AnswersBy k n m) is answer.1)
   answers_around st v (kind.Heartbeat commit) n m is s brings answer may h = absurd (subst (λ (k : MessageKind). AnswersBy k n m) is answer.1)
   answers_around st v (kind.Snapshot snapshot) n m is s brings answer may h = absurd (subst (λ (k : MessageKind). AnswersBy k n m) is answer.1)
   answers_around st v (kind.Vote last_t last_i transfer) n m is s brings answer may h = absurd (subst (λ (k : MessageKind). AnswersBy k n m) is answer.1)
-  answers_around st v _ n m is s brings answer may h = waits_around st n m answer (subst (λ (x : MessageKind). TellsBy g st x m) (sym is) tt) h
+  answers_around st v _ n m is s brings answer may h = waits_around st n m answer (subst (λ (x : MessageKind). TellsBy g st (mine id) x m) (sym is) tt) h
 
   -- ---- terms, campaigns and votes
 
@@ -239,8 +244,9 @@ module _ {g : Ground} {said : List Message} {id : ℕ} {others : ℕ → PlainNo
         around = record {
           whole = whole_candidacy g said st id n h.whole h.knows;
           knows = stands_knows g said st id n h.whole h.knows;
-          told = still_all g st new said more (same_back st new said (λ l among. among) (λ a among. among)) h.told;
+          told = still_all g st new nobody said more (same_back st new said (λ l among. among) (λ a among. among)) h.told;
           apart = λ j y other is. (let p = h.apart j y other is in (still_knows g st new j y more (no_news_candidacy st j y e other) p.0, p.1));
+          saved = λ j x is. saved_still g st new j x refl (h.saved j x is);
           speaks = speaks_later id n.term (n.term + 1) (words n) (omega arith) h.speaks;
           reached = λ term c cast. (let low = h.reached term c cast in omega (arith, low));
         };
@@ -268,8 +274,9 @@ module _ {g : Ground} {said : List Message} {id : ℕ} {others : ℕ → PlainNo
         around = record {
           whole = whole_election g said st e h.whole mine.some none mine.stood voted elected;
           knows = leads_knows g said st id n h.whole s stands none k;
-          told = still_all g st new said more (same_back st new said (λ l among. among) (λ a among. among)) h.told;
-          apart = λ j y other there. (let p = h.apart j y other there in (still_knows g st new j y more (no_news_election st j y e other) p.0, p.1));
+          told = still_all g st new nobody said more (same_back st new said (λ l among. among) (λ a among. among)) h.told;
+          apart = λ j y other there. (let p = h.apart j y other there in (still_knows g st new j y more (no_news_election st j y e (λ own. absurd (other (sym own)))) p.0, p.1));
+          saved = λ j y is. saved_election g st id n (λ x. has n.votes.granted x) (won_decides g.setting.config n.votes some won) (λ x yes. cast_pledged g said st x n.term id h.told (cast x yes)) j y (h.saved j y is);
           speaks = subst (λ (x : PlainNode). Speaks id x.term (words x)) (sym is) h.speaks;
           reached = λ term c given. (let low = h.reached term c given in let t = ap (λ (x : PlainNode). x.term) is in omega (arith, low, t));
         };
@@ -277,8 +284,9 @@ module _ {g : Ground} {said : List Message} {id : ℕ} {others : ℕ → PlainNo
 
   votes_around : (st : History) (v : Ways) (n : PlainNode) (m : Message) (last_t last_i : ℕ) (transfer : Bool) → Brings said id v → grants n m last_t last_i false ≡ true → v.came m → m.kind ≡ kind.Vote last_t last_i transfer → m.term ≡ n.term → Around g said id others st n → Onwards g said id others st (voted_for n m.from)
   votes_around st v n m last_t last_i transfer brings gives came is of_term h =
-      let tells : TellsTrue g st m = genuine_tells g st said id m h.told (brings.genuine m came) in
-      let stood = subst (λ (k : MessageKind). TellsBy g st k m) is tells in
+      let tells : TellsTrue g st nobody m = genuine_tells g st said id m h.told (brings.genuine m came) in
+      let e = election m.term m.from (spot last_i last_t) in
+      let stood : Contains st.out_candidacies e = elim (subst (λ (k : MessageKind). TellsBy g st nobody k m) is tells) as (λ _. Contains st.out_candidacies e) [ inl out ↦ out | inr none ↦ absurd none.0 ] in
       still_around st n (voted_for n m.from) h (votes_knows g said st id n m last_t last_i h.whole of_term stood gives h.knows) h.speaks (omega arith)
 
   -- ---- logs
@@ -297,8 +305,9 @@ module _ {g : Ground} {said : List Message} {id : ℕ} {others : ℕ → PlainNo
         around = record {
           whole = whole_link g said st l h.whole top;
           knows = own_knows g said st id n e h.whole leads refl k;
-          told = tells_link g said st l said h.whole top h.told;
-          apart = λ j y other is. (let p = h.apart j y other is in (still_knows g st new j y more (no_news_link g said st j id y l other h.whole top (k.log.leads leads).own p.0) p.0, p.1));
+          told = tells_link g said st l nobody said h.whole top h.told;
+          apart = λ j y other is. (let p = h.apart j y other is in (still_knows g st new j y more (no_news_link g said st j id y l (λ _. other) h.whole top (k.log.leads leads).own p.0) p.0, p.1));
+          saved = λ j y is. saved_link g said st l h.whole top j y (h.saved j y is);
           speaks = h.speaks;
           reached = h.reached;
         };
@@ -312,8 +321,8 @@ module _ {g : Ground} {said : List Message} {id : ℕ} {others : ℕ → PlainNo
   came_settled : (st : History) (v : Ways) (n : PlainNode) (s : Snapshot) → Brings said id v → CameNow v n (kind.Snapshot s) → Around g said id others st n → IsSettled g.root g.setting.config st n.term (spot s.index s.term) × IsContentAt st.links g.root g.start (spot s.index s.term) s.content
   came_settled st v n s brings c h =
       let m = c.came.message in
-      let tells : TellsTrue g st m = genuine_tells g st said id m h.told (brings.genuine m c.came.comes) in
-      let both = subst (λ (k : MessageKind). TellsBy g st k m) c.came.is tells in
+      let tells : TellsTrue g st nobody m = genuine_tells g st said id m h.told (brings.genuine m c.came.comes) in
+      let both = subst (λ (k : MessageKind). TellsBy g st nobody k m) c.came.is tells in
       (subst (λ (t : ℕ). IsSettled g.root g.setting.config st t (spot s.index s.term)) c.of_term both.0, both.1)
 
   restores_around : (st : History) (v : Ways) (n : PlainNode) (s : Snapshot) → Brings said id v → IsSound n → n.role ≡ role.Follower → n.commit < s.index → CameNow v n (kind.Snapshot s) → (term_at n.log s.index ≡ Ok s.term → ⊥) → Around g said id others st n → Onwards g said id others st (restored_to n s)
@@ -352,8 +361,8 @@ module _ {g : Ground} {said : List Message} {id : ℕ} {others : ℕ → PlainNo
       let known = s.is_committed in
       let start = lower st.links (base_spot n.log) g.root h.knows.log.rooted in
       let genuine = brings.genuine m c.came.comes in
-      let tells : TellsTrue g st m = genuine_tells g st said id m h.told genuine in
-      let beat = subst (λ (k : MessageKind). TellsBy g st k m) c.came.is tells in
+      let tells : TellsTrue g st nobody m = genuine_tells g st said id m h.told genuine in
+      let beat = subst (λ (k : MessageKind). TellsBy g st nobody k m) c.came.is tells in
       elim genuine as (λ _. Onwards g said id others st (record n { commit = i })) [
         | inr none ↦ absurd (subst IsHarmless c.came.is none)
         | inl said_to ↦ elim beat as (λ _. Onwards g said id others st (record n { commit = i })) [
@@ -373,12 +382,12 @@ module _ {g : Ground} {said : List Message} {id : ℕ} {others : ℕ → PlainNo
   counts_around st v n at from i view brings leads here matched h =
       let x = brings.matched n.term from i matched in
       let m = x.0 in
-      let tells : TellsTrue g st m = genuine_tells g st said id m h.told (brings.genuine m x.1) in
+      let tells : TellsTrue g st nobody m = genuine_tells g st said id m h.told (brings.genuine m x.1) in
       let far = x.6 in
       let counted : (i ≤ g.root.index) ⊎ IsSaidUpTo st from n.term i =
-      elim (subst (λ (k : MessageKind). TellsBy g st k m) x.5 tells) as (λ _. (i ≤ g.root.index) ⊎ IsSaidUpTo st from n.term i) [
+      elim (subst (λ (k : MessageKind). TellsBy g st nobody k m) x.5 tells) as (λ _. (i ≤ g.root.index) ⊎ IsSaidUpTo st from n.term i) [
         | inl low ↦ inl (omega (arith, low, far))
-        | inr told ↦ (let upto = told.upto in inr (record { ack = told.ack; among = told.among; by = told.by ∙ x.2; of_term = told.of_term ∙ x.3; upto = omega (arith, upto, far) }))
+        | inr told ↦ elim told as (λ _. (i ≤ g.root.index) ⊎ IsSaidUpTo st from n.term i) [ inr none ↦ absurd none.0 | inl told ↦ (let upto = told.upto in inr (record { ack = told.ack; among = told.among; by = told.by ∙ x.2; of_term = told.of_term ∙ x.3; upto = omega (arith, upto, far) })) ]
       ] in
       still_around st n (viewed n at (acked view i)) h (counts_knows g st id n at from i view leads here counted h.knows) h.speaks (omega arith)
 

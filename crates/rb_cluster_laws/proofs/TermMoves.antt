@@ -1,8 +1,8 @@
 -- What a node knows by a history after a later term, a campaign, and an answer
-use Rattle.std.proofs.Common.{◌≡◌, ℕ, ◌+◌, ◌<◌, ◌≤◌, List, refl, sym, ap, subst, ◌∙◌, arith, inl, inr, if◌then◌else◌, ◌==◌, eqb-true}
+use Rattle.std.proofs.Common.{[], ◌∷◌, ◌≡◌, ℕ, ◌+◌, ◌<◌, ◌≤◌, List, refl, sym, ap, subst, ◌∙◌, arith, inl, inr, if◌then◌else◌, ◌==◌, eqb-true}
 use Rattle.std.specs.Prelude.{All, Contains}
 use Rattle.std.proofs.lemmas.Bool.{cases_lt}
-use Rattle.std.proofs.lemmas.List.Elements.{All-push, Contains-push, Contains-push_cases}
+use Rattle.std.proofs.lemmas.List.Elements.{All-push, Contains-append_left, Contains-push, Contains-push_cases}
 use Rattle.rb_raftlog.specs.Log.{last_term}
 use Rattle.rb_tracker.proofs.SetLaws.{if_both}
 use Rattle.rb_tracker.specs.Commits.{match_of}
@@ -18,7 +18,7 @@ use Rattle.rb_cluster_laws.proofs.Completeness.{Election, Ack, History, IsOfTerm
 use Rattle.rb_cluster_laws.proofs.KeptEntries.{IsOn, on_meet}
 use Rattle.rb_cluster_laws.proofs.Tips.{tip, tip_rooted}
 use Rattle.rb_cluster_laws.proofs.Histories.{with_ack, with_candidacy, more_ack, more_candidacy, still_has, still_settled, still_is_on, later_settled, IsPledged}
-use Rattle.rb_cluster_laws.proofs.NodeKnowledge.{Ground, election, HasAcked, Knows, TellsTrue, still_all, still_pledged, still_counted}
+use Rattle.rb_cluster_laws.proofs.NodeKnowledge.{Ground, election, mine, HasAcked, Knows, TellsTrue, still_all, still_has_acked, still_pledged, still_counted}
 use Rattle.rb_cluster_laws.proofs.FollowerMoves.{IsWhole}
 use Rattle.rb_cluster_laws.proofs.OtherNodes.{AreReached, back_ack, back_acks, same_back}
 
@@ -56,11 +56,11 @@ acked_later g said st term later y a w up h =
           ];
     }
 
--- a vote of another term is gone
-pub vote_stays : (st : History) (id old new vote : ℕ) → (0 < vote → IsPledged st id old vote) → 0 < (if old == new then vote else 0) → IsPledged st id new (if old == new then vote else 0)
-vote_stays st id old new vote pledged =
-    if_both (λ (v : ℕ). 0 < v → IsPledged st id new v) (old == new) vote 0
-    (λ same some. subst (λ (t : ℕ). IsPledged st id t vote) (eqb-true old new same) (pledged some))
+-- a vote stays in its term, and is gone in another
+pub vote_stays : (st : History) (own : ℕ → Type 0) (id old new vote : ℕ) → (0 < vote → IsPledged st own id old vote) → 0 < (if old == new then vote else 0) → IsPledged st own id new (if old == new then vote else 0)
+vote_stays st own id old new vote pledged =
+    if_both (λ (v : ℕ). 0 < v → IsPledged st own id new v) (old == new) vote 0
+    (λ same some. subst (λ (t : ℕ). IsPledged st own id t vote) (eqb-true old new same) (pledged some))
     (λ _ none. absurd (omega (arith, none)))
 
 pub follows_knows : (g : Ground) (said : List Message) (st : History) (id : ℕ) (n : PlainNode) (term lead : ℕ) → IsWhole g said st → n.term ≤ term → Knows g st id n → Knows g st id (following n term lead)
@@ -77,7 +77,7 @@ follows_knows g said st id n term lead w up h =
         stood = λ e among own. (let low = h.log.stood e among own in omega (arith, low, up));
         led = λ e among own. (let low = h.log.led e among own in omega (arith, low, up));
         acked = λ a among by. acked_later g said st n.term term (tip n.log) a w up (h.log.acked a among by);
-        pledged = vote_stays st id n.term term n.vote h.log.pledged;
+        pledged = vote_stays st (mine id) id n.term term n.vote h.log.pledged;
         commit_term = h.log.commit_term;
         commit_held = h.log.commit_held;
         commit = later_settled g.root g.setting.config st n.term term (spot n.commit h.log.commit_term) up h.log.commit;
@@ -106,6 +106,7 @@ whole_candidacy g said st id n w h =
           cast = b.cast;
           each = λ v votes l there earlier acked. still_has st (with_candidacy st e) x.tip x.term l (more_candidacy st e) (b.each v votes l there earlier (record { ack = acked.ack; among = acked.among; by = acked.by; of_term = acked.of_term; upto = acked.upto }));
         });
+        within = w.lawful.within;
       };
       held = λ a among. (let k = w.held a among in (k.0, still_is_on g.root g.setting.config st (with_candidacy st e) a.term (spot a.index k.0) (more_candidacy st e) k.1));
       low = w.low;
@@ -122,6 +123,7 @@ whole_candidacy g said st id n w h =
             | inl before ↦ w.stood_late x before
             | inr now ↦ subst (λ (y : Election). y.tip.term ≤ y.term) now (let is : last_term n.log ≤ n.term + 1 = omega (arith, low, old) in is)
           ];
+      stood_within = λ x among. Contains-append_left st.candidacies (e ∷ []) x (w.stood_within x among);
       stood_once = λ a b one two term who.
           elim (Contains-push_cases st.candidacies e a one) as (λ _. a ≡ b) [
             | inl first ↦ elim (Contains-push_cases st.candidacies e b two) as (λ _. a ≡ b) [
@@ -149,7 +151,7 @@ stands_knows g said st id n w h =
     let new = with_candidacy st e in
     let more = more_candidacy st e in
     let old = h.log.old in
-    let mine : Contains new.candidacies e = Contains-push st.candidacies e in
+    let there : Contains new.candidacies e = Contains-push st.candidacies e in
     let up : n.term ≤ n.term + 1 = omega arith in
     record {
       log = record {
@@ -158,7 +160,7 @@ stands_knows g said st id n w h =
         rooted = h.log.rooted;
         old = omega (arith, old);
         leads = λ is. absurd (candidate_leads is);
-        stands = λ _. record { some = omega arith; stood = mine; never_led = λ x among term own. (let low = h.log.led x among own in omega (arith, low, term)) };
+        stands = λ _. record { some = omega arith; stood = there; never_led = λ x among term own. (let low = h.log.led x among own in omega (arith, low, term)) };
         stood = λ x among own.
             elim (Contains-push_cases st.candidacies e x among) as (λ _. x.term ≤ n.term + 1) [
               | inl before ↦ (let low = h.log.stood x before own in omega (arith, low))
@@ -166,21 +168,16 @@ stands_knows g said st id n w h =
             ];
         led = λ x among own. (let low = h.log.led x among own in omega (arith, low));
         acked = λ a among by.
-            (let k = acked_later g said st n.term (n.term + 1) (tip n.log) a w up (h.log.acked a among by) in
-            record {
-              reached = k.reached;
-              now = λ same. (let x = k.now same in (x.0, x.1, still_is_on g.root g.setting.config st new a.term (spot a.index x.0) more x.2));
-              past = λ later l there of_term low. still_has st new (tip n.log) (n.term + 1 + 1) l more (k.past later l there of_term low);
-            });
+            still_has_acked g st new (n.term + 1) (tip n.log) a more (λ l has _ _. has) (acked_later g said st n.term (n.term + 1) (tip n.log) a w up (h.log.acked a among by));
         pledged = λ _. record {
           stood = e;
-          among = mine;
+          among = inr (refl, there);
           of_term = refl;
           of_id = sym h.log.itself;
-          each = λ l there earlier acked.
+          each = λ l has earlier acked.
               (let k = acked_later g said st n.term (n.term + 1) (tip n.log) acked.ack w up (h.log.acked acked.ack acked.among acked.by) in
               let of_term = acked.of_term in
-              still_has st new (tip n.log) (n.term + 1 + 1) l more (k.past (omega (arith, of_term, earlier)) l there (sym acked.of_term) acked.upto));
+              still_has st new (tip n.log) (n.term + 1 + 1) l more (k.past (omega (arith, of_term, earlier)) l has (sym acked.of_term) acked.upto));
         };
         commit_term = h.log.commit_term;
         commit_held = h.log.commit_held;
@@ -189,30 +186,30 @@ stands_knows g said st id n w h =
       };
       words = record {
         counts = λ is. absurd (candidate_leads is);
-        sent = still_all g st new n.sent more (same_back st new n.sent (λ x among. among) (λ a among. among)) h.words.sent;
-        waiting = still_all g st new n.waiting more (same_back st new n.waiting (λ x among. among) (λ a among. among)) h.words.waiting;
+        sent = still_all g st new (mine id) n.sent more (same_back st new n.sent (λ x among. among) (λ a among. among)) h.words.sent;
+        waiting = still_all g st new (mine id) n.waiting more (same_back st new n.waiting (λ x among. among) (λ a among. among)) h.words.waiting;
       };
     }
 
 -- ---- what it says
 
-pub sent_knows : (g : Ground) (st : History) (id : ℕ) (n : PlainNode) (m : Message) → TellsTrue g st m → Knows g st id n → Knows g st id (with_sent n m)
+pub sent_knows : (g : Ground) (st : History) (id : ℕ) (n : PlainNode) (m : Message) → TellsTrue g st (mine id) m → Knows g st id n → Knows g st id (with_sent n m)
 sent_knows g st id n m tells h = record {
   log = h.log;
   words = record {
     counts = h.words.counts;
-    sent = All-push (TellsTrue g st) n.sent m h.words.sent tells;
+    sent = All-push (TellsTrue g st (mine id)) n.sent m h.words.sent tells;
     waiting = h.words.waiting;
   };
 }
 
-pub waiting_knows : (g : Ground) (st : History) (id : ℕ) (n : PlainNode) (m : Message) → TellsTrue g st m → Knows g st id n → Knows g st id (with_waiting n m)
+pub waiting_knows : (g : Ground) (st : History) (id : ℕ) (n : PlainNode) (m : Message) → TellsTrue g st (mine id) m → Knows g st id n → Knows g st id (with_waiting n m)
 waiting_knows g st id n m tells h = record {
   log = h.log;
   words = record {
     counts = h.words.counts;
     sent = h.words.sent;
-    waiting = All-push (TellsTrue g st) n.waiting m h.words.waiting tells;
+    waiting = All-push (TellsTrue g st (mine id)) n.waiting m h.words.waiting tells;
   };
 }
 
@@ -221,11 +218,8 @@ pub acks_knows : (g : Ground) (st : History) (id : ℕ) (n : PlainNode) (a : Ack
 acks_knows g st id n a t by of_term has on sent waiting h =
     let new = with_ack st a in
     let more = more_ack st a in
-    let still : (b : Ack) → HasAcked g st n.term (tip n.log) b → HasAcked g new n.term (tip n.log) b = λ b k. record {
-      reached = k.reached;
-      now = λ same. (let x = k.now same in (x.0, x.1, still_is_on g.root g.setting.config st new b.term (spot b.index x.0) more x.2));
-      past = λ later l there term low. still_has st new (tip n.log) (n.term + 1) l more (k.past later l there term low);
-    } in
+    let still : (b : Ack) → HasAcked g st n.term (tip n.log) b → HasAcked g new n.term (tip n.log) b = λ b k.
+    still_has_acked g st new n.term (tip n.log) b more (λ l there _ _. there) k in
     let first : HasAcked g new n.term (tip n.log) a = record {
       reached = omega (arith, of_term);
       now = λ _. (t, has, still_is_on g.root g.setting.config st new a.term (spot a.index t) more on);
@@ -246,7 +240,7 @@ acks_knows g st id n a t by of_term has on sent waiting h =
               | inl before ↦ still b (h.log.acked b before own)
               | inr now ↦ subst (λ (x : Ack). HasAcked g new n.term (tip n.log) x) now first
             ];
-        pledged = λ some. still_pledged st new id n.term n.vote more (back_ack st a id n.term (λ _. omega (arith, of_term))) (h.log.pledged some);
+        pledged = λ some. still_pledged st new (mine id) id n.term n.vote more (back_ack st a id n.term (λ _. omega (arith, of_term))) (h.log.pledged some);
         commit_term = h.log.commit_term;
         commit_held = h.log.commit_held;
         commit = still_settled g.root g.setting.config st new n.term (spot n.commit h.log.commit_term) more h.log.commit;
@@ -254,7 +248,7 @@ acks_knows g st id n a t by of_term has on sent waiting h =
       };
       words = record {
         counts = λ is v. still_counted g st new id n.term v (match_of n.tracker.views v) more (h.words.counts is v);
-        sent = still_all g st new n.sent more (back_acks st a n.sent sent) h.words.sent;
-        waiting = still_all g st new n.waiting more (back_acks st a n.waiting waiting) h.words.waiting;
+        sent = still_all g st new (mine id) n.sent more (back_acks st a n.sent sent) h.words.sent;
+        waiting = still_all g st new (mine id) n.waiting more (back_acks st a n.waiting waiting) h.words.waiting;
       };
     }

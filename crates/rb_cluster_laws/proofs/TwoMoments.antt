@@ -51,7 +51,7 @@ both members single root start s earlier later j k first second low begun alike 
       applied_later = ((run_sane setting later t sane honest_still (λ no. absurd (false≢true no))).good k second there).sound.is_committed;
     }
 
-alike_at : (index term : ℕ) (content : List ℕ) (nodes : List PlainNode) → BeginAt index term content nodes → AreAlike (spot index term) content nodes
+pub alike_at : (index term : ℕ) (content : List ℕ) (nodes : List PlainNode) → BeginAt index term content nodes → AreAlike (spot index term) content nodes
 alike_at index term content nodes begins = λ k n at. (let b = begins k n at in (same_spot (spot n.log.base n.log.base_term) (spot index term) b.0 b.1, b.2))
 
 -- who leads has what a node knew to be committed in an earlier term, at an earlier moment or the same

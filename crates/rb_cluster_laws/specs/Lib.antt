@@ -3,3 +3,4 @@ pub mod Honesty
 pub mod Votes
 pub mod Clusters
 pub mod Safety
+pub mod Restarts

@@ -5,11 +5,17 @@
 #![tactic(auto)]
 
 mod laws;
+mod restarts;
 mod safety;
 
 pub use laws::{
     clusters_elect_one_leader, clusters_keep_logs_matching, elections_are_safe, leaders_are_chosen,
     logs_match, votes_are_cast_once,
+};
+pub use restarts::{
+    applied_entries_agree_with_restarts, committed_entries_agree_with_restarts,
+    contents_agree_with_restarts, elections_are_safe_with_restarts,
+    leaders_have_what_is_committed_with_restarts, logs_match_with_restarts,
 };
 pub use safety::{
     applied_entries_agree, clusters_applied_entries_agree, clusters_begin_alike,

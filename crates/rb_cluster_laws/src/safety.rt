@@ -5,8 +5,9 @@
 //!
 //! The premises of a network: all nodes start with the same members, not joint, and at one index, term and content, and the term is at most 1;
 //! each message that comes was put out by a node, or is a snapshot of the state that a node has, and comes to the node that it is for, or it is
-//! harmless; the configuration stays; and no node starts again. A cluster of the bench keeps them, if its nodes come by `add-nodes` with the same members, index and content, and its directives are
-//! any but `add-nodes` and `propose-conf-change`.
+//! harmless; and the configuration stays. No node starts again; restarts.rt has the laws where nodes do. A cluster of the bench keeps these
+//! premises, if its nodes come by `add-nodes` with the same members, index and content, and its directives are any but `add-nodes` and
+//! `propose-conf-change`.
 ghost use Rattle.std.specs.Prelude.{◌≡◌, ◌<◌, ◌≤◌, ℕ, List, [], Ok, Some, slice_get};
 ghost use Rattle.rb_script.specs.Directive.{PlainDirective};
 ghost use Rattle.rb_directive.specs.declared.asking.AddNodes.{AddNodes};
