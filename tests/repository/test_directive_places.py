@@ -42,5 +42,5 @@ def test_no_place_is_missing() -> Iterator[str]:
 
 
 def test_document_has_both_its_places() -> Iterator[str]:
-    if listed().count("docs/DIRECTIVES.md") != 2:
-        yield "the list names docs/DIRECTIVES.md otherwise than for its row and its section"
+    if listed().count("docs/SCRIPTS.md") != 2:
+        yield "the list names docs/SCRIPTS.md otherwise than for its row and its section"
