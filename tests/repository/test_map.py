@@ -2,7 +2,7 @@
 
 What stands at the top is named in docs/ARCHITECTURE.md's table of it, and what that table names is there; its other table names each
 crate. Each definition module, each source file and each file of lemmas says in its first line what it is. What a crate's part of
-docs/ARCHITECTURE.md and docs/PROOFS.md names of sources, definitions and calls is in the tree. Each function of the walks at the end of
+docs/ARCHITECTURE.md names of sources is in the tree. Each function of the walks at the end of
 docs/ARCHITECTURE.md stands in the file named, and a function before it calls it, by name: nothing tells whether it is the one that is meant, so
 a call through a trait is seen as any other. The numbers of a walk are those of its list. Each definition and each lemma is cited
 somewhere beside its own equations. Each public function of a library has a clause. Each file has at most 800 lines.
@@ -178,27 +178,6 @@ def test_walks_are_as_the_sources() -> Iterator[str]:
             yield f"docs/ARCHITECTURE.md, {title}: the list has {counted(steps)}"
         for fault in find_lost(steps):
             yield f"docs/ARCHITECTURE.md, {title}: {fault}"
-
-
-def named_definitions(cell: str) -> Iterator[tuple[str, list[str]]]:
-    """The module and the names of each `Module.name` and `Module.{name, name}` in a cell of docs/PROOFS.md."""
-    for module, names in re.findall(r"`([A-Z]\w*)\.(\w+|\{[^}]*\})`", cell):
-        yield module, re.findall(r"\w+", names)
-
-
-def test_named_definitions_are_there() -> Iterator[str]:
-    """The definitions that docs/PROOFS.md names as `Module.name` stand in that module of definitions, or in a record of that name."""
-    specs: dict[str, list[str]] = {}
-    for path in CRATES.glob("*/specs/*.antt"):
-        text = path.read_text()
-        for name in [path.stem, *re.findall(r"\brecord (\w+)", text)]:
-            specs.setdefault(name, []).append(text)
-    for crate, lines in parts_of("PROOFS.md").items():
-        for cell in (line.split("|")[2] for line in lines if line.startswith("|") and (CRATES / crate).is_dir()):
-            for module, names in named_definitions(cell):
-                for name in names:
-                    if not any(re.search(rf"\b{re.escape(name)}\b", text) for text in specs.get(module, [])):
-                        yield f"{crate}: docs/PROOFS.md names {module}.{name}, which isn't there"
 
 
 def citations() -> Counter[str]:
