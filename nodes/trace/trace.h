@@ -1,4 +1,4 @@
-/* Writes the calls of a node and their answers as a trace for nodes/replay (docs/OWN-NODES.md). One file a node or one for all: a call and its
+/* Writes the calls of a node and their answers as a trace for nodes/replay (docs/TRACES.md). One file a node or one for all: a call and its
  * answer are written at once. */
 #ifndef TRACE_H
 #define TRACE_H

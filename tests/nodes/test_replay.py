@@ -2,7 +2,7 @@
 
 What the plain node says in nodes/conversation.txt is without a finding; a part that is changed in it is found where it is changed; broken promises
 are found without a reference that agrees; nodes start from what they have saved, and time out when the trace says so; files of several nodes are put in
-order; what isn't a trace is refused; what docs/OWN-NODES.md shows is so, in C too.
+order; what isn't a trace is refused; what docs/TRACES.md shows is so, in C too.
 """
 from __future__ import annotations
 
