@@ -3,6 +3,7 @@ is README.md's. Documents keep to their numbers of words, and no old name of a d
 """
 import pathlib
 import re
+import subprocess
 from collections.abc import Iterator
 
 from tests.harness import TOP
@@ -91,6 +92,18 @@ def test_documents_are_short() -> Iterator[str]:
             yield f"{name} has {count} words, and {MOST_WORDS.get(name, 0)} are allowed"
     if sum(counts.values()) > MOST_WORDS_IN_ALL:
         yield f"the documents have {sum(counts.values())} words, and {MOST_WORDS_IN_ALL} are allowed"
+
+
+# Documents that were joined with others.
+GONE = re.compile(r"\b(?:DIRECTIVES|SCRIPT-FORMAT|CHECK|CI|SESSION|EDITORS|PAGE|CHART|FROM-ETCD|[A-Z]+-FOUND)\.md\b")
+
+
+def test_no_old_name_is_left() -> Iterator[str]:
+    """No file that git keeps names a document that is gone, but for this one."""
+    kept = subprocess.run(["git", "-c", "safe.directory=*", "grep", "-lE", r"(DIRECTIVES|SCRIPT-FORMAT|CHECK|CI|SESSION|EDITORS|PAGE|CHART|FROM-ETCD|-FOUND)\.md"], cwd=TOP, capture_output=True, text=True).stdout
+    for name in kept.splitlines():
+        if TOP / name != pathlib.Path(__file__) and (found := GONE.search((TOP / name).read_text())):
+            yield f"{name} names {found[0]}"
 
 
 def first_group(pattern: str, path: pathlib.Path) -> str:
