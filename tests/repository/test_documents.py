@@ -71,7 +71,7 @@ MOST_WORDS = {
     "docs/CHANGES.md": 400,
     "docs/DECISIONS.md": 1600,
     "docs/ETCD.md": 2200,
-    "docs/FORMATS.md": 1200,
+    "docs/FORMATS.md": 1500,
     "docs/FOUND.md": 1000,
     "docs/MEASURES.md": 600,
     "docs/NODE.md": 2600,
@@ -80,7 +80,7 @@ MOST_WORDS = {
     "docs/READING.md": 1000,
     "docs/SCRIPTS.md": 5000,
     "docs/TRACES.md": 600,
-    "docs/USING.md": 5300,
+    "docs/USING.md": 5000,
 }
 MOST_WORDS_IN_ALL = 30000
 
