@@ -1,6 +1,6 @@
 """Releases from a small clone whose program only pretends, and looks at the archive: what is in it, what PROOF says, and that a second run,
 by another clone and under other settings, gives the same bytes. Where the program is built, it is started in a bare root folder
-that has nothing but what the system's loader lists, and docs/USING.md's hook and jobs are carried out with an archive of it.
+that has nothing but what the system's loader lists, and docs/CI.md's hook and jobs are carried out with an archive of it.
 """
 import hashlib
 import os
@@ -18,7 +18,7 @@ KIT = "kit-1 logic ab"
 PRETENDING = f"#!/bin/sh\n[ \"$1\" = --version ] && echo 'raftbench 1.2.3, proved with {KIT}'\nexit 0\n"
 # It proves nothing, and makes a program if it is told to prove first, with what is kept of a build.
 WRAPPER = """#!/bin/sh
-[ "$RAFTBENCH_PROVE_FIRST ${RAFTBENCH_BUILT_AFTER-no}" = "1 no" ] || exit 9
+[ "$RAFTBENCH_PROVE_FIRST ${RAFTBENCH_BUILT_AFTER-no} ${RAFTBENCH_UNPROVED-no}" = "1 no no" ] || exit 9
 cd "$(dirname "$0")" && mkdir -p crates/raftbench/out && cp made crates/raftbench/out/raftbench
 printf '%s\\n' 'a sum' 'another' low mid raftbench >crates/raftbench/out/built.sums
 """
@@ -112,7 +112,7 @@ def test_gives_the_same_bytes(place: Clone) -> None:
     (place.room / "to").mkdir()
     old = os.umask(0o077)
     try:
-        around = {"TZ": "Asia/Tokyo", "LC_ALL": "C.UTF-8", "HOME": str(place.room), "RAFTBENCH_BUILT_AFTER": "/"}
+        around = {"TZ": "Asia/Tokyo", "LC_ALL": "C.UTF-8", "HOME": str(place.room), "RAFTBENCH_BUILT_AFTER": "/", "RAFTBENCH_UNPROVED": "1"}
         second = place.archive("to", program=other / "release", around=around).read_bytes()
     finally:
         os.umask(old)
@@ -205,7 +205,7 @@ def put_archive(place: Clone, into: pathlib.Path) -> pathlib.Path:
 
 
 def test_stops_a_commit(place: Clone) -> None:
-    """By docs/USING.md's hook, in both of its forms, with the unpacked archive's program in the path; PROOF names what that loads."""
+    """By docs/CI.md's hook, in both of its forms, with the unpacked archive's program in the path; PROOF names what that loads."""
     place.take_the_built()
     hook, for_changes, *_ = shown_in(TOP / "docs/USING.md", "sh")
     folder = put_archive(place, place.room)
@@ -248,7 +248,7 @@ def carried_out(job: str, folder: pathlib.Path) -> subprocess.CompletedProcess[s
 
 
 def test_carries_out_the_jobs(place: Clone) -> None:
-    """Each job's commands, in a folder that has the archive and its sum, as docs/USING.md says."""
+    """Each job's commands, in a folder that has the archive and its sum, as docs/CI.md says."""
     place.take_the_built()
     archive = place.archive()
     jobs = [job for job in shown_in(TOP / "docs/USING.md", "yaml") if "raftbench check" in job]
