@@ -18,7 +18,7 @@ from tests.bodies.edits import Edit, read_edits  # noqa: E402
 from tests.harness import TESTS, TOP  # noqa: E402
 from tests.repository.crate_map import CRATES, files_of  # noqa: E402
 
-LAWS = ("laws.rt", "rules.rt", "safety.rt")
+LAWS = ("laws.rt", "rules.rt", "safety.rt", "restarts.rt")
 HEAD = re.compile(r"^( *)(pub |pub\(crate\) )?fn (\w+)")
 OWNER = re.compile(r"^(?:unsafe )?(?:impl|pub trait)(?:<[^{]*?>)? (?:[\w:]+(?:<[^{]*?>)? for )?(\w+)")
 CLAUSE = re.compile(r"^ *ensures(?: (\w+))? \{")
