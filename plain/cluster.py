@@ -1,5 +1,5 @@
 """A plain cluster: nodes, a network and a level; and what each directive does to it and prints. It is written from
-docs/DIRECTIVES.md, section by section.
+docs/SCRIPTS.md, section by section.
 
 Its nodes are plain nodes, or whatever a subclass's `new_node` makes that has the calls of plain.node.Node which `call` and
 `process` make.

@@ -1,4 +1,4 @@
-"""The directives: their names, what their arguments take, and how a head becomes a request or is refused (docs/DIRECTIVES.md)."""
+"""The directives: their names, what their arguments take, and how a head becomes a request or is refused (docs/SCRIPTS.md)."""
 from __future__ import annotations
 
 from typing import Any, Callable, Mapping, Sequence

@@ -1,5 +1,5 @@
 """A plain Raft node: one list of entries with a number, views as lists, sets and counts. It is written from the rules in
-docs/NODE.md and docs/DIRECTIVES.md, which are Ongaro's thesis and the documentation of etcd's raft: it shows what a node does
+docs/NODE.md and docs/SCRIPTS.md, which are Ongaro's thesis and the documentation of etcd's raft: it shows what a node does
 in the plainest way, as slowly as it likes.
 """
 from __future__ import annotations

@@ -1,4 +1,4 @@
-"""The format of scripts, in the plainest way: docs/SCRIPT-FORMAT.md, rule by rule, over lists of lines of bytes."""
+"""The format of scripts, in the plainest way: docs/SCRIPTS.md, rule by rule, over lists of lines of bytes."""
 from __future__ import annotations
 
 import re
@@ -214,7 +214,7 @@ def read_block(data: bytes) -> Block:
 
 
 def edited(script: Script, kind: str, place: int, given: Any, outputs: Sequence[tuple[bytes, ...]]) -> Script:
-    """A script with an edit made: given is a block, or expected lines. Faults are those of docs/SESSION.md, in their order."""
+    """A script with an edit made: given is a block, or expected lines. Faults are those of docs/USING.md, in their order."""
     blocks, count = list(script.blocks), len(script.blocks)
     if kind != "accept" and not 1 <= place <= count + (kind == "insert"):
         raise Fault("NoSuchPlace")

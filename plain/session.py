@@ -1,6 +1,6 @@
 """The whole program in the plainest way: a run is a fold of the directives from the empty cluster, and a session runs its script
 anew from there after each edit. How many directives an edit executes is found by looking at the states at every point:
-docs/SESSION.md, and the definitions of crates/rb_replay/specs/Reuse.antt and Points.antt, in this program's own form.
+docs/USING.md, and the definitions of crates/rb_replay/specs/Reuse.antt and Points.antt, in this program's own form.
 """
 from __future__ import annotations
 

@@ -63,7 +63,8 @@ def build(names: Iterable[str]) -> str:
         # No proof is begun for rb_plain where none is asked for.
         if variable in os.environ or name == "rb_plain" and (OVER_PLAIN_LOGS.exists() or is_unproved):
             continue
-        done = subprocess.run(command, cwd=folder, stdin=subprocess.DEVNULL, capture_output=True, text=True, errors="replace")
+        around = os.environ if is_unproved else {**os.environ, "RAFTBENCH_PROVE_FIRST": "1"}
+        done = subprocess.run(command, cwd=folder, env=around, stdin=subprocess.DEVNULL, capture_output=True, text=True, errors="replace")
         if done.returncode:
             return f"{name} could not be built:\n{done.stderr}"
     return ""

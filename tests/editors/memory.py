@@ -1,6 +1,6 @@
 """A server that finds no memory: for the run of a document, or at any of its allocations.
 
-What it says then is one of two texts, by docs/EDITORS.md: one diagnostic of the first line, or an error of a request (JSON-RPC 2.0, section 5.1).
+What it says then is one of two texts, by docs/USING.md: one diagnostic of the first line, or an error of a request (JSON-RPC 2.0, section 5.1).
 """
 import concurrent.futures
 import os

@@ -191,7 +191,7 @@ async function outlineIsShown(browser) {
   await browser.press("Escape", 27);
 }
 
-// An empty line stands below each block of a canonical text (docs/SCRIPT-FORMAT.md).
+// An empty line stands below each block of a canonical text (docs/SCRIPTS.md).
 async function textIsFormatted(browser) {
   await act(browser, "action.formatDocument");
   await standin.until(() => text.held === script + "\n", () => "the canonical text");

@@ -1,6 +1,6 @@
 """What a server must offer of a text alone: folds, an outline, the canonical text, and words to go on with.
 
-By docs/SCRIPT-FORMAT.md, docs/DIRECTIVES.md and the protocol's specification (LSP 3.17). Texts are Python's: offsets count characters. Scripts are
+By docs/SCRIPTS.md and the protocol's specification (LSP 3.17). Texts are Python's: offsets count characters. Scripts are
 read by the plain bench in plain/.
 """
 import re
@@ -126,7 +126,7 @@ def id_places(words: str) -> int:
 def table_of_directives() -> Any:
     """Of each directive's name its options, what it does, and how many of its words are ids, by the document's table; of each option its values,
     where it has some alone; and the options whose values are ids."""
-    lines = (TOP / "docs" / "DIRECTIVES.md").read_text().splitlines()
+    lines = (TOP / "docs" / "SCRIPTS.md").read_text().splitlines()
     at = lines.index("| Directive | Words | Options | Does |")
     rows = [cells(line) for line in lines[at + 2:lines.index("", at)]]
     directives = {matched(CODE.pattern, name)[1]: ([*CODE.findall(options), "log-level"], does, id_places(words)) for name, words, options, does in rows}

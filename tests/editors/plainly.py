@@ -9,7 +9,7 @@ from plain.session import run_quickly
 from tests.editors.oracle import line_starts, position
 
 MARK = b"# expects an error"
-# By docs/EDITORS.md: how many lines of an output are told at most.
+# By docs/USING.md: how many lines of an output are told at most.
 MOST_SHOWN = 20
 DROPS_ALL = "deliver-msgs drop=(" + ",".join(str(id) for id in range(1, 33)) + ")"
 

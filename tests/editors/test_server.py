@@ -2,7 +2,7 @@
 
 A case of cases/ is a conversation: what is sent, and what must come, both by hand from the protocol's specification (LSP 3.17). Lists of edits are
 made by a fixed seed over examples/tour and tests/cases: after each edit the diagnostics must be what `check` says of the text, what the
-server offers of it what docs/SCRIPT-FORMAT.md and docs/DIRECTIVES.md say (offers.py), and what came of a mismatch, what is shown of a place, and what
+server offers of it what docs/SCRIPTS.md say (offers.py), and what came of a mismatch, what is shown of a place, and what
 an action makes of the script, what the plain bench says (plainly.py).
 
 With EDITS=N in the environment N edits of each script are made, and 20 else.
@@ -42,12 +42,12 @@ URI = "file:///script.txt"
 OWN_CAPABILITY = re.compile(r"initialize\.params\.capabilities[.\w]*: the type has no ")
 # What columns may count in, and what a client says that it takes then.
 ENCODINGS: list[tuple[str, list[str]]] = [("utf-16-le", []), ("utf-8", ["utf-8"])]
-# By docs/SCRIPT-FORMAT.md.
+# By docs/SCRIPTS.md.
 MOST_BYTES, MOST_DIRECTIVES = 4_194_304, 20_000
 NOT_OPEN = {"code": -32602, "message": "the document isn't open"}
 # How many lists of edits are tried, each on a script as it stands.
 EDITING_LISTS = 500
-# By docs/EDITORS.md: how many documents have a session.
+# By docs/USING.md: how many documents have a session.
 MOST_DOCUMENTS = 1_000
 # What an edit puts in: names, rules, line ends of each kind, letters of one to four bytes, and what no script has.
 PUT_IN = ["", "\n", "\r\n", "\r", "----\n", "ok\n", "# é\n", "\U0001d11e", "log-level debug\n----\nok\n\n", "campaign 1\n", " ", "(", "status 9\n----\n\n", "error: x\n"]

@@ -1,7 +1,7 @@
 """What editors/ does for those who write scripts: Vim's and Neovim's list of problems, folds and completion; what Visual Studio Code
 takes for a script, its snippets and its list of problems, and Emacs's; the directive that git names above a hunk; and scripts from etcd.
 
-Directives, options and values are compared with those of docs/DIRECTIVES.md. An editor that isn't here is not tried.
+Directives, options and values are compared with those of docs/SCRIPTS.md. An editor that isn't here is not tried.
 """
 import functools
 import json
@@ -39,14 +39,14 @@ yes
 
 
 def table() -> Any:
-    """The directives of docs/DIRECTIVES.md with their options."""
-    text = (TOP / "docs/DIRECTIVES.md").read_text()
+    """The directives of docs/SCRIPTS.md with their options."""
+    text = (TOP / "docs/SCRIPTS.md").read_text()
     rows = re.findall(r"^\| `([a-z-]+)` \|[^|]*\|([^|]*)\|[^|]*\|$", text, re.M)
     return {name: re.findall(r"`([a-z0-9-]+)`", options) for name, options in rows}
 
 
 def message_types() -> list[str]:
-    text = (TOP / "docs/DIRECTIVES.md").read_text().split("| Message | Ends in |")[1].split("\n\n")[0]
+    text = (TOP / "docs/SCRIPTS.md").read_text().split("| Message | Ends in |")[1].split("\n\n")[0]
     return sorted(set(re.findall(r"Msg\w+", text)) | {"MsgUnreachable"})
 
 
@@ -412,7 +412,7 @@ def says_what_it_leaves() -> None:
         assert from_etcd(room / "nothing")[0] == 4
 
 
-# What etcd's own scripts need here: what is followed by a `process-ready 1` that is put in, as docs/FROM-ETCD.md says; the others need nothing.
+# What etcd's own scripts need here: what is followed by a `process-ready 1` that is put in, as docs/ETCD.md says; the others need nothing.
 NEED = {
     **dict.fromkeys(("confchange_v1_add_single", "confchange_v2_add_single_auto", "confchange_v2_add_single_explicit", "confchange_v2_add_double_implicit"), ["campaign 1"]),
     "confchange_v2_add_double_auto": ["campaign 1", "process-ready 1"],

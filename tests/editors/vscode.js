@@ -51,7 +51,7 @@ async function offersWhatTheTextHas(document) {
   const words = await providers.provideCompletionItems(document, new api.Position(0, 5));
   assert.deepStrictEqual(words.map((it) => [it.label, it.kind, it.insertText, it.range.numbers]), [["log-level", 2, "log-level", [0, 0, 0, 5]]]);
   assert(words[0].documentation.length > 0);
-  // An empty line stands below each block of a canonical text (docs/SCRIPT-FORMAT.md).
+  // An empty line stands below each block of a canonical text (docs/SCRIPTS.md).
   const edits = await providers.provideDocumentFormattingEdits(document, { tabSize: 4, insertSpaces: true });
   assert.deepStrictEqual(edits.map(({ range, newText }) => [range.numbers, newText]), [[[3, 0, 3, 0], "\n"]]);
 }

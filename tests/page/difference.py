@@ -116,7 +116,7 @@ def equal_lines_are_folded(reader: Reader) -> None:
 
 
 def marked_as_check(output: tuple[bytes, ...], came: bytes, expected: bytes) -> list[str]:
-    """By docs/CHECK.md: of more than six equal lines in a row the first three and the last three, and how many are between them."""
+    """By docs/USING.md: of more than six equal lines in a row the first three and the last three, and how many are between them."""
     at = output.index(came)
     before, after = ([f"  {line.decode()}" for line in lines] for lines in (output[:at], output[at + 1:]))
 

@@ -1,4 +1,4 @@
-"""The rows of a page in the plainest way: a run of the plain bench (plain/), watched. It is written from docs/PAGE.md and shares
+"""The rows of a page in the plainest way: a run of the plain bench (plain/), watched. It is written from docs/FORMATS.md and shares
 nothing with the code in crates/.
 
     plain_steps.py FILE [NAME]     writes the JSON text of the script's page

@@ -1,6 +1,6 @@
 """What a script prints where everything is shown: an account of its run in which no row of its page has a part.
 
-Each directive runs at level `debug`, and behind it each node's state, log and views are printed. docs/DIRECTIVES.md has the lines. The
+Each directive runs at level `debug`, and behind it each node's state, log and views are printed. docs/SCRIPTS.md has the lines. The
 program prints them where it is built, and else the plain bench.
 """
 from __future__ import annotations

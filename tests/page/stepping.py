@@ -30,7 +30,7 @@ def buttons_do_what_their_keys_do(reader: Reader) -> None:
 
 
 def lines_lead_to_their_directives(reader: Reader) -> None:
-    """A line of the head, of the output and of the comment before it; docs/CHECK.md names lines of heads."""
+    """A line of the head, of the output and of the comment before it; docs/USING.md names lines of heads."""
     for place, wanted in [("#L39", "#6"), ("#L41", "#6"), ("#L38", "#6"), ("#L36", "#5"), ("#L1", "#1"), ("#L4", "#1"), ("#L9999", "#20"), ("#L39.2", "#6.2"), ("#6.99", "#6.3")]:
         reader.open(TOUR[0].read_bytes(), "lines", place)
         same(f"the place of {place}", address(reader), wanted)

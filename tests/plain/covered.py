@@ -1,4 +1,4 @@
-"""What random scripts have to have met at least once: each line of docs/DIRECTIVES.md with each word that may stand in it, each
+"""What random scripts have to have met at least once: each line of docs/SCRIPTS.md with each word that may stand in it, each
 error, each directive and each value of each option that is one of a few, and each type of message at each role.
 
 Left out is what no script can reach: the events `can't campaign: term limit` (a directive raises the terms of a cluster by a few at most)

@@ -6,7 +6,7 @@ states at every point.
 Scripts whose logs go over many pages are run by rb_plain too, which holds a session over plain logs on each.
 
 Outputs, reports, rewritten scripts, statuses, answers and the numbers of directives that edits execute must be equal to the byte. The
-seeds are always the same, and over them each line, error, directive and option of docs/DIRECTIVES.md and each type of message at
+seeds are always the same, and over them each line, error, directive and option of docs/SCRIPTS.md and each type of message at
 each role must have come up at least once (covered.py).
 
     tests/run plain                   as ./test runs it; with TIMES=N in the environment N times as many seeds

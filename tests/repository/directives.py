@@ -1,4 +1,4 @@
-"""Makes the texts of rb_help of docs/DIRECTIVES.md: its table as an overview, and a page for each directive.
+"""Makes the texts of rb_help from docs/SCRIPTS.md: its table as an overview, and a page for each directive.
 
 A page has the directive's usage, what the document says of it, what each argument may be, and an example: of the blocks in the document's
 scripts that are this directive, the one that shows most. The texts go into crates/rb_help/src/pages.rt, and the keys of options into
@@ -12,12 +12,11 @@ from collections.abc import Iterator
 
 from tests.harness import TOP
 
-DOCUMENT = TOP / "docs/DIRECTIVES.md"
+DOCUMENT = TOP / "docs/SCRIPTS.md"
 SOURCES = TOP / "crates/rb_help/src"
 WIDTH = 80
 CODE = re.compile(r"`([^`]*)`")
-MORE = "raftbench-directives(7) has the lines that are shown, and the errors."
-PAGES = {"docs/SCRIPT-FORMAT.md": "raftbench-script(5)", "docs/SESSION.md": "raftbench(1)"}
+MORE = "raftbench-directives(7) explains the lines of outputs, and the errors."
 
 
 @dataclasses.dataclass(frozen=True)
@@ -57,8 +56,6 @@ def folded(text: str, later: str, first: str = "") -> str:
 
 def plain(text: str) -> str:
     """A text without its marks."""
-    for document, page in PAGES.items():
-        text = text.replace(document, page)
     return CODE.sub(r"\1", text)
 
 
@@ -109,6 +106,8 @@ def examples(text: str) -> dict[str, list[str]]:
     for script in re.findall(r"^```\n(.*?)^```$", text, re.M | re.S):
         for block in script.strip().split("\n\n"):
             lines = block.splitlines()
+            if "----" not in lines:
+                continue
             name, shown = lines[0].split()[0], lines[lines.index("----") + 1:]
             if not shown[0].startswith("error: ") and len(shown) > found.get(name, (0, []))[0]:
                 found[name] = len(shown), lines
@@ -150,7 +149,7 @@ def options_of(cell: str, meaning: dict[str, str]) -> Iterator[Argument]:
 
 def directives() -> Iterator[Directive]:
     """The directives of the document, in the order of its table."""
-    text = DOCUMENT.read_text()
+    text = DOCUMENT.read_text().split("\n## The format\n")[0]
     lines = text.splitlines()
     meaning, found, example = meanings(lines), sections(lines), examples(text)
     for name, words, options, does in table_below(lines, "Directive"):
@@ -164,7 +163,7 @@ def overview(directive: Directive) -> str:
 
 
 def closing() -> str:
-    return "\n" + folded("Each directive also takes log-level=.., which sets the level for it alone. `raftbench directives NAME` tells of one directive.", "") + "\n"
+    return "\n" + folded("Each directive also takes log-level=.., which sets the level for it alone. `raftbench directives NAME` explains one directive.", "") + "\n"
 
 
 def page(directive: Directive) -> str:
@@ -185,7 +184,7 @@ def pages_source() -> str:
     found = list(directives())
     rows = "".join(f'    (b"{it.name}", {literal(overview(it))}, {literal(page(it))}),\n' for it in found)
     return (
-        "//! What the manual says of each directive. Made of docs/DIRECTIVES.md by `tests/repository/manual.py`.\n\n"
+        "//! What the manual says of each directive. Made of docs/SCRIPTS.md by `tests/repository/manual.py`.\n\n"
         "/// A page for each directive, in the order of the document's table: its name, its line of the overview, and the page.\n"
         "#[rattlefmt::skip]\n"
         f"pub const PAGES: [(&[u8], &[u8], &[u8]); {len(found)}] = [\n{rows}];\n\n"
@@ -198,7 +197,7 @@ def keys_source() -> str:
     found = [(it.name, argument.key) for it in directives() for argument in it.arguments if argument.is_option and argument.key != "log-level"]
     rows = "".join(f'    (b"{name}", b"{key}"),\n' for name, key in found)
     return (
-        "//! The options that the manual has. Made of docs/DIRECTIVES.md by `tests/repository/manual.py`.\n\n"
+        "//! The options that the manual has. Made of docs/SCRIPTS.md by `tests/repository/manual.py`.\n\n"
         "/// The options but for `log-level`, in the order of the document's table: a directive, and the option's key.\n"
         "#[rattlefmt::skip]\n"
         f"pub const KEYS: [(&[u8], &[u8]); {len(found)}] = [\n{rows}];\n")

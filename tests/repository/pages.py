@@ -13,16 +13,24 @@ from tests.harness import TOP
 
 @dataclasses.dataclass(frozen=True)
 class Page:
-    """A manual page, and the document that it is made of."""
+    """A manual page, and the document that it is made of: all of it up to a part, or that part."""
 
     name: str
     section: int
     about: str
     document: pathlib.Path
+    part: str
+    is_before: bool
 
     @property
     def path(self) -> pathlib.Path:
         return TOP / f"share/man/man{self.section}/{self.name}.{self.section}"
+
+    @property
+    def text(self) -> str:
+        """What the page is made of: a title, and parts."""
+        before, after = self.document.read_text().split(f"\n## {self.part}\n")
+        return f"{before}\n" if self.is_before else f"# {self.part}\n{after}".replace("\n### ", "\n## ")
 
     @property
     def shown(self) -> str:
@@ -30,8 +38,8 @@ class Page:
 
 
 PAGES = [
-    Page("raftbench-directives", 7, "the directives of raftbench's scripts", TOP / "docs/DIRECTIVES.md"),
-    Page("raftbench-script", 5, "the format of raftbench's scripts", TOP / "docs/SCRIPT-FORMAT.md"),
+    Page("raftbench-directives", 7, "the directives of raftbench's scripts, and their outputs", TOP / "docs/SCRIPTS.md", "The format", True),
+    Page("raftbench-script", 5, "the format of raftbench's scripts", TOP / "docs/SCRIPTS.md", "The format", False),
 ]
 KINDS = {5: "File Formats", 7: "Miscellanea"}
 # What groff would show otherwise, or take for a request.
@@ -59,14 +67,12 @@ def code(text: str) -> str:
 
 
 def prose(text: str) -> str:
-    """Words that are no code: emphasis and links, and the pages that stand for documents."""
+    """Words that are not code: emphasis and links."""
     text = LINK.sub(r"\1", "".join(TEXT.get(it, it) for it in text))
     # Names of messages are not cut.
     text = re.sub(r"\bMsg\w+", r"\\%\g<0>", text)
     text = re.sub(r"\*\*([^*]+)\*\*", r"\\fB\1\\fR", text)
     text = re.sub(r"\*([^*]+)\*", r"\\fI\1\\fR", text)
-    for page in PAGES:
-        text = text.replace(str(page.document.relative_to(TOP)), page.shown)
     return text
 
 
@@ -163,7 +169,7 @@ def shown(block: list[str]) -> str:
 
 def made(page: Page) -> str:
     """The page's text."""
-    text = page.document.read_text()
+    text = page.text
     lines = text.splitlines()[1:]
     others = ["\\fBraftbench\\fR(1)", *(it.shown for it in sorted(PAGES, key=lambda it: it.section) if it is not page)]
     links = [plain(url) for _, url in LINK.findall(text)]

@@ -21,7 +21,7 @@ def listed() -> list[str]:
 
 def known() -> Counter[str]:
     """How many lines of each file of the crates name the directive."""
-    files = [path for part in ("src", "specs", "proofs") for path in TOP.glob(f"crates/*/{part}/**/*") if path.suffix in (".rt", ".antt")]
+    files = [path for part in ("src", "specs", "proofs") for path in TOP.glob(f"crates/*/{part}/**/*") if path.suffix in (".rt", ".antt") and "tests" not in path.parts[len(TOP.parts):]]
     counts = {str(path.relative_to(TOP)): sum(bool(KNOWN.search(line)) for line in path.read_text().splitlines()) for path in files}
     return Counter({file: count for file, count in counts.items() if count and file != MADE})
 
@@ -42,5 +42,5 @@ def test_no_place_is_missing() -> Iterator[str]:
 
 
 def test_document_has_both_its_places() -> Iterator[str]:
-    if listed().count("docs/DIRECTIVES.md") != 2:
-        yield "the list names docs/DIRECTIVES.md otherwise than for its row and its section"
+    if listed().count("docs/SCRIPTS.md") != 2:
+        yield "the list names docs/SCRIPTS.md otherwise than for its row and its section"

@@ -1,54 +1,57 @@
-"""Compares docs/PROOFS.md with the wrong bodies that the gate tries, in a crate's must-fail/ or in tests/bodies: each one that it
-names is there, and each of these is named. Links of the documents to files of the repository lead to files. The version's toolchain is README.md's.
+"""Compares the documents with the tree. docs/PROOFS.md names each law, and only functions that are there. Links lead to files. The version's toolchain
+is README.md's. Documents keep to their numbers of words, and no old name of a document is left.
 """
 import pathlib
 import re
+import subprocess
 from collections.abc import Iterator
 
-from tests.bodies.edits import Edit, read_edits
-from tests.harness import TESTS, TOP
+from tests.harness import TOP
+from tests.repository.promises import bodies_of, functions_of, laws_of
 
 NAME = r"[a-z0-9]+(?:_[a-z0-9]+)+"
 
 
-def tried_bodies(crate: str) -> set[str]:
-    """The wrong bodies of a crate that the gate tries."""
-    path = TESTS / "bodies" / f"{crate}.edits"
-    edits = read_edits(path, crate) if path.exists() else {}
-    return {it.stem for it in TOP.glob(f"crates/{crate}/must-fail/*.edit")} | {name for name, it in edits.items() if isinstance(it, Edit) and it.tried}
+def parts() -> Iterator[tuple[list[str], str]]:
+    """The parts of docs/PROOFS.md that are about crates: which crates, and the text."""
+    for part in (TOP / "docs" / "PROOFS.md").read_text().split("\n## ")[1:]:
+        title, text = part.split("\n", 1)
+        if title.startswith("rb_"):
+            yield title.split(", "), text
 
 
-def named_by_crate() -> Iterator[tuple[str, set[str]]]:
-    """The wrong bodies that each crate's section names, in its sentence that begins `Wrong bodies: `."""
-    for section in (TOP / "docs" / "PROOFS.md").read_text().split("\n## ")[1:]:
-        sentence = re.search(r"\nWrong bodies: ([^.]*)\.", section)
-        if sentence:
-            yield section.split("\n", 1)[0].strip(), set(re.findall(NAME, sentence[1]))
+def named_functions(text: str) -> set[str]:
+    """What the last cells of a part's tables name, as `function` or `Type::function`."""
+    cells = [row.split("|")[2] for row in re.findall(r"^\|.*\|$", text, re.M)]
+    return set(re.findall(r"`([\w:]+)`", " ".join(cells)))
 
 
-def named_as_telling() -> Iterator[tuple[str, str]]:
-    """The wrong bodies among the bugs that would matter most, as `rb_crate's name, name`, each with its crate."""
-    part = (TOP / "docs" / "PROOFS.md").read_text().split("## The bugs that would matter most\n")[1].split("\n## ")[0]
-    for crate, names in re.findall(rf"\b(rb_\w+|raftbench)'s ({NAME}\b(?:,\s{NAME}\b(?!'s))*)", part):
-        for name in re.findall(NAME, names):
-            yield crate, name
+def test_named_functions_are_there() -> Iterator[str]:
+    """What docs/PROOFS.md names is a function of one of the part's crates, and has a clause."""
+    for crates, text in parts():
+        there = {name for crate in crates for it in functions_of(crate) if it.clauses for name in (it.name, it.name.split("::")[-1])}
+        for name in sorted(named_functions(text) - there):
+            yield f"{', '.join(crates)}: {name} isn't there, or has no clause"
 
 
-def test_wrong_bodies_are_named() -> Iterator[str]:
-    """Each that is tried is named, and each that is named is tried."""
-    named = dict(named_by_crate())
+def test_each_law_is_named() -> Iterator[str]:
+    """Each law is named in its crate's part of docs/PROOFS.md, but for `limits_are`."""
+    named = {crate: named_functions(text) for crates, text in parts() for crate in crates}
     for folder in sorted((TOP / "crates").iterdir()):
-        crate = folder.name
-        for name in sorted(tried_bodies(crate) - named.get(crate, set())):
-            yield f"{crate}: docs/PROOFS.md doesn't name {name}"
-        for name in sorted(named.get(crate, set()) - tried_bodies(crate)):
-            yield f"{crate}: docs/PROOFS.md names {name}, which isn't there"
-    telling = list(named_as_telling())
+        for law in laws_of(folder.name):
+            if law.name != "limits_are" and law.name not in named.get(folder.name, set()):
+                yield f"{folder.name}: docs/PROOFS.md doesn't name {law.name}"
+
+
+def test_telling_bodies_are_tried() -> Iterator[str]:
+    """The wrong bodies of the bugs that would matter most, named as `rb_crate's name, name`, are tried by the gate."""
+    part = (TOP / "docs" / "PROOFS.md").read_text().split("## The bugs that would matter most\n")[1].split("\n## ")[0]
+    telling = [(crate, name) for crate, names in re.findall(rf"\b(rb_\w+|raftbench)'s ({NAME}\b(?:,\s{NAME}\b(?!'s))*)", part) for name in re.findall(NAME, names)]
     if len(telling) < 20:
-        yield "docs/PROOFS.md names fewer than 20 wrong bodies as those of the bugs that would matter most"
+        yield f"docs/PROOFS.md names {len(telling)} wrong bodies, and should name 20"
     for crate, name in telling:
-        if name not in tried_bodies(crate):
-            yield f"docs/PROOFS.md names {crate}'s {name}, which isn't there"
+        if not bodies_of(crate).get(name):
+            yield f"docs/PROOFS.md names {crate}'s {name}, which the gate doesn't try"
 
 
 def test_links_lead_to_files() -> Iterator[str]:
@@ -59,6 +62,48 @@ def test_links_lead_to_files() -> Iterator[str]:
             # A case is named without its ending.
             if not place.exists() and not place.with_name(f"{place.name}.case").exists():
                 yield f"{document.name}: {path} isn't there"
+
+
+# At most so many words of each document, by `wc -w`, and of all.
+MOST_WORDS = {
+    "README.md": 1600,
+    "docs/ARCHITECTURE.md": 2200,
+    "docs/CHANGES.md": 400,
+    "docs/DECISIONS.md": 1600,
+    "docs/ETCD.md": 2200,
+    "docs/FORMATS.md": 1500,
+    "docs/FOUND.md": 1000,
+    "docs/MEASURES.md": 600,
+    "docs/NODE.md": 2600,
+    "docs/OWN-NODES.md": 2600,
+    "docs/PROOFS.md": 4000,
+    "docs/READING.md": 1000,
+    "docs/SCRIPTS.md": 5000,
+    "docs/TRACES.md": 600,
+    "docs/USING.md": 5000,
+}
+MOST_WORDS_IN_ALL = 30000
+
+
+def test_documents_are_short() -> Iterator[str]:
+    counts = {str(path.relative_to(TOP)): len(path.read_text().split()) for path in [TOP / "README.md", *sorted((TOP / "docs").glob("*.md"))]}
+    for name, count in counts.items():
+        if count > MOST_WORDS.get(name, 0):
+            yield f"{name} has {count} words, and {MOST_WORDS.get(name, 0)} are allowed"
+    if sum(counts.values()) > MOST_WORDS_IN_ALL:
+        yield f"the documents have {sum(counts.values())} words, and {MOST_WORDS_IN_ALL} are allowed"
+
+
+# Documents that were joined with others.
+GONE = re.compile(r"\b(?:DIRECTIVES|SCRIPT-FORMAT|CHECK|CI|SESSION|EDITORS|PAGE|CHART|FROM-ETCD|[A-Z]+-FOUND)\.md\b")
+
+
+def test_no_old_name_is_left() -> Iterator[str]:
+    """No file that git keeps names a document that is gone, but for this one."""
+    kept = subprocess.run(["git", "-c", "safe.directory=*", "grep", "-lE", r"(DIRECTIVES|SCRIPT-FORMAT|CHECK|CI|SESSION|EDITORS|PAGE|CHART|FROM-ETCD|-FOUND)\.md"], cwd=TOP, capture_output=True, text=True).stdout
+    for name in kept.splitlines():
+        if TOP / name != pathlib.Path(__file__) and (found := GONE.search((TOP / name).read_text())):
+            yield f"{name} names {found[0]}"
 
 
 def first_group(pattern: str, path: pathlib.Path) -> str:

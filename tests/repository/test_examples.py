@@ -1,7 +1,6 @@
-"""Runs the scripts of examples/, which expect what comes, and holds the recorded conversation. The conversation in
-docs/SESSION.md is the recorded one. Each script that a document shows answers as it stands there, or is refused as the
-line below it says; what README.md shows first and of the tour's first script, and what docs/SESSION.md shows of a mismatch in that, is so, and README.md
-names the whole tour.
+"""Runs the scripts of examples/ and the recorded conversation, which docs/USING.md shows. Runs each script that a document shows: it matches, or is
+refused as the line below it says. Compares what README.md shows first, its part of the tour's first script, and the report in docs/USING.md with what
+the program does. README.md names the whole tour.
 """
 import pathlib
 import re
@@ -35,32 +34,32 @@ def test_scripts() -> Iterator[str]:
 
 
 def test_conversation() -> Iterator[str]:
-    """The recorded conversation is held again, and docs/SESSION.md shows it."""
+    """The recorded conversation is held again, and docs/USING.md shows it."""
     sent, wanted = (TALK / "sent.txt").read_bytes(), (TALK / "answered.txt").read_bytes()
     came = answer("session", TALK / "script.txt", given=sent)
     if came != (0, wanted, b""):
         yield f"the conversation: {came!r}"
-    shown = (TOP / "docs" / "SESSION.md").read_bytes().split(b"## A conversation")[1].split(b"```\n")[3].splitlines(True)
+    shown = (TOP / "docs" / "USING.md").read_bytes().split(b"### A conversation")[1].split(b"```\n")[3].splitlines(True)
     if b"".join(line[2:] for line in shown if line.startswith(b"> ")) != sent:
-        yield "docs/SESSION.md shows another conversation"
+        yield "docs/USING.md shows another conversation"
     if b"".join(line for line in shown if not line.startswith(b"> ")) != wanted:
-        yield "docs/SESSION.md shows other answers"
+        yield "docs/USING.md shows other answers"
 
 
 def fences(path: pathlib.Path) -> Iterator[tuple[str, str]]:
     """What stands between two fences, each with the line of text that follows it."""
-    parts = re.split(r"^```\n", path.read_text(), flags=re.M)
+    parts = re.split(r"^```\w*\n", path.read_text(), flags=re.M)
     for i in range(1, len(parts) - 1, 2):
         yield parts[i], parts[i + 1].strip().split("\n")[0]
 
 
 def test_documents() -> Iterator[str]:
     """What the documents show is so."""
-    readme, session = TOP / "README.md", TOP / "docs" / "SESSION.md"
+    readme, using = TOP / "README.md", TOP / "docs" / "USING.md"
     ran = 0
     for path in sorted((TOP / "docs").glob("*.md")):
         for text, after in fences(path):
-            if "\n----\n" not in text or path == session:
+            if "\n----\n" not in text or path == using:
                 continue
             ran += 1
             came = answer("run", "-", given=text.encode())
@@ -71,8 +70,8 @@ def test_documents() -> Iterator[str]:
     if not ran:
         yield "no document shows a script"
     tour = (TOP / "examples" / "tour" / "01-election.txt").read_text()
-    first, check, edit, shown, record = [text for text, _ in fences(readme)]
-    report = next(text for text, _ in fences(session) if text.startswith("mismatch "))
+    first, check, record, shown, edit = [text for text, _ in fences(readme)]
+    report = next(text for text, _ in fences(using) if text.startswith("mismatch "))
     yield from check_first_screen(first, check, edit)
     if not tour.startswith(shown):
         yield "README.md shows another script than examples/tour/01-election.txt"
@@ -80,15 +79,15 @@ def test_documents() -> Iterator[str]:
     before, _, after = tour.partition(": won\n")
     wrong = before + ": pending\n" + after
     if answer("run", "-", given=wrong.encode()) != (1, report.encode(), b""):
-        yield "docs/SESSION.md shows another report"
+        yield "docs/USING.md shows another report"
     named = set(re.findall(r"\b\d\d-[a-z-]+\.txt", readme.read_text()))
     if named != {path.name for path in TOP.glob("examples/tour/*.txt")}:
         yield "README.md names other scripts than examples/tour has"
     recorded = answer("rewrite", "-", given=record.encode())
     if recorded[0] != 0 or not answer("run", "-", given=recorded[1])[1].endswith(b" 0 mismatches\n"):
         yield "README.md shows a script that can't be recorded"
-    if next(fences(session))[0] != (TALK / "script.txt").read_text():
-        yield "docs/SESSION.md shows another script than examples/conversation/script.txt"
+    if (TALK / "script.txt").read_text() not in [text for text, _ in fences(using)]:
+        yield "docs/USING.md shows another script than examples/conversation/script.txt"
 
 
 def check_first_screen(script: str, report: str, edit: str) -> Iterator[str]:

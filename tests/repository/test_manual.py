@@ -1,5 +1,5 @@
 """Holds the manual pages that are made of documents: they are what the documents say, they lose nothing of them, raftbench(1) and they
-name each other, and man and groff show them, where these are here. And the texts of rb_help: they are what docs/DIRECTIVES.md says.
+name each other, and man and groff show them, where these are here. And the texts of rb_help: they are what docs/SCRIPTS.md says.
 tests/repository/manual.py makes the pages and these texts.
 """
 import collections
@@ -41,7 +41,7 @@ def as_shown(path: pathlib.Path, width: int) -> str:
 
 def fits_a_terminal(page: Page) -> None:
     """But for code, which stands as it is."""
-    code = {line.strip() for block in pages.blocks(page.document.read_text().splitlines()) if block[0] == "```" for line in block}
+    code = {line.strip() for block in pages.blocks(page.text.splitlines()) if block[0] == "```" for line in block}
     long = [line for line in as_shown(page.path, 80).splitlines() if len(line) > 80 and line.strip() not in code]
     assert not long, long
 
@@ -52,7 +52,7 @@ def words_of(text: str) -> collections.Counter[str]:
 
 def loses_nothing(page: Page) -> None:
     """Each line of code in its order, each code in a text, and each word as often, but for those of a table's first row."""
-    shown, text = as_shown(page.path, 9_999), page.document.read_text()
+    shown, text = as_shown(page.path, 9_999), page.text
     at, lines = 0, [line.strip() for line in shown.splitlines()]
     for line in "".join(re.findall(r"^```\n(.*?)^```$", text, re.M | re.S)).splitlines():
         assert line.strip() in lines[at:], f"{line!r} isn't shown, or not in its place"
@@ -62,8 +62,6 @@ def loses_nothing(page: Page) -> None:
     for found in re.findall(r"`([^`]+)`", prose):
         assert " ".join(found.split()) in running, f"{found!r} isn't shown"
     wanted = re.sub(r"^\|.*\|\n\|[-|]+\|\n", "", re.sub(r"^# .*\n", "", text), flags=re.M)
-    # Documents that have a page of their own are shown by its name.
-    wanted = re.sub(r"docs/[A-Z-]+\.md", "", wanted)
     missing = words_of(wanted) - words_of(shown)
     assert not missing, missing
 

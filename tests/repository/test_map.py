@@ -1,8 +1,8 @@
 """Compares the documents with the tree, and looks for what nothing cites.
 
-What stands at the top is named in docs/ARCHITECTURE.md's table of it, and what that table names is there; README.md's table names each
+What stands at the top is named in docs/ARCHITECTURE.md's table of it, and what that table names is there; its other table names each
 crate. Each definition module, each source file and each file of lemmas says in its first line what it is. What a crate's part of
-docs/ARCHITECTURE.md and docs/PROOFS.md names of sources, definitions and calls is in the tree. Each function of the walks at the end of
+docs/ARCHITECTURE.md names of sources is in the tree. Each function of the walks at the end of
 docs/ARCHITECTURE.md stands in the file named, and a function before it calls it, by name: nothing tells whether it is the one that is meant, so
 a call through a trait is seen as any other. The numbers of a walk are those of its list. Each definition and each lemma is cited
 somewhere beside its own equations. Each public function of a library has a clause. Each file has at most 800 lines.
@@ -64,12 +64,12 @@ def test_files_say_what_they_are() -> Iterator[str]:
 
 
 def test_crates_are_named() -> Iterator[str]:
-    """README.md's table names each crate that isn't one of tests, and no other."""
-    rows = (TOP / "README.md").read_text().split("| Crate | Does |\n|---|---|\n")[1].split("\n\n")[0].splitlines()
+    """The table of docs/ARCHITECTURE.md names each crate that isn't one of tests, and no other."""
+    rows = (TOP / "docs" / "ARCHITECTURE.md").read_text().split("| Crate | Does |\n|---|---|\n")[1].split("\n\n")[0].splitlines()
     named = {name.strip() for row in rows for name in row.split("|")[1].split(",")}
     there = {path.name for path in CRATES.iterdir() if not path.name.endswith("_tests")} | {"rb_.._tests"}
     for name in sorted(there ^ named):
-        yield f"README.md's table of crates and the tree differ in {name}"
+        yield f"the table of crates and the tree differ in {name}"
 
 
 def test_named_files_are_there() -> Iterator[str]:
@@ -100,7 +100,7 @@ def steps_of(rows: list[str]) -> Iterator[Step]:
 
 def walks() -> Iterator[tuple[str, str, list[Step]]]:
     """The walks at the end of docs/ARCHITECTURE.md: their titles, what each says of its numbers, and its steps."""
-    part = re.sub(r"\n  +", " ", "\n".join(parts_of("ARCHITECTURE.md").get("Two walks", [])))
+    part = re.sub(r"\n  +", " ", "\n".join(parts_of("ARCHITECTURE.md").get("Three walks", [])))
     for walk in part.split("\n### ")[1:]:
         title, text = walk.split("\n", 1)
         said = " ".join(text.split("\n1. ")[0].split())
@@ -171,34 +171,13 @@ def find_lost(steps: list[Step]) -> Iterator[str]:
 def test_walks_are_as_the_sources() -> Iterator[str]:
     """The functions of the walks are there, each is called from one before it, and their numbers are those that are said."""
     found = list(walks())
-    if len(found) != 2:
+    if len(found) != 3:
         yield f"docs/ARCHITECTURE.md has {len(found)} walks"
     for title, said, steps in found:
         if not re.search(rf"\b{counted(steps)}\b", said):
             yield f"docs/ARCHITECTURE.md, {title}: the list has {counted(steps)}"
         for fault in find_lost(steps):
             yield f"docs/ARCHITECTURE.md, {title}: {fault}"
-
-
-def named_definitions(cell: str) -> Iterator[tuple[str, list[str]]]:
-    """The module and the names of each `Module.name` and `Module.{name, name}` in a cell of docs/PROOFS.md."""
-    for module, names in re.findall(r"`([A-Z]\w*)\.(\w+|\{[^}]*\})`", cell):
-        yield module, re.findall(r"\w+", names)
-
-
-def test_named_definitions_are_there() -> Iterator[str]:
-    """The definitions that docs/PROOFS.md names as `Module.name` stand in that module of definitions, or in a record of that name."""
-    specs: dict[str, list[str]] = {}
-    for path in CRATES.glob("*/specs/*.antt"):
-        text = path.read_text()
-        for name in [path.stem, *re.findall(r"\brecord (\w+)", text)]:
-            specs.setdefault(name, []).append(text)
-    for crate, lines in parts_of("PROOFS.md").items():
-        for cell in (line.split("|")[2] for line in lines if line.startswith("|") and (CRATES / crate).is_dir()):
-            for module, names in named_definitions(cell):
-                for name in names:
-                    if not any(re.search(rf"\b{re.escape(name)}\b", text) for text in specs.get(module, [])):
-                        yield f"{crate}: docs/PROOFS.md names {module}.{name}, which isn't there"
 
 
 def citations() -> Counter[str]:

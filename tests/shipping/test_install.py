@@ -19,7 +19,7 @@ FILED = ["check", "page", "rewrite", "run", "session"]
 COMMANDS = sorted([*FILED, "chart", "directives", "look", "lsp"])
 OPTIONS = ["--accept", "--accept-errors", "--brief", "--color", "--every", "--filter", "--first", "--force", "--format", "--help", "--quiet", "--review", "--until",
            "--verbose", "--version", "--why"]
-DIRECTIVES = re.findall(r"^\| `([a-z-]+)` \|", (TOP / "docs/DIRECTIVES.md").read_text().split("\n\n| What ")[0], re.M)
+DIRECTIVES = re.findall(r"^\| `([a-z-]+)` \|", (TOP / "docs/SCRIPTS.md").read_text().split("\n## Directives\n")[1].split("\n\n| What ")[0], re.M)
 SECTIONS = ["NAME", "SYNOPSIS", "DESCRIPTION", "COMMANDS", "OPTIONS", "EXIT STATUS", "ENVIRONMENT", "FILES", "EXAMPLES", "SEE ALSO"]
 # The files of editors that are all put alike.
 EDITORS = [name for name in kept(TOP / "editors") if "/" in name]

@@ -1,6 +1,6 @@
 """Releases from a small clone whose program only pretends, and looks at the archive: what is in it, what PROOF says, and that a second run,
 by another clone and under other settings, gives the same bytes. Where the program is built, it is started in a bare root folder
-that has nothing but what the system's loader lists, and docs/CI.md's hook and jobs are carried out with an archive of it.
+that has nothing but what the system's loader lists, and docs/USING.md's hook and jobs are carried out with an archive of it.
 """
 import hashlib
 import os
@@ -205,9 +205,9 @@ def put_archive(place: Clone, into: pathlib.Path) -> pathlib.Path:
 
 
 def test_stops_a_commit(place: Clone) -> None:
-    """By docs/CI.md's hook, in both of its forms, with the unpacked archive's program in the path; PROOF names what that loads."""
+    """By docs/USING.md's hook, in both of its forms, with the unpacked archive's program in the path; PROOF names what that loads."""
     place.take_the_built()
-    hook, for_changes, *_ = shown_in(TOP / "docs/CI.md", "sh")
+    hook, for_changes, *_ = shown_in(TOP / "docs/USING.md", "sh")
     folder = put_archive(place, place.room)
     loads = matched(r"^loads     (.*)$", (folder / "PROOF").read_text())[1]
     assert sorted(loads.split(",")[0].split()) == sorted(pathlib.Path(it).name for it in loaded_with(BUILT, "=> ")), loads
@@ -248,10 +248,10 @@ def carried_out(job: str, folder: pathlib.Path) -> subprocess.CompletedProcess[s
 
 
 def test_carries_out_the_jobs(place: Clone) -> None:
-    """Each job's commands, in a folder that has the archive and its sum, as docs/CI.md says."""
+    """Each job's commands, in a folder that has the archive and its sum, as docs/USING.md says."""
     place.take_the_built()
     archive = place.archive()
-    jobs = [job for job in shown_in(TOP / "docs/CI.md", "yaml") if "raftbench check" in job]
+    jobs = [job for job in shown_in(TOP / "docs/USING.md", "yaml") if "raftbench check" in job]
     assert len(jobs) == 2, jobs
     name = matched(r"raftbench-[0-9.]+-x86_64\.tar\.gz", jobs[0])[0]
     for at, job in enumerate(jobs):

@@ -1,4 +1,4 @@
--- Where a directive stands among the lines of its script, as they are: from its head to the end of its expectation. (docs/SCRIPT-FORMAT.md.
+-- Where a directive stands among the lines of its script, as they are: from its head to the end of its expectation. (docs/SCRIPTS.md.
 -- Lines count from 0, but for those of heads, which count from 1.)
 use Rattle.std.specs.Prelude.{ℕ, Bool, ◌&&◌, nat_le, nat_lt, List, drop}
 use Rattle.rb_script.specs.Lines.{Line}

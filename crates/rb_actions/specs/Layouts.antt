@@ -1,4 +1,4 @@
--- A script's lines, as they are. (docs/SCRIPT-FORMAT.md.)
+-- A script's lines, as they are. (docs/SCRIPTS.md.)
 use Rattle.std.specs.Prelude.{◌≡◌, ℕ, ◌==◌, List, length, take, count_by, Err}
 use Rattle.rb_script.specs.declared.fault.ScriptFault.{ScriptFault}
 use Rattle.rb_script.specs.Lines.{lines}

@@ -88,7 +88,7 @@ fn drawn(
 
 /// The picture of a script's run, where these are its name, its bytes and the rows of its steps (`steps_of` of rb_steps); of its directives
 /// up to the one at a line, where there is one. Rows that don't say what they are to say are passed over. Where things stand is not stated:
-/// docs/PAGE.md has it.
+/// docs/FORMATS.md has it.
 pub fn chart_of(
     alloc: Global,
     name: &[u8],

@@ -1,4 +1,4 @@
-//! The picture of a script's run alone, as a document of SVG that stands without scripts (docs/PAGE.md).
+//! The picture of a script's run alone, as a document of SVG that stands without scripts (docs/FORMATS.md).
 //!
 //! [`chart_of`] reads the rows of a run, and places what they say: nodes side by side, time downwards, messages as
 //! arrows. [`svg_of`] gives the document. It is the definition's text of the picture's shapes, in which each text of a script stands as a

@@ -1,7 +1,7 @@
 //! Messages on their way.
 //!
 //! Of those to one node and of one type the earliest is always the one that is delivered or dropped, so they stand in a queue for each
-//! (docs/PAGE.md, "What a directive did").
+//! (docs/FORMATS.md, "The rows of a page").
 
 use crate::event::RowMessage;
 use crate::labels::Label;

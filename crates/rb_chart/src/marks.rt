@@ -1,4 +1,4 @@
-//! What nodes tell and what is said of directives, in few words, and how that looks (docs/PAGE.md, "To use it").
+//! What nodes tell and what is said of directives, in few words, and how that looks (docs/USING.md, "Pages and pictures").
 
 use crate::event::{Mark, Note};
 use crate::look::Look;

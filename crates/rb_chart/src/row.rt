@@ -1,4 +1,4 @@
-//! A row, as it is read from its text (docs/PAGE.md). What is no row is none, and what a row has beyond its first cells is passed over.
+//! A row, as it is read from its text (docs/FORMATS.md). What is no row is none, and what a row has beyond its first cells is passed over.
 
 use memchr::memchr;
 

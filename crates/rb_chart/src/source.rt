@@ -14,7 +14,7 @@ pub(crate) struct ScriptSource<'a> {
     part: SourcePart,
 }
 
-// The parts of a block, in which lines stand. (docs/SCRIPT-FORMAT.md)
+// The parts of a block, in which lines stand. (docs/SCRIPTS.md)
 #[derive(Clone, Copy)]
 enum SourcePart {
     Lead,

@@ -1,5 +1,5 @@
 -- A directive's output step by step: what a node says of a delivery stands below it, and what is sent next apart. (This project's; the lines of
--- an output are those of docs/DIRECTIVES.md.)
+-- an output are those of docs/SCRIPTS.md.)
 use Rattle.std.specs.Prelude.{ℕ, Bool, false, ◌&&◌, ◌||◌, nat_le, if◌then◌else◌, List, [], ◌∷◌, ◌++◌, take, codes}
 use Rattle.std.specs.Str.{bytes_eq}
 use Rattle.rb_script.specs.Lines.{Line}

@@ -1,4 +1,4 @@
--- Where the lines of a script begin in its text. (docs/SCRIPT-FORMAT.md: they end at LF alone; an editor's end at CR and CR LF too.)
+-- Where the lines of a script begin in its text. (docs/SCRIPTS.md: they end at LF alone; an editor's end at CR and CR LF too.)
 use Rattle.std.specs.Prelude.{◌≡◌, ◌≢◌, ℕ, zero, suc, ◌==◌, ◌<◌, nat_lt, if◌then◌else◌, List, [], ◌∷◌, length, get_or, slice_index}
 use Rattle.rb_document.specs.declared.position.Encoding.{Encoding}
 use Rattle.rb_document.specs.declared.position.Position.{Position}

@@ -1,4 +1,4 @@
-// The lines below a directive: its output, or how the output differs from what was expected, as `raftbench check` shows it (docs/CHECK.md).
+// The lines below a directive: its output, or how the output differs from what was expected, as `raftbench check` shows it (docs/USING.md).
 
 import { eventsOfLines } from "./lines.js";
 

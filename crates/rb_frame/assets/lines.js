@@ -8,7 +8,7 @@ import { shown } from "./text.js";
 /** @type {Record<string, string>} */
 const VERBS = { send: "  send", queue: "queue", deliver: "deliver", drop: "drop", "no-room": "no room for" };
 
-// What follows the level in the line of an event; docs/DIRECTIVES.md has the lines.
+// What follows the level in the line of an event; docs/SCRIPTS.md has the lines.
 /** @type {Record<string, (cells: any[]) => string>} */
 const REPORTED = {
   started: ([id]) => `${id} started at `,

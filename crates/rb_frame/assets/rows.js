@@ -1,4 +1,4 @@
-// From rows to what the page shows. docs/PAGE.md says what each row is; this is the one place that reads them.
+// From rows to what the page shows. docs/FORMATS.md says what each row is; this is the one place that reads them.
 
 import { History } from "./history.js";
 import { Mail, Spans } from "./mail.js";

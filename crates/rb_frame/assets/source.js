@@ -1,4 +1,4 @@
-// The script itself, cut into the parts of its directives. docs/SCRIPT-FORMAT.md has the rules; this script is known to keep them.
+// The script itself, cut into the parts of its directives. docs/SCRIPTS.md has the rules; this script is known to keep them.
 
 import { shown } from "./text.js";
 

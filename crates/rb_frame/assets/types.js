@@ -3,7 +3,7 @@
 /** @typedef {import("./history.js").History<any>} AnyHistory */
 
 /**
- * A row of the page's text: a name, then numbers and texts (docs/PAGE.md).
+ * A row of the page's text: a name, then numbers and texts (docs/FORMATS.md).
  * @typedef {[string, ...any[]]} Row
  */
 

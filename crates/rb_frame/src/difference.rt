@@ -1,10 +1,10 @@
-//! Code of a page. The lines below a directive: its output, or how the output differs from what was expected, as `raftbench check` shows it (docs/CHECK.md). Made of assets/difference.js by `tests/page/assemble.py sources`.
+//! Code of a page. The lines below a directive: its output, or how the output differs from what was expected, as `raftbench check` shows it (docs/USING.md). Made of assets/difference.js by `tests/page/assemble.py sources`.
 
 /// The code.
 #[rattlefmt::skip]
 pub(crate) const DIFFERENCE: &[u8] = b"\
 \n\
-// The lines below a directive: its output, or how the output differs from what was expected, as `raftbench check` shows it (docs/CHECK.md).\n\
+// The lines below a directive: its output, or how the output differs from what was expected, as `raftbench check` shows it (docs/USING.md).\n\
 \n\
 \n\
 \n\

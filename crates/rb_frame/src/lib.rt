@@ -1,4 +1,4 @@
-//! What is around the rows of a page (docs/PAGE.md): its own elements, its style and its code. Made by `tests/page/assemble.py sources`.
+//! What is around the rows of a page (docs/FORMATS.md): its own elements, its style and its code. Made by `tests/page/assemble.py sources`.
 //!
 //! The files are in assets, and the sources are made of them. The page's head names its style and its code by their hashes, so that no other
 //! runs in it.

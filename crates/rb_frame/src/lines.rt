@@ -10,7 +10,7 @@ pub(crate) const LINES: &[u8] = b"\
 \n\
 const VERBS = { send: \"  send\", queue: \"queue\", deliver: \"deliver\", drop: \"drop\", \"no-room\": \"no room for\" };\n\
 \n\
-// What follows the level in the line of an event; docs/DIRECTIVES.md has the lines.\n\
+// What follows the level in the line of an event; docs/SCRIPTS.md has the lines.\n\
 const REPORTED = {\n\
 \x20 started: ([id]) => `${id} started at `,\n\
 \x20 became: ([id, role, term]) => `${id} became ${role} at term ${term}`,\n\

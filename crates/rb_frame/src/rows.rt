@@ -4,7 +4,7 @@
 #[rattlefmt::skip]
 pub(crate) const ROWS: &[u8] = b"\
 \n\
-// From rows to what the page shows. docs/PAGE.md says what each row is; this is the one place that reads them.\n\
+// From rows to what the page shows. docs/FORMATS.md says what each row is; this is the one place that reads them.\n\
 \n\
 \n\
 \n\

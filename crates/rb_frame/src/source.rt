@@ -4,7 +4,7 @@
 #[rattlefmt::skip]
 pub(crate) const SOURCE: &[u8] = b"\
 \n\
-// The script itself, cut into the parts of its directives. docs/SCRIPT-FORMAT.md has the rules; this script is known to keep them.\n\
+// The script itself, cut into the parts of its directives. docs/SCRIPTS.md has the rules; this script is known to keep them.\n\
 \n\
 \n\
 class Source {\n\

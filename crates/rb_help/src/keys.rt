@@ -1,4 +1,4 @@
-//! The options that the manual has. Made of docs/DIRECTIVES.md by `tests/repository/manual.py`.
+//! The options that the manual has. Made of docs/SCRIPTS.md by `tests/repository/manual.py`.
 
 /// The options but for `log-level`, in the order of the document's table: a directive, and the option's key.
 #[rattlefmt::skip]

@@ -1,6 +1,6 @@
 //! Help on directives: an overview with a page on each, and which name was probably meant where one is wrong.
 //!
-//! The texts are those of docs/DIRECTIVES.md, by `tests/repository/manual.py`. So what the laws say of the directives and options in them,
+//! The texts are those of docs/SCRIPTS.md, by `tests/repository/manual.py`. So what the laws say of the directives and options in them,
 //! that they are those by which directives are read, holds of the document.
 //!
 //! A name is near another where a letter or two make the one from the other, and not all letters are others. [`suggested`] looks at what is

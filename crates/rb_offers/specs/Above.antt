@@ -1,4 +1,4 @@
--- What a line of a text is, by the lines above it, and the head up to a place. (docs/SCRIPT-FORMAT.md, "A block". The text need be no script:
+-- What a line of a text is, by the lines above it, and the head up to a place. (docs/SCRIPTS.md, "A block". The text need be no script:
 -- whoever writes a head has no line `----` below it yet.)
 use Rattle.std.specs.Prelude.{ℕ, zero, suc, Bool, true, false, ◌==◌, not, if◌then◌else◌, List, [], ◌∷◌, ◌++◌, take, slice_index, slice_range, Option, Some, None}
 use Rattle.rb_script.specs.Bytes.{space, line_feed, number_sign}

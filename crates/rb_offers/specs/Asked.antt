@@ -1,4 +1,4 @@
--- How many nodes the directives of blocks ask for, and blocks above a place of a text. (docs/DIRECTIVES.md, "Nodes".)
+-- How many nodes the directives of blocks ask for, and blocks above a place of a text. (docs/SCRIPTS.md, "Nodes".)
 use Rattle.std.specs.Prelude.{◌≡◌, ◌≢◌, ℕ, ◌≤◌, ◌⊎◌, true, codes, List, [], ◌∷◌, ◌++◌, take, Result, Ok, Err}
 use Rattle.std.specs.List.{AllByRecursion, list_all, sum_by}
 use Rattle.rb_script.specs.Heads.{directive_of}

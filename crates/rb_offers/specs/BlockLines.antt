@@ -1,4 +1,4 @@
--- On which lines of a text the blocks of its script stand. (docs/SCRIPT-FORMAT.md, "A block". Lines count from 0.)
+-- On which lines of a text the blocks of its script stand. (docs/SCRIPTS.md, "A block". Lines count from 0.)
 use Rattle.std.specs.Prelude.{ℕ, ◌+◌, ◌-◌, ◌≤◌, ◌<◌, if◌then◌else◌, List, [], ◌∷◌, length, drop, Option, Some, None, Result, Ok, Err}
 use Rattle.rb_script.specs.declared.fault.ScriptFault.{ScriptFault}
 use Rattle.rb_script.specs.Lines.{Line, lines}

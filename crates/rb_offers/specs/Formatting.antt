@@ -1,4 +1,4 @@
--- The canonical text of a script, as one edit of what differs. (docs/SCRIPT-FORMAT.md, "Canonical text"; LSP 3.17, "TextEdit".)
+-- The canonical text of a script, as one edit of what differs. (docs/SCRIPTS.md, "Canonical text"; LSP 3.17, "TextEdit".)
 use Rattle.std.specs.Prelude.{ℕ, if◌then◌else◌, List, ◌++◌, codes, Option, Some, None}
 use Rattle.std.specs.List.{flat_map}
 use Rattle.std.specs.Str.{bytes_eq}

@@ -1,4 +1,4 @@
--- On which lines of a script the heads of its directives begin, by reading its blocks one after another. (docs/SCRIPT-FORMAT.md. Lines
+-- On which lines of a script the heads of its directives begin, by reading its blocks one after another. (docs/SCRIPTS.md. Lines
 -- count from 1. HeadLaws.heads_are says that they are those of rb_script's HeadLines.)
 use Rattle.std.specs.Prelude.{ℕ, ◌+◌, List, [], ◌∷◌, length, Result, Ok, Err}
 use Rattle.rb_script.specs.declared.fault.ScriptFault.{ScriptFault}

@@ -1,4 +1,4 @@
--- Ids of nodes, where a head can go on with one. (docs/DIRECTIVES.md. They are those of the nodes that there would be by the heads of `add-nodes`
+-- Ids of nodes, where a head can go on with one. (docs/SCRIPTS.md. They are those of the nodes that there would be by the heads of `add-nodes`
 -- up to there: an offer, and no check, since which nodes there are is known by a run alone.)
 use Rattle.std.specs.Prelude.{ℕ, Bool, false, nat_lt, if◌then◌else◌, List, [], map, take}
 use Rattle.rb_script.specs.declared.limits.TheConstants.{MAX_ARGUMENTS}

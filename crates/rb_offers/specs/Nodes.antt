@@ -1,5 +1,5 @@
 -- How many nodes there would be at a place of a text, by the heads of `add-nodes` up to it: each adds as many as its first word says, and none
--- where they would be too many. (docs/DIRECTIVES.md, "Nodes". The text need be no script.)
+-- where they would be too many. (docs/SCRIPTS.md, "Nodes". The text need be no script.)
 use Rattle.std.specs.Prelude.{ℕ, ◌+◌, ◌-◌, Bool, false, ◌&&◌, not, nat_le, if◌then◌else◌, List, [], ◌∷◌, ◌++◌, codes, take, unwrap_or}
 use Rattle.std.specs.Str.{bytes_eq}
 use Rattle.rb_script.specs.declared.limits.TheConstants.{MAX_ARGUMENTS}

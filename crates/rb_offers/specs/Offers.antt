@@ -1,4 +1,4 @@
--- The words that a head can go on with. (docs/DIRECTIVES.md, by the manual and the lists of values that are made of it.)
+-- The words that a head can go on with. (docs/SCRIPTS.md, by the manual and the lists of values that are made of it.)
 use Rattle.std.specs.Prelude.{ℕ, Bool, ◌&&◌, ◌||◌, if◌then◌else◌, List, [], ◌∷◌, ◌++◌, codes, filter, length, map, take}
 use Rattle.std.specs.List.{list_any}
 use Rattle.std.specs.Str.{bytes_eq}

@@ -1,4 +1,4 @@
--- What an unfinished head goes on with, read as far as it stands. (docs/SCRIPT-FORMAT.md, "The head".)
+-- What an unfinished head goes on with, read as far as it stands. (docs/SCRIPTS.md, "The head".)
 use Rattle.std.specs.Prelude.{ℕ, zero, suc, Bool, if◌then◌else◌, List, [], ◌∷◌, drop, Result, Ok, Err}
 use Rattle.std.specs.Borrow.{Bor}
 use Rattle.rb_script.specs.declared.limits.TheConstants.{MAX_ARGUMENTS}

@@ -1,4 +1,4 @@
--- The words among the arguments of a head, read as far as it stands. (docs/DIRECTIVES.md, "Arguments": a word has no `=`.)
+-- The words among the arguments of a head, read as far as it stands. (docs/SCRIPTS.md, "Directives": a word has no `=`.)
 use Rattle.std.specs.Prelude.{ℕ, zero, suc, ◌+◌, Bool, if◌then◌else◌, List, [], Ok, Err}
 use Rattle.rb_script.specs.Bytes.{equals_sign}
 use Rattle.rb_script.specs.Marks.{is_space}

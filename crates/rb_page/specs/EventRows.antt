@@ -1,4 +1,4 @@
--- What a node shows, as rows. (docs/PAGE.md; the events are this project's.)
+-- What a node shows, as rows. (docs/FORMATS.md; the events are this project's.)
 use Rattle.std.specs.Prelude.{codes, [], ◌∷◌}
 use Rattle.rb_level.specs.MessageTypes.{type_text}
 use Rattle.rb_message.specs.declared.event.Event.{Event}

@@ -1,5 +1,5 @@
 -- What a directive did, as rows: those of the items that it can show. What it shows of nodes that stand as they stood has none, since a page
--- has what changed. (docs/PAGE.md)
+-- has what changed. (docs/FORMATS.md)
 use Rattle.std.specs.Prelude.{ℕ, codes, List, [], ◌∷◌, drop}
 use Rattle.std.specs.List.{flat_map}
 use Rattle.rb_level.specs.declared.directive_error.DirectiveError.{DirectiveError}

@@ -1,4 +1,4 @@
--- Messages as rows. (docs/PAGE.md; the types are named as in etcd raft's documentation, "MessageType".)
+-- Messages as rows. (docs/FORMATS.md; the types are named as in etcd raft's documentation, "MessageType".)
 use Rattle.std.specs.Prelude.{ℕ, Bool, if◌then◌else◌, codes, List, [], ◌∷◌, length}
 use Rattle.rb_level.specs.MessageTypes.{type_text}
 use Rattle.rb_message.specs.declared.kind.MessageKind.{MessageKind}

@@ -1,5 +1,5 @@
 -- Rows, and the JSON text that they are: a list of lists, each of which begins with a name. (RFC 8259; the rows are this project's,
--- docs/PAGE.md.)
+-- docs/FORMATS.md.)
 use Rattle.std.specs.Prelude.{ℕ, List, ◌++◌, codes, decimal}
 use Rattle.std.specs.List.{flat_map}
 use Rattle.rb_texts.specs.Configs.{config_text}

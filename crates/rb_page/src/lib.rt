@@ -1,7 +1,7 @@
 //! The rows of a page, as one JSON text.
 //!
 //! A page shows what a script did, step by step; what it shows stands between its marks as one JSON text: a list of rows, each of a
-//! name and cells that are numbers or texts (docs/PAGE.md). Scripts come from strangers, so nothing of a script may end that text or
+//! name and cells that are numbers or texts (docs/FORMATS.md). Scripts come from strangers, so nothing of a script may end that text or
 //! act in the page: no byte of it is `<`, `>` or `&`, or past ASCII. Writing rows takes no memory; where they are kept first, each is a text.
 #![tactic(auto)]
 

@@ -1,4 +1,4 @@
--- What of a node's log is not as it was, as rows. (docs/PAGE.md.)
+-- What of a node's log is not as it was, as rows. (docs/FORMATS.md.)
 use Rattle.std.specs.Prelude.{ℕ, ◌+◌, ◌-◌, Bool, false, ◌&&◌, ◌==◌, nat_le, if◌then◌else◌, codes, List, [], ◌∷◌, ◌++◌, take}
 use Rattle.std.specs.Cmp.Lexicographic.{pointwise}
 use Rattle.std.specs.List.{common_prefix_len}

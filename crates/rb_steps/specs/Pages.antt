@@ -1,4 +1,4 @@
--- The text of a script's steps. (docs/PAGE.md.)
+-- The text of a script's steps. (docs/FORMATS.md.)
 use Rattle.std.specs.Prelude.{ℕ, codes, List, [], ◌∷◌, ◌++◌}
 use Rattle.std.specs.Borrow.{Bor}
 use Rattle.std.specs.List.{flat_map}

@@ -1,4 +1,4 @@
--- How nodes stand, as rows, and what of that is not as it was. (docs/PAGE.md; the state of a node is that of Ongaro's thesis, figure 3.1,
+-- How nodes stand, as rows, and what of that is not as it was. (docs/FORMATS.md; the state of a node is that of Ongaro's thesis, figure 3.1,
 -- with what etcd's raft adds.)
 use Rattle.std.specs.Prelude.{ℕ, codes, if◌then◌else◌, List, [], ◌∷◌, ◌++◌, length, map, Option, Some, None}
 use Rattle.std.specs.List.{flat_map}

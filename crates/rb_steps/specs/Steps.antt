@@ -1,4 +1,4 @@
--- What the run of a script is, as steps: what a page shows. (docs/PAGE.md.)
+-- What the run of a script is, as steps: what a page shows. (docs/FORMATS.md.)
 use Rattle.std.specs.Prelude.{ℕ, if◌then◌else◌, codes, List, [], ◌∷◌, ◌++◌, length}
 use Rattle.std.specs.List.{flat_map}
 use Rattle.rb_script.specs.Lines.{Line}

@@ -1,6 +1,6 @@
 //! What the run of a script is, step by step, as a page shows it.
 //!
-//! [`steps_of`] runs the directives of a session once more and keeps, as texts of rows (docs/PAGE.md), what stands in the script, what each
+//! [`steps_of`] runs the directives of a session once more and keeps, as texts of rows (docs/FORMATS.md), what stands in the script, what each
 //! directive printed, what it did whatever the level is, and what stands after it that didn't stand so before. So the rows grow with
 //! what happens, and not with nodes times directives. [`put_page`] writes them, and a page around them. Nothing is written before all
 //! memory is there.

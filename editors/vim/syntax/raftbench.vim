@@ -1,5 +1,5 @@
 " Vim syntax file
-" Language: scripts of raftbench (docs/SCRIPT-FORMAT.md and docs/DIRECTIVES.md)
+" Language: scripts of raftbench (docs/SCRIPTS.md)
 "
 " A script is blocks: lead lines, a head, lines of input, a line ----, and an expectation, which is plain, up to an empty line,
 " or double, between a line ---- and a pair of them.
