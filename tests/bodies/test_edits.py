@@ -10,10 +10,22 @@ BODIES = TESTS / "bodies"
 MANY = 1_000
 
 
+def owners_in(text: str) -> set[str]:
+    """What a check calls the types that a file declares, and its impls of traits: the type's name, and behind it the trait's."""
+    impls = re.findall(r"(?m)^impl(?:<[^{]*?>)? (\w+)(?:<(\w+)[^{]*?>)? for &?(\w)(\w*)", text)
+    return {*re.findall(r"\b(?:struct|enum|trait) (\w+)", text)} | {f"{first.upper()}{rest}{it}" for trait, of, first, rest in impls for it in (trait, trait + of)}
+
+
 def has_function(crate: Crate, path: str) -> bool:
-    """Whether a crate has the function of a path: its name is in the module's file."""
-    name = path.rpartition("::")[2]
-    return any(found[2] == name for file in (crate.folder / "src").rglob("*.rt") for found in HEAD.finditer(file.read_text()))
+    """Whether a crate has the function of a path as a check prints it: one of a type is named by the module that declares the type."""
+    *modules, name = path.split("::")
+    owner = modules.pop() if modules and modules[-1][0].isupper() else ""
+    file = crate.folder / "src" / ("/".join(modules or ["lib"]) + ".rt")
+    if not file.exists() or owner and owner not in owners_in(file.read_text()):
+        return False
+    # A type's functions may stand in other files.
+    files = (crate.folder / "src").rglob("*.rt") if owner else [file]
+    return any(found[2] == name for it in files for found in HEAD.finditer(it.read_text()))
 
 
 def problems_of(edit: Edit | BadEdit, crate: Crate) -> Iterator[str]:

@@ -10,7 +10,7 @@ use clap::{Arg, ArgAction, Command};
 use std::alloc::{AllocError, Global};
 
 /// What `--version` shows behind the program's name: its version, and the toolchain that it was proved with.
-pub const VERSION: &str = "0.1.0, proved with rattle-kit-13f logic dac8208d650f15bf";
+pub const VERSION: &str = "0.2.0, proved with rattle-kit-13f logic dac8208d650f15bf";
 
 // A command, where there was memory for it.
 type Made<'a> = Result<Command<'a>, AllocError>;
