@@ -15,6 +15,7 @@ sys.dont_write_bytecode = True
 sys.path[:1] = [str(pathlib.Path(__file__).resolve().parents[2])]
 
 from plain.cluster import Cluster  # noqa: E402
+from plain.node import Node  # noqa: E402
 from plain.script import Directive, read_script, read_with_lines  # noqa: E402
 from plain.texts import body_text, config_text  # noqa: E402
 from tests.page.plain_difference import difference_rows
@@ -125,7 +126,9 @@ class Watched(Cluster):
 
     def put_changes(self, id: int) -> None:
         """What of a node is not as it was when this was asked last."""
-        self.rows += self.kept.setdefault(id, Kept()).rows(self.nodes[id])
+        node = self.nodes[id]
+        assert isinstance(node, Node)
+        self.rows += self.kept.setdefault(id, Kept()).rows(node)
 
     def put_changes_of_event(self, id: int) -> None:
         if self.format == EVENTS_TOO:
@@ -186,13 +189,13 @@ class Kept:
         self.entries: list[Entry] = []
         self.views: dict[int, list[Any]] = {}
 
-    def rows(self, node: AnyNode) -> Iterator[Row]:
+    def rows(self, node: Node) -> Iterator[Row]:
         """What of a node is not as it was."""
         yield from self.number_rows(node)
         yield from self.view_rows(node)
         yield from self.log_rows(node)
 
-    def number_rows(self, node: AnyNode) -> Iterator[Row]:
+    def number_rows(self, node: Node) -> Iterator[Row]:
         if numbers_of(node) != self.numbers:
             self.numbers = numbers_of(node)
             yield ["node", node.id, *self.numbers]
@@ -200,20 +203,19 @@ class Kept:
             self.config = config_text(node.config)
             yield ["config", node.id, self.config]
 
-    def log_rows(self, node: AnyNode) -> Iterator[Row]:
+    def log_rows(self, node: Node) -> Iterator[Row]:
         """The new base, and up to which index the entries stay; those behind it follow."""
         old_base = self.base[1] if self.base else 0
         old = self.entries[max(0, node.base - old_base):] if old_base <= node.base else []
-        entries = [entry for _, entry in node.entries_from(node.base + 1)]
-        stays = node.base + common(old, entries)
+        stays = node.base + common(old, node.entries)
         base = (node.base_term, node.base)
-        if base != self.base or stays < node.base + len(entries) or stays < old_base + len(self.entries):
+        if base != self.base or stays < node.last() or stays < old_base + len(self.entries):
             yield ["log", node.id, *base, stays]
             for index, entry in node.entries_from(stays + 1):
                 yield entry_row("entry", index, entry)
-        self.base, self.entries = base, entries
+        self.base, self.entries = base, list(node.entries)
 
-    def view_rows(self, node: AnyNode) -> Iterator[Row]:
+    def view_rows(self, node: Node) -> Iterator[Row]:
         views = {id: view_cells(view) for id, view in node.views.items()}
         for id in sorted(views):
             if views[id] != self.views.get(id):
