@@ -6,7 +6,7 @@ from tests.cases.case import scripts_below
 from tests.harness import TESTS
 
 # A longer script takes a node behind the protocol more than a minute.
-MOST_BYTES = 200_000
+MOST_BYTES = 70_000
 
 def write_scripts(room: pathlib.Path) -> None:
     """Writes the scripts of tests/cases that can be read, but the longest, into a folder."""
