@@ -4,8 +4,8 @@
 mod editing;
 
 use crate::editing::serve_editor;
-use rb_args::{Choice, Subcommand, chosen};
-use rb_check::{Status, status_code};
+use rb_args::{CommandChoice, Subcommand, chosen};
+use rb_check::Status;
 use rb_program::{Misuse, Refusal, Terminals, carry_out, check_all, show_directives};
 use std::io::{IsTerminal, Write};
 use std::process::ExitCode;
@@ -22,7 +22,7 @@ fn main(rt: HostRuntime) -> ExitCode {
     };
     let code = match answered(&rt, errors, terminals) {
         Ok(code) => code,
-        Err(refusal) => status_code(refusal.tell(&rt, terminals.errors)),
+        Err(refusal) => u8::from(refusal.tell(&rt, terminals.errors)),
     };
     ExitCode::from(code)
 }
@@ -47,12 +47,12 @@ fn answered<R: Files + Input + Print + Env + Clock + AllocGlobal, E: Write + Dro
 
 fn coded(ended: Result<Status, Refusal>) -> Result<u8, Refusal> {
     match ended {
-        Ok(status) => Ok(status_code(status)),
+        Ok(status) => Ok(u8::from(status)),
         Err(refusal) => Err(refusal),
     }
 }
 
-fn choose<R: Env + AllocGlobal>(rt: &R) -> Result<Choice, Refusal> {
+fn choose<R: Env + AllocGlobal>(rt: &R) -> Result<CommandChoice, Refusal> {
     let words: Vec<String> = match env::args(rt) {
         Ok(args) => args.collect(rt.alloc())?,
         Err(error) if error.kind() == io::ErrorKind::InvalidData => {

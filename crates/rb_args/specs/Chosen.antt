@@ -8,7 +8,7 @@ use Rattle.rb_args.specs.declared.choice.Subcommand.{Subcommand}
 use Rattle.rb_args.specs.declared.choice.Subcommand.TheVariants.{Check, Directives, Lsp, Script}
 use Rattle.rb_args.specs.declared.choice.ScriptCommand.{ScriptCommand}
 use Rattle.rb_args.specs.declared.choice.ScriptCommand.TheVariants.{Run, Rewrite, Session, Look, Page, Chart}
-use Rattle.rb_args.specs.declared.choice.Choice.{Choice}
+use Rattle.rb_args.specs.declared.choice.CommandChoice.{CommandChoice}
 use Rattle.rb_args.specs.declared.choice.CheckChoice.{CheckChoice}
 use Rattle.rb_args.specs.declared.choice.ChoiceFault.{ChoiceFault}
 use Rattle.rb_args.specs.declared.choice.ChoiceFault.TheVariants.{Refused, OutOfMemory}
@@ -59,7 +59,7 @@ pub record IsCheckOf (rows : Option (List Row)) (check : CheckChoice) : Type 0 w
   pub explains : check.explains ≡ is_set (option_and_then (first_of (codes "why")) rows)
 
 -- the subcommand that was met, and the values of its FILE, its NAME, its --every and its --until; and what is said to `check`
-pub record IsChoiceOf (met : Option (Text × List Row)) (choice : Choice) : Type 0 where
+pub record IsChoiceOf (met : Option (Text × List Row)) (choice : CommandChoice) : Type 0 where
   pub subcommand : choice.subcommand ≡ option_and_then (λ p. named_by p.0) met
   pub file : option_map string_bytes choice.file ≡ option_and_then (λ p. first_of (codes "file") p.1) met
   pub name : option_map string_bytes choice.name ≡ option_and_then (λ p. first_of (codes "name") p.1) met

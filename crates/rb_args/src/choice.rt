@@ -33,7 +33,7 @@ pub enum ScriptCommand {
 }
 
 /// What the arguments choose. What they don't give is `None`.
-pub struct Choice {
+pub struct CommandChoice {
     /// The subcommand.
     pub subcommand: Option<Subcommand>,
     /// Its FILE, or of `look` its FILE:LINE, as it was given.
@@ -49,9 +49,9 @@ pub struct Choice {
 }
 
 // Written out, as that of what is said to `check`: so giving one back is a call wherever it is owned, and is proved here alone.
-impl Drop for Choice {
+impl Drop for CommandChoice {
     fn drop(self) {
-        let Choice {
+        let CommandChoice {
             subcommand: _,
             file: _,
             name: _,
@@ -59,6 +59,25 @@ impl Drop for Choice {
             until: _,
             check: _,
         } = self;
+    }
+}
+
+impl CommandChoice {
+    ghost use Rattle.std.specs.Prelude.{◌≡◌};
+
+    /// The subcommand, its FILE, and the text of its `--every`.
+    pub fn into_run(self) -> (Option<Subcommand>, Option<String>, Option<String>)
+        ensures { result ≡ (self.subcommand, self.file, self.every) }
+    {
+        let CommandChoice {
+            subcommand,
+            file,
+            name: _,
+            every,
+            until: _,
+            check: _,
+        } = self;
+        (subcommand, file, every)
     }
 }
 

@@ -6,7 +6,7 @@ ghost use Rattle.rb_args.specs.CommandLine.{command_line};
 ghost use Rattle.rb_args.specs.Chosen.{IsCheckOf, IsChoiceOf, IsRefusal, RefusedFor, is_set, named_by, of_one_script, of_one_view};
 
 use crate::commands::raftbench_command;
-use crate::{CheckChoice, Choice, ChoiceFault, ScriptCommand, Subcommand};
+use crate::{CheckChoice, ChoiceFault, CommandChoice, ScriptCommand, Subcommand};
 use clap::error::ErrorKind;
 use clap::{ArgMatches, Error};
 use std::alloc::{AllocError, Global};
@@ -18,7 +18,7 @@ use std::convert::AsStr;
 ///
 /// `Refused` with `clap`'s error where it refuses the arguments, and where they ask for help. `OutOfMemory` where
 /// memory was refused, to `clap` too.
-pub fn chosen<S: AsStr>(alloc: Global, words: &[S]) -> Result<Choice, ChoiceFault>
+pub fn chosen<S: AsStr>(alloc: Global, words: &[S]) -> Result<CommandChoice, ChoiceFault>
     // Only arguments without a fault have a choice, and it is that of their matches.
     ensures ok { IfOk result (λ choice. (fault_of command_line (map S.text words.now) ≡ [])
         × IsChoiceOf (subcommand_of command_line (map S.text words.now)) choice) }
@@ -50,7 +50,7 @@ fn refusal(error: Error) -> ChoiceFault
     }
 }
 
-fn choice_of(alloc: Global, matches: &ArgMatches<'_>) -> Result<Choice, AllocError>
+fn choice_of(alloc: Global, matches: &ArgMatches<'_>) -> Result<CommandChoice, AllocError>
     ensures { IfOk result (IsChoiceOf (subcommand_rows_of matches.now)) }
 {
     let Some((name, inner)) = matches.subcommand() else {
@@ -59,7 +59,7 @@ fn choice_of(alloc: Global, matches: &ArgMatches<'_>) -> Result<Choice, AllocErr
     given(alloc, name, inner)
 }
 
-fn no_choice(alloc: Global) -> Choice
+fn no_choice(alloc: Global) -> CommandChoice
     ensures { IsChoiceOf None result }
 {
     let check = CheckChoice {
@@ -77,7 +77,7 @@ fn no_choice(alloc: Global) -> Choice
         is_quiet: false,
         explains: false,
     };
-    Choice {
+    CommandChoice {
         subcommand: None,
         file: None,
         name: None,
@@ -88,11 +88,11 @@ fn no_choice(alloc: Global) -> Choice
 }
 
 // What the subcommand of this name is given.
-fn given(alloc: Global, name: &str, inner: &ArgMatches<'_>) -> Result<Choice, AllocError>
+fn given(alloc: Global, name: &str, inner: &ArgMatches<'_>) -> Result<CommandChoice, AllocError>
     ensures { IfOk result (IsChoiceOf (Some (name.now, rows_of (found_of inner.now)))) }
 {
     let check = check_choice(alloc, inner)?;
-    let mut choice = Choice {
+    let mut choice = CommandChoice {
         subcommand: named_by(name),
         file: None,
         name: None,

@@ -12,6 +12,6 @@ mod choosing;
 mod commands;
 mod table;
 
-pub use choice::{CheckChoice, Choice, ChoiceFault, ScriptCommand, Subcommand};
+pub use choice::{CheckChoice, ChoiceFault, CommandChoice, ScriptCommand, Subcommand};
 pub use choosing::chosen;
 pub use commands::VERSION;

@@ -16,7 +16,7 @@ use Rattle.rb_bench.specs.declared.command.Command.TheVariants as commands
 use Rattle.rb_bench.specs.Commands.{command_of}
 use Rattle.rb_replay.specs.Run.{state, outputs}
 use Rattle.rb_replay.specs.Report.{mismatches}
-use Rattle.rb_replay.specs.Holding.{Holding, IsFresh}
+use Rattle.rb_replay.specs.Holding.{Holding, IsOneRun}
 use Rattle.rb_replay.specs.Reuse.{Change, IsFirstMeeting, ReusesIf, change_of, start, stop, points_after}
 use Rattle.rb_check.specs.declared.status.Status.{Status}
 use Rattle.rb_bench.specs.Responses.{Says, IsDone, AnswersMade, AnswersBlock, AnswersCommand, edit_of, done}
@@ -48,13 +48,13 @@ reused_once (Some c) old m n ps qs one other =
 abbrev fresh_of : PlainScript → ℕ → List ℕ → Holding
 fresh_of s spacing points = record { script = s; spacing = spacing; outputs = outputs s; mismatches = mismatches s; points = points; kept = map (state s) points }
 
-fresh_is : (h : Holding) → IsFresh h → h ≡ fresh_of h.script h.spacing h.points
+fresh_is : (h : Holding) → IsOneRun h → h ≡ fresh_of h.script h.spacing h.points
 fresh_is h f = let answered = f.answered in let compared = f.compared in let states = f.states in
     ap (λ o. record { script = h.script; spacing = h.spacing; outputs = o; mismatches = h.mismatches; points = h.points; kept = h.kept }) answered
     ∙ ap (λ m. record { script = h.script; spacing = h.spacing; outputs = outputs h.script; mismatches = m; points = h.points; kept = h.kept }) compared
     ∙ ap (λ k. record { script = h.script; spacing = h.spacing; outputs = outputs h.script; mismatches = mismatches h.script; points = h.points; kept = k }) states
 
-held_once : (g h : Holding) → IsFresh g → IsFresh h → g.script ≡ h.script → g.spacing ≡ h.spacing → g.points ≡ h.points → g ≡ h
+held_once : (g h : Holding) → IsOneRun g → IsOneRun h → g.script ≡ h.script → g.spacing ≡ h.spacing → g.points ≡ h.points → g ≡ h
 held_once g h f e s k p =
     fresh_is g f ∙ ap (λ t. fresh_of t g.spacing g.points) s ∙ ap (λ t. fresh_of h.script t g.points) k ∙ ap (λ t. fresh_of h.script h.spacing t) p ∙ sym (fresh_is h e)
 
@@ -63,10 +63,10 @@ made_once made s t e f = let same : Ok s ≡ Ok t = sym e ∙ f in cc
 
 -- what is answered, and the session after it
 abbrev IsOne : Holding → List ℕ → Holding → List ℕ → Holding → Type 0
-IsOne h answer after other next = (answer ≡ other) × (after ≡ next) × (IsFresh h → IsFresh after)
+IsOne h answer after other next = (answer ≡ other) × (after ≡ next) × (IsOneRun h → IsOneRun after)
 
 says_once : (h : Holding) (text answer : List ℕ) (after : Holding) (other : List ℕ) (next : Holding) → Says text h answer after → Says text h other next → IsOne h answer after other next
-says_once h text answer after other next a b = (a.0 ∙ sym b.0, a.1 ∙ sym b.1, λ f. subst IsFresh (sym a.1) f)
+says_once h text answer after other next a b = (a.0 ∙ sym b.0, a.1 ∙ sym b.1, λ f. subst IsOneRun (sym a.1) f)
 
 done_once : (h : Holding) (edit : Edit) (answer : List ℕ) (after : Holding) (other : List ℕ) (next : Holding) → IsDone h edit answer after → IsDone h edit other next → IsOne h answer after other next
 done_once h edit answer after other next a b =
@@ -151,7 +151,7 @@ ends_once h (line ∷ ls) text other status end (inr a, s) (inl b, t) = absurd (
 
 -- ---- exchange after exchange
 
-one_text : (h : Holding) (xs ys : List Exchange) (last end : Holding) (rest left : List Line) (text other : List ℕ) (status code : Status) → IsFresh h → Converses h xs last → Converses h ys end
+one_text : (h : Holding) (xs ys : List Exchange) (last end : Holding) (rest left : List Line) (text other : List ℕ) (status code : Status) → IsOneRun h → Converses h xs last → Converses h ys end
     → flat_map taken xs ++ rest ≡ flat_map taken ys ++ left → refusals xs ≡ refusals ys → Ends last rest text status → Ends end left other code
     → (flat_map answer_of xs ++ text ≡ flat_map answer_of ys ++ other) × (status ≡ code)
 one_text h [] [] last end rest left text other status code f c d e m a b =
@@ -175,7 +175,7 @@ one_text h (x ∷ xs) (y ∷ ys) last end rest left text other status code f (r,
       codes,
     )
 
-pub talks_once : (first : Holding) (ls : List Line) (text other : List ℕ) (status code : Status) (one : Talks first ls text status) (two : Talks first ls other code) → IsFresh first → refusals one.begins.exchanges ≡ refusals two.begins.exchanges → (text ≡ other) × (status ≡ code)
+pub talks_once : (first : Holding) (ls : List Line) (text other : List ℕ) (status code : Status) (one : Talks first ls text status) (two : Talks first ls other code) → IsOneRun first → refusals one.begins.exchanges ≡ refusals two.begins.exchanges → (text ≡ other) × (status ≡ code)
 talks_once first ls text other status code one two f m =
     let (texts, codes) = one_text first one.begins.exchanges two.begins.exchanges one.last two.last one.rest two.rest one.ending two.ending status code f one.begins.converses two.begins.converses
     (sym one.begins.lines_are ∙ two.begins.lines_are) m one.ends two.ends in

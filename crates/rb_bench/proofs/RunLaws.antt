@@ -46,9 +46,9 @@ is_began script every h a =
     let s = h.script in
     let points = start_points every (length s.blocks) in
     ap (λ (x : ℕ). held s x h.outputs h.mismatches h.points h.kept) a.spacing
-    ∙ ap (λ (x : List (List Line)). held s every x h.mismatches h.points h.kept) a.fresh.answered
-    ∙ ap (λ (x : List ℕ). held s every (outputs s) x h.points h.kept) a.fresh.compared
-    ∙ ap (λ (x : List Cluster). held s every (outputs s) (mismatches s) h.points x) a.fresh.states
+    ∙ ap (λ (x : List (List Line)). held s every x h.mismatches h.points h.kept) a.fresh.run.answered
+    ∙ ap (λ (x : List ℕ). held s every (outputs s) x h.points h.kept) a.fresh.run.compared
+    ∙ ap (λ (x : List Cluster). held s every (outputs s) (mismatches s) h.points x) a.fresh.run.states
     ∙ ap (λ (x : List ℕ). held s every (outputs s) (mismatches s) x (map (state s) x)) a.points
 
 pub started_once : (script : List ℕ) (every : ℕ) (first other : Holding) → IsStarted script every first → IsStarted script every other → first ≡ other

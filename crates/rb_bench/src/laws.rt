@@ -8,7 +8,7 @@ ghost use Rattle.rb_script.specs.Lines.{Line};
 ghost use Rattle.rb_script.specs.Script.{PlainScript};
 ghost use Rattle.rb_script.specs.Reads.{Reads};
 ghost use Rattle.rb_script.specs.Writes.{AppendsFront};
-ghost use Rattle.rb_replay.specs.Holding.{Holding, IsFresh};
+ghost use Rattle.rb_replay.specs.Holding.{Holding, IsFresh, IsOneRun};
 ghost use Rattle.rb_replay.specs.After.{Answered, Leads, after};
 ghost use Rattle.rb_bench.specs.Talk.{Exchange, Converses, Talks, refusals};
 ghost use Rattle.rb_bench.specs.Made.{AreMade};
@@ -34,7 +34,7 @@ pub fn conversations_answer_as_one_run()
 /// A conversation has one text and one status: over the same lines, from the same session, and where memory refuses the
 /// same commands.
 pub fn conversations_are_one()
-    ensures { (first : Holding) (ls : List Line) (text other : List ℕ) (status code : Status) (one : Talks first ls text status) (two : Talks first ls other code) → IsFresh first
+    ensures { (first : Holding) (ls : List Line) (text other : List ℕ) (status code : Status) (one : Talks first ls text status) (two : Talks first ls other code) → IsOneRun first
         → refusals one.begins.exchanges ≡ refusals two.begins.exchanges → (text ≡ other) × (status ≡ code) }
 {}
 

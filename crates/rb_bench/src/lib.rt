@@ -7,6 +7,7 @@
 //! [`Command::Blank`]: there is no failure, and nothing is allocated.
 #![tactic(auto)]
 
+mod choosing;
 mod command;
 mod fault;
 mod gather;
@@ -23,6 +24,7 @@ mod send;
 mod session;
 mod starting;
 
+pub use choosing::{Choice, chosen};
 pub use command::{Command, Purpose, command_of};
 pub use fault::BenchFault;
 pub use laws::{
@@ -32,5 +34,7 @@ pub use laws::{
 pub use limits::{MAX_GIVEN, MAX_READS, USUAL_SPACING, limits_are};
 pub use names::{edit_fault_name, script_fault_name};
 pub use outlet::Outlet;
+pub use rb_args::ChoiceFault;
+pub use rb_check::Status;
 pub use running::{Mode, run_bytes, run_over};
 pub use session::serve;

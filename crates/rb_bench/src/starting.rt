@@ -4,7 +4,7 @@ ghost use Rattle.std.specs.Prelude.{◌≡◌, ◌≢◌, ◌↔◌, Err, true, 
 ghost use Rattle.rb_script.specs.Script.{PlainScript};
 ghost use Rattle.rb_script.specs.Reads.{Reads};
 ghost use Rattle.rb_script.specs.Reading.{read_of, early_fault};
-ghost use Rattle.rb_replay.specs.Holding.{IsFresh};
+ghost use Rattle.rb_replay.specs.Holding.{IsOneRun};
 ghost use Rattle.rb_replay.specs.Start.{is_spacing};
 ghost use Rattle.rb_bench.specs.Faults.{TellsFault};
 ghost use Rattle.rb_bench.specs.Serves.{IsStarted};
@@ -38,7 +38,7 @@ pub(crate) fn started(alloc: Global, bytes: &[u8], every: u64) -> Result<BenchSe
 /// A session on the script of the bytes that keeps no cluster, since nobody edits it.
 pub(crate) fn run_once(alloc: Global, bytes: &[u8]) -> Result<BenchSession, BenchFault>
     ensures script { IfOk result (λ s. Reads bytes.now s.script) }
-    ensures fresh { IfOk result IsFresh }
+    ensures run { IfOk result IsOneRun }
     // What is a script is refused for want of memory alone.
     ensures only { (s : PlainScript) → Reads bytes.now s → IfErr result (λ fault. fault ≡ BenchFault.OutOfMemory) }
     ensures refused { IfErr result (λ fault. TellsFault fault (read_of bytes.now)) }

@@ -53,7 +53,7 @@ pub use mismatch::{put_directive, put_mismatch, put_note, put_told_mismatch};
 pub use outcome::Outcome;
 pub use refusal::{fault_line, put_refusal, sentence};
 pub use side::Side;
-pub use status::{Status, status_code};
+pub use status::Status;
 pub use steps::{put_run, put_told_run};
 pub use table::{MAX_CELLS, Table};
 pub use totals::{Totals, put_totals};

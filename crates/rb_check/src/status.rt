@@ -21,15 +21,17 @@ pub enum Status {
 }
 
 /// The number that stands for the status.
-pub fn status_code(status: Status) -> u8
-    ensures { result ≡ code_of status }
-{
-    match status {
-        Status::Matched => 0,
-        Status::Mismatched => 1,
-        Status::BadUsage => 2,
-        Status::Refused => 3,
-        Status::Failed => 4,
-        Status::OutOfMemory => 5,
+impl From<Status> for u8 {
+    ghost from_gives = { λ status code. code ≡ code_of status };
+
+    fn from(status: Status) -> u8 {
+        match status {
+            Status::Matched => 0,
+            Status::Mismatched => 1,
+            Status::BadUsage => 2,
+            Status::Refused => 3,
+            Status::Failed => 4,
+            Status::OutOfMemory => 5,
+        }
     }
 }

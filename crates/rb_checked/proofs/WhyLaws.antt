@@ -14,7 +14,7 @@ use Rattle.rb_check.proofs.AddedLaws.{Adds, as_it_is, both_add, either_adds, add
 use Rattle.rb_checked.specs.declared.view.Shown.{Shown}
 use Rattle.rb_checked.specs.declared.view.Shown.TheVariants as shown
 use Rattle.rb_checked.specs.Checked.{head_of, hint_of, head_line, match_shown, mismatch_shown, all_shown, mismatch_at, brief_at, of_first, checked_text}
-use Rattle.rb_checked.specs.Whys.{is_reason, or_nothing, first_reason, reasons_below, why_at, told_differing, told_match, told_directive, all_told, told_at, told_text}
+use Rattle.rb_checked.specs.Whys.{why_at, told_differing, told_match, told_directive, all_told, told_at, told_text}
 use Rattle.rb_checked.proofs.EachLaws.{more, done}
 use Rattle.rb_checked.proofs.ShownLaws.{head_line-is}
 
@@ -92,31 +92,3 @@ told-adds shown.Differing colors ls path whys heads s = all-add false colors ls 
 told-adds shown.All colors ls path whys heads s = all-add true colors ls path whys 0 heads s.blocks (outputs s)
 told-adds shown.First colors ls path whys heads s = first-adds colors path whys heads s (mismatches s)
 told-adds shown.Brief colors ls path whys heads s = as_it_is (of_first (brief_at path heads s) (mismatches s))
-
--- ---- the reasons of an output
-
-pub first_there : (ls : List Line) (at : ℕ) (line : Line) → slice_get ls at ≡ Some line → or_nothing line ≡ first_reason (drop at ls)
-first_there ls at line got = sym (ap (λ (l : List Line). first_reason l) (drop-get ls at line got))
-
-pub first_past : (ls : List Line) (at : ℕ) → length ls ≤ at → [] ≡ first_reason (drop at ls)
-first_past ls at past = sym (ap (λ (l : List Line). first_reason l) (drop_all at ls past))
-
--- the line at a place, and what is behind it
-below-step : (ls : List Line) (at : ℕ) (line : Line) → slice_get ls at ≡ Some line
-    → reasons_below (drop at ls) ≡ cond (is_reason line) (reasons_below (drop (at + 1) ls)) (first_reason (drop (at + 1) ls) ∷ reasons_below (drop (at + 1) ls))
-below-step ls at line got = ap (λ (l : List Line). reasons_below l) (drop-get ls at line got)
-
-pub below-reason : (ls had : List Line) (at : ℕ) (line : Line) → slice_get ls at ≡ Some line → is_reason line ≡ true → had ++ reasons_below (drop (at + 1) ls) ≡ had ++ reasons_below (drop at ls)
-below-reason ls had at line got is =
-    ap (λ (l : List Line). had ++ l) (sym (below-step ls at line got ∙ ap (λ (t : Bool). cond t (reasons_below (drop (at + 1) ls)) (first_reason (drop (at + 1) ls) ∷ reasons_below (drop (at + 1) ls))) is))
-
-pub below-line : (ls had has : List Line) (at : ℕ) (line reason : Line) → slice_get ls at ≡ Some line → is_reason line ≡ false → reason ≡ first_reason (drop (at + 1) ls) → has ≡ had ++ reason ∷ []
-    → has ++ reasons_below (drop (at + 1) ls) ≡ had ++ reasons_below (drop at ls)
-below-line ls had has at line reason got is first added =
-    let rest = reasons_below (drop (at + 1) ls) in
-    more had (reason ∷ []) rest (reasons_below (drop at ls)) has (had ++ reasons_below (drop at ls)) added
-    (below-step ls at line got ∙ ap (λ (t : Bool). cond t rest (first_reason (drop (at + 1) ls) ∷ rest)) is ∙ ap (λ (r : Line). r ∷ rest) (sym first)) refl
-
--- all lines were looked at
-pub below-done : (ls has all : List Line) (at : ℕ) → length ls ≤ at → has ++ reasons_below (drop at ls) ≡ all → has ≡ all
-below-done ls has all at past so_far = done has (reasons_below (drop at ls)) all (ap reasons_below (drop_all at ls past)) so_far

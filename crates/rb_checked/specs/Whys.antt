@@ -1,63 +1,75 @@
 -- Why nothing came of messages, below the lines of the outputs that they belong to: what `check` shows of a script where reasons are asked for.
 -- (This project's.)
-use Rattle.std.specs.Prelude.{ℕ, ◌+◌, ◌-◌, Bool, true, false, ◌||◌, if◌then◌else◌, List, [], ◌∷◌, ◌++◌, map, take, codes, slice_get, slice_index_or, unwrap_or}
-use Rattle.std.specs.Str.{bytes_eq}
+use Rattle.std.specs.Prelude.{ℕ, ◌+◌, ◌-◌, Bool, true, false, fold, if◌then◌else◌, List, [], ◌∷◌, ◌++◌, Option, Some, None, slice_get, slice_index_or, unwrap_or}
+use Rattle.std.specs.Option.{option_or}
+use Rattle.rb_level.specs.declared.level.Level.{Level}
 use Rattle.rb_script.specs.Lines.{Line}
 use Rattle.rb_script.specs.Directive.{PlainDirective}
 use Rattle.rb_script.specs.Script.{PlainBlock, PlainScript}
 use Rattle.rb_script.specs.Edits.{block_at_place}
+use Rattle.rb_texts.specs.declared.reason.Reason.{Reason}
+use Rattle.rb_texts.specs.Items.{PlainItem}
+use Rattle.rb_texts.specs.Reasons.{reason_of, reason_line}
+use Rattle.rb_texts.specs.Texts.{is_shown}
 use Rattle.rb_machine.specs.Cluster.{Cluster, empty}
-use Rattle.rb_machine.specs.Outcome.{outcome, explanation}
+use Rattle.rb_machine.specs.Outcome.{Execution, execution, outcome}
 use Rattle.rb_replay.specs.Run.{directives, outputs}
 use Rattle.rb_replay.specs.Report.{same_lines, mismatches}
 use Rattle.rb_check.specs.declared.colors.Colors.{Colors}
 use Rattle.rb_check.specs.Whys.{told_mismatch, told_run}
+use Rattle.rb_checked.specs.declared.reasons.LineReasons.{LineReasons}
 use Rattle.rb_checked.specs.declared.view.Shown.{Shown}
 use Rattle.rb_checked.specs.declared.view.Shown.TheVariants as shown
 use Rattle.rb_checked.specs.Checked.{head_of, hint_of, match_shown, head_line, brief_at, of_first}
 
 -- ---- what a script's reasons are
 
-abbrev pub begins_ignored : Line → Bool
-begins_ignored line = bytes_eq (take 11 line) (codes "  ignored: ")
+-- the reason below a line; an empty one is none
+abbrev pub last_reason : Level → Option Reason → List Line
+last_reason level None = [] ∷ []
+last_reason level (Some reason) = reason_line level reason
 
-abbrev pub begins_refused : Line → Bool
-begins_refused line = bytes_eq (take 11 line) (codes "  refused: ")
+abbrev pub at_level : LineReasons → Level → LineReasons
+at_level r level = record r { level = level }
 
--- a line that is a reason, and none of an output
-abbrev pub is_reason : Line → Bool
-is_reason line = begins_ignored line || begins_refused line
+-- the reasons below all lines, in order
+abbrev pub all_reasons : LineReasons → List Line
+all_reasons r = if r.has_begun then r.above ++ last_reason r.level r.last else r.above
 
-abbrev pub or_nothing : Line → Line
-or_nothing line = if is_reason line then line else []
+-- a line is printed
+abbrev pub below_line : LineReasons → LineReasons
+below_line r = record r { above = all_reasons r; has_begun = true; last = None }
 
--- the reason that stands first, where one does
-abbrev pub first_reason : List Line → Line
-first_reason [] = []
-first_reason (line ∷ ls) = or_nothing line
+-- a reason is told: it stands below the last line, unless another does
+abbrev pub below_reason : LineReasons → Reason → LineReasons
+below_reason r reason = record r { has_begun = true; last = option_or r.last (Some reason) }
 
--- of lines with reasons between, what stands below each that is none
-abbrev pub reasons_below : List Line → List Line
-reasons_below [] = []
-reasons_below (line ∷ ls) = if is_reason line then reasons_below ls else (first_reason ls ∷ reasons_below ls)
+abbrev pub told : LineReasons → Option Reason → LineReasons
+told r None = r
+told r (Some reason) = below_reason r reason
 
--- A reason that stands before all lines is that of the first line of the output: nothing else was printed, so that is `ok`.
-abbrev pub leading_reason : List Line → List Line
-leading_reason [] = []
-leading_reason (line ∷ ls) = if is_reason line then line ∷ [] else []
+abbrev pub with_item : LineReasons → PlainItem → LineReasons
+with_item r item = told (if is_shown r.level item then below_line r else r) (reason_of item)
 
--- the reason below each line of an output, by its lines with reasons between; an empty one is none
-abbrev pub reasons_of : List Line → List Line
-reasons_of explained = leading_reason explained ++ reasons_below explained
+-- nothing has happened yet
+abbrev pub no_reasons : Level → LineReasons
+no_reasons level = record { level = level; above = []; has_begun = false; last = None }
 
--- what directives print with reasons, one after another
-abbrev pub explanations : Cluster → List PlainDirective → List (List Line)
-explanations c [] = []
-explanations c (d ∷ ds) = explanation c d ∷ explanations (outcome c d).cluster ds
+-- The reasons below the lines of what happens. One before all lines is that of the first, which is `ok` then.
+abbrev pub reasons_at : Level → List PlainItem → List Line
+reasons_at level items = all_reasons (fold with_item (no_reasons level) items)
+
+abbrev pub reasons_of : Execution → List Line
+reasons_of e = reasons_at e.level e.items
+
+-- those of directives, one after another
+abbrev pub whys_from : Cluster → List PlainDirective → List (List Line)
+whys_from c [] = []
+whys_from c (d ∷ ds) = reasons_of (execution c d) ∷ whys_from (outcome c d).cluster ds
 
 -- the reasons of each directive's output
 abbrev pub whys_of : PlainScript → List (List Line)
-whys_of s = map reasons_of (explanations empty (directives s))
+whys_of s = whys_from empty (directives s)
 
 -- ---- what is shown
 

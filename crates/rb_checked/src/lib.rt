@@ -35,7 +35,7 @@ pub use laws::{
 };
 pub use layout::{Layout, layout_of};
 pub use put::{is_quiet, is_same, put_checked, put_left_errors, put_one_mismatch};
-pub use reasons::reasons_of;
+pub use reasons::LineReasons;
 pub use told::Told;
 pub use view::{Shown, View};
 pub use wanted::{Picked, Wanted, is_picked};

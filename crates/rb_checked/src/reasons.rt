@@ -1,87 +1,117 @@
-//! The reasons of an output, by what its directive prints with reasons between.
+//! The reasons of an output: why nothing came of a message, below the line of it that was printed last.
 
-ghost use Rattle.std.specs.Prelude.{◌≡◌, ◌<◌, ◌+◌, ◌++◌, drop, length, IfOk, OnOk};
-ghost use Rattle.rb_checked.specs.Whys.{begins_ignored, begins_refused, is_reason, or_nothing, first_reason, reasons_below, leading_reason, reasons_of, why_at};
+ghost use Rattle.std.specs.Prelude.{◌≡◌, ◌++◌, [], IfOk, OnOk, None, false};
+ghost use Rattle.rb_texts.specs.declared.reason.Reason.{Reason};
 ghost use Rattle.rb_check.specs.Whys.{reasons_in};
+ghost use Rattle.rb_checked.specs.Whys.{last_reason, all_reasons, below_line, below_reason, why_at};
 
 use rb_check::Why;
+use rb_level::Level;
+use rb_machine::Observer;
 use rb_script::Lines;
+use rb_texts::{Item, Reason, is_shown, put_reason, reason_of};
 use std::alloc::{AllocError, Global};
 
-fn is_ignored(line: &[u8]) -> bool
-    ensures { result ≡ begins_ignored line.now }
-{
-    line.len() >= 11 && &line[..11] == b"  ignored: ".as_slice()
+/// The reasons below the lines that a directive prints, while it runs: why nothing came of a message. A line has one at the most, the first. A
+/// reason before all lines is that of the first, which is `ok` then.
+#[derive(Drop)]
+pub struct LineReasons {
+    pub level: Level,
+    /// Those of the lines before the last; an empty one is none.
+    pub above: Lines,
+    /// Whether there is a line, or a reason.
+    pub has_begun: bool,
+    pub last: Option<Reason>,
 }
 
-fn is_refused(line: &[u8]) -> bool
-    ensures { result ≡ begins_refused line.now }
+// Adds the reason below a line, or an empty one.
+fn push_last(reasons: &mut Lines, level: Level, reason: Option<Reason>) -> Result<(), AllocError>
+    ensures { OnOk result (reasons.new ≡ reasons.old ++ last_reason level reason) }
 {
-    line.len() >= 11 && &line[..11] == b"  refused: ".as_slice()
-}
-
-fn is_reason(line: &[u8]) -> bool
-    ensures { result ≡ is_reason line.now }
-{
-    is_ignored(line) || is_refused(line)
-}
-
-// The line where it is a reason, else nothing.
-fn or_nothing(line: &[u8]) -> &[u8]
-    ensures { result.now ≡ or_nothing line.now }
-{
-    if is_reason(line) { line } else { b"" }
-}
-
-// The reason that stands behind the line at a place, where one does; else nothing.
-#[tactic(auto, using(crate::proofs::WhyLaws::first_past))]
-fn reason_behind(explained: &Lines, at: usize) -> &[u8]
-    requires { at < length explained.now }
-    ensures { result.now ≡ first_reason (drop (at + 1) explained.now) }
-{
-    let left = explained.len() - at;
-    if left == 1 {
-        return b"";
+    match reason {
+        Some(reason) => put_reason(reasons, level, reason),
+        None => {
+            reasons.push(b"")?;
+            Ok(())
+        }
     }
-    or_nothing(explained.line(at + 1))
 }
 
-// Adds the reason that stands before all lines, where one does.
-fn push_leading(reasons: &mut Lines, explained: &Lines) -> Result<(), AllocError>
-    ensures { OnOk result (reasons.new ≡ reasons.old ++ leading_reason explained.now) }
-{
-    if explained.is_empty() {
-        return Ok(());
+impl LineReasons {
+    /// No lines.
+    pub fn new(alloc: Global) -> LineReasons
+        ensures above { result.above ≡ [] }
+        ensures has_begun { result.has_begun ≡ false }
+        ensures last { result.last ≡ None }
+    {
+        LineReasons {
+            level: Level::Debug,
+            above: Lines::new(alloc),
+            has_begun: false,
+            last: None,
+        }
     }
-    let first = explained.line(0);
-    if !is_reason(first) {
-        return Ok(());
+
+    /// The reason below each line, in order; an empty one is none.
+    pub fn all(self) -> Result<Lines, AllocError>
+        ensures { IfOk result (λ reasons. reasons ≡ all_reasons self) }
+    {
+        let mut own = self;
+        if own.has_begun {
+            push_last(&mut own.above, own.level, own.last)?;
+        }
+        Ok(own.above)
     }
-    reasons.push(first)
+
+    // A line is printed.
+    fn add_line(&mut self) -> Result<(), AllocError>
+        ensures { OnOk result (self.new ≡ below_line self.old) }
+    {
+        if self.has_begun {
+            push_last(&mut self.above, self.level, self.last)?;
+        }
+        self.has_begun = true;
+        self.last = None;
+        Ok(())
+    }
+
+    // A reason is told.
+    fn add_reason(&mut self, reason: Reason)
+        ensures { self.new ≡ below_reason self.old reason }
+    {
+        self.has_begun = true;
+        if self.last.is_none() {
+            self.last = Some(reason);
+        }
+    }
 }
 
-// Adds what stands below the line at a place, unless it is a reason itself.
-fn push_below(reasons: &mut Lines, explained: &Lines, at: usize) -> Result<(), AllocError>
-    requires { at < length explained.now }
-    ensures { OnOk result (reasons.new ++ reasons_below (drop (at + 1) explained.now) ≡ reasons.old ++ reasons_below (drop at explained.now)) }
-{
-    if is_reason(explained.line(at)) {
-        return Ok(());
-    }
-    reasons.push(reason_behind(explained, at))?;
-    Ok(())
-}
+impl Observer for LineReasons {
+    ghost use Rattle.rb_level.specs.declared.level.Level.{Level};
+    ghost use Rattle.rb_checked.specs.declared.reasons.LineReasons.{LineReasons};
+    ghost use Rattle.rb_checked.specs.Whys.{at_level, with_item};
 
-/// The reasons that stand below the lines of an output, in order, by what its directive prints with reasons between; an empty one is none.
-pub fn reasons_of(alloc: Global, explained: &Lines) -> Result<Lines, AllocError>
-    ensures { IfOk result (λ reasons. reasons ≡ reasons_of explained.now) }
-{
-    let mut reasons = Lines::new(alloc);
-    push_leading(&mut reasons, explained)?;
-    for at in 0..explained.len() {
-        push_below(&mut reasons, explained, at)?;
+    ghost Meaning = { LineReasons };
+
+    ghost meaning = { λ r. r };
+
+    ghost starting = { at_level };
+
+    ghost taking = { with_item };
+
+    fn start(&mut self, level: Level) {
+        self.level = level;
     }
-    Ok(reasons)
+
+    fn observe(&mut self, item: &Item<'_>) -> Result<(), AllocError> {
+        if is_shown(self.level, item) {
+            self.add_line()?;
+        }
+        if let Some(reason) = reason_of(item) {
+            self.add_reason(reason);
+        }
+        Ok(())
+    }
 }
 
 /// The reasons of the directive at an index, which counts from 0; where there are no more, none is told.

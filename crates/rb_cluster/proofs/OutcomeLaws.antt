@@ -25,21 +25,15 @@ use Rattle.rb_raftlog.specs.declared.snapshot.Snapshot.{Snapshot}
 use Rattle.rb_node.specs.declared.options.Options.{Options}
 use Rattle.rb_node.specs.Node.{PlainNode}
 use Rattle.rb_node.specs.Calls.{node_started}
-use Rattle.rb_texts.specs.Items.{nothing_else}
+use Rattle.rb_texts.specs.Items.{PlainItem, nothing_else}
 use Rattle.rb_texts.specs.Shapes.{is_solid}
 use Rattle.rb_texts.specs.Texts.{line_of}
 use Rattle.rb_texts.proofs.ShownLaws.{all_solid}
 use Rattle.rb_texts.proofs.PrintedLaws.{printed_expected, printed_plain}
-use Rattle.rb_machine.specs.declared.screen.Form.{Form}
-use Rattle.rb_machine.specs.declared.screen.Form.TheVariants as forms
-use Rattle.rb_machine.specs.AddNodes.{add_nodes_fault, is_low, start, options, began, added_each, nodes_added}
+use Rattle.rb_machine.specs.AddNodes.{add_nodes_fault, is_low, start, options, joined, added_each, nodes_added}
 use Rattle.rb_machine.specs.Cluster.{Cluster}
-use Rattle.rb_machine.specs.Outcome.{Outcome, missing_node, own_fault, fault, refusal_of, refusal, effect, level_set, or_ok, screen_of, unless_refused, outcome_of, refused, outcome, is_output}
-use Rattle.rb_machine.specs.Scenes.{Scene, scene}
-use Rattle.rb_machine.specs.declared.screen.Way.TheVariants as ways
+use Rattle.rb_machine.specs.Outcome.{missing_node, own_fault, fault, refusal_of, refusal, effect, level_set, refused, unless_refused, execution_of, execution, or_ok, lines_at, printed, outcome, is_output}
 use Rattle.rb_machine.specs.Views.{log_shown_by, status_shown_by}
-use Rattle.rb_cluster.specs.Told.{Told, item, because, told_lines}
-use Rattle.rb_cluster.proofs.ToldLaws.{Shows, outcome_shows}
 
 -- ---- where nothing refuses it
 
@@ -72,24 +66,24 @@ index_for asked h = omega (arith, h.index)
 
 -- ---- what is printed
 
-or_ok_is_output : (level : Level) (lines : List Line) → list_all is_solid lines ≡ true → is_output (or_ok (ways.At level) lines) ≡ true
+or_ok_is_output : (level : Level) (lines : List Line) → list_all is_solid lines ≡ true → is_output (or_ok level lines) ≡ true
 unfolding is_output
 or_ok_is_output level [] h = all_solid level nothing_else
 or_ok_is_output level (line ∷ lines) h = h
 
--- each line of what is told is solid: a level shows no reasons
-told_solid : (level : Level) (told : List Told) → list_all is_solid (flat_map (told_lines (ways.At level)) told) ≡ true
-told_solid level [] = refl
-told_solid level (item i ∷ told) = list_all-append is_solid (line_of level i) (flat_map (told_lines (ways.At level)) told)
-    ∙ and_from _ _ (all_solid level i) (told_solid level told)
-told_solid level (because reason ∷ told) = told_solid level told
+lines_solid : (level : Level) (items : List PlainItem) → list_all is_solid (flat_map (line_of level) items) ≡ true
+lines_solid level [] = refl
+lines_solid level (i ∷ items) = list_all-append is_solid (line_of level i) (flat_map (line_of level) items)
+    ∙ and_from _ _ (all_solid level i) (lines_solid level items)
+
+-- whatever happens, a line or more is printed
+pub lines_are_output : (level : Level) (items : List PlainItem) → is_output (lines_at level items) ≡ true
+lines_are_output level items = or_ok_is_output level (flat_map (line_of level) items) (lines_solid level items)
 
 -- each directive gives a line or more
 pub outcome_is_output : (c : Cluster) (d : PlainDirective) → is_output (outcome c d).output ≡ true
 unfolding outcome
-outcome_is_output c d =
-    let s : Shows (λ (form : Form). outcome_of form (request d) c) = outcome_shows (request d) c in
-    ap (λ (o : Outcome). is_output o.output) (s.is forms.Lines) ∙ or_ok_is_output s.level (flat_map (told_lines (ways.At s.level)) s.told) (told_solid s.level s.told)
+outcome_is_output c d = lines_are_output (execution c d).level (execution c d).items
 
 output_solid : (ls : List Line) → is_output ls ≡ true → list_all is_solid ls ≡ true
 unfolding is_output
@@ -112,14 +106,14 @@ output_expected ls h short = printed_expected ls (output_solid ls h) short
 
 -- ---- refusals
 
-refused_by : (r : Result Asked DirectiveError) (c : Cluster) (e : DirectiveError) → refusal_of r c ≡ Some e → outcome_of forms.Lines r c ≡ refused forms.Lines c e
-refused_by (Err f) c e h = ap (refused forms.Lines c) (let same : f ≡ e = cc in same)
-refused_by (Ok a) c e h = ap (λ o. unless_refused forms.Lines o a c) h
+refused_by : (r : Result Asked DirectiveError) (c : Cluster) (e : DirectiveError) → refusal_of r c ≡ Some e → execution_of r c ≡ refused c e
+refused_by (Err f) c e h = ap (refused c) (let same : f ≡ e = cc in same)
+refused_by (Ok a) c e h = ap (λ o. unless_refused o a c) h
 
--- what refuses a directive is its whole output
-pub refusal_is_all : (c : Cluster) (d : PlainDirective) (e : DirectiveError) → refusal d c ≡ Some e → outcome c d ≡ refused forms.Lines c e
-unfolding refusal outcome
-refusal_is_all c d e h = refused_by (request d) c e h
+-- what refuses a directive is all that happens
+pub refusal_is_all : (c : Cluster) (d : PlainDirective) (e : DirectiveError) → refusal d c ≡ Some e → outcome c d ≡ printed (refused c e)
+unfolding refusal outcome execution
+refusal_is_all c d e h = ap printed (refused_by (request d) c e h)
 
 pub reading_refuses : (c : Cluster) (d : PlainDirective) (e : DirectiveError) → request d ≡ Err e → refusal d c ≡ Some e
 unfolding refusal
@@ -128,50 +122,47 @@ reading_refuses c d e h = ap (λ r. refusal_of r c) h
 -- ---- single directives
 
 -- a fact of the cluster that a directive leaves, which holds where it is refused and of its effect
-outcome_has : (P : Cluster → Type 0) (c : Cluster) (d : PlainDirective) (a : Asked) → request d ≡ Ok a → P c → P (effect a.request (scene c (screen_of forms.Lines a c))).cluster → P (outcome c d).cluster
-unfolding outcome
+outcome_has : (P : Cluster → Type 0) (c : Cluster) (d : PlainDirective) (a : Asked) → request d ≡ Ok a → P c → P (effect a.request c).cluster → P (outcome c d).cluster
+unfolding outcome execution
 outcome_has P c d a is stays done_so =
-    let by_fault : (e : Option DirectiveError) → P (unless_refused forms.Lines e a c).cluster = λ e. elim e as (λ o. P (unless_refused forms.Lines o a c).cluster) [ Some f ↦ stays | None ↦ done_so ] in
-    subst (λ r. P (outcome_of forms.Lines r c).cluster) (sym is) (by_fault (fault a.request c))
+    let by_fault : (e : Option DirectiveError) → P (unless_refused e a c).cluster = λ e. elim e as (λ o. P (unless_refused o a c).cluster) [ Some f ↦ stays | None ↦ done_so ] in
+    subst (λ r. P (execution_of r c).cluster) (sym is) (by_fault (fault a.request c))
 
 -- nodes join at the end
-joins : (start : Snapshot) (options : Options) (s : Scene) (ids : List ℕ)
-    → (more : List PlainNode) × ((added_each start options s ids).cluster ≡ record s.cluster { nodes = s.cluster.nodes ++ more })
-joins start options s [] = ([], ap (λ (nodes : List PlainNode). record s.cluster { nodes = nodes }) (sym (append-nil s.cluster.nodes)))
-joins start options s (id ∷ ids) =
+joins : (start : Snapshot) (options : Options) (c : Cluster) (ids : List ℕ)
+    → (more : List PlainNode) × ((added_each start options c ids).cluster ≡ record c { nodes = c.nodes ++ more })
+joins start options c [] = ([], ap (λ (nodes : List PlainNode). record c { nodes = nodes }) (sym (append-nil c.nodes)))
+joins start options c (id ∷ ids) =
     let node : PlainNode = (node_started id start options []).node in
-    let rest : (more : List PlainNode) × ((added_each start options s (id ∷ ids)).cluster ≡ record s.cluster { nodes = (s.cluster.nodes ++ node ∷ []) ++ more }) =
-    joins start options (began s (node_started id start options [])) ids in
-    (node ∷ rest.0, rest.1 ∙ ap (λ (nodes : List PlainNode). record s.cluster { nodes = nodes }) (append_assoc s.cluster.nodes (node ∷ []) rest.0))
+    let rest : (more : List PlainNode) × ((added_each start options c (id ∷ ids)).cluster ≡ record c { nodes = (c.nodes ++ node ∷ []) ++ more }) =
+    joins start options (joined c node) ids in
+    (node ∷ rest.0, rest.1 ∙ ap (λ (nodes : List PlainNode). record c { nodes = nodes }) (append_assoc c.nodes (node ∷ []) rest.0))
 
 pub add_nodes_joins : (c : Cluster) (d : PlainDirective) (a : Asked) (r : AddNodes) → request d ≡ Ok a → a.request ≡ requests.AddNodes r
     → (more : List PlainNode) × ((outcome c d).cluster ≡ record c { nodes = c.nodes ++ more })
 unfolding nodes_added
 add_nodes_joins c d a r is adds =
-    let s : Scene = scene c (screen_of forms.Lines a c) in
     let P : Cluster → Type 0 = λ after. (more : List PlainNode) × (after ≡ record c { nodes = c.nodes ++ more }) in
     outcome_has P c d a is ([], ap (λ (nodes : List PlainNode). record c { nodes = nodes }) (sym (append-nil c.nodes)))
-    (subst (λ q. P (effect q s).cluster) (sym adds) (joins (start r) (options r) s (range_with_len (length c.nodes + 1) r.count)))
+    (subst (λ q. P (effect q c).cluster) (sym adds) (joins (start r) (options r) c (range_with_len (length c.nodes + 1) r.count)))
 
 -- what is printed alone
 
-pub view_keeps : (r : Request) → ((s : Scene) → (effect r s).cluster ≡ s.cluster) → (c : Cluster) (d : PlainDirective) (a : Asked) → request d ≡ Ok a → a.request ≡ r
+pub view_keeps : (r : Request) → ((c : Cluster) → (effect r c).cluster ≡ c) → (c : Cluster) (d : PlainDirective) (a : Asked) → request d ≡ Ok a → a.request ≡ r
     → (outcome c d).cluster ≡ c
-view_keeps r keeps c d a is shows =
-    let s : Scene = scene c (screen_of forms.Lines a c) in
-    outcome_has (λ after. after ≡ c) c d a is refl (ap (λ q. (effect q s).cluster) shows ∙ keeps s)
+view_keeps r keeps c d a is shows = outcome_has (λ after. after ≡ c) c d a is refl (ap (λ q. (effect q c).cluster) shows ∙ keeps c)
 
-pub log_keeps : (n : Option PlainNode) (s : Scene) → (log_shown_by n s).cluster ≡ s.cluster
-log_keeps None s = refl
-log_keeps (Some n) s = refl
+pub log_keeps : (n : Option PlainNode) (c : Cluster) → (log_shown_by n c).cluster ≡ c
+log_keeps None c = refl
+log_keeps (Some n) c = refl
 
-pub status_keeps : (n : Option PlainNode) (s : Scene) → (status_shown_by n s).cluster ≡ s.cluster
-status_keeps None s = refl
-status_keeps (Some n) s = refl
+pub status_keeps : (n : Option PlainNode) (c : Cluster) → (status_shown_by n c).cluster ≡ c
+status_keeps None c = refl
+status_keeps (Some n) c = refl
 
 -- the level alone
 
 pub log_level_sets : (c : Cluster) (d : PlainDirective) (a : Asked) (level : Level) → request d ≡ Ok a → a.request ≡ requests.LogLevel level → (outcome c d).cluster ≡ level_set level c
-unfolding outcome fault
+unfolding outcome execution fault
 log_level_sets c d a level is sets =
-    ap (λ r. (outcome_of forms.Lines r c).cluster) is ∙ ap (λ r. (unless_refused forms.Lines (fault r c) (record a { request = r }) c).cluster) sets
+    ap (λ r. (execution_of r c).cluster) is ∙ ap (λ r. (unless_refused (fault r c) (record a { request = r }) c).cluster) sets

@@ -1,20 +1,18 @@
 //! Directives by which one node acts.
 
 ghost use Rattle.std.specs.Prelude.{◌≡◌, OnOk};
-ghost use Rattle.rb_message.specs.declared.kind.MessageKind.TheVariants.{TransferLeader};
-ghost use Rattle.rb_node.specs.Node.{turn, message};
+ghost use Rattle.rb_node.specs.Node.{turn};
 ghost use Rattle.rb_machine.specs.Acts.{ticked_times, act, propose, set_timeout, transfer, report_unreachable};
-ghost use Rattle.rb_machine.specs.Scenes.{scene};
+ghost use Rattle.rb_machine.specs.Observers.{watched, after};
 
 use crate::cluster::{Cluster, place_of};
 use rb_change::Shared;
 use rb_directive::Act;
 use rb_level::ScriptWord;
-use rb_machine::Screen;
-use rb_message::{Event, Message, MessageKind};
+use rb_machine::{Observer, show_events};
+use rb_message::Event;
 use rb_node::{ELECTION_TICKS, Node};
 use rb_raftlog::RaftLog;
-use rb_why::reason;
 use std::alloc::AllocError;
 
 // So many ticks pass at a node.
@@ -32,22 +30,15 @@ fn tick_times<L: RaftLog>(
     Ok(())
 }
 
-// What a node tells itself where it is asked to hand the lead over.
-fn transfer_message(from: u64, to: u64) -> Message
-    ensures { result ≡ message from from 0 (TransferLeader to) }
-{
-    Message {
-        from,
-        to: from,
-        term: 0,
-        kind: MessageKind::TransferLeader { target: to },
-    }
-}
-
 impl<L: RaftLog> Cluster<L> {
     /// A node does what it is told to.
-    pub(crate) fn act(&mut self, what: Act, id: u64, screen: &mut Screen) -> Result<(), AllocError>
-        ensures { OnOk result (scene self.new screen.new ≡ act what id (scene self.old screen.old)) }
+    pub(crate) fn act<O: Observer>(
+        &mut self,
+        what: Act,
+        id: u64,
+        observer: &mut O,
+    ) -> Result<(), AllocError>
+        ensures { OnOk result (watched self.new (O.meaning observer.new) ≡ after O.taking (O.meaning observer.old) (act what id self.old)) }
     {
         let mut events = Vec::new(self.alloc);
         let Some(shared) = self.nodes.get_mut(place_of(id)) else {
@@ -60,17 +51,17 @@ impl<L: RaftLog> Cluster<L> {
             Act::TickHeartbeat => node.tick(&mut events)?,
             Act::ForgetLeader => node.forget_leader(),
         }
-        screen.show_events(&events)
+        show_events(observer, &events)
     }
 
     /// A payload is proposed at a node.
-    pub(crate) fn propose(
+    pub(crate) fn propose<O: Observer>(
         &mut self,
         id: u64,
         payload: &ScriptWord<'_>,
-        screen: &mut Screen,
+        observer: &mut O,
     ) -> Result<(), AllocError>
-        ensures { OnOk result (scene self.new screen.new ≡ propose id payload.now (scene self.old screen.old)) }
+        ensures { OnOk result (watched self.new (O.meaning observer.new) ≡ after O.taking (O.meaning observer.old) (propose id payload.now self.old)) }
     {
         let bytes = Shared::new(Vec::from_slice(self.alloc, payload.bytes())?)?;
         let mut events = Vec::new(self.alloc);
@@ -79,7 +70,7 @@ impl<L: RaftLog> Cluster<L> {
         };
         let node = shared.to_change()?;
         node.propose(bytes, &mut events)?;
-        screen.show_events(&events)
+        show_events(observer, &events)
     }
 
     /// A node's election timeout is to have so many ticks.
@@ -93,23 +84,21 @@ impl<L: RaftLog> Cluster<L> {
     }
 
     /// A node is asked to hand the lead over to another.
-    pub(crate) fn transfer(
+    pub(crate) fn transfer<O: Observer>(
         &mut self,
         from: u64,
         to: u64,
-        screen: &mut Screen,
+        observer: &mut O,
     ) -> Result<(), AllocError>
-        ensures { OnOk result (scene self.new screen.new ≡ transfer from to (scene self.old screen.old)) }
+        ensures { OnOk result (watched self.new (O.meaning observer.new) ≡ after O.taking (O.meaning observer.old) (transfer from to self.old)) }
     {
         let mut events = Vec::new(self.alloc);
         let Some(shared) = self.nodes.get_mut(place_of(from)) else {
-            return screen.explain(None);
+            return Ok(());
         };
         let node = shared.to_change()?;
-        let why = reason(node.status(), &transfer_message(from, to));
         node.transfer(to, &mut events)?;
-        screen.show_events(&events)?;
-        screen.explain(why)
+        show_events(observer, &events)
     }
 
     /// It is reported to a node that another can't be reached.

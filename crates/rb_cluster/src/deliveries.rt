@@ -1,28 +1,27 @@
 //! `deliver-msgs`: pending messages reach their nodes, or are dropped.
 
-ghost use Rattle.std.specs.Prelude.{◌≡◌, IfOk, OnOk, map};
+ghost use Rattle.std.specs.Prelude.{◌≡◌, IfOk, OnOk, fold, map};
 ghost use Rattle.rb_machine.specs.Pending.{mail, other_mail, with_pending};
 ghost use Rattle.rb_machine.specs.Deliveries.{received, all_received, delivered, delivered_each, drop_item, dropped, dropped_each, is_for_any, meets_any, msgs_delivered};
-ghost use Rattle.rb_machine.specs.Scenes.{scene, showing_all};
+ghost use Rattle.rb_machine.specs.Observers.{watched, after};
 
 use crate::cluster::{Cluster, place_of};
 use crate::pending::{is_for, split};
 use crate::shared_message::SharedMessage;
 use rb_directive::{DeliverMsgs, TypeSet};
-use rb_machine::Screen;
+use rb_machine::{Observer, show_events};
 use rb_message::Message;
 use rb_raftlog::RaftLog;
 use rb_texts::{Item, Verb};
-use rb_why::reason;
 use std::alloc::AllocError;
 use std::mem;
 
 // Prints that each of the messages is dropped.
-fn show_dropped(screen: &mut Screen, messages: &[SharedMessage]) -> Result<(), AllocError>
-    ensures { OnOk result (screen.new ≡ showing_all screen.old (map drop_item messages.now)) }
+fn show_dropped<O: Observer>(observer: &mut O, messages: &[SharedMessage]) -> Result<(), AllocError>
+    ensures { OnOk result (O.meaning observer.new ≡ fold O.taking (O.meaning observer.old) (map drop_item messages.now)) }
 {
     for shared in messages {
-        screen.show(&Item::Moved(Verb::Drop, shared.message()))?;
+        observer.observe(&Item::Moved(Verb::Drop, shared.message()))?;
     }
     Ok(())
 }
@@ -48,32 +47,35 @@ fn meets_any(asked: &DeliverMsgs, pending: &[SharedMessage]) -> bool
 
 impl<L: RaftLog> Cluster<L> {
     // A message reaches its node.
-    fn receive(&mut self, id: u64, message: &Message, screen: &mut Screen) -> Result<(), AllocError>
-        ensures { OnOk result (scene self.new screen.new ≡ received (scene self.old screen.old) id message.now) }
+    fn receive<O: Observer>(
+        &mut self,
+        id: u64,
+        message: &Message,
+        observer: &mut O,
+    ) -> Result<(), AllocError>
+        ensures { OnOk result (watched self.new (O.meaning observer.new) ≡ after O.taking (O.meaning observer.old) (received id self.old message.now)) }
     {
-        screen.show(&Item::Moved(Verb::Deliver, message))?;
+        observer.observe(&Item::Moved(Verb::Deliver, message))?;
         let mut events = Vec::new(self.alloc);
         let Some(shared) = self.nodes.get_mut(place_of(id)) else {
-            return screen.explain(None);
+            return Ok(());
         };
         let node = shared.to_change()?;
-        let why = reason(node.status(), message);
         node.step(message, &mut events)?;
-        screen.show_events(&events)?;
-        screen.explain(why)
+        show_events(observer, &events)
     }
 
     // Messages reach their node, in order.
-    fn receive_all(
+    fn receive_all<O: Observer>(
         &mut self,
         id: u64,
         messages: &[SharedMessage],
-        screen: &mut Screen,
+        observer: &mut O,
     ) -> Result<(), AllocError>
-        ensures { OnOk result (scene self.new screen.new ≡ all_received (scene self.old screen.old) id messages.now) }
+        ensures { OnOk result (watched self.new (O.meaning observer.new) ≡ after O.taking (O.meaning observer.old) (all_received id self.old messages.now)) }
     {
         for shared in messages {
-            self.receive(id, shared.message(), screen)?;
+            self.receive(id, shared.message(), observer)?;
         }
         Ok(())
     }
@@ -95,73 +97,73 @@ impl<L: RaftLog> Cluster<L> {
 
     /// A node gets its pending messages of the types.
     #[tactic(auto, unfolding(rb_machine::specs::Deliveries::delivered))]
-    pub(crate) fn deliver(
+    pub(crate) fn deliver<O: Observer>(
         &mut self,
         id: u64,
         types: &Option<TypeSet>,
-        screen: &mut Screen,
+        observer: &mut O,
     ) -> Result<(), AllocError>
-        ensures { OnOk result (scene self.new screen.new ≡ delivered (scene self.old screen.old) id types.now) }
+        ensures { OnOk result (watched self.new (O.meaning observer.new) ≡ after O.taking (O.meaning observer.old) (delivered types.now self.old id)) }
     {
         let mail = self.take_mail(id, types)?;
-        self.receive_all(id, &mail, screen)
+        self.receive_all(id, &mail, observer)
     }
 
-    fn deliver_each(
+    fn deliver_each<O: Observer>(
         &mut self,
         ids: &[u8],
         types: &Option<TypeSet>,
-        screen: &mut Screen,
+        observer: &mut O,
     ) -> Result<(), AllocError>
-        ensures { OnOk result (scene self.new screen.new ≡ delivered_each (scene self.old screen.old) ids.now types.now) }
+        ensures { OnOk result (watched self.new (O.meaning observer.new) ≡ after O.taking (O.meaning observer.old) (delivered_each types.now self.old ids.now)) }
     {
         for id in ids {
-            self.deliver(u64::from(*id), types, screen)?;
+            self.deliver(u64::from(*id), types, observer)?;
         }
         Ok(())
     }
 
     // A node's pending messages of the types go.
     #[tactic(auto, unfolding(rb_machine::specs::Deliveries::dropped))]
-    fn drop_for(
+    fn drop_for<O: Observer>(
         &mut self,
         id: u64,
         types: &Option<TypeSet>,
-        screen: &mut Screen,
+        observer: &mut O,
     ) -> Result<(), AllocError>
-        ensures { OnOk result (scene self.new screen.new ≡ dropped (scene self.old screen.old) id types.now) }
+        ensures { OnOk result (watched self.new (O.meaning observer.new) ≡ after O.taking (O.meaning observer.old) (dropped types.now self.old id)) }
     {
         let mail = self.take_mail(id, types)?;
-        show_dropped(screen, &mail)
+        show_dropped(observer, &mail)
     }
 
-    fn drop_each(
+    fn drop_each<O: Observer>(
         &mut self,
         ids: &[u8],
         types: &Option<TypeSet>,
-        screen: &mut Screen,
+        observer: &mut O,
     ) -> Result<(), AllocError>
-        ensures { OnOk result (scene self.new screen.new ≡ dropped_each (scene self.old screen.old) ids.now types.now) }
+        ensures { OnOk result (watched self.new (O.meaning observer.new) ≡ after O.taking (O.meaning observer.old) (dropped_each types.now self.old ids.now)) }
     {
         for id in ids {
-            self.drop_for(u64::from(*id), types, screen)?;
+            self.drop_for(u64::from(*id), types, observer)?;
         }
         Ok(())
     }
 
     /// Delivers messages to nodes in their order, then drops messages.
     #[tactic(auto, unfolding(rb_machine::specs::Deliveries::msgs_delivered))]
-    pub(crate) fn deliver_msgs(
+    pub(crate) fn deliver_msgs<O: Observer>(
         &mut self,
         asked: &DeliverMsgs,
-        screen: &mut Screen,
+        observer: &mut O,
     ) -> Result<(), AllocError>
-        ensures { OnOk result (scene self.new screen.new ≡ msgs_delivered asked.now (scene self.old screen.old)) }
+        ensures { OnOk result (watched self.new (O.meaning observer.new) ≡ after O.taking (O.meaning observer.old) (msgs_delivered asked.now self.old)) }
     {
         if !meets_any(asked, &self.pending) {
-            return screen.show(&Item::NoMessages);
+            return observer.observe(&Item::NoMessages);
         }
-        self.deliver_each(asked.nodes.as_slice(), &asked.types, screen)?;
-        self.drop_each(asked.drop.as_slice(), &asked.types, screen)
+        self.deliver_each(asked.nodes.as_slice(), &asked.types, observer)?;
+        self.drop_each(asked.drop.as_slice(), &asked.types, observer)
     }
 }

@@ -25,8 +25,10 @@ mod views;
 pub use cluster::Cluster;
 pub use laws::{
     add_nodes_keeps_nodes, log_level_sets_the_level, outputs_can_be_expected, outputs_have_lines,
-    reading_is_the_same_everywhere, reasons_are_only_added, refused_changes_nothing,
-    rows_are_of_what_is_printed, views_change_nothing,
+    reading_is_the_same_everywhere, refused_changes_nothing, views_change_nothing,
 };
 pub use meter::Meter;
 pub use shared_node::SharedNode;
+
+// What a cluster is, and what counts its directives, which stand in rb_machine.
+pub use rb_machine::{Count, Machine};

@@ -8,19 +8,19 @@ ghost use Rattle.rb_script.specs.Tokens.{plain};
 ghost use Rattle.rb_directive.specs.Requests.{request, IsWithin};
 ghost use Rattle.rb_texts.specs.Items.{error};
 ghost use Rattle.rb_machine.specs.Cluster.{is_node};
-ghost use Rattle.rb_machine.specs.Outcome.{absent, first_absent, missing_node, fault, act_with, effect, outcome_of, outcome, happened, explanation, way_of};
-ghost use Rattle.rb_machine.specs.Scenes.{scene, lines_of};
+ghost use Rattle.rb_machine.specs.Outcome.{absent, first_absent, missing_node, fault, act_with, effect, execution, lines_at};
+ghost use Rattle.rb_machine.specs.Observers.{watched, after, after_directive};
 
 use crate::add_nodes::add_nodes_fault;
 use crate::cluster::Cluster;
 use crate::shared_node::SharedNode;
 use rb_directive::{ActWith, Named, Request, request};
 use rb_level::{DirectiveError, Level};
-use rb_machine::{Form, Machine, Screen, Way};
+use rb_machine::{Observer, PrintedLines};
 use rb_raftlog::RaftLog;
 use rb_script::{DirectiveRef, Lines};
 use rb_texts::Item;
-use std::alloc::{AllocError, Global};
+use std::alloc::AllocError;
 
 // Whether a node has this id.
 fn is_node<L: RaftLog>(nodes: &[SharedNode<L>], id: u64) -> bool
@@ -64,25 +64,16 @@ fn missing_node<'d, L: RaftLog>(
     }
 }
 
-// How items are shown: as lines of a level, or as rows of a page.
-fn way_of(form: Form, level: Level) -> Way
-    ensures { result ≡ way_of form level }
+// Shows that a directive is refused.
+fn refuse<'d, O: Observer>(
+    observer: &mut O,
+    level: Level,
+    fault: DirectiveError<'d>,
+) -> Result<(), AllocError>
+    ensures { OnOk result (O.meaning observer.new ≡ O.taking (O.starting (O.meaning observer.old) level) (error fault.entry)) }
 {
-    match form {
-        Form::Lines => Way::At(level),
-        Form::Explained => Way::Explained(level),
-        Form::Rows => Way::Rows,
-    }
-}
-
-// What is shown of an error.
-fn error_lines<'d>(alloc: Global, way: Way, fault: DirectiveError<'d>) -> Result<Lines, AllocError>
-    ensures { IfOk result (λ lines. lines ≡ lines_of way (error fault.entry)) }
-{
-    let lines = Lines::new(alloc);
-    let mut screen = Screen { way, lines };
-    screen.show(&Item::Error(fault))?;
-    Ok(screen.lines)
+    observer.start(level);
+    observer.observe(&Item::Error(fault))
 }
 
 impl<L: RaftLog> Cluster<L> {
@@ -107,107 +98,93 @@ impl<L: RaftLog> Cluster<L> {
     }
 
     // A node does something with a number.
-    fn act_with(
+    fn act_with<O: Observer>(
         &mut self,
         what: ActWith,
         id: u64,
         number: u64,
-        screen: &mut Screen,
+        observer: &mut O,
     ) -> Result<(), AllocError>
-        ensures { OnOk result (scene self.new screen.new ≡ act_with what id number (scene self.old screen.old)) }
+        ensures { OnOk result (watched self.new (O.meaning observer.new) ≡ after O.taking (O.meaning observer.old) (act_with what id number self.old)) }
     {
         match what {
             ActWith::SetRandomizedElectionTimeout => {
                 self.set_timeout(id, number)?;
                 Ok(())
             }
-            ActWith::TransferLeadership => self.transfer(id, number, screen),
+            ActWith::TransferLeadership => self.transfer(id, number, observer),
             ActWith::ReportUnreachable => {
                 self.report_unreachable(id, number)?;
                 Ok(())
             }
-            ActWith::SendSnapshot => self.send_snapshot(id, number, screen),
-            ActWith::Compact => self.compact(id, number, screen),
+            ActWith::SendSnapshot => self.send_snapshot(id, number, observer),
+            ActWith::Compact => self.compact(id, number, observer),
         }
     }
 
     // Does what is asked for, and prints what comes of it.
     #[tactic(auto, using(crate::proofs::OutcomeLaws::room_for, crate::proofs::OutcomeLaws::index_for))]
-    fn perform(&mut self, wanted: &Request<'_>, screen: &mut Screen) -> Result<(), AllocError>
+    fn perform<O: Observer>(
+        &mut self,
+        wanted: &Request<'_>,
+        observer: &mut O,
+    ) -> Result<(), AllocError>
         requires none { fault wanted.now self.old ≡ None }
         requires within { IsWithin wanted.now }
-        ensures { OnOk result (scene self.new screen.new ≡ effect wanted.now (scene self.old screen.old)) }
+        ensures { OnOk result (watched self.new (O.meaning observer.new) ≡ after O.taking (O.meaning observer.old) (effect wanted.now self.old)) }
     {
         match wanted {
-            Request::AddNodes(asked) => self.add_nodes(asked, screen),
-            Request::Act(what, id) => self.act(*what, *id, screen),
-            Request::Propose(id, payload) => self.propose(*id, payload, screen),
-            Request::ProposeConfChange(asked) => self.propose_change(asked, screen),
-            Request::ProcessReady(ids) => self.process_ready(ids.as_slice(), screen),
-            Request::DeliverMsgs(asked) => self.deliver_msgs(asked, screen),
-            Request::Stabilize(ids, rounds) => self.stabilize(ids, *rounds, screen),
-            Request::ActWith(what, id, number) => self.act_with(*what, *id, *number, screen),
+            Request::AddNodes(asked) => self.add_nodes(asked, observer),
+            Request::Act(what, id) => self.act(*what, *id, observer),
+            Request::Propose(id, payload) => self.propose(*id, payload, observer),
+            Request::ProposeConfChange(asked) => self.propose_change(asked, observer),
+            Request::ProcessReady(ids) => self.process_ready(ids.as_slice(), observer),
+            Request::DeliverMsgs(asked) => self.deliver_msgs(asked, observer),
+            Request::Stabilize(ids, rounds) => self.stabilize(ids, *rounds, observer),
+            Request::ActWith(what, id, number) => self.act_with(*what, *id, *number, observer),
             Request::LogLevel(level) => {
                 self.level = *level;
                 Ok(())
             }
-            Request::RaftLog(id) => self.raft_log(*id, screen),
-            Request::Status(id) => self.status(*id, screen),
-            Request::RaftState => self.raft_state(screen),
+            Request::RaftLog(id) => self.show_log(*id, observer),
+            Request::Status(id) => self.show_status(*id, observer),
+            Request::RaftState => self.show_states(observer),
         }
     }
 
-    /// Runs a directive, and gives what it shows: what is wrong with it or with this cluster, or what it does.
-    pub(crate) fn shown(
+    /// Runs a directive, and gives an observer each item of what happens: what is wrong with it or with this cluster, or what it does.
+    ///
+    /// # Errors
+    ///
+    /// Where memory was refused. Of the cluster and of the observer nothing is known then.
+    #[tactic(auto, unfolding(rb_machine::specs::Outcome::execution))]
+    pub fn run_watched<O: Observer>(
         &mut self,
-        form: Form,
         directive: &DirectiveRef<'_>,
-    ) -> Result<Lines, AllocError>
-        ensures cluster { OnOk result (self.new ≡ (outcome_of form (request (plain directive.now)) self.old).cluster) }
-        ensures output { IfOk result (λ lines. lines ≡ (outcome_of form (request (plain directive.now)) self.old).output) }
+        observer: &mut O,
+    ) -> Result<(), AllocError>
+        ensures { OnOk result (watched self.new (O.meaning observer.new) ≡ after_directive O.starting O.taking (O.meaning observer.old) (execution self.old (plain directive.now))) }
     {
         // What is asked for is looked at where it stands: it is large.
         let read = request(directive);
         let asked = match &read {
             Ok(asked) => asked,
-            Err(error) => return error_lines(self.alloc, way_of(form, self.level), error.copy()),
+            Err(error) => return refuse(observer, self.level, error.copy()),
         };
         if let Some(error) = self.fault(&asked.request) {
-            return error_lines(self.alloc, way_of(form, self.level), error);
+            return refuse(observer, self.level, error);
         }
-        let mut screen = Screen {
-            way: way_of(form, asked.log_level.unwrap_or(self.level)),
-            lines: Lines::new(self.alloc),
-        };
-        self.perform(&asked.request, &mut screen)?;
-        screen.or_ok()
+        observer.start(asked.log_level.unwrap_or(self.level));
+        self.perform(&asked.request, observer)
     }
 
-    /// What a directive does, as rows of a page: a text an item, whatever the level is. It is done to a copy.
-    #[tactic(auto, unfolding(rb_machine::specs::Outcome::happened))]
-    pub fn happened(&self, directive: &DirectiveRef<'_>) -> Result<Lines, AllocError>
-        ensures { IfOk result (λ texts. texts ≡ happened self.now (plain directive.now)) }
+    /// Runs a directive, and gives what it prints.
+    pub(crate) fn printed(&mut self, directive: &DirectiveRef<'_>) -> Result<Lines, AllocError>
+        ensures cluster { OnOk result (self.new ≡ (execution self.old (plain directive.now)).cluster) }
+        ensures output { IfOk result (λ lines. lines ≡ lines_at (execution self.old (plain directive.now)).level (execution self.old (plain directive.now)).items) }
     {
-        let mut copy = Machine::try_copy(self)?;
-        copy.shown(Form::Rows, directive)
-    }
-
-    /// What a directive prints, and below each message that reaches a node and nothing comes of it, why. It is done to a copy.
-    #[tactic(auto, unfolding(rb_machine::specs::Outcome::explanation))]
-    pub fn explanation(&self, directive: &DirectiveRef<'_>) -> Result<Lines, AllocError>
-        ensures { IfOk result (λ lines. lines ≡ explanation self.now (plain directive.now)) }
-    {
-        let mut copy = Machine::try_copy(self)?;
-        copy.shown(Form::Explained, directive)
-    }
-
-    /// Runs a directive, and gives what it prints with reasons between.
-    #[tactic(auto, unfolding(rb_machine::specs::Outcome::explanation))]
-    pub fn run_explained(&mut self, directive: &DirectiveRef<'_>) -> Result<Lines, AllocError>
-        ensures cluster { OnOk result (self.new ≡ (outcome self.old (plain directive.now)).cluster) }
-        ensures output { IfOk result (λ lines. lines ≡ explanation self.old (plain directive.now)) }
-    {
-        let lines = self.shown(Form::Explained, directive)?;
-        Ok(lines)
+        let mut printed = PrintedLines::new(self.alloc);
+        self.run_watched(directive, &mut printed)?;
+        printed.or_ok()
     }
 }

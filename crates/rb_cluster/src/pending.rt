@@ -4,13 +4,13 @@
 
 ghost use Rattle.std.specs.Prelude.{◌≡◌, IfOk, OnOk};
 ghost use Rattle.rb_machine.specs.Pending.{is_meant, is_for, mail, other_mail, has_room, sent, all_sent};
-ghost use Rattle.rb_machine.specs.Scenes.{scene};
+ghost use Rattle.rb_machine.specs.Observers.{watched, after};
 
 use crate::cluster::Cluster;
 use crate::shared_message::SharedMessage;
 use rb_directive::TypeSet;
 use rb_level::MessageType;
-use rb_machine::{MAX_PENDING, Screen};
+use rb_machine::{MAX_PENDING, Observer};
 use rb_message::Message;
 use rb_raftlog::RaftLog;
 use rb_texts::{Item, Verb};
@@ -71,26 +71,30 @@ pub(crate) fn split(
 
 impl<L: RaftLog> Cluster<L> {
     /// Puts a message at the end of the pending ones, or gives it up where there is no room.
-    pub(crate) fn send(&mut self, message: Message, screen: &mut Screen) -> Result<(), AllocError>
-        ensures { OnOk result (scene self.new screen.new ≡ sent (scene self.old screen.old) message) }
+    pub(crate) fn send<O: Observer>(
+        &mut self,
+        message: Message,
+        observer: &mut O,
+    ) -> Result<(), AllocError>
+        ensures { OnOk result (watched self.new (O.meaning observer.new) ≡ after O.taking (O.meaning observer.old) (sent self.old message)) }
     {
         if !has_room(&self.pending) {
-            return screen.show(&Item::Moved(Verb::NoRoomFor, &message));
+            return observer.observe(&Item::Moved(Verb::NoRoomFor, &message));
         }
         self.pending.push(SharedMessage::new(self.alloc, message)?)?;
         Ok(())
     }
 
     /// Puts messages there, in their order.
-    pub(crate) fn send_all(
+    pub(crate) fn send_all<O: Observer>(
         &mut self,
         messages: Vec<Message>,
-        screen: &mut Screen,
+        observer: &mut O,
     ) -> Result<(), AllocError>
-        ensures { OnOk result (scene self.new screen.new ≡ all_sent (scene self.old screen.old) messages.items) }
+        ensures { OnOk result (watched self.new (O.meaning observer.new) ≡ after O.taking (O.meaning observer.old) (all_sent self.old messages.items)) }
     {
         for message in messages {
-            self.send(message, screen)?;
+            self.send(message, observer)?;
         }
         Ok(())
     }

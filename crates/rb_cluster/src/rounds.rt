@@ -7,12 +7,12 @@ ghost use Rattle.std.specs.Prelude.{◌≡◌, OnOk, IfOk, None};
 ghost use Rattle.rb_machine.specs.Deliveries.{delivered_each};
 ghost use Rattle.rb_machine.specs.Rounds.{is_chosen, chosen, is_ready, has_mail, has_work, readied_each, round, settled, stabilized};
 ghost use Rattle.rb_cluster.specs.Marks.{IsMarked, is_marked};
-ghost use Rattle.rb_machine.specs.Scenes.{scene};
+ghost use Rattle.rb_machine.specs.Observers.{watched, after};
 
 use crate::cluster::Cluster;
 use crate::shared_message::SharedMessage;
 use rb_directive::{IdList, MAX_ID};
-use rb_machine::Screen;
+use rb_machine::Observer;
 use rb_raftlog::RaftLog;
 use rb_texts::Item;
 use std::alloc::AllocError;
@@ -103,64 +103,69 @@ impl<L: RaftLog> Cluster<L> {
     }
 
     // Each node that has something ready does it.
-    fn ready_each(&mut self, ids: &[u64], screen: &mut Screen) -> Result<(), AllocError>
-        ensures { OnOk result (scene self.new screen.new ≡ readied_each (scene self.old screen.old) ids.now) }
+    fn ready_each<O: Observer>(&mut self, ids: &[u64], observer: &mut O) -> Result<(), AllocError>
+        ensures { OnOk result (watched self.new (O.meaning observer.new) ≡ after O.taking (O.meaning observer.old) (readied_each self.old ids.now)) }
     {
         for id in ids {
             if self.is_ready(*id) {
-                self.do_ready(*id, screen)?;
+                self.do_ready(*id, observer)?;
             }
         }
         Ok(())
     }
 
     // Each node gets its pending messages.
-    fn reach_each(&mut self, ids: &[u64], screen: &mut Screen) -> Result<(), AllocError>
-        ensures { OnOk result (scene self.new screen.new ≡ delivered_each (scene self.old screen.old) ids.now None) }
+    fn reach_each<O: Observer>(&mut self, ids: &[u64], observer: &mut O) -> Result<(), AllocError>
+        ensures { OnOk result (watched self.new (O.meaning observer.new) ≡ after O.taking (O.meaning observer.old) (delivered_each None self.old ids.now)) }
     {
         let marks = Marks::of(&self.pending);
         for id in ids {
             if marks.has(*id) {
-                self.deliver(*id, &None, screen)?;
+                self.deliver(*id, &None, observer)?;
             }
         }
         Ok(())
     }
 
     #[tactic(auto, unfolding(rb_machine::specs::Rounds::round))]
-    fn round(&mut self, ids: &[u64], screen: &mut Screen) -> Result<(), AllocError>
-        ensures { OnOk result (scene self.new screen.new ≡ round (scene self.old screen.old) ids.now) }
+    fn round<O: Observer>(&mut self, ids: &[u64], observer: &mut O) -> Result<(), AllocError>
+        ensures { OnOk result (watched self.new (O.meaning observer.new) ≡ after O.taking (O.meaning observer.old) (round ids.now self.old)) }
     {
-        self.ready_each(ids, screen)?;
-        self.reach_each(ids, screen)
+        self.ready_each(ids, observer)?;
+        self.reach_each(ids, observer)
     }
 
     // Rounds while there is work, and so many at the most.
-    fn settle(&mut self, rounds: u64, ids: &[u64], screen: &mut Screen) -> Result<(), AllocError>
-        ensures { OnOk result (scene self.new screen.new ≡ settled rounds rounds (scene self.old screen.old) ids.now) }
+    fn settle<O: Observer>(
+        &mut self,
+        rounds: u64,
+        ids: &[u64],
+        observer: &mut O,
+    ) -> Result<(), AllocError>
+        ensures { OnOk result (watched self.new (O.meaning observer.new) ≡ after O.taking (O.meaning observer.old) (settled rounds rounds ids.now self.old)) }
     {
         for _round in 0..rounds {
             if !self.has_work(ids) {
                 return Ok(());
             }
-            self.round(ids, screen)?;
+            self.round(ids, observer)?;
         }
         if self.has_work(ids) {
-            return screen.show(&Item::Stopped(rounds));
+            return observer.observe(&Item::Stopped(rounds));
         }
         Ok(())
     }
 
     /// Rounds over the named nodes, or over all where none is named, until nothing is left to do or they are so many.
-    pub(crate) fn stabilize(
+    pub(crate) fn stabilize<O: Observer>(
         &mut self,
         named: &IdList,
         rounds: u64,
-        screen: &mut Screen,
+        observer: &mut O,
     ) -> Result<(), AllocError>
-        ensures { OnOk result (scene self.new screen.new ≡ stabilized named.now rounds (scene self.old screen.old)) }
+        ensures { OnOk result (watched self.new (O.meaning observer.new) ≡ after O.taking (O.meaning observer.old) (stabilized named.now rounds self.old)) }
     {
         let ids = self.chosen(named)?;
-        self.settle(rounds, &ids, screen)
+        self.settle(rounds, &ids, observer)
     }
 }

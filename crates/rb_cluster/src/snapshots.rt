@@ -6,13 +6,13 @@ ghost use Rattle.rb_raftlog.specs.Log.{compact_fault};
 ghost use Rattle.rb_node.specs.Node.{message};
 ghost use Rattle.rb_node.specs.Sends.{snapshot_of};
 ghost use Rattle.rb_machine.specs.Snapshots.{queued, snapshot_sent, error_of, compact_error, compact};
-ghost use Rattle.rb_machine.specs.Scenes.{scene};
+ghost use Rattle.rb_machine.specs.Observers.{watched, after};
 
 use crate::cluster::{Cluster, place_of};
 use crate::pending::has_room;
 use crate::views::show_log;
 use rb_level::DirectiveError;
-use rb_machine::Screen;
+use rb_machine::Observer;
 use rb_message::{Install, Message, MessageKind};
 use rb_node::Node;
 use rb_raftlog::{CompactFault, RaftLog};
@@ -63,30 +63,30 @@ fn snapshot_message<L: RaftLog>(
 impl<L: RaftLog> Cluster<L> {
     // Puts a message among the pending ones by hand, where there is room.
     #[tactic(auto, unfolding(rb_machine::specs::Snapshots::queued))]
-    fn queue(&mut self, message: Message, screen: &mut Screen) -> Result<(), AllocError>
-        ensures { OnOk result (scene self.new screen.new ≡ queued (scene self.old screen.old) message) }
+    fn queue<O: Observer>(&mut self, message: Message, observer: &mut O) -> Result<(), AllocError>
+        ensures { OnOk result (watched self.new (O.meaning observer.new) ≡ after O.taking (O.meaning observer.old) (queued self.old message)) }
     {
         // Where there is no room, sending it shows so.
         if has_room(&self.pending) {
-            screen.show(&Item::Moved(Verb::Queue, &message))?;
+            observer.observe(&Item::Moved(Verb::Queue, &message))?;
         }
-        self.send(message, screen)
+        self.send(message, observer)
     }
 
     /// Puts a node's snapshot for another among the pending messages.
-    pub(crate) fn send_snapshot(
+    pub(crate) fn send_snapshot<O: Observer>(
         &mut self,
         from: u64,
         to: u64,
-        screen: &mut Screen,
+        observer: &mut O,
     ) -> Result<(), AllocError>
-        ensures { OnOk result (scene self.new screen.new ≡ snapshot_sent from to (scene self.old screen.old)) }
+        ensures { OnOk result (watched self.new (O.meaning observer.new) ≡ after O.taking (O.meaning observer.old) (snapshot_sent from to self.old)) }
     {
         let Some(node) = self.node_with(from) else {
             return Ok(());
         };
         let message = snapshot_message(self.alloc, node, from, to)?;
-        self.queue(message, screen)
+        self.queue(message, observer)
     }
 
     /// Why a node's log can't be compacted to an index.
@@ -101,13 +101,13 @@ impl<L: RaftLog> Cluster<L> {
     }
 
     /// Moves the base of a node's log to an index, and prints the log.
-    pub(crate) fn compact(
+    pub(crate) fn compact<O: Observer>(
         &mut self,
         id: u64,
         index: u64,
-        screen: &mut Screen,
+        observer: &mut O,
     ) -> Result<(), AllocError>
-        ensures { OnOk result (scene self.new screen.new ≡ compact id index (scene self.old screen.old)) }
+        ensures { OnOk result (watched self.new (O.meaning observer.new) ≡ after O.taking (O.meaning observer.old) (compact id index self.old)) }
     {
         let Some(shared) = self.nodes.get_mut(place_of(id)) else {
             return Ok(());
@@ -116,6 +116,6 @@ impl<L: RaftLog> Cluster<L> {
         if node.compact(index).is_err() {
             return Err(AllocError);
         }
-        show_log(screen, node)
+        show_log(observer, node)
     }
 }

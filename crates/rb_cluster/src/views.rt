@@ -1,14 +1,14 @@
-//! `raft-log`, `status` and `raft-state`: what is printed of nodes.
+//! `raft-log`, `status` and `raft-state`: what is shown of nodes.
 
-ghost use Rattle.std.specs.Prelude.{◌≡◌, ◌+◌, OnOk, map};
+ghost use Rattle.std.specs.Prelude.{◌≡◌, ◌+◌, OnOk, fold, map};
 ghost use Rattle.rb_texts.specs.Items.{plain_node};
 ghost use Rattle.rb_machine.specs.Entries.{entry_items};
-ghost use Rattle.rb_machine.specs.Scenes.{scene, showing_all};
+ghost use Rattle.rb_machine.specs.Observers.{watched, after};
 ghost use Rattle.rb_machine.specs.Views.{log_line, held_item, log_items, log_shown, view_item, status_items, status_shown, node_line, state_item, states_shown};
 
 use crate::cluster::Cluster;
 use crate::shared_node::SharedNode;
-use rb_machine::Screen;
+use rb_machine::Observer;
 use rb_node::{Node, State};
 use rb_raftlog::RaftLog;
 use rb_texts::{Item, LogLine, NodeLine};
@@ -29,50 +29,53 @@ fn log_line<L: RaftLog>(state: &State<L>) -> LogLine
     }
 }
 
-// Prints the entries of a log.
-fn show_entries<L: RaftLog>(screen: &mut Screen, log: &L) -> Result<(), AllocError>
-    ensures { OnOk result (screen.new ≡ showing_all screen.old (entry_items (held_item (L.plain log.now).durable) ((L.plain log.now).base + 1) (L.plain log.now).entries)) }
+// Shows the entries of a log.
+fn show_entries<O: Observer, L: RaftLog>(observer: &mut O, log: &L) -> Result<(), AllocError>
+    ensures { OnOk result (O.meaning observer.new ≡ fold O.taking (O.meaning observer.old) (entry_items (held_item (L.plain log.now).durable) ((L.plain log.now).base + 1) (L.plain log.now).entries)) }
 {
     let durable = log.durable();
     for index in log.first_index()..log.last_index() + 1 {
         match log.entry_at(index) {
-            Ok(entry) => screen.show(&Item::Entry(index, entry, durable < index))?,
+            Ok(entry) => observer.observe(&Item::Entry(index, entry, durable < index))?,
             Err(_) => unreachable!(),
         }
     }
     Ok(())
 }
 
-/// Prints a node's log.
+/// Shows a node's log.
 #[tactic(auto, unfolding(rb_machine::specs::Views::log_items))]
-pub(crate) fn show_log<L: RaftLog>(screen: &mut Screen, node: &Node<L>) -> Result<(), AllocError>
-    ensures { OnOk result (screen.new ≡ showing_all screen.old (log_items node.now)) }
+pub(crate) fn show_log<O: Observer, L: RaftLog>(
+    observer: &mut O,
+    node: &Node<L>,
+) -> Result<(), AllocError>
+    ensures { OnOk result (O.meaning observer.new ≡ fold O.taking (O.meaning observer.old) (log_items node.now)) }
 {
     let state = node.status();
-    screen.show(&Item::RaftLog(log_line(state)))?;
-    show_entries(screen, &state.log)
+    observer.observe(&Item::RaftLog(log_line(state)))?;
+    show_entries(observer, &state.log)
 }
 
 // ---- status
 
-// Prints a leader's views.
-fn show_views(screen: &mut Screen, tracker: &Tracker) -> Result<(), AllocError>
-    ensures { OnOk result (screen.new ≡ showing_all screen.old (map view_item tracker.now.views)) }
+// Shows a leader's views.
+fn show_views<O: Observer>(observer: &mut O, tracker: &Tracker) -> Result<(), AllocError>
+    ensures { OnOk result (O.meaning observer.new ≡ fold O.taking (O.meaning observer.old) (map view_item tracker.now.views)) }
 {
     for i in 0..tracker.len() {
         let (id, view) = tracker.view(i);
-        screen.show(&Item::Progress(id, view))?;
+        observer.observe(&Item::Progress(id, view))?;
     }
     Ok(())
 }
 
 #[tactic(auto, unfolding(rb_machine::specs::Views::status_items))]
-fn show_status<L: RaftLog>(screen: &mut Screen, node: &Node<L>) -> Result<(), AllocError>
-    ensures { OnOk result (screen.new ≡ showing_all screen.old (status_items node.now)) }
+fn show_status<O: Observer, L: RaftLog>(observer: &mut O, node: &Node<L>) -> Result<(), AllocError>
+    ensures { OnOk result (O.meaning observer.new ≡ fold O.taking (O.meaning observer.old) (status_items node.now)) }
 {
     let state = node.status();
-    screen.show(&Item::Config(state.tracker.config()))?;
-    show_views(screen, &state.tracker)
+    observer.observe(&Item::Config(state.tracker.config()))?;
+    show_views(observer, &state.tracker)
 }
 
 // ---- raft-state
@@ -93,40 +96,43 @@ fn node_line<L: RaftLog>(state: &State<L>) -> NodeLine<'_>
     }
 }
 
-fn show_states<L: RaftLog>(screen: &mut Screen, nodes: &[SharedNode<L>]) -> Result<(), AllocError>
-    ensures { OnOk result (screen.new ≡ showing_all screen.old (map state_item nodes.now)) }
+fn show_states<O: Observer, L: RaftLog>(
+    observer: &mut O,
+    nodes: &[SharedNode<L>],
+) -> Result<(), AllocError>
+    ensures { OnOk result (O.meaning observer.new ≡ fold O.taking (O.meaning observer.old) (map state_item nodes.now)) }
 {
     for node in nodes {
-        screen.show(&Item::RaftState(node_line(node.node().status())))?;
+        observer.observe(&Item::RaftState(node_line(node.node().status())))?;
     }
     Ok(())
 }
 
 impl<L: RaftLog> Cluster<L> {
-    /// Prints the log of a node.
-    pub(crate) fn raft_log(&self, id: u64, screen: &mut Screen) -> Result<(), AllocError>
-        ensures { OnOk result (scene self.now screen.new ≡ log_shown id (scene self.now screen.old)) }
+    /// Shows the log of a node.
+    pub fn show_log<O: Observer>(&self, id: u64, observer: &mut O) -> Result<(), AllocError>
+        ensures { OnOk result (watched self.now (O.meaning observer.new) ≡ after O.taking (O.meaning observer.old) (log_shown id self.now)) }
     {
         match self.node_with(id) {
-            Some(node) => show_log(screen, node),
+            Some(node) => show_log(observer, node),
             None => Ok(()),
         }
     }
 
-    /// Prints the configuration of a node, and a leader's views.
-    pub(crate) fn status(&self, id: u64, screen: &mut Screen) -> Result<(), AllocError>
-        ensures { OnOk result (scene self.now screen.new ≡ status_shown id (scene self.now screen.old)) }
+    /// Shows the configuration of a node, and a leader's views.
+    pub fn show_status<O: Observer>(&self, id: u64, observer: &mut O) -> Result<(), AllocError>
+        ensures { OnOk result (watched self.now (O.meaning observer.new) ≡ after O.taking (O.meaning observer.old) (status_shown id self.now)) }
     {
         match self.node_with(id) {
-            Some(node) => show_status(screen, node),
+            Some(node) => show_status(observer, node),
             None => Ok(()),
         }
     }
 
-    /// Prints each node in a line.
-    pub(crate) fn raft_state(&self, screen: &mut Screen) -> Result<(), AllocError>
-        ensures { OnOk result (scene self.now screen.new ≡ states_shown (scene self.now screen.old)) }
+    /// Shows the state of each node.
+    pub fn show_states<O: Observer>(&self, observer: &mut O) -> Result<(), AllocError>
+        ensures { OnOk result (watched self.now (O.meaning observer.new) ≡ after O.taking (O.meaning observer.old) (states_shown self.now)) }
     {
-        show_states(screen, &self.nodes)
+        show_states(observer, &self.nodes)
     }
 }

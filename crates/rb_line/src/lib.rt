@@ -7,11 +7,13 @@
 #![tactic(auto)]
 
 mod chunk;
+mod fail_fast;
 mod line_buffer;
 mod line_reader;
 mod reading;
 mod source;
 
+pub use fail_fast::FailFast;
 pub use line_buffer::{Fed, LineBuffer};
 pub use line_reader::{LineReader, Next};
 pub use reading::{ReadFault, read_up_to};

@@ -1,6 +1,7 @@
--- What a directive does: the first thing that refuses it is the whole output; else the effect of what it asks for. (This project's.)
+-- What a directive does: the first thing that refuses it is all that happens; else the effect of what it asks for. What it prints is a
+-- function of what happens. (This project's.)
 use Rattle.std.specs.Prelude.{ℕ, Bool, false, if◌then◌else◌, List, [], ◌∷◌, Option, Some, None, Result, Ok, Err}
-use Rattle.std.specs.List.{list_all}
+use Rattle.std.specs.List.{list_all, flat_map}
 use Rattle.std.specs.Option.{unwrap_or, option_or}
 use Rattle.rb_script.specs.Lines.{Line}
 use Rattle.rb_script.specs.Directive.{PlainDirective}
@@ -16,13 +17,9 @@ use Rattle.rb_directive.specs.declared.asking.Named.TheVariants as named
 use Rattle.rb_directive.specs.declared.build.Asked.{Asked}
 use Rattle.rb_directive.specs.Requests.{request, nodes_of}
 use Rattle.rb_node.specs.Node.{PlainNode}
-use Rattle.rb_texts.specs.Items.{nothing_else, error}
+use Rattle.rb_texts.specs.Items.{PlainItem, nothing_else, error}
 use Rattle.rb_texts.specs.Shapes.{is_solid}
-use Rattle.rb_machine.specs.declared.screen.Screen.{Screen}
-use Rattle.rb_machine.specs.declared.screen.Form.{Form}
-use Rattle.rb_machine.specs.declared.screen.Form.TheVariants as forms
-use Rattle.rb_machine.specs.declared.screen.Way.{Way}
-use Rattle.rb_machine.specs.declared.screen.Way.TheVariants as ways
+use Rattle.rb_texts.specs.Texts.{line_of}
 use Rattle.rb_machine.specs.Acts as acts
 use Rattle.rb_machine.specs.AddNodes.{add_nodes_fault, nodes_added}
 use Rattle.rb_machine.specs.Changes.{propose_change}
@@ -30,7 +27,7 @@ use Rattle.rb_machine.specs.Cluster.{Cluster, is_node}
 use Rattle.rb_machine.specs.Deliveries.{msgs_delivered}
 use Rattle.rb_machine.specs.Readies.{ready_done_each}
 use Rattle.rb_machine.specs.Rounds.{stabilized}
-use Rattle.rb_machine.specs.Scenes.{Scene, scene, with_cluster, lines_of}
+use Rattle.rb_machine.specs.Effects.{Effect, quiet}
 use Rattle.rb_machine.specs.Snapshots.{snapshot_sent, compact, compact_error}
 use Rattle.rb_machine.specs.Views.{log_shown, status_shown, states_shown}
 
@@ -84,73 +81,71 @@ refusal d c = refusal_of (request d) c
 abbrev pub level_set : Level → Cluster → Cluster
 level_set level c = record c { level = level }
 
-abbrev pub act_with : ActWith → ℕ → ℕ → Scene → Scene
-act_with withs.SetRandomizedElectionTimeout id timeout s = with_cluster s (acts.set_timeout id timeout s.cluster)
-act_with withs.TransferLeadership from to s = acts.transfer from to s
-act_with withs.ReportUnreachable id peer s = with_cluster s (acts.report_unreachable id peer s.cluster)
-act_with withs.SendSnapshot from to s = snapshot_sent from to s
-act_with withs.Compact id index s = compact id index s
+abbrev pub act_with : ActWith → ℕ → ℕ → Cluster → Effect
+act_with withs.SetRandomizedElectionTimeout id timeout c = quiet (acts.set_timeout id timeout c)
+act_with withs.TransferLeadership from to c = acts.transfer from to c
+act_with withs.ReportUnreachable id peer c = quiet (acts.report_unreachable id peer c)
+act_with withs.SendSnapshot from to c = snapshot_sent from to c
+act_with withs.Compact id index c = compact id index c
 
-abbrev pub effect : Request → Scene → Scene
-effect (requests.AddNodes asked) s = nodes_added asked s
-effect (requests.Act what id) s = acts.act what id s
-effect (requests.Propose id payload) s = acts.propose id payload s
-effect (requests.ProposeConfChange asked) s = propose_change asked s
-effect (requests.ProcessReady ids) s = ready_done_each s ids
-effect (requests.DeliverMsgs asked) s = msgs_delivered asked s
-effect (requests.Stabilize ids rounds) s = stabilized ids rounds s
-effect (requests.ActWith what id number) s = act_with what id number s
-effect (requests.LogLevel level) s = with_cluster s (level_set level s.cluster)
-effect (requests.RaftLog id) s = log_shown id s
-effect (requests.Status id) s = status_shown id s
-effect requests.RaftState s = states_shown s
+abbrev pub effect : Request → Cluster → Effect
+effect (requests.AddNodes asked) c = nodes_added asked c
+effect (requests.Act what id) c = acts.act what id c
+effect (requests.Propose id payload) c = acts.propose id payload c
+effect (requests.ProposeConfChange asked) c = propose_change asked c
+effect (requests.ProcessReady ids) c = ready_done_each c ids
+effect (requests.DeliverMsgs asked) c = msgs_delivered asked c
+effect (requests.Stabilize ids rounds) c = stabilized ids rounds c
+effect (requests.ActWith what id number) c = act_with what id number c
+effect (requests.LogLevel level) c = quiet (level_set level c)
+effect (requests.RaftLog id) c = log_shown id c
+effect (requests.Status id) c = status_shown id c
+effect requests.RaftState c = states_shown c
 
--- ---- the whole
+-- ---- what happens
 
--- as lines of a level, with reasons or without, or as rows of a page
-abbrev pub way_of : Form → Level → Way
-way_of forms.Lines level = ways.At level
-way_of forms.Explained level = ways.Explained level
-way_of forms.Rows level = ways.Rows
+-- the cluster that a directive leaves, the level that holds for it, and what happens
+pub record Execution : Type 0 where
+  pub cluster : Cluster
+  pub level : Level
+  pub items : List PlainItem
 
--- `ok` where no line is left
-abbrev pub or_ok : Way → List Line → List Line
-or_ok way [] = lines_of way nothing_else
-or_ok way (line ∷ lines) = line ∷ lines
-
--- an error is the whole output, and the cluster stays
-abbrev pub refused : Form → Cluster → DirectiveError → Outcome
-refused form c e = record { cluster = c; output = lines_of (way_of form c.level) (error e) }
-
-abbrev pub ended : Scene → Outcome
-ended s = record { cluster = s.cluster; output = or_ok s.screen.way s.screen.lines }
+-- an error is all that happens, and the cluster stays
+abbrev pub refused : Cluster → DirectiveError → Execution
+refused c e = record { cluster = c; level = c.level; items = error e ∷ [] }
 
 -- the option `log-level` holds for this directive alone
-abbrev pub screen_of : Form → Asked → Cluster → Screen
-screen_of form a c = record { way = way_of form (unwrap_or a.log_level c.level); lines = [] }
+abbrev pub done : Asked → Cluster → Execution
+done a c = record { cluster = (effect a.request c).cluster; level = unwrap_or a.log_level c.level; items = (effect a.request c).items }
 
-abbrev pub done : Form → Asked → Cluster → Outcome
-done form a c = ended (effect a.request (scene c (screen_of form a c)))
+abbrev pub unless_refused : Option DirectiveError → Asked → Cluster → Execution
+unless_refused (Some e) a c = refused c e
+unless_refused None a c = done a c
 
-abbrev pub unless_refused : Form → Option DirectiveError → Asked → Cluster → Outcome
-unless_refused form (Some e) a c = refused form c e
-unless_refused form None a c = done form a c
+abbrev pub execution_of : Result Asked DirectiveError → Cluster → Execution
+execution_of (Err e) c = refused c e
+execution_of (Ok a) c = unless_refused (fault a.request c) a c
 
-abbrev pub outcome_of : Form → Result Asked DirectiveError → Cluster → Outcome
-outcome_of form (Err e) c = refused form c e
-outcome_of form (Ok a) c = unless_refused form (fault a.request c) a c
+unfoldable pub execution : Cluster → PlainDirective → Execution
+execution c d = execution_of (request d) c
+
+-- ---- what is printed
+
+-- `ok` where no line is left
+abbrev pub or_ok : Level → List Line → List Line
+or_ok level [] = line_of level nothing_else
+or_ok level (line ∷ lines) = line ∷ lines
+
+-- the lines of what happens, at a level
+abbrev pub lines_at : Level → List PlainItem → List Line
+lines_at level items = or_ok level (flat_map (line_of level) items)
+
+abbrev pub printed : Execution → Outcome
+printed h = record { cluster = h.cluster; output = lines_at h.level h.items }
 
 -- the cluster after a directive, and what it prints
 unfoldable pub outcome : Cluster → PlainDirective → Outcome
-outcome c d = outcome_of forms.Lines (request d) c
-
--- what it does, as rows of a page: a text an item, whatever the level is
-unfoldable pub happened : Cluster → PlainDirective → List Line
-happened c d = (outcome_of forms.Rows (request d) c).output
-
--- what it prints, and below each message that reaches a node and nothing comes of it, why
-unfoldable pub explanation : Cluster → PlainDirective → List Line
-explanation c d = (outcome_of forms.Explained (request d) c).output
+outcome c d = printed (execution c d)
 
 -- at least one line, and none that is blank or ---- or holds a byte outside 32 to 126
 unfoldable pub is_output : List Line → Bool

@@ -16,7 +16,7 @@ mod outbox;
 mod role;
 
 pub use append::Append;
-pub use event::{Event, WhyNoCampaign, WhyReplaced};
+pub use event::{Event, WhyIgnored, WhyNoCampaign, WhyRefused, WhyReplaced};
 pub use hard_state::HardState;
 pub use install::Install;
 pub use kind::MessageKind;

@@ -1,11 +1,15 @@
 -- What a leader does with its followers' answers (Ongaro's thesis, sections 3.5 and 3.6; etcd raft documentation, "Progress")
-use Rattle.std.specs.Prelude.{ℕ, Bool, true, false, ◌&&◌, ◌||◌, Option, Some, None, min, if◌then◌else◌, nat_lt, ◌==◌}
+use Rattle.std.specs.Prelude.{ℕ, ◌-◌, Bool, true, false, ◌&&◌, ◌||◌, Option, Some, None, min, if◌then◌else◌, nat_lt, ◌==◌}
 use Rattle.rb_raftlog.specs.Log.{last}
 use Rattle.rb_tracker.specs.Active.{marked_at}
 use Rattle.rb_tracker.specs.Commits.{commit_of}
 use Rattle.rb_tracker.specs.Progresses.{PlainProgress, paused, is_news, acked, freed_through, resumed, believes, refused, is_probing}
 use Rattle.rb_tracker.specs.Trackers.{place, view_at}
+use Rattle.rb_message.specs.declared.event.WhyIgnored.{WhyIgnored}
+use Rattle.rb_message.specs.declared.event.WhyIgnored.TheVariants as why
 use Rattle.rb_message.specs.declared.kind.MessageKind.TheVariants as kind
+use Rattle.rb_tracker.specs.declared.progress.ProgressState.{ProgressState}
+use Rattle.rb_tracker.specs.declared.progress.ProgressState.TheVariants as state
 use Rattle.rb_message.specs.declared.message.Message.{Message}
 use Rattle.rb_node.specs.declared.sends.SendReason.{SendReason}
 use Rattle.rb_node.specs.declared.sends.SendReason.TheVariants as mode
@@ -56,7 +60,7 @@ abbrev pub accepted_from : PlainNode → ℕ → ℕ → ℕ → PlainNode
 accepted_from n at from i = accepted_with (view_at n.tracker.views at) n at from i
 
 abbrev pub accepted_at : Option ℕ → Turn → Message → ℕ → Turn
-accepted_at None t m i = ignored t m
+accepted_at None t m i = ignored t m (why.NoView m.from)
 accepted_at (Some at) t m i = with_node t (accepted_from (heard_of t.node at) at m.from (min i (last t.node.log)))
 
 -- no follower holds more than the leader
@@ -65,19 +69,25 @@ accepted t m i = accepted_at (place t.node.tracker.views m.from) t m i
 
 -- ---- an append that was refused
 
+-- why the refusal of what follows an index is an old one
+abbrev pub why_old : ProgressState → PlainProgress → ℕ → ℕ → WhyIgnored
+why_old state.Probe view from index = why.ProbesElsewhere from index (view.next - 1)
+why_old state.Replicate view from index = why.HoldsMore from index view.matched
+why_old state.Snapshot view from index = why.AwaitsSnapshot from
+
 -- a refusal that is no old one: the view steps back, and the follower is sent what follows from there
 abbrev pub refused_with : Option PlainProgress → Turn → ℕ → Message → ℕ → ℕ → Turn
 refused_with None t at m i hint = t
 refused_with (Some view) t at m i hint =
     if believes view i
     then with_node t (sends (viewed t.node at (refused view i hint)) m.from mode.Tell)
-    else ignored t m
+    else ignored t m (why_old view.state view m.from i)
 
 abbrev pub refused_from : Turn → ℕ → Message → ℕ → ℕ → Turn
 refused_from t at m i hint = refused_with (view_at t.node.tracker.views at) t at m i hint
 
 abbrev pub refused_at : Option ℕ → Turn → Message → ℕ → ℕ → Turn
-refused_at None t m i hint = ignored t m
+refused_at None t m i hint = ignored t m (why.NoView m.from)
 refused_at (Some at) t m i hint = refused_from (with_node t (heard_of t.node at)) at m i hint
 
 unfoldable pub append_refused : Turn → Message → ℕ → ℕ → Turn
@@ -98,7 +108,7 @@ abbrev pub beat_answered_from : PlainNode → ℕ → ℕ → PlainNode
 beat_answered_from n at from = beat_answered_with (view_at n.tracker.views at) n at from
 
 abbrev pub beat_answered_at : Option ℕ → Turn → Message → Turn
-beat_answered_at None t m = ignored t m
+beat_answered_at None t m = ignored t m (why.NoView m.from)
 beat_answered_at (Some at) t m = with_node t (beat_answered_from (heard_of t.node at) at m.from)
 
 unfoldable pub beat_answered : Turn → Message → Turn

@@ -9,6 +9,7 @@ use Rattle.rb_tracker.specs.Configs.{config_of}
 use Rattle.rb_tracker.specs.Trackers.{configured}
 use Rattle.rb_message.specs.Appends.{PlainAppend}
 use Rattle.rb_message.specs.declared.event.Event.TheVariants.{DroppedProposal, Conflict, Restored}
+use Rattle.rb_message.specs.declared.event.WhyIgnored.TheVariants as why
 use Rattle.rb_message.specs.declared.kind.MessageKind.{MessageKind}
 use Rattle.rb_message.specs.declared.kind.MessageKind.TheVariants as kind
 use Rattle.rb_message.specs.declared.message.Message.{Message}
@@ -83,4 +84,4 @@ abbrev pub proposal_passed : Turn → MessageKind → Turn
 proposal_passed t what = if t.node.lead == 0 then told t (DroppedProposal t.node.id) else with_node t (passed_on t.node what)
 
 abbrev pub transfer_passed : Turn → MessageKind → Message → Turn
-transfer_passed t what m = if t.node.lead == 0 then ignored t m else with_node t (passed_on t.node what)
+transfer_passed t what m = if t.node.lead == 0 then ignored t m why.NoLeader else with_node t (passed_on t.node what)

@@ -10,6 +10,7 @@ use Rattle.rb_tracker.specs.declared.votes.Votes.{Votes}
 use Rattle.rb_message.specs.Messages.{type_of}
 use Rattle.rb_message.specs.declared.event.Event.{Event}
 use Rattle.rb_message.specs.declared.event.Event.TheVariants.{Ignored}
+use Rattle.rb_message.specs.declared.event.WhyIgnored.{WhyIgnored}
 use Rattle.rb_message.specs.declared.hard_state.HardState.{HardState}
 use Rattle.rb_message.specs.declared.kind.MessageKind.{MessageKind}
 use Rattle.rb_message.specs.declared.message.Message.{Message}
@@ -109,8 +110,8 @@ abbrev pub told : Turn → Event → Turn
 told t event = record t { events = t.events ++ event ∷ [] }
 
 -- a message that nothing is done with
-abbrev pub ignored : Turn → Message → Turn
-ignored t m = told t (Ignored t.node.id (type_of m.kind) m.from)
+abbrev pub ignored : Turn → Message → WhyIgnored → Turn
+ignored t m why = told t (Ignored t.node.id (type_of m.kind) m.from why)
 
 abbrev pub message : ℕ → ℕ → ℕ → MessageKind → Message
 message from to term what = record { from = from; to = to; term = term; kind = what }

@@ -2,6 +2,7 @@
 use Rattle.std.specs.Prelude.{true, ◌||◌, not, if◌then◌else◌, nat_lt, ◌==◌}
 use Rattle.rb_message.specs.Messages.{has_term}
 use Rattle.rb_message.specs.declared.event.Event.TheVariants.{DroppedProposal}
+use Rattle.rb_message.specs.declared.event.WhyIgnored.TheVariants as why
 use Rattle.rb_message.specs.declared.kind.MessageKind.{MessageKind}
 use Rattle.rb_message.specs.declared.kind.MessageKind.TheVariants as kind
 use Rattle.rb_message.specs.declared.message.Message.{Message}
@@ -25,7 +26,7 @@ as_follower (kind.Snapshot snapshot) t m = snapshot_taken (with_node t (heard t.
 as_follower (kind.Proposal body) t m = proposal_passed t (kind.Proposal body)
 as_follower (kind.TransferLeader target) t m = transfer_passed t (kind.TransferLeader target) m
 as_follower kind.TimeoutNow t m = campaigned t true
-as_follower _ t m = ignored t m
+as_follower _ t m = ignored t m (why.NoUse role.Follower)
 
 -- who hears of the leader of its term follows it
 abbrev pub leader_followed : Turn → Message → Turn
@@ -37,7 +38,7 @@ as_precandidate (kind.Append append) t m = leader_followed t m
 as_precandidate (kind.Heartbeat commit) t m = leader_followed t m
 as_precandidate (kind.Snapshot snapshot) t m = leader_followed t m
 as_precandidate (kind.Proposal body) t m = told t (DroppedProposal t.node.id)
-as_precandidate _ t m = ignored t m
+as_precandidate _ t m = ignored t m (why.NoUse role.Precandidate)
 
 abbrev pub as_candidate : MessageKind → Turn → Message → Turn
 as_candidate (kind.VoteResponse granted) t m = vote_taken t m granted
@@ -45,7 +46,7 @@ as_candidate (kind.Append append) t m = leader_followed t m
 as_candidate (kind.Heartbeat commit) t m = leader_followed t m
 as_candidate (kind.Snapshot snapshot) t m = leader_followed t m
 as_candidate (kind.Proposal body) t m = told t (DroppedProposal t.node.id)
-as_candidate _ t m = ignored t m
+as_candidate _ t m = ignored t m (why.NoUse role.Candidate)
 
 abbrev pub as_leader : MessageKind → Turn → Message → Turn
 as_leader (kind.Proposal body) t m = proposed t body
@@ -53,7 +54,7 @@ as_leader (kind.AppendResponse matched) t m = accepted t m matched
 as_leader (kind.AppendRefusal refused hint) t m = append_refused t m refused hint
 as_leader kind.HeartbeatResponse t m = beat_answered t m
 as_leader (kind.TransferLeader target) t m = transferred t m target
-as_leader _ t m = ignored t m
+as_leader _ t m = ignored t m (why.NoUse role.Leader)
 
 abbrev pub by_role_of : Role → Turn → Message → Turn
 by_role_of role.Follower t m = as_follower m.kind t m
@@ -68,8 +69,8 @@ by_role t m = by_role_of t.node.role t m
 
 -- votes are the same at every role
 abbrev pub at_term_by : MessageKind → Turn → Message → Turn
-at_term_by (kind.Vote last_term last_index transfer) t m = with_node t (vote_answered t.node m last_term last_index)
-at_term_by (kind.PreVote last_term last_index) t m = with_node t (pre_vote_answered t.node m last_term last_index)
+at_term_by (kind.Vote last_term last_index transfer) t m = vote_answered t m last_term last_index
+at_term_by (kind.PreVote last_term last_index) t m = pre_vote_answered t m last_term last_index
 at_term_by _ t m = by_role t m
 
 abbrev pub at_term : Turn → Message → Turn
@@ -80,5 +81,5 @@ unfoldable pub stepped : Turn → Message → Turn
 stepped t m =
     if not (has_term m.kind) || m.term == t.node.term then at_term t m
     else (if nat_lt m.term t.node.term then lowered t m
-    else (if is_disturbed_by m.kind t.node then ignored t m
+    else (if is_disturbed_by m.kind t.node then ignored t m (why.HearsLeader t.node.lead)
     else at_term (raised t m) m))

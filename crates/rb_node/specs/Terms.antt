@@ -2,7 +2,11 @@
 use Rattle.std.specs.Prelude.{ℕ, Bool, false, ◌&&◌, ◌||◌, not, if◌then◌else◌, nat_lt, ◌==◌}
 use Rattle.rb_tracker.specs.Trackers.{cleared}
 use Rattle.rb_tracker.specs.Ballots.{no_votes}
-use Rattle.rb_message.specs.declared.event.Event.TheVariants.{Became}
+use Rattle.rb_message.specs.declared.event.Event.TheVariants.{Became, RefusedVote}
+use Rattle.rb_message.specs.declared.event.WhyIgnored.TheVariants as why
+use Rattle.rb_message.specs.declared.event.WhyRefused.{WhyRefused}
+use Rattle.rb_message.specs.declared.event.WhyRefused.TheVariants as why_not
+use Rattle.rb_message.specs.Messages.{type_of}
 use Rattle.rb_message.specs.declared.kind.MessageKind.{MessageKind}
 use Rattle.rb_message.specs.declared.kind.MessageKind.TheVariants as kind
 use Rattle.rb_message.specs.declared.message.Message.{Message}
@@ -47,16 +51,24 @@ raised t m = raised_by m.kind t m
 abbrev pub answers_earlier : PlainNode → Bool
 answers_earlier n = n.options.pre_vote || n.options.check_quorum
 
+-- what is of an earlier term
+abbrev pub passed_over : Turn → Message → Turn
+passed_over t m = ignored t m (why.EarlierTerm m.term t.node.term)
+
+-- a vote that is refused, or would be
+abbrev pub refused_vote : Turn → Message → WhyRefused → Turn
+refused_vote t m why = told t (RefusedVote t.node.id (type_of m.kind) m.from why)
+
 abbrev pub shown_term : Turn → Message → Turn
 shown_term t m =
-    if answers_earlier t.node then with_node t (answered_with t.node m.from t.node.term (kind.AppendResponse 0)) else ignored t m
+    if answers_earlier t.node then with_node t (answered_with t.node m.from t.node.term (kind.AppendResponse 0)) else passed_over t m
 
 abbrev pub lowered_by : MessageKind → Turn → Message → Turn
 lowered_by (kind.PreVote last_term last_index) t m =
-    with_node t (answered_with t.node m.from t.node.term (kind.PreVoteResponse false))
+    refused_vote (with_node t (answered_with t.node m.from t.node.term (kind.PreVoteResponse false))) m (why_not.EarlierTerm m.term t.node.term)
 lowered_by (kind.Append append) t m = shown_term t m
 lowered_by (kind.Heartbeat commit) t m = shown_term t m
-lowered_by _ t m = ignored t m
+lowered_by _ t m = passed_over t m
 
 abbrev pub lowered : Turn → Message → Turn
 lowered t m = lowered_by m.kind t m

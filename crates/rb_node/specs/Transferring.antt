@@ -4,6 +4,8 @@ use Rattle.rb_raftlog.specs.Log.{last}
 use Rattle.rb_tracker.specs.Commits.{match_of}
 use Rattle.rb_tracker.specs.Configs.{is_voter}
 use Rattle.rb_message.specs.declared.event.Event.TheVariants.{TransferStarts, TransferEnds}
+use Rattle.rb_message.specs.declared.event.WhyIgnored.{WhyIgnored}
+use Rattle.rb_message.specs.declared.event.WhyIgnored.TheVariants as why
 use Rattle.rb_message.specs.declared.kind.MessageKind.TheVariants as kind
 use Rattle.rb_message.specs.declared.message.Message.{Message}
 use Rattle.rb_node.specs.declared.sends.SendReason.TheVariants as mode
@@ -13,6 +15,12 @@ use Rattle.rb_node.specs.Sends.{sends}
 -- the lead goes to another voter, and not twice to the same
 abbrev pub cannot_take_lead : PlainNode → ℕ → Bool
 cannot_take_lead n target = not (is_voter n.tracker.config target) || target == n.id || target == n.transferee
+
+-- the first of these that holds, which is why
+abbrev pub why_no_transfer : PlainNode → ℕ → WhyIgnored
+why_no_transfer n target =
+    if not (is_voter n.tracker.config target) then why.NotAVoter target
+    else (if target == n.id then why.LeadsAlready target else why.IsUnderWay target)
 
 abbrev pub older_ended : Turn → Turn
 older_ended t = if t.node.transferee == 0 then t else told t (TransferEnds t.node.id t.node.transferee)
@@ -26,7 +34,7 @@ transfer_started t target =
     with_node (told t (TransferStarts t.node.id target)) (urged (record (with_elapsed t.node 0) { transferee = target }) target)
 
 unfoldable pub transferred : Turn → Message → ℕ → Turn
-transferred t m target = if cannot_take_lead t.node target then ignored t m else transfer_started (older_ended t) target
+transferred t m target = if cannot_take_lead t.node target then ignored t m (why_no_transfer t.node target) else transfer_started (older_ended t) target
 
 -- a transfer that is given up
 unfoldable pub transfer_ended : Turn → Turn

@@ -1,15 +1,17 @@
 -- Votes (Ongaro's thesis, sections 3.4 and 3.6.1): granting, and counting answers
 use Rattle.std.specs.Prelude.{ℕ, Bool, true, false, ◌&&◌, ◌||◌, if◌then◌else◌, nat_lt, ◌==◌}
-use Rattle.rb_raftlog.specs.Log.{is_up_to_date}
+use Rattle.rb_raftlog.specs.Log.{last, last_term, is_up_to_date}
 use Rattle.rb_tracker.specs.Ballots.{answered, vote_result}
 use Rattle.rb_tracker.specs.declared.votes.VoteResult.{VoteResult}
 use Rattle.rb_tracker.specs.declared.votes.VoteResult.TheVariants as vote
 use Rattle.rb_message.specs.Messages.{type_of}
 use Rattle.rb_message.specs.declared.event.Event.TheVariants.{VoteCounted}
+use Rattle.rb_message.specs.declared.event.WhyRefused.{WhyRefused}
+use Rattle.rb_message.specs.declared.event.WhyRefused.TheVariants as why_not
 use Rattle.rb_message.specs.declared.kind.MessageKind.TheVariants as kind
 use Rattle.rb_message.specs.declared.message.Message.{Message}
 use Rattle.rb_node.specs.Node.{PlainNode, Turn, told, with_node, answered_with, with_elapsed}
-use Rattle.rb_node.specs.Terms.{followed}
+use Rattle.rb_node.specs.Terms.{followed, refused_vote}
 use Rattle.rb_node.specs.Campaigns.{campaigned_after_pre_vote}
 use Rattle.rb_node.specs.Leading.{led}
 
@@ -22,21 +24,29 @@ can_vote_for n m pre_vote = n.vote == m.from || (n.vote == 0 && n.lead == 0) || 
 abbrev pub grants : PlainNode → Message → ℕ → ℕ → Bool → Bool
 grants n m last_term last_index pre_vote = can_vote_for n m pre_vote && is_up_to_date n.log last_index last_term
 
+-- Why one that isn't granted is refused: whose log is too short could have had the vote; another has it, or the leader is known.
+abbrev pub why_no_vote : PlainNode → WhyRefused
+why_no_vote n = if n.vote == 0 then why_not.KnowsLeader n.term n.lead else why_not.Voted n.term n.vote
+
+abbrev pub why_refused : PlainNode → Message → ℕ → ℕ → Bool → WhyRefused
+why_refused n m term index pre_vote =
+    if can_vote_for n m pre_vote then why_not.OlderLog term index (last_term n.log) (last n.log) else why_no_vote n
+
 abbrev pub voted_for : PlainNode → ℕ → PlainNode
 voted_for n id = record (with_elapsed n 0) { vote = id }
 
 -- yes is of the term that was asked for, no of the node's own
-abbrev pub vote_answered : PlainNode → Message → ℕ → ℕ → PlainNode
-vote_answered n m last_term last_index =
-    if grants n m last_term last_index false
-    then answered_with (voted_for n m.from) m.from m.term (kind.VoteResponse true)
-    else answered_with n m.from n.term (kind.VoteResponse false)
+abbrev pub vote_answered : Turn → Message → ℕ → ℕ → Turn
+vote_answered t m last_term last_index =
+    if grants t.node m last_term last_index false
+    then with_node t (answered_with (voted_for t.node m.from) m.from m.term (kind.VoteResponse true))
+    else refused_vote (with_node t (answered_with t.node m.from t.node.term (kind.VoteResponse false))) m (why_refused t.node m last_term last_index false)
 
-abbrev pub pre_vote_answered : PlainNode → Message → ℕ → ℕ → PlainNode
-pre_vote_answered n m last_term last_index =
-    if grants n m last_term last_index true
-    then answered_with n m.from m.term (kind.PreVoteResponse true)
-    else answered_with n m.from n.term (kind.PreVoteResponse false)
+abbrev pub pre_vote_answered : Turn → Message → ℕ → ℕ → Turn
+pre_vote_answered t m last_term last_index =
+    if grants t.node m last_term last_index true
+    then with_node t (answered_with t.node m.from m.term (kind.PreVoteResponse true))
+    else refused_vote (with_node t (answered_with t.node m.from t.node.term (kind.PreVoteResponse false))) m (why_refused t.node m last_term last_index true)
 
 -- the first answer of each voter counts
 abbrev pub count_of : PlainNode → ℕ → Bool → VoteResult

@@ -7,11 +7,11 @@ ghost use Rattle.std.specs.Prelude.{◌≡◌, ◌<◌, ◌≤◌, length, OnOk}
 ghost use Rattle.rb_raftlog.specs.declared.limits.TheConstants.{MAX_INDEX};
 ghost use Rattle.rb_tracker.specs.Trackers.{view_at};
 ghost use Rattle.rb_node.specs.Node.{turn};
-ghost use Rattle.rb_node.specs.Acknowledging.{heard_of, handed_to, commit_or_sent, mode_after, accepted_news, accepted_with, accepted, refused_with, append_refused, lags, beat_answered_with, beat_answered};
+ghost use Rattle.rb_node.specs.Acknowledging.{heard_of, handed_to, commit_or_sent, mode_after, accepted_news, accepted_with, accepted, why_old, refused_with, append_refused, lags, beat_answered_with, beat_answered};
 
 use crate::sends::SendReason;
 use crate::state::State;
-use rb_message::{Event, Message, MessageKind};
+use rb_message::{Event, Message, MessageKind, WhyIgnored};
 use rb_raftlog::RaftLog;
 use rb_tracker::{Progress, ProgressState};
 use std::alloc::AllocError;
@@ -23,6 +23,25 @@ fn mode_after(paused: bool) -> SendReason
         SendReason::Tell
     } else {
         SendReason::News
+    }
+}
+
+// Why the refusal of what follows an index is an old one.
+fn why_old(view: &Progress, from: u64, index: u64) -> WhyIgnored
+    ensures { result ≡ why_old view.now.state view.now from index }
+{
+    match view.state() {
+        ProgressState::Probe => WhyIgnored::ProbesElsewhere {
+            from,
+            refused: index,
+            probed: view.next().saturating_sub(1),
+        },
+        ProgressState::Replicate => WhyIgnored::HoldsMore {
+            from,
+            refused: index,
+            matched: view.matched(),
+        },
+        ProgressState::Snapshot => WhyIgnored::AwaitsSnapshot { from },
     }
 }
 
@@ -99,7 +118,7 @@ impl<L: RaftLog> State<L> {
                 self.hear_of(place);
                 self.accept_at(place, message.from, index)
             }
-            None => self.ignore(message, events),
+            None => self.ignore(message, WhyIgnored::NoView { from: message.from }, events),
         }
     }
 
@@ -115,7 +134,8 @@ impl<L: RaftLog> State<L> {
         ensures { OnOk result (turn self.new events.new.items ≡ refused_with (view_at self.old.tracker.views place) (turn self.old events.old.items) place message.now index hint) }
     {
         if !self.tracker.progress(place).believes(index) {
-            return self.ignore(message, events);
+            let why = why_old(self.tracker.progress(place), message.from, index);
+            return self.ignore(message, why, events);
         }
         self.tracker.view_mut(place).refused(index, hint);
         self.send(message.from, SendReason::Tell)
@@ -137,7 +157,7 @@ impl<L: RaftLog> State<L> {
                 self.hear_of(place);
                 self.refuse_at(place, message, index, hint, events)
             }
-            None => self.ignore(message, events),
+            None => self.ignore(message, WhyIgnored::NoView { from: message.from }, events),
         }
     }
 
@@ -173,7 +193,7 @@ impl<L: RaftLog> State<L> {
                 self.hear_of(place);
                 self.take_beat_answer_at(place, message.from)
             }
-            None => self.ignore(message, events),
+            None => self.ignore(message, WhyIgnored::NoView { from: message.from }, events),
         }
     }
 }

@@ -13,7 +13,7 @@ ghost use Rattle.rb_node.specs.Node.{turn};
 ghost use Rattle.rb_node.specs.Following.{HasLimits, heard, beaten, after_log, with_appended, append_taken, restored_to, with_match, new_snapshot_taken, snapshot_taken, passed_on, proposal_passed, transfer_passed};
 
 use crate::state::State;
-use rb_message::{Append, Event, Install, Message, MessageKind};
+use rb_message::{Append, Event, Install, Message, MessageKind, WhyIgnored};
 use rb_raftlog::{Appended, MAX_INDEX, RaftLog, Snapshot};
 use rb_tracker::Config;
 use std::alloc::AllocError;
@@ -218,7 +218,7 @@ impl<L: RaftLog> State<L> {
         ensures { OnOk result (turn self.new events.new.items ≡ transfer_passed (turn self.old events.old.items) kind message.now) }
     {
         if self.lead == 0 {
-            return self.ignore(message, events);
+            return self.ignore(message, WhyIgnored::NoLeader, events);
         }
         self.pass_on(kind)
     }

@@ -38,3 +38,6 @@ pub use options::Options;
 pub use ready::ReadyView;
 pub use sends::{SendReason, Sending};
 pub use state::State;
+
+// What a node is given and what it tells, which stand in rb_message.
+pub use rb_message::{Event, Message};

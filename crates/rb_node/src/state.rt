@@ -8,7 +8,7 @@ mod copies;
 
 use crate::clock::Clock;
 use crate::options::Options;
-use rb_message::{Event, HardState, Message, MessageKind, Outbox, Role};
+use rb_message::{Event, HardState, Message, MessageKind, Outbox, Role, WhyIgnored};
 use rb_raftlog::{Content, RaftLog, Snapshot};
 use rb_tracker::{Config, Tracker, Votes};
 use std::alloc::{AllocError, Global};
@@ -167,18 +167,20 @@ impl<L: RaftLog> State<L> {
         Ok(())
     }
 
-    /// Does nothing with a message, and shows that.
+    /// Does nothing with a message, and shows that, and why.
     pub(crate) fn ignore(
         &self,
         message: &Message,
+        why: WhyIgnored,
         events: &mut Vec<Event>,
     ) -> Result<(), AllocError>
-        ensures { OnOk result (turn self.now events.new.items ≡ ignored (turn self.now events.old.items) message.now) }
+        ensures { OnOk result (turn self.now events.new.items ≡ ignored (turn self.now events.old.items) message.now why) }
     {
         events.push(Event::Ignored {
             id: self.id,
             message_type: message.kind.message_type(),
             from: message.from,
+            why,
         })?;
         Ok(())
     }

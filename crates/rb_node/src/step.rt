@@ -6,11 +6,12 @@
 
 ghost use Rattle.std.specs.Prelude.{◌≡◌, OnOk};
 ghost use Rattle.rb_message.specs.declared.event.Event.TheVariants.{DroppedProposal};
-ghost use Rattle.rb_node.specs.Node.{turn, told};
+ghost use Rattle.rb_message.specs.declared.event.WhyIgnored.TheVariants.{NoUse};
+ghost use Rattle.rb_node.specs.Node.{turn, told, ignored};
 ghost use Rattle.rb_node.specs.Step.{as_follower, leader_followed, as_precandidate, as_candidate, as_leader, by_role, at_term, stepped};
 
 use crate::state::State;
-use rb_message::{Event, Message, MessageKind, Role};
+use rb_message::{Event, Message, MessageKind, Role, WhyIgnored};
 use rb_raftlog::RaftLog;
 use std::alloc::AllocError;
 
@@ -31,7 +32,7 @@ impl<L: RaftLog> State<L> {
             return self.step_earlier(message, events);
         }
         if self.is_disturbed_by(&message.kind) {
-            return self.ignore(message, events);
+            return self.ignore(message, WhyIgnored::HearsLeader { lead: self.lead }, events);
         }
         self.step_later(message, events)?;
         self.step_at_term(message, events)
@@ -45,11 +46,11 @@ impl<L: RaftLog> State<L> {
                 last_term,
                 last_index,
                 ..
-            } => self.answer_vote(message, *last_term, *last_index),
+            } => self.answer_vote(message, *last_term, *last_index, events),
             MessageKind::PreVote {
                 last_term,
                 last_index,
-            } => self.answer_pre_vote(message, *last_term, *last_index),
+            } => self.answer_pre_vote(message, *last_term, *last_index, events),
             _ => self.step_by_role(message, events),
         }
     }
@@ -63,6 +64,18 @@ impl<L: RaftLog> State<L> {
             Role::Candidate => self.step_as_candidate(message, events),
             Role::Leader => self.step_as_leader(message, events),
         }
+    }
+
+    // Does nothing with a message that a node in this role has no use for.
+    fn no_use(
+        &self,
+        role: Role,
+        message: &Message,
+        events: &mut Vec<Event>,
+    ) -> Result<(), AllocError>
+        ensures { OnOk result (turn self.now events.new.items ≡ ignored (turn self.now events.old.items) message.now (NoUse role)) }
+    {
+        self.ignore(message, WhyIgnored::NoUse { role }, events)
     }
 
     fn step_as_follower(
@@ -92,7 +105,7 @@ impl<L: RaftLog> State<L> {
                 )
             }
             MessageKind::TimeoutNow => self.campaign(true, events),
-            _ => self.ignore(message, events),
+            _ => self.no_use(Role::Follower, message, events),
         }
     }
 
@@ -131,7 +144,7 @@ impl<L: RaftLog> State<L> {
                 self.follow_leader(message, events)
             }
             MessageKind::Proposal(_) => self.drop_proposal(events),
-            _ => self.ignore(message, events),
+            _ => self.no_use(Role::Precandidate, message, events),
         }
     }
 
@@ -148,7 +161,7 @@ impl<L: RaftLog> State<L> {
                 self.follow_leader(message, events)
             }
             MessageKind::Proposal(_) => self.drop_proposal(events),
-            _ => self.ignore(message, events),
+            _ => self.no_use(Role::Candidate, message, events),
         }
     }
 
@@ -167,7 +180,7 @@ impl<L: RaftLog> State<L> {
             ),
             MessageKind::HeartbeatResponse => self.take_beat_answer(message, events),
             MessageKind::TransferLeader { target } => self.transfer_to(message, *target, events),
-            _ => self.ignore(message, events),
+            _ => self.no_use(Role::Leader, message, events),
         }
     }
 }

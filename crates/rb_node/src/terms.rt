@@ -5,12 +5,12 @@
 
 ghost use Rattle.std.specs.Prelude.{◌≡◌, OnOk};
 ghost use Rattle.rb_node.specs.Node.{turn};
-ghost use Rattle.rb_node.specs.Terms.{reset, followed, raised, shown_term, lowered, hears_leader, is_disturbed_by};
+ghost use Rattle.rb_node.specs.Terms.{reset, followed, raised, passed_over, refused_vote, shown_term, lowered, hears_leader, is_disturbed_by};
 
 use crate::clock::Clock;
 use crate::limits::ELECTION_TICKS;
 use crate::state::State;
-use rb_message::{Event, Message, MessageKind, Role};
+use rb_message::{Event, Message, MessageKind, Role, WhyIgnored, WhyRefused};
 use rb_raftlog::RaftLog;
 use std::alloc::AllocError;
 
@@ -69,6 +69,35 @@ impl<L: RaftLog> State<L> {
         }
     }
 
+    // Does nothing with a message of an earlier term.
+    fn pass_over(&self, message: &Message, events: &mut Vec<Event>) -> Result<(), AllocError>
+        ensures { OnOk result (turn self.now events.new.items ≡ passed_over (turn self.now events.old.items) message.now) }
+    {
+        let why = WhyIgnored::EarlierTerm {
+            term: message.term,
+            own: self.term,
+        };
+        self.ignore(message, why, events)
+    }
+
+    /// Shows that a vote is refused, and why.
+    pub(crate) fn refuse_vote(
+        &self,
+        message: &Message,
+        why: WhyRefused,
+        events: &mut Vec<Event>,
+    ) -> Result<(), AllocError>
+        ensures { OnOk result (turn self.now events.new.items ≡ refused_vote (turn self.now events.old.items) message.now why) }
+    {
+        events.push(Event::RefusedVote {
+            id: self.id,
+            message_type: message.kind.message_type(),
+            from: message.from,
+            why,
+        })?;
+        Ok(())
+    }
+
     // Shows a leader of an earlier term that there is a later one, where it may not learn it otherwise.
     fn show_term(&mut self, message: &Message, events: &mut Vec<Event>) -> Result<(), AllocError>
         ensures { OnOk result (turn self.new events.new.items ≡ shown_term (turn self.old events.old.items) message.now) }
@@ -80,7 +109,7 @@ impl<L: RaftLog> State<L> {
                 MessageKind::AppendResponse { matched: 0 },
             );
         }
-        self.ignore(message, events)
+        self.pass_over(message, events)
     }
 
     // A message of an earlier term, and nothing more.
@@ -92,15 +121,20 @@ impl<L: RaftLog> State<L> {
         ensures { OnOk result (turn self.new events.new.items ≡ lowered (turn self.old events.old.items) message.now) }
     {
         match &message.kind {
-            MessageKind::PreVote { .. } => self.answer(
-                message.from,
-                self.term,
-                MessageKind::PreVoteResponse { granted: false },
-            ),
+            MessageKind::PreVote { .. } => {
+                let own = self.term;
+                self.answer(
+                    message.from,
+                    own,
+                    MessageKind::PreVoteResponse { granted: false },
+                )?;
+                let term = message.term;
+                self.refuse_vote(message, WhyRefused::EarlierTerm { term, own }, events)
+            }
             MessageKind::Append(_) | MessageKind::Heartbeat { .. } => {
                 self.show_term(message, events)
             }
-            _ => self.ignore(message, events),
+            _ => self.pass_over(message, events),
         }
     }
 

@@ -5,11 +5,11 @@
 
 ghost use Rattle.std.specs.Prelude.{◌≡◌, OnOk};
 ghost use Rattle.rb_node.specs.Node.{turn};
-ghost use Rattle.rb_node.specs.Transferring.{cannot_take_lead, older_ended, urged, transfer_started, transferred, transfer_ended};
+ghost use Rattle.rb_node.specs.Transferring.{cannot_take_lead, why_no_transfer, older_ended, urged, transfer_started, transferred, transfer_ended};
 
 use crate::sends::SendReason;
 use crate::state::State;
-use rb_message::{Event, Message, MessageKind};
+use rb_message::{Event, Message, MessageKind, WhyIgnored};
 use rb_raftlog::RaftLog;
 use std::alloc::AllocError;
 
@@ -18,6 +18,19 @@ impl<L: RaftLog> State<L> {
         ensures { result ≡ cannot_take_lead self.now target }
     {
         !self.tracker.config().is_voter(target) || target == self.id || target == self.transferee
+    }
+
+    // Why not, where it can't.
+    fn why_no_transfer(&self, target: u64) -> WhyIgnored
+        ensures { result ≡ why_no_transfer self.now target }
+    {
+        if !self.tracker.config().is_voter(target) {
+            return WhyIgnored::NotAVoter { target };
+        }
+        if target == self.id {
+            return WhyIgnored::LeadsAlready { target };
+        }
+        WhyIgnored::IsUnderWay { target }
     }
 
     fn end_older(&self, events: &mut Vec<Event>) -> Result<(), AllocError>
@@ -65,7 +78,7 @@ impl<L: RaftLog> State<L> {
         ensures { OnOk result (turn self.new events.new.items ≡ transferred (turn self.old events.old.items) message.now target) }
     {
         if self.cannot_take_lead(target) {
-            return self.ignore(message, events);
+            return self.ignore(message, self.why_no_transfer(target), events);
         }
         self.end_older(events)?;
         self.start_transfer(target, events)

@@ -5,10 +5,10 @@
 
 ghost use Rattle.std.specs.Prelude.{◌≡◌, OnOk, IfOk, true, false};
 ghost use Rattle.rb_node.specs.Node.{turn};
-ghost use Rattle.rb_node.specs.Votes.{can_vote_for, grants, vote_answered, pre_vote_answered, count_of, counted, vote_taken, pre_vote_taken};
+ghost use Rattle.rb_node.specs.Votes.{can_vote_for, grants, why_refused, vote_answered, pre_vote_answered, count_of, counted, vote_taken, pre_vote_taken};
 
 use crate::state::State;
-use rb_message::{Event, Message, MessageKind};
+use rb_message::{Event, Message, MessageKind, WhyRefused};
 use rb_raftlog::RaftLog;
 use rb_tracker::VoteResult;
 use std::alloc::AllocError;
@@ -28,14 +28,45 @@ impl<L: RaftLog> State<L> {
         self.can_vote_for(message, pre_vote) && self.log.is_up_to_date(last_index, last_term)
     }
 
+    // Why a vote that isn't granted is refused.
+    fn why_refused(
+        &self,
+        message: &Message,
+        last_term: u64,
+        last_index: u64,
+        pre_vote: bool,
+    ) -> WhyRefused
+        ensures { result ≡ why_refused self.now message.now last_term last_index pre_vote }
+    {
+        if self.can_vote_for(message, pre_vote) {
+            return WhyRefused::OlderLog {
+                term: last_term,
+                index: last_index,
+                own_term: self.log.last_term(),
+                own_index: self.log.last_index(),
+            };
+        }
+        if self.vote == 0 {
+            return WhyRefused::KnowsLeader {
+                term: self.term,
+                lead: self.lead,
+            };
+        }
+        WhyRefused::Voted {
+            term: self.term,
+            vote: self.vote,
+        }
+    }
+
     // Answers a candidate.
     pub(crate) fn answer_vote(
         &mut self,
         message: &Message,
         last_term: u64,
         last_index: u64,
+        events: &mut Vec<Event>,
     ) -> Result<(), AllocError>
-        ensures { OnOk result (self.new ≡ vote_answered self.old message.now last_term last_index) }
+        ensures { OnOk result (turn self.new events.new.items ≡ vote_answered (turn self.old events.old.items) message.now last_term last_index) }
     {
         if self.grants(message, last_term, last_index, false) {
             self.vote = message.from;
@@ -46,11 +77,13 @@ impl<L: RaftLog> State<L> {
                 MessageKind::VoteResponse { granted: true },
             );
         }
+        let why = self.why_refused(message, last_term, last_index, false);
         self.answer(
             message.from,
             self.term,
             MessageKind::VoteResponse { granted: false },
-        )
+        )?;
+        self.refuse_vote(message, why, events)
     }
 
     // Answers a precandidate.
@@ -59,8 +92,9 @@ impl<L: RaftLog> State<L> {
         message: &Message,
         last_term: u64,
         last_index: u64,
+        events: &mut Vec<Event>,
     ) -> Result<(), AllocError>
-        ensures { OnOk result (self.new ≡ pre_vote_answered self.old message.now last_term last_index) }
+        ensures { OnOk result (turn self.new events.new.items ≡ pre_vote_answered (turn self.old events.old.items) message.now last_term last_index) }
     {
         if self.grants(message, last_term, last_index, true) {
             return self.answer(
@@ -69,11 +103,13 @@ impl<L: RaftLog> State<L> {
                 MessageKind::PreVoteResponse { granted: true },
             );
         }
+        let why = self.why_refused(message, last_term, last_index, true);
         self.answer(
             message.from,
             self.term,
             MessageKind::PreVoteResponse { granted: false },
-        )
+        )?;
+        self.refuse_vote(message, why, events)
     }
 
     // Counts an answer, the first of each sender.

@@ -1,3 +1,4 @@
+pub mod EventLaws
 pub mod InertLaws
 pub mod JsonLaws
 pub mod SizeLaws

@@ -3,9 +3,11 @@ use Rattle.std.proofs.Common.{◌≡◌, ◌+◌, ◌≤◌, List, [], ◌∷◌
 use Rattle.std.specs.List.{flat_map, sum_by}
 use Rattle.std.proofs.lemmas.List.{length-append}
 use Rattle.std.proofs.lemmas.List.Sums.{sum_by-cons}
+use Rattle.rb_message.specs.declared.event.Event.TheVariants as events
 use Rattle.rb_texts.specs.Items.{PlainItem}
 use Rattle.rb_texts.specs.Items as items
 use Rattle.rb_text.specs.Json.{in_page}
+use Rattle.rb_page.specs.EventRows.{event_rows}
 use Rattle.rb_page.specs.ItemRows.{item_rows}
 use Rattle.rb_page.specs.Rows.{PlainCell, number, text, Row, cell_text, front_text, row_text, next_text, rows_text}
 use Rattle.rb_page.specs.Sizes.{cell_size, row_size, count_of}
@@ -31,6 +33,8 @@ pub rows_short : (first : Row) (rest : List Row) → length (rows_text first res
 rows_short first rest = omega (arith, sum_by-cons row_size first rest, length-append (row_text first) (flat_map next_text rest ++ codes "]\n"), length-append (flat_map next_text rest) (codes "]\n"), row_short first, next_short rest)
 
 pub rows_counted : (item : PlainItem) → length (item_rows item) ≡ count_of item
-unfolding item_rows
+unfolding item_rows event_rows
 rows_counted items.nothing_else = refl
+rows_counted (items.event (events.RefusedVote id type from why)) = refl
+rows_counted (items.event e) = refl
 rows_counted item = refl

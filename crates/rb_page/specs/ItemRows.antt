@@ -9,7 +9,7 @@ use Rattle.rb_texts.specs.Entries.{body_text}
 use Rattle.rb_texts.specs.Errors.{error_text}
 use Rattle.rb_texts.specs.Items.{PlainItem}
 use Rattle.rb_texts.specs.Items as items
-use Rattle.rb_page.specs.EventRows.{event_row}
+use Rattle.rb_page.specs.EventRows.{event_rows}
 use Rattle.rb_page.specs.MessageRows.{message_row, verb_name}
 use Rattle.rb_page.specs.Rows.{number, text, Row, row, next_text}
 
@@ -41,7 +41,7 @@ item_rows (items.raft_log log) = []
 item_rows (items.entry index e unsaved) = []
 item_rows (items.config c) = []
 item_rows (items.progress id view) = []
-item_rows (items.event e) = event_row e ∷ []
+item_rows (items.event e) = event_rows e
 item_rows (items.error e) = error_row e ∷ []
 
 -- the text of an item's rows, which follow another

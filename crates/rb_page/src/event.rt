@@ -1,8 +1,9 @@
 //! What a node shows, as rows.
 
 ghost use Rattle.std.specs.Prelude.{◌≡◌, ◌∷◌, [], IsOk};
+ghost use Rattle.std.specs.List.{flat_map};
 ghost use Rattle.rb_script.specs.Writes.{Writes};
-ghost use Rattle.rb_page.specs.EventRows.{event_row};
+ghost use Rattle.rb_page.specs.EventRows.{event_rows};
 ghost use Rattle.rb_page.specs.MessageRows.{flag};
 ghost use Rattle.rb_page.specs.Rows.{next_text, number, row, text};
 
@@ -13,10 +14,10 @@ use crate::row::put_next;
 use rb_message::Event;
 use rb_script::{Sink, WriteFault};
 
-/// Writes the row of what a node shows.
-#[tactic(auto, unfolding(crate::specs::EventRows::event_row))]
+/// Writes the row of what a node shows. A vote that is refused has none: the answer that says so has one.
+#[tactic(auto, unfolding(crate::specs::EventRows::event_rows))]
 pub(crate) fn put_event<S: Sink>(sink: &mut S, event: &Event) -> Result<(), WriteFault>
-    ensures wrote { Writes result (S.held sink.old) (S.held sink.new) (next_text (event_row event.now)) }
+    ensures wrote { Writes result (S.held sink.old) (S.held sink.new) (flat_map next_text (event_rows event.now)) }
     ensures all { S.takes_all sink.old → IsOk result × S.takes_all sink.new }
 {
     match event {
@@ -47,7 +48,9 @@ pub(crate) fn put_event<S: Sink>(sink: &mut S, event: &Event) -> Result<(), Writ
             id,
             message_type,
             from,
+            ..
         } => put_named(sink, b"ignored", *id, message_type.text(), *from),
+        Event::RefusedVote { .. } => Ok(()),
         Event::DroppedProposal { id } => put_of(sink, b"dropped-proposal", *id),
         Event::Conflict { id, index, commit } => {
             put_numbers(sink, b"conflict", *id, *index, *commit)

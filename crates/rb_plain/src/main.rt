@@ -3,7 +3,7 @@
 #![tactic(auto)]
 
 use rb_cluster::{Cluster, Meter};
-use rb_line::{ReadSource, read_up_to};
+use rb_line::{FailFast, ReadSource, read_up_to};
 use rb_machine::Machine;
 use rb_raftlog::PlainLog;
 use rb_replay::Session;
@@ -15,7 +15,7 @@ use std::process::ExitCode;
 
 /// Whether the report was written.
 fn is_told<M: Machine, R: Print + AllocGlobal>(rt: &R, session: &Session<M>) -> bool {
-    let Ok(writer) = BufWriter::new(rt.alloc(), io::writer(rt)) else {
+    let Ok(writer) = BufWriter::new(rt.alloc(), FailFast(io::writer(rt))) else {
         return false;
     };
     let mut out = Through(writer);

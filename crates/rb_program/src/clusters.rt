@@ -1,14 +1,15 @@
 //! What the scripts of a check run on.
 
+use rb_checked::LineReasons;
 use rb_cluster::{Cluster, Meter};
+use rb_machine::{Both, PrintedLines};
 use rb_raftlog::SplitLog;
 use rb_replay::{Session, StartFault};
-use rb_script::{DirectiveRef, Lines};
-use rb_suite::Runner;
+use rb_script::DirectiveRef;
+use rb_suite::{ExplainedRun, Runner};
 use std::alloc::{AllocError, Global};
 
-/// Clusters of nodes with split logs. No edit runs a directive again, so as few are kept as there may be: with `--why` each runs once more, but
-/// in a cluster of its own, from an empty one on.
+/// Clusters of nodes with split logs. No edit runs a directive again, so as few are kept as there may be.
 #[derive(Clone, Copy)]
 pub(crate) struct Clusters;
 
@@ -24,13 +25,24 @@ impl Runner for Clusters {
         Session::run_once(alloc, bytes, &mut meter)
     }
 
-    fn explained(
+    #[tactic(auto, unfolding(rb_machine::specs::Outcome::outcome))]
+    fn run_explained(
         &mut self,
+        alloc: Global,
         machine: Cluster<SplitLog>,
         directive: DirectiveRef<'_>,
-    ) -> Result<(Cluster<SplitLog>, Lines), AllocError> {
-        let mut next = machine;
-        let lines = next.run_explained(&directive)?;
-        Ok((next, lines))
+    ) -> Result<ExplainedRun<Cluster<SplitLog>>, AllocError> {
+        let mut machine = machine;
+        let mut both = Both {
+            first: PrintedLines::new(alloc),
+            second: LineReasons::new(alloc),
+        };
+        machine.run_watched(&directive, &mut both)?;
+        let Both { first, second } = both;
+        Ok(ExplainedRun {
+            machine,
+            output: first.or_ok()?,
+            reasons: second.all()?,
+        })
     }
 }

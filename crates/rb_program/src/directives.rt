@@ -6,6 +6,7 @@ use crate::misuse::Misuse;
 use crate::refusal::Refusal;
 use rb_check::Status;
 use rb_help::{nearest_name, page_of, put_manual};
+use rb_line::FailFast;
 use rb_script::{Sink, Through, WriteFault};
 use std::alloc::Global;
 use std::io;
@@ -27,7 +28,7 @@ pub fn show_directives<R: Print + AllocGlobal>(
         Some(name) => Some(page_named(alloc, name)?),
         None => None,
     };
-    let mut sink = Through(BufWriter::new(alloc, io::writer(rt))?);
+    let mut sink = Through(BufWriter::new(alloc, FailFast(io::writer(rt)))?);
     let written = match page {
         Some(page) => sink.put(page),
         None => put_manual(&mut sink),

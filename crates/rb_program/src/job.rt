@@ -4,7 +4,7 @@ use crate::refusal::Refusal;
 use crate::running::{ended, opened};
 use rb_bench::{BenchFault, Outlet};
 use rb_check::Status;
-use rb_line::{ReadSource, Source};
+use rb_line::{FailFast, ReadSource, Source};
 use rb_script::Through;
 use std::alloc::Global;
 use std::io;
@@ -42,6 +42,6 @@ pub(crate) fn run_from<R: Print + AllocGlobal, S: Source, J: Job>(
     job: &J,
 ) -> Result<Status, Refusal> {
     let alloc = rt.alloc();
-    let mut writer = Through(BufWriter::new(alloc, io::writer(rt))?);
+    let mut writer = Through(BufWriter::new(alloc, FailFast(io::writer(rt)))?);
     ended(job.run(alloc, source, &mut writer))
 }

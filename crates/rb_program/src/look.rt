@@ -9,6 +9,7 @@ use crate::running::script;
 use crate::target::path_and_line;
 use rb_check::{FileLine, Status, put_directive};
 use rb_cluster::{Cluster, Meter};
+use rb_line::FailFast;
 use rb_look::look;
 use rb_raftlog::SplitLog;
 use rb_script::{Block, Lines, MAX_DIRECTIVES, Script, ScriptWithLines, Through};
@@ -74,7 +75,7 @@ fn put<R: Print + AllocGlobal>(
     block: &Block,
     seen: &Lines,
 ) -> Result<Status, Refusal> {
-    let mut sink = Through(BufWriter::new(rt.alloc(), io::writer(rt))?);
+    let mut sink = Through(BufWriter::new(rt.alloc(), FailFast(io::writer(rt)))?);
     let written = put_directive(&mut sink, at, &block.directive(), seen, b"");
     status_of(handed_on(&mut sink, written))
 }

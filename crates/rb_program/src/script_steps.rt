@@ -1,10 +1,11 @@
 //! The steps of the script that some bytes are.
 
-ghost use Rattle.std.specs.Prelude.{◌≡◌, ◌≢◌, ◌≤◌, ◌^◌, Err, IfErr, IfOk, IfSome, length};
+ghost use Rattle.std.specs.Prelude.{◌≡◌, ◌≢◌, Err, IfErr, IfOk, IfSome};
 ghost use Rattle.rb_script.specs.Script.{PlainScript};
 ghost use Rattle.rb_script.specs.Reads.{Reads};
 ghost use Rattle.rb_script.specs.Reading.{early_fault, read_of};
 ghost use Rattle.rb_replay.specs.Report.{mismatches};
+ghost use Rattle.rb_replay.specs.Start.{TellsStartFault};
 ghost use Rattle.rb_bench.specs.Faults.{TellsFault};
 ghost use Rattle.rb_bench.specs.Runs.{status_of};
 ghost use Rattle.rb_program.specs.Written.{AreRowsOf, AreStepsOf};
@@ -12,11 +13,11 @@ ghost use Rattle.rb_program.specs.Written.{AreRowsOf, AreStepsOf};
 use rb_bench::BenchFault;
 use rb_check::Status;
 use rb_checked::layout_of;
-use rb_cluster::{Cluster, Meter};
+use rb_cluster::Cluster;
 use rb_machine::Machine;
 use rb_raftlog::SplitLog;
-use rb_replay::Session;
-use rb_script::Lines;
+use rb_replay::{Session, StartFault};
+use rb_script::{Lines, Script};
 use rb_steps::{StepMachine, steps_of};
 use std::alloc::{AllocError, Global};
 
@@ -27,18 +28,19 @@ pub(crate) struct ScriptSteps {
     pub(crate) status: Status,
 }
 
-// The rows of the session's script, which the bytes are.
+// Runs a script, which the bytes are, each directive once, and gives a session on it and its rows.
 fn rows<M: StepMachine>(
     alloc: Global,
-    session: &Session<M>,
+    script: Script,
     bytes: &[u8],
-) -> Result<Lines, AllocError>
-    requires { Reads bytes.now session.now.script }
-    ensures { IfOk result (AreRowsOf bytes.now session.now.script) }
+) -> Result<(Session<M>, Lines), AllocError>
+    requires { Reads bytes.now script }
+    ensures script { IfOk result (λ ran. ran.0.script ≡ script) }
+    ensures rows { IfOk result (λ ran. AreRowsOf bytes.now script ran.1) }
 {
     let layout = layout_of(alloc, bytes)?;
-    let texts = steps_of(alloc, session, bytes, layout.heads.as_slice())?;
-    Ok(texts)
+    let ran = steps_of(alloc, script, bytes, layout.heads.as_slice())?;
+    Ok(ran)
 }
 
 // The status of the mismatches.
@@ -52,40 +54,20 @@ fn status<M: Machine>(session: &Session<M>) -> Status
     }
 }
 
-// What a session holds of the script of the bytes, as steps.
-fn found<M: StepMachine>(
-    alloc: Global,
-    session: &Session<M>,
-    bytes: &[u8],
-) -> Result<ScriptSteps, BenchFault>
-    requires { Reads bytes.now session.now.script }
-    ensures found { IfOk result (λ steps. AreStepsOf bytes.now steps.texts steps.status) }
-    ensures memory { IfErr result (λ fault. fault ≡ BenchFault.OutOfMemory) }
-{
-    match rows(alloc, session, bytes) {
-        Ok(texts) => Ok(ScriptSteps {
-            texts,
-            status: status(session),
-        }),
-        Err(_) => Err(BenchFault::OutOfMemory),
-    }
-}
-
 // Reads the script of the bytes, runs it once on such a machine, and gives its steps.
-fn steps_on<M: StepMachine>(
-    alloc: Global,
-    bytes: &[u8],
-    meter: &mut M::Meter,
-) -> Result<ScriptSteps, BenchFault>
-    requires { M.Meter.count_of meter.old ≤ 2 ^ 62 }
+fn steps_on<M: StepMachine>(alloc: Global, bytes: &[u8]) -> Result<ScriptSteps, StartFault>
     ensures read { IfOk result (λ steps. AreStepsOf bytes.now steps.texts steps.status) }
-    ensures only { (s : PlainScript) → Reads bytes.now s → IfErr result (λ fault. fault ≡ BenchFault.OutOfMemory) }
-    ensures refused { IfErr result (λ fault. TellsFault fault (read_of bytes.now)) }
-    ensures early { IfSome (early_fault bytes.now) (λ fault. result ≡ Err (BenchFault.Script fault)) }
-    ensures own { IfErr result (λ fault. (fault ≢ BenchFault.Io) × (fault ≢ BenchFault.Spacing)) }
+    ensures only { (s : PlainScript) → Reads bytes.now s → IfErr result (λ fault. fault ≡ StartFault.OutOfMemory) }
+    ensures refused { IfErr result (λ fault. TellsStartFault fault (read_of bytes.now)) }
+    ensures early { IfSome (early_fault bytes.now) (λ fault. result ≡ Err (StartFault.Script fault)) }
+    ensures spaced { result ≢ Err StartFault.BadSpacing }
 {
-    let session: Session<M> = Session::run_once(alloc, bytes, meter)?;
-    found(alloc, &session, bytes)
+    let script = Script::read(alloc, bytes)?;
+    let (session, texts) = rows::<M>(alloc, script, bytes)?;
+    Ok(ScriptSteps {
+        texts,
+        status: status(&session),
+    })
 }
 
 /// Reads the script of the bytes, runs it once, and gives its steps.
@@ -103,6 +85,6 @@ pub(crate) fn read_steps(alloc: Global, bytes: &[u8]) -> Result<ScriptSteps, Ben
     // Nothing else is read or written, and no spacing is looked at.
     ensures own { IfErr result (λ fault. (fault ≢ BenchFault.Io) × (fault ≢ BenchFault.Spacing)) }
 {
-    let mut meter = Meter::new();
-    steps_on::<Cluster<SplitLog>>(alloc, bytes, &mut meter)
+    let steps = steps_on::<Cluster<SplitLog>>(alloc, bytes)?;
+    Ok(steps)
 }

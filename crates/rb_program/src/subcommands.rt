@@ -9,7 +9,7 @@ use crate::page::page;
 use crate::refusal::Refusal;
 use crate::running::{run, session};
 use crate::spacing::spacing;
-use rb_args::{Choice, ScriptCommand};
+use rb_args::{CommandChoice, ScriptCommand};
 use rb_bench::Mode;
 use rb_check::Status;
 use std::rt::Files;
@@ -22,7 +22,7 @@ use std::rt::Files;
 pub fn carry_out<R: Files + Input + Print + AllocGlobal>(
     rt: &R,
     command: ScriptCommand,
-    choice: &Choice,
+    choice: &CommandChoice,
 ) -> Result<Status, Refusal>
     ensures { choice.now.file ≡ None → result ≡ Err (Refusal.Usage Misuse.NoFile) }
 {
@@ -44,7 +44,7 @@ fn done<R: Files + Input + Print + AllocGlobal>(
     rt: &R,
     command: ScriptCommand,
     file: &str,
-    choice: &Choice,
+    choice: &CommandChoice,
 ) -> Result<Status, Refusal> {
     let Some(every) = spacing(choice.every.as_deref()) else {
         return Err(Refusal::Usage(Misuse::Spacing));

@@ -45,6 +45,9 @@ pub use split_store::SplitStore;
 pub use store::Store;
 pub use try_copy::{TryCopy, copies_of, push_copies};
 
+// The plain types of changes and configurations, which stand in rb_change: entries and snapshots are made of them.
+pub use rb_change::{ConfState, Shared, Transition, Word, WordKind};
+
 /// A log whose entries are one list.
 pub type PlainLog = Log<PlainStore>;
 

@@ -19,7 +19,7 @@ use Rattle.rb_replay.specs.declared.splice.Splice.{Splice}
 use Rattle.rb_replay.specs.declared.splice.Effect.TheVariants as effects
 use Rattle.rb_replay.specs.Run.{directives, outputs}
 use Rattle.rb_replay.specs.Report.{differing, mismatches}
-use Rattle.rb_replay.specs.Holding.{Holding, IsFresh}
+use Rattle.rb_replay.specs.Holding.{Holding, IsOneRun}
 use Rattle.rb_replay.specs.Reuse.{Change, change_by, effect_of, change, change_of, change_for, IsChange, IsOneBlock}
 use Rattle.rb_replay.specs.Splices.{no_splice, IsMended}
 use Rattle.rb_replay.proofs.RunLaws.{outputs-same, length-outputs}
@@ -87,7 +87,7 @@ pub record IsEditChange (c : Change) : Type 0 where
   pub is : IsChange c
   pub one : IsOneBlock c
 
-spliced-change : (h : Holding) (new : PlainScript) (f : ℕ) (put : List PlainBlock) (r t : ℕ) → IsFresh h → take f h.script.blocks ++ (put ++ drop r h.script.blocks) ≡ new.blocks → f ≤ r → r ≤ f + 1 → r ≤ length h.script.blocks → length put ≤ 1 → t ≡ f + length put → IsEditChange (change h new f r t)
+spliced-change : (h : Holding) (new : PlainScript) (f : ℕ) (put : List PlainBlock) (r t : ℕ) → IsOneRun h → take f h.script.blocks ++ (put ++ drop r h.script.blocks) ≡ new.blocks → f ≤ r → r ≤ f + 1 → r ≤ length h.script.blocks → length put ≤ 1 → t ≡ f + length put → IsEditChange (change h new f r t)
 spliced-change h new f put r t fresh made fr rf rs few t_is =
     let bs : List PlainBlock = h.script.blocks in
     let long : length (take f h.script.blocks) ≡ f = length-take-le f h.script.blocks (omega arith) in
@@ -115,12 +115,12 @@ spliced-change h new f put r t fresh made fr rf rs few t_is =
       };
     }
 
-insert-change : (h : Holding) (new : PlainScript) (k : ℕ) (b : PlainBlock) → IsFresh h → edited h.script (Insert k b) (outputs h.script) ≡ Ok new → IsEditChange (change h new (k - 1) (k - 1) k)
+insert-change : (h : Holding) (new : PlainScript) (k : ℕ) (b : PlainBlock) → IsOneRun h → edited h.script (Insert k b) (outputs h.script) ≡ Ok new → IsEditChange (change h new (k - 1) (k - 1) k)
 insert-change h new k b fresh e =
     let made = inserted h.script new k b (outputs h.script) e in
     spliced-change h new (k - 1) (b ∷ []) (k - 1) k fresh (ap (λ (s : PlainScript). s.blocks) made.2) (omega arith) (omega arith) (omega (arith, made.1)) (omega arith) (omega (arith, made.0))
 
-replace-change : (h : Holding) (new : PlainScript) (k : ℕ) (b : PlainBlock) → IsFresh h → edited h.script (Replace k b) (outputs h.script) ≡ Ok new → IsEditChange (change h new (k - 1) k k)
+replace-change : (h : Holding) (new : PlainScript) (k : ℕ) (b : PlainBlock) → IsOneRun h → edited h.script (Replace k b) (outputs h.script) ≡ Ok new → IsEditChange (change h new (k - 1) k k)
 replace-change h new k b fresh e =
     let made = replaced h.script new k b (outputs h.script) e in
     let next : suc (k - 1) ≡ k = omega (arith, made.0) in
@@ -129,7 +129,7 @@ replace-change h new k b fresh e =
     (ap (λ (n : ℕ). take (k - 1) h.script.blocks ++ b ∷ drop n h.script.blocks) (sym next) ∙ sym split ∙ ap (λ (s : PlainScript). s.blocks) made.2)
     (omega (arith, made.0)) (omega (arith, made.0)) made.1 (omega arith) (omega (arith, made.0))
 
-remove-change : (h : Holding) (new : PlainScript) (k : ℕ) → IsFresh h → edited h.script (Remove k) (outputs h.script) ≡ Ok new → IsEditChange (change h new (k - 1) k (k - 1))
+remove-change : (h : Holding) (new : PlainScript) (k : ℕ) → IsOneRun h → edited h.script (Remove k) (outputs h.script) ≡ Ok new → IsEditChange (change h new (k - 1) k (k - 1))
 remove-change h new k fresh e =
     let made = removed h.script new k (outputs h.script) e in
     let next : suc (k - 1) ≡ k = omega (arith, made.0) in
@@ -137,7 +137,7 @@ remove-change h new k fresh e =
     (ap (λ (n : ℕ). take (k - 1) h.script.blocks ++ drop n h.script.blocks) (sym next) ∙ ap (λ (s : PlainScript). s.blocks) made.2)
     (omega arith) (omega arith) made.1 (omega arith) (omega arith)
 
-pub edit-change : (h : Holding) (edit : Edit) (new : PlainScript) → IsFresh h → edited h.script edit (outputs h.script) ≡ Ok new → IfSome (change_of h new edit) IsEditChange
+pub edit-change : (h : Holding) (edit : Edit) (new : PlainScript) → IsOneRun h → edited h.script edit (outputs h.script) ≡ Ok new → IfSome (change_of h new edit) IsEditChange
 edit-change h (Insert k b) new fresh e = insert-change h new k b fresh e
 edit-change h (Replace k b) new fresh e = replace-change h new k b fresh e
 edit-change h (Remove k) new fresh e = remove-change h new k fresh e
@@ -145,7 +145,7 @@ edit-change h (Expect k lines) new fresh e = tt
 edit-change h Accept new fresh e = tt
 
 -- by what the code calls it
-pub splice-change : (h : Holding) (edit : Edit) (new : PlainScript) (splice : Splice) → IsFresh h → edited h.script edit (outputs h.script) ≡ Ok new
+pub splice-change : (h : Holding) (edit : Edit) (new : PlainScript) (splice : Splice) → IsOneRun h → edited h.script edit (outputs h.script) ≡ Ok new
     → effect_of edit ≡ effects.Replay splice → IsEditChange (change_by h new splice)
 splice-change h edit new splice fresh e is = subst (λ (o : Option Change). IfSome o IsEditChange) (ap (change_for h new) is) (edit-change h edit new fresh e)
 
@@ -205,7 +205,7 @@ accept-none s new e =
 
 -- ---- what a session is edited to
 
-pub made-of : (h inside : Holding) (edit : Edit) (os : List (List Line)) (made : Result PlainScript EditFault) → inside ≡ h → IsFresh inside → os ≡ inside.outputs → edited inside.script edit os ≡ made → edited h.script edit (outputs h.script) ≡ made
+pub made-of : (h inside : Holding) (edit : Edit) (os : List (List Line)) (made : Result PlainScript EditFault) → inside ≡ h → IsOneRun inside → os ≡ inside.outputs → edited inside.script edit os ≡ made → edited h.script edit (outputs h.script) ≡ made
 made-of h inside edit os made view fresh outs is =
     sym (ap (λ (h : Holding). edited h.script edit (outputs h.script)) view) ∙ ap (edited inside.script edit) (sym (outs ∙ fresh.answered)) ∙ is
 

@@ -4,25 +4,25 @@ use Rattle.std.proofs.Math.Nat.{div-eq_of_lt}
 use Rattle.std.proofs.lemmas.List.{map-append, take-map, drop-map}
 use Rattle.rb_script.specs.declared.limits.TheConstants.{MAX_DIRECTIVES}
 use Rattle.rb_script.specs.Script.{PlainScript}
-use Rattle.rb_machine.specs.Cluster.{Cluster}
+use Rattle.rb_machine.specs.Cluster.{Cluster, empty}
 use Rattle.rb_script.specs.Lines.{Line}
 use Rattle.rb_replay.specs.Run.{directives, state, outputs}
 use Rattle.rb_replay.specs.Report.{mismatches}
 use Rattle.rb_replay.specs.Points.{AreKept, every, start_points}
-use Rattle.rb_replay.specs.Holding.{Holding, IsFresh}
+use Rattle.rb_replay.specs.Holding.{Holding, IsOneRun}
 use Rattle.rb_replay.proofs.NearLaws.{start-kept}
 use Rattle.rb_replay.proofs.RunLaws.{outputs-same, states-same, lengths-same}
 
 -- what a session holds of outputs and mismatches, seen from within
-pub held-outputs : {inside h : Holding} → inside ≡ h → IsFresh inside → inside.outputs ≡ outputs h.script
+pub held-outputs : {inside h : Holding} → inside ≡ h → IsOneRun inside → inside.outputs ≡ outputs h.script
 held-outputs view fresh = fresh.answered ∙ ap (λ (h : Holding). outputs h.script) view
 
-pub held-mismatches : {inside h : Holding} → inside ≡ h → IsFresh inside → inside.mismatches ≡ mismatches h.script
+pub held-mismatches : {inside h : Holding} → inside ≡ h → IsOneRun inside → inside.mismatches ≡ mismatches h.script
 held-mismatches view fresh = fresh.compared ∙ ap (λ (h : Holding). mismatches h.script) view
 
 -- a script of the same directives
-pub fresh-same : (h inside : Holding) (new : PlainScript) (ms : List ℕ) → inside ≡ h → IsFresh inside → directives new ≡ directives h.script → ms ≡ mismatches new
-    → IsFresh (record { script = new; spacing = inside.spacing; outputs = inside.outputs; mismatches = ms; points = inside.points; kept = inside.kept })
+pub fresh-same : (h inside : Holding) (new : PlainScript) (ms : List ℕ) → inside ≡ h → IsOneRun inside → directives new ≡ directives h.script → ms ≡ mismatches new
+    → IsOneRun (record { script = new; spacing = inside.spacing; outputs = inside.outputs; mismatches = ms; points = inside.points; kept = inside.kept })
 fresh-same h inside new ms view fresh same compared =
     let along : directives new ≡ directives inside.script = same ∙ sym (ap (λ (h : Holding). directives h.script) view) in
     let long : length new.blocks ≡ length inside.script.blocks = lengths-same new inside.script along in
@@ -47,7 +47,7 @@ start-alone K n lt = let none : n / K ≡ 0 = div-eq_of_lt lt in ap (λ (j : ℕ
 
 -- what a run of the whole script gives
 pub fresh-whole : (s : PlainScript) (K : ℕ) (os : List (List Line)) (ms points : List ℕ) (kept : List Cluster) → 1 ≤ K → length s.blocks ≤ MAX_DIRECTIVES → os ≡ outputs s → ms ≡ mismatches s → points ≡ start_points K (length s.blocks) → kept ≡ map (state s) points
-    → IsFresh (record { script = s; spacing = K; outputs = os; mismatches = ms; points = points; kept = kept })
+    → IsOneRun (record { script = s; spacing = K; outputs = os; mismatches = ms; points = points; kept = kept })
 fresh-whole s K os ms points kept spaced few answered compared placed states = record {
   answered = answered;
   compared = compared;
@@ -56,3 +56,10 @@ fresh-whole s K os ms points kept spaced few answered compared placed states = r
   spaced = spaced;
   few = few;
 }
+
+-- what a run elsewhere gives, where the empty cluster alone is kept
+pub fresh-outputs : {M : Type 0} (meaning : M → Cluster) (s : PlainScript) (os : List (List Line)) (ms points : List ℕ) (kept : List M) (m : M) → length s.blocks ≤ MAX_DIRECTIVES → os ≡ outputs s → ms ≡ mismatches s → points ≡ 0 ∷ [] → kept ≡ m ∷ [] → meaning m ≡ empty
+    → IsOneRun (record { script = s; spacing = MAX_DIRECTIVES + 1; outputs = os; mismatches = ms; points = points; kept = map meaning kept })
+fresh-outputs meaning s os ms points kept m few answered compared placed one begun =
+    fresh-whole s (MAX_DIRECTIVES + 1) os ms points (map meaning kept) (omega arith) few answered compared (placed ∙ sym (start-alone (MAX_DIRECTIVES + 1) (length s.blocks) (omega (arith, few))))
+    (ap (map meaning) one ∙ ap (λ (c : Cluster). c ∷ []) begun ∙ sym (ap (map (state s)) placed))

@@ -1,7 +1,9 @@
 -- Laws of one run.
-use Rattle.std.proofs.Common.{◌≡◌, ℕ, zero, suc, ◌+◌, ◌-◌, ◌<◌, ◌≤◌, List, [], ◌∷◌, ◌++◌, length, take, drop, map, refl, ap, ap₂, sym, ◌∙◌, arith, get_or}
+use Rattle.std.proofs.Common.{◌≡◌, ℕ, zero, suc, ◌+◌, ◌-◌, ◌<◌, ◌≤◌, List, [], ◌∷◌, ◌++◌, length, take, drop, map, Some, refl, ap, ap₂, sym, ◌∙◌, arith, get_or}
 use Rattle.std.proofs.lemmas.List.{length-map, drop_more, get_or-map}
+use Rattle.std.proofs.lemmas.Option.{get_or_from_slice_get, slice_get_within}
 use Rattle.std.proofs.Math.Seq.{take-add}
+use Rattle.std.specs.Prelude.{slice_get}
 use Rattle.rb_script.specs.Lines.{Line}
 use Rattle.rb_script.specs.Script.{PlainBlock, PlainScript}
 use Rattle.rb_script.specs.Directive.{PlainDirective}
@@ -84,3 +86,14 @@ state_next s i b lt = state-add s i 1 ∙ ap (λ (ds : List PlainDirective). led
 pub outputs_next : (s : PlainScript) (i : ℕ) (b : PlainBlock) → i < length s.blocks → take (i + 1) (outputs s) ≡ take i (outputs s) ++ (outcome (state s i) (directive_of (get_or s.blocks i b))).output ∷ []
 outputs_next s i b lt =
     take-add i 1 (outputs s) ∙ ap (λ (os : List (List Line)). take i (outputs s) ++ take 1 os) (drop-outputs s i ∙ ap (answers (state s i)) (left_next s i b lt))
+
+-- the same where the block at a place was run
+pub run_next : (s : PlainScript) (i : ℕ) (b : PlainBlock) (c after : Cluster) (output : List Line) (had has : List (List Line)) → slice_get s.blocks i ≡ Some b
+    → c ≡ state s i → after ≡ (outcome c (directive_of b)).cluster → output ≡ (outcome c (directive_of b)).output → had ≡ take i (outputs s) → has ≡ had ++ output ∷ []
+    → (after ≡ state s (i + 1)) × (has ≡ take (i + 1) (outputs s))
+run_next s i b c after output had has got here next printed so_far more =
+    let within = slice_get_within s.blocks i b got in
+    let block : b ≡ get_or s.blocks i b = sym (get_or_from_slice_get s.blocks i b b got) in (
+      next ∙ ap₂ (λ (d : Cluster) (x : PlainBlock). (outcome d (directive_of x)).cluster) here block ∙ sym (state_next s i b within),
+      more ∙ ap₂ (λ (os : List (List Line)) (l : List Line). os ++ l ∷ []) so_far (printed ∙ ap₂ (λ (d : Cluster) (x : PlainBlock). (outcome d (directive_of x)).output) here block) ∙ sym (outputs_next s i b within),
+    )

@@ -7,13 +7,13 @@ use Rattle.rb_script.specs.Edits.{edited}
 use Rattle.rb_replay.specs.declared.session.Changed.{Changed}
 use Rattle.rb_replay.specs.Run.{outputs}
 use Rattle.rb_replay.specs.Report.{mismatches}
-use Rattle.rb_replay.specs.Holding.{Holding, IsFresh}
+use Rattle.rb_replay.specs.Holding.{Holding, IsOneRun}
 use Rattle.rb_replay.specs.Reuse.{ReusesFor}
 
 -- An accepted edit puts its script in. What is held then is what one run of that script gives.
 pub record IsEdited (old : Holding) (edit : Edit) (changed : Changed) (new : Holding) : Type 0 where
   pub script : edited old.script edit (outputs old.script) ≡ Ok new.script
-  pub fresh : IsFresh new
+  pub fresh : IsOneRun new
   pub spacing : new.spacing ≡ old.spacing
   pub reuse : ReusesFor old edit new.script changed.executed new.points
   pub mismatches_are : changed.mismatches ≡ length (mismatches new.script)

@@ -7,7 +7,7 @@ use Rattle.rb_replay.specs.declared.splice.Splice.{Splice}
 use Rattle.rb_replay.specs.declared.session.Changed.{Changed}
 use Rattle.rb_replay.specs.Run.{directives}
 use Rattle.rb_replay.specs.Report.{mismatches}
-use Rattle.rb_replay.specs.Holding.{Holding, IsFresh}
+use Rattle.rb_replay.specs.Holding.{Holding, IsOneRun}
 use Rattle.rb_replay.specs.Reuse.{change_by, Reuses, IsCost}
 
 -- The longest rest that two lists of directives share, and of what is left the longest front.
@@ -36,7 +36,7 @@ pub record IsTurnCost (h : Holding) (new : PlainScript) (executed : ℕ) : Type 
 -- A session that was turned into a script. What is held then is what one run of that script gives.
 pub record IsTurned (old : Holding) (script : PlainScript) (changed : Changed) (new : Holding) : Type 0 where
   pub is_on : new.script ≡ script
-  pub fresh : IsFresh new
+  pub fresh : IsOneRun new
   pub spacing : new.spacing ≡ old.spacing
   pub reuse : ReusesLongest old script changed.executed new.points
   pub mismatches_are : changed.mismatches ≡ length (mismatches script)

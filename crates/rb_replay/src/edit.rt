@@ -47,7 +47,7 @@ impl<M: Machine> Session<M> {
     ghost use Rattle.rb_script.specs.Script.{PlainScript};
     ghost use Rattle.rb_script.specs.Edits.{edited, EditFails};
     ghost use Rattle.rb_replay.specs.Run.{outputs};
-    ghost use Rattle.rb_replay.specs.Holding.{Holding, IsFresh};
+    ghost use Rattle.rb_replay.specs.Holding.{Holding, IsOneRun};
     ghost use Rattle.rb_replay.specs.Reuse.{change_by, IsChange, StayWhole, IsCost, Reuses, IsCostFor};
     ghost use Rattle.rb_replay.specs.After.{IsAnswer};
 
@@ -71,7 +71,7 @@ impl<M: Machine> Session<M> {
         ensures least { M.Meter.count_of meter.old ≤ M.Meter.count_of meter.new }
         ensures most { M.Meter.count_of meter.new ≤ M.Meter.count_of meter.old + MAX_DIRECTIVES }
         // All that is held is what one run of the script gives, whatever the answer.
-        ensures fresh { IsFresh self.new }
+        ensures fresh { IsOneRun self.new }
     {
         let new = self.script.edited(edit, &self.outputs)?;
         match effect_of(edit) {
@@ -98,7 +98,7 @@ impl<M: Machine> Session<M> {
         ensures reuse { IfOk result (λ changed. Reuses (change_by self.old new splice) changed.executed self.new.points) }
         ensures counted { IfOk result (λ changed. M.Meter.count_of meter.new ≡ M.Meter.count_of meter.old + changed.executed) }
         ensures mismatches { IfOk result (λ changed. changed.mismatches ≡ length self.new.mismatches) }
-        ensures fresh { IsFresh self.new }
+        ensures fresh { IsOneRun self.new }
         ensures err { OnErr result (self.new ≡ self.old) }
         ensures refused { OnErr result ((n : ℕ) → IsCost (change_by self.old new splice) n → M.Meter.count_of meter.new ≤ M.Meter.count_of meter.old + n) }
         ensures least { M.Meter.count_of meter.old ≤ M.Meter.count_of meter.new }

@@ -10,7 +10,7 @@ impl<M: Machine> Session<M> {
     ghost use Rattle.std.specs.Prelude.{◌≡◌, ◌-◌, ◌≤◌, [], length, take, drop, IfOk, OnOk, OnErr};
     ghost use Rattle.rb_replay.specs.Run.{directives, outputs};
     ghost use Rattle.rb_replay.specs.Report.{mismatches};
-    ghost use Rattle.rb_replay.specs.Holding.{Holding, IsFresh};
+    ghost use Rattle.rb_replay.specs.Holding.{Holding, IsOneRun};
     ghost use Rattle.rb_replay.specs.Splices.{IsMended, no_splice};
 
     /// Puts in a script whose directive at the place expects other lines.
@@ -24,7 +24,7 @@ impl<M: Machine> Session<M> {
         ensures points { self.new.points ≡ self.old.points }
         ensures executed { IfOk result (λ changed. changed.executed ≡ 0) }
         ensures mismatches { IfOk result (λ changed. changed.mismatches ≡ length self.new.mismatches) }
-        ensures fresh { IsFresh self.new }
+        ensures fresh { IsOneRun self.new }
         ensures err { OnErr result (self.new ≡ self.old) }
     {
         let splice = Splice {
@@ -50,7 +50,7 @@ impl<M: Machine> Session<M> {
         ensures points { self.new.points ≡ self.old.points }
         ensures executed { result.executed ≡ 0 }
         ensures mismatches { result.mismatches ≡ length self.new.mismatches }
-        ensures fresh { IsFresh self.new }
+        ensures fresh { IsOneRun self.new }
     {
         self.mismatches.clear();
         self.script = new;

@@ -13,7 +13,7 @@ ghost use Rattle.rb_replay.specs.declared.session.Changed.{Changed};
 ghost use Rattle.rb_replay.specs.Run.{directives, state, outputs};
 ghost use Rattle.rb_replay.specs.Report.{mismatches, rewritten};
 ghost use Rattle.rb_replay.specs.Points.{AreKept, IsRising};
-ghost use Rattle.rb_replay.specs.Holding.{Holding, IsFresh};
+ghost use Rattle.rb_replay.specs.Holding.{Holding, IsFresh, IsOneRun};
 ghost use Rattle.rb_replay.specs.Reuse.{Change, change_by, change_of, IsChange, IsOneBlock, IsCost, IsFirstMeeting, points_before, IsPointBefore};
 ghost use Rattle.rb_replay.specs.After.{Answered, Leads, after};
 ghost use Rattle.rb_replay.specs.Turns.{IsLongestSplice, IsTurned, IsTurnCost, shown};
@@ -22,9 +22,10 @@ ghost use Rattle.rb_replay.specs.Turns.{IsLongestSplice, IsTurned, IsTurnCost, s
 /// script with the accepted ones made.
 pub fn edits_answer_as_one_run()
     ensures script { (first last : Holding) (steps : Answered) → Leads first steps last → last.script ≡ after first.script steps }
+    ensures run { (first last : Holding) (steps : Answered) → IsOneRun first → Leads first steps last → IsOneRun last }
     ensures fresh { (first last : Holding) (steps : Answered) → IsFresh first → Leads first steps last → IsFresh last }
-    ensures outputs { (first last : Holding) (steps : Answered) → IsFresh first → Leads first steps last → last.outputs ≡ outputs (after first.script steps) }
-    ensures mismatches { (first last : Holding) (steps : Answered) → IsFresh first → Leads first steps last → last.mismatches ≡ mismatches (after first.script steps) }
+    ensures outputs { (first last : Holding) (steps : Answered) → IsOneRun first → Leads first steps last → last.outputs ≡ outputs (after first.script steps) }
+    ensures mismatches { (first last : Holding) (steps : Answered) → IsOneRun first → Leads first steps last → last.mismatches ≡ mismatches (after first.script steps) }
 {}
 
 /// A rewritten script reads, where the outputs can be expected at all, as the one that accepting them makes, and as no
@@ -36,27 +37,27 @@ pub fn rewritten_scripts_match()
 
 /// A session that was turned into a script shows what one shows that was started with it: nothing is left of the scripts before.
 pub fn turned_sessions_show_a_fresh_start()
-    ensures { (old turned started : Holding) (script : PlainScript) (changed : Changed) → IsTurned old script changed turned → IsFresh started → started.script ≡ script → shown turned ≡ shown started }
+    ensures { (old turned started : Holding) (script : PlainScript) (changed : Changed) → IsTurned old script changed turned → IsOneRun started → started.script ≡ script → shown turned ≡ shown started }
 {}
 
 /// What an accepted edit changes of a session's script is a change, so that the laws below hold of it. At most one block goes,
 /// at most one comes, and all others stay.
 pub fn edits_are_changes()
-    ensures change { (h : Holding) (edit : Edit) (new : PlainScript) → IsFresh h → edited h.script edit (outputs h.script) ≡ Ok new → IfSome (change_of h new edit) IsChange }
-    ensures one { (h : Holding) (edit : Edit) (new : PlainScript) → IsFresh h → edited h.script edit (outputs h.script) ≡ Ok new → IfSome (change_of h new edit) IsOneBlock }
+    ensures change { (h : Holding) (edit : Edit) (new : PlainScript) → IsOneRun h → edited h.script edit (outputs h.script) ≡ Ok new → IfSome (change_of h new edit) IsChange }
+    ensures one { (h : Holding) (edit : Edit) (new : PlainScript) → IsOneRun h → edited h.script edit (outputs h.script) ≡ Ok new → IfSome (change_of h new edit) IsOneBlock }
 {}
 
 /// What differs between a session's script and another is a change too, and there is one such change: one longest rest, and one
 /// longest front before it. So a turn has at most one cost.
 pub fn turns_are_changes()
-    ensures change { (h : Holding) (new : PlainScript) (splice : Splice) → IsFresh h → IsLongestSplice (directives h.script) (directives new) splice → IsChange (change_by h new splice) }
+    ensures change { (h : Holding) (new : PlainScript) (splice : Splice) → IsOneRun h → IsLongestSplice (directives h.script) (directives new) splice → IsChange (change_by h new splice) }
     ensures once { (old new : List PlainDirective) (a b : Splice) → IsLongestSplice old new a → IsLongestSplice old new b → a ≡ b }
     ensures cost { (h : Holding) (new : PlainScript) (m n : ℕ) → IsTurnCost h new m → IsTurnCost h new n → m ≡ n }
 {}
 
 /// Turning a session into a script of the same directives executes nothing, whatever they are expected to give.
 pub fn expectations_cost_nothing()
-    ensures { (h : Holding) (new : PlainScript) (n : ℕ) → IsFresh h → directives new ≡ directives h.script → IsTurnCost h new n → n ≡ 0 }
+    ensures { (h : Holding) (new : PlainScript) (n : ℕ) → IsOneRun h → directives new ≡ directives h.script → IsTurnCost h new n → n ≡ 0 }
 {}
 
 /// There is at most one cost of a change.

@@ -13,6 +13,7 @@ mod expectations;
 mod fault;
 mod laws;
 mod longest;
+mod outputs;
 mod points;
 mod prepare;
 mod ready;
@@ -31,5 +32,6 @@ pub use laws::{
     expectations_cost_nothing, points_are_few, points_are_members, points_are_near,
     rewritten_scripts_match, turned_sessions_show_a_fresh_start, turns_are_changes,
 };
+pub use outputs::Outputs;
 pub use session::{Changed, Session};
 pub use spacing::{MAX_SPACING, is_spacing, spacing_limit_is};

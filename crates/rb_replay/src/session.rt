@@ -34,13 +34,13 @@ impl<M: Machine> Drop for Session<M> {
 
 impl<M: Machine> Model for Session<M> {
     ghost use Rattle.std.specs.Prelude.{map};
-    ghost use Rattle.rb_replay.specs.Holding.{Holding, IsFresh};
+    ghost use Rattle.rb_replay.specs.Holding.{Holding, IsOneRun};
 
     ghost Value = { Holding };
 
     ghost view = { λ s. record { script = s.script; spacing = s.spacing; outputs = s.outputs; mismatches = s.mismatches.items; points = s.points.items; kept = map M.meaning s.kept.items } };
 
-    ghost invariant = { λ s. IsFresh (record { script = s.script; spacing = s.spacing; outputs = s.outputs; mismatches = s.mismatches.items; points = s.points.items; kept = map M.meaning s.kept.items }) };
+    ghost invariant = { λ s. IsOneRun (record { script = s.script; spacing = s.spacing; outputs = s.outputs; mismatches = s.mismatches.items; points = s.points.items; kept = map M.meaning s.kept.items }) };
 }
 
 /// What an edit came to.
@@ -54,7 +54,7 @@ pub struct Changed {
 
 impl<M: Machine> Session<M> {
     ghost use Rattle.std.specs.Prelude.{◌≡◌, ◌==◌, length, option_copied};
-    ghost use Rattle.rb_replay.specs.Holding.{Holding, IsFresh};
+    ghost use Rattle.rb_replay.specs.Holding.{Holding, IsOneRun};
     ghost use Rattle.rb_replay.specs.Run.{at_place, output_at};
     ghost use Rattle.rb_replay.specs.Report.{mismatches};
 
@@ -62,7 +62,7 @@ impl<M: Machine> Session<M> {
     pub fn len(&self) -> usize
         ensures len { result ≡ length self.now.script.blocks }
         // All that the session holds is what one run of its script gives.
-        ensures fresh { IsFresh self.now }
+        ensures fresh { IsOneRun self.now }
     {
         self.script.len()
     }

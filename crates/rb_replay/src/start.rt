@@ -8,6 +8,7 @@ ghost use Rattle.rb_replay.specs.Points.{start_points};
 
 use crate::differing::list_differing;
 use crate::fault::StartFault;
+use crate::outputs::Outputs;
 use crate::run::Run;
 use crate::session::Session;
 use crate::spacing::is_spacing;
@@ -21,8 +22,9 @@ impl<M: Machine> Session<M> {
     ghost use Rattle.rb_script.specs.Script.{PlainScript};
     ghost use Rattle.rb_script.specs.Reads.{Reads};
     ghost use Rattle.rb_script.specs.Reading.{read_of, early_fault};
+    ghost use Rattle.rb_replay.specs.Run.{outputs as run_outputs};
     ghost use Rattle.rb_replay.specs.Points.{start_points};
-    ghost use Rattle.rb_replay.specs.Holding.{Holding, IsFresh};
+    ghost use Rattle.rb_replay.specs.Holding.{Holding, IsFresh, IsOneRun};
     ghost use Rattle.rb_replay.specs.Start.{is_spacing, TellsStartFault, RisesFor};
 
     /// Reads the script of the bytes and runs it whole. Clusters are kept every so many directives: each
@@ -68,7 +70,7 @@ impl<M: Machine> Session<M> {
     ) -> Result<Session<M>, StartFault>
         requires { M.Meter.count_of meter.old ≤ 2 ^ 62 }
         ensures script { IfOk result (λ s. Reads bytes.now s.script) }
-        ensures fresh { IfOk result IsFresh }
+        ensures run { IfOk result IsOneRun }
         ensures points { IfOk result (λ s. s.points ≡ 0 ∷ []) }
         ensures counted { IfOk result (λ s. M.Meter.count_of meter.new ≡ M.Meter.count_of meter.old + length s.script.blocks) }
         ensures spaced { result ≢ Err StartFault.BadSpacing }
@@ -81,6 +83,36 @@ impl<M: Machine> Session<M> {
         Session::begin(alloc, bytes, MAX_DIRECTIVES + 1, meter)
     }
 
+    /// The session of a script that was run elsewhere, where it printed these, for whoever edits no directive: nothing is executed, and the
+    /// empty cluster alone is kept, as by [`Session::run_once`].
+    pub fn of_outputs(
+        alloc: Global,
+        script: Script,
+        outputs: Outputs,
+    ) -> Result<Session<M>, AllocError>
+        requires few { length script.blocks ≤ MAX_DIRECTIVES }
+        requires outputs { outputs ≡ run_outputs script }
+        ensures script { IfOk result (λ s. s.script ≡ script) }
+        ensures run { IfOk result IsOneRun }
+        ensures points { IfOk result (λ s. s.points ≡ 0 ∷ []) }
+    {
+        let outputs = outputs.grouped()?;
+        let mismatches = list_differing(alloc, &script, &outputs, 0, script.len())?;
+        let mut points = Vec::new(alloc);
+        points.push(0)?;
+        let mut kept = Vec::new(alloc);
+        kept.push(M::empty(alloc)?)?;
+        Ok(Session {
+            alloc,
+            script,
+            spacing: MAX_DIRECTIVES + 1,
+            outputs,
+            mismatches,
+            points,
+            kept,
+        })
+    }
+
     /// Reads the script of the bytes, runs it whole, and compares the outputs with what is expected.
     fn begin(
         alloc: Global,
@@ -91,7 +123,7 @@ impl<M: Machine> Session<M> {
         requires spacing { 1 ≤ spacing }
         requires meter { M.Meter.count_of meter.old ≤ 2 ^ 62 }
         ensures script { IfOk result (λ s. Reads bytes.now s.script) }
-        ensures fresh { IfOk result IsFresh }
+        ensures run { IfOk result IsOneRun }
         ensures spacing { IfOk result (λ s. s.spacing ≡ spacing) }
         ensures points { IfOk result (λ s. s.points ≡ start_points spacing (length s.script.blocks)) }
         ensures counted { IfOk result (λ s. M.Meter.count_of meter.new ≡ M.Meter.count_of meter.old + length s.script.blocks) }

@@ -10,7 +10,7 @@ use std::alloc::AllocError;
 impl<M: Machine> Session<M> {
     ghost use Rattle.std.specs.Prelude.{◌≡◌, ◌+◌, ◌≤◌, ◌^◌, ℕ, length, IfOk, OnErr};
     ghost use Rattle.rb_script.specs.declared.limits.TheConstants.{MAX_DIRECTIVES};
-    ghost use Rattle.rb_replay.specs.Holding.{Holding, IsFresh};
+    ghost use Rattle.rb_replay.specs.Holding.{Holding, IsOneRun};
     ghost use Rattle.rb_replay.specs.Turns.{IsTurn, IsTurnCost};
 
     /// Puts another script in, and runs what differs: from the last kept cluster in the longest front of directives that both
@@ -32,7 +32,7 @@ impl<M: Machine> Session<M> {
         ensures least { M.Meter.count_of meter.old ≤ M.Meter.count_of meter.new }
         ensures most { M.Meter.count_of meter.new ≤ M.Meter.count_of meter.old + length script.blocks }
         // All that is held is what one run of the script gives, whatever the answer.
-        ensures fresh { IsFresh self.new }
+        ensures fresh { IsOneRun self.new }
     {
         let splice = longest_splice(&self.script, &script);
         self.replay(script, splice, Common::Directives, meter)

@@ -17,7 +17,7 @@ pub(crate) struct FlatLines {
     // each line, with one LF after it
     text: LineText,
     // where each line with its LF ends in the text; most lists are short
-    ends: SmallVec<u32, 4>,
+    ends: SmallVec<usize, 4>,
 }
 
 // Written out, so that giving one back is a call wherever it is owned, and is proved here alone.
@@ -138,14 +138,14 @@ impl FlatLines {
     }
 
     /// Where the lines end in their text, and where the first of them begins.
-    pub(crate) fn ends(&self) -> (&[u32], u32)
+    pub(crate) fn ends(&self) -> (&[usize], usize)
         ensures { result.0.now ≡ ends_of result.1 self.now }
     {
         (self.ends.as_slice(), 0)
     }
 
     /// The same of the lines from one position up to another, in the text of all.
-    pub(crate) fn ends_between(&self, from: usize, to: usize) -> (&[u32], u32)
+    pub(crate) fn ends_between(&self, from: usize, to: usize) -> (&[usize], usize)
         requires order { from ≤ to }
         requires within { to ≤ length self.now }
         ensures { result.0.now ≡ ends_of result.1 (between from to self.now) }
@@ -208,18 +208,8 @@ fn is_their_text(bytes: &[u8]) -> bool
     }
 }
 
-// A position in a text. Lines whose text is longer than a `u32` counts are refused as if memory were wanted.
-fn counted(n: usize) -> Result<u32, AllocError>
-    ensures { IfOk result (λ at. at ≡ n) }
-{
-    if n > u32::MAX as usize {
-        return Err(AllocError);
-    }
-    Ok(n as u32)
-}
-
 // Where each line of the bytes, which are their text, ends in it. These are many, so that the list isn't asked with each whether it is short.
-fn line_ends(alloc: Global, bytes: &[u8]) -> Result<Vec<u32>, AllocError>
+fn line_ends(alloc: Global, bytes: &[u8]) -> Result<Vec<usize>, AllocError>
     requires { text_of (lines bytes.now) ≡ bytes.now }
     ensures { IfOk result (λ ends. ends.items ≡ ends_of 0 (lines bytes.now)) }
 {
@@ -228,7 +218,7 @@ fn line_ends(alloc: Global, bytes: &[u8]) -> Result<Vec<u32>, AllocError>
     let mut end = 0;
     while let Some(feed) = line_feed(rest) {
         end += feed + 1;
-        ends.push(counted(end)?)?;
+        ends.push(end)?;
         rest = &rest[feed + 1..];
     }
     Ok(ends)
@@ -237,24 +227,23 @@ fn line_ends(alloc: Global, bytes: &[u8]) -> Result<Vec<u32>, AllocError>
 // Adds the line with its LF, and its end. Room comes first, so that a refusal changes nothing.
 fn append_line(
     text: &mut LineText,
-    ends: &mut SmallVec<u32, 4>,
+    ends: &mut SmallVec<usize, 4>,
     line: &[u8],
 ) -> Result<(), AllocError>
     ensures text { OnOk result (text.new ≡ text.old ++ line_text line.now) }
     ensures ends { OnOk result (ends.new.items ≡ ends.old.items ++ length text.new ∷ []) }
     ensures err { OnErr result ((text.new ≡ text.old) × (ends.new.items ≡ ends.old.items)) }
 {
-    let end = counted(text.len().saturating_add(line.len()).saturating_add(1))?;
     ends.reserve(1)?;
     text.push_line(line)?;
-    ends.push(end)?;
+    ends.push(text.len())?;
     Ok(())
 }
 
 // Writes the line with its LF, and adds its end.
 fn write_line<W: WrittenLine>(
     text: &mut LineText,
-    ends: &mut SmallVec<u32, 4>,
+    ends: &mut SmallVec<usize, 4>,
     line: &W,
 ) -> Result<(), AllocError>
     ensures text { OnOk result (text.new ≡ text.old ++ line_text (W.bytes line.now)) }
@@ -262,14 +251,14 @@ fn write_line<W: WrittenLine>(
 {
     line.add_to(text)?;
     text.push(b'\n')?;
-    ends.push(counted(text.len())?)?;
+    ends.push(text.len())?;
     Ok(())
 }
 
 // Does so, or takes all lines away where a part of this one may be written.
 fn write_or_clear<W: WrittenLine>(
     text: &mut LineText,
-    ends: &mut SmallVec<u32, 4>,
+    ends: &mut SmallVec<usize, 4>,
     line: &W,
 ) -> Result<(), AllocError>
     ensures text { OnOk result (text.new ≡ text.old ++ line_text (W.bytes line.now)) }
@@ -287,7 +276,7 @@ fn write_or_clear<W: WrittenLine>(
 }
 
 // Where a line begins, or behind the last where the next would.
-fn start_of(ends: &[u32], i: usize) -> u32
+fn start_of(ends: &[usize], i: usize) -> usize
     requires { i ≤ length ends.now }
     ensures { result ≡ line_start 0 ends.now i }
 {
@@ -295,7 +284,7 @@ fn start_of(ends: &[u32], i: usize) -> u32
 }
 
 // A line of the text, without its LF.
-fn line_of<'a>(text: &'a [u8], ends: &[u32], i: usize) -> &'a [u8]
+fn line_of<'a>(text: &'a [u8], ends: &[usize], i: usize) -> &'a [u8]
     requires flat { IsFlat ends.now text.now }
     requires line { i < length ends.now }
     ensures { slice_get (parted 0 ends.now text.now) i ≡ Some result.now }
@@ -305,13 +294,13 @@ fn line_of<'a>(text: &'a [u8], ends: &[u32], i: usize) -> &'a [u8]
 }
 
 // The text of the lines from one position up to another.
-fn text_part<'a>(text: &'a [u8], ends: &[u32], from: usize, to: usize) -> &'a [u8]
+fn text_part<'a>(text: &'a [u8], ends: &[usize], from: usize, to: usize) -> &'a [u8]
     requires flat { IsFlat ends.now text.now }
     requires order { from ≤ to }
     requires within { to ≤ length ends.now }
     ensures { result.now ≡ text_of (between from to (parted 0 ends.now text.now)) }
 {
-    let start = start_of(ends, from) as usize;
-    let end = start_of(ends, to) as usize;
+    let start = start_of(ends, from);
+    let end = start_of(ends, to);
     &text[start..end]
 }

@@ -88,7 +88,7 @@ impl LinePart {
     }
 
     /// Where the lines end in the text of all, and where the first of them begins.
-    pub(crate) fn ends(&self) -> (&[u32], u32)
+    pub(crate) fn ends(&self) -> (&[usize], usize)
         ensures { result.0.now ≡ ends_of result.1 self.now }
     {
         self.all.ends_between(self.from, self.to)

@@ -164,7 +164,7 @@ impl Lines {
     }
 
     // Where the lines end in a text that has them, and where the first of them begins.
-    fn ends(&self) -> (&[u32], u32)
+    fn ends(&self) -> (&[usize], usize)
         ensures { result.0.now ≡ ends_of result.1 self.now }
     {
         match &self.kept {
@@ -235,7 +235,7 @@ fn own_with<W: WrittenLine>(part: &LinePart, line: &W) -> Result<FlatLines, Allo
 }
 
 // Whether lines that end so are as long as those that end as the others do.
-fn are_as_long(ends: &[u32], start: u32, others: &[u32], other_start: u32) -> bool
+fn are_as_long(ends: &[usize], start: usize, others: &[usize], other_start: usize) -> bool
     ensures { IsTrue result ↔ (from_start start ends.now ≡ from_start other_start others.now) }
 {
     if ends.len() != others.len() {

@@ -60,7 +60,7 @@ impl SharedLines {
     }
 
     /// Where the lines from one position up to another end in the text of all, and where the first of them begins.
-    pub(crate) fn ends_between(&self, from: usize, to: usize) -> (&[u32], u32)
+    pub(crate) fn ends_between(&self, from: usize, to: usize) -> (&[usize], usize)
         requires order { from ≤ to }
         requires within { to ≤ length self.now }
         ensures { result.0.now ≡ ends_of result.1 (between from to self.now) }

@@ -4,6 +4,7 @@ pub mod ReadBackLaws
 pub mod CommittedLaws
 pub mod StateLaws
 pub mod ChangeLaws
+pub mod SeenLaws
 pub mod StepLaws
 pub mod SizeLaws
 pub mod LineByteLaws

@@ -35,7 +35,7 @@ use Rattle.rb_texts.proofs.KindLaws.{flat_of, joined_of, wider}
 use Rattle.rb_texts.proofs.OneLineLaws.{body_one_line, config_one_line, error_one_line, fault_one_line, no_campaign_one_line, progress_state_one_line, replaced_one_line, role_one_line, type_one_line, votes_one_line}
 use Rattle.rb_machine.specs.Outcome.{is_output}
 use Rattle.rb_replay.specs.Report.{same_lines}
-use Rattle.rb_page.specs.EventRows.{event_row}
+use Rattle.rb_page.specs.EventRows.{event_rows}
 use Rattle.rb_page.specs.ItemRows.{entry_row, error_row, item_rows}
 use Rattle.rb_page.specs.Json.{cell_has_bytes, has_bytes, is_byte}
 use Rattle.rb_page.specs.Kept.{line_row, line_rows, texts_of}
@@ -77,16 +77,21 @@ told t h = alone t (line_bytes t h)
 
 -- ---- what happened
 
-event_bytes : (e : Event) → has_bytes (event_row e) ≡ true
-unfolding event_row
-event_bytes (events.Became id role term) = told (role_text role) (role_one_line role)
-event_bytes (events.CannotCampaign id why) = told (no_campaign_text why) (no_campaign_one_line why)
+-- a row alone, with one text
+told_row : (t : List ℕ) → is_one_line t ≡ true → ((of_bytes t && true) && true) ≡ true
+told_row t h = and_from (of_bytes t && true) true (told t h) refl
+
+event_bytes : (e : Event) → list_all has_bytes (event_rows e) ≡ true
+unfolding event_rows
+event_bytes (events.Became id role term) = told_row (role_text role) (role_one_line role)
+event_bytes (events.CannotCampaign id why) = told_row (no_campaign_text why) (no_campaign_one_line why)
 event_bytes (events.VoteCounted id type granted from result) =
-    and_from (of_bytes (type_text type)) (of_bytes (votes_text result) && true) (line_bytes (type_text type) (type_one_line type)) (told (votes_text result) (votes_one_line result))
-event_bytes (events.Ignored id type from) = told (type_text type) (type_one_line type)
-event_bytes (events.ReplacedChange id index why) = told (replaced_text why) (replaced_one_line why)
-event_bytes (events.Switched id config) = told (config_text config) (config_one_line config)
-event_bytes (events.RefusedChange id index fault) = told (fault_text fault) (fault_one_line fault)
+    and_from (of_bytes (type_text type) && (of_bytes (votes_text result) && true)) true
+    (and_from (of_bytes (type_text type)) (of_bytes (votes_text result) && true) (line_bytes (type_text type) (type_one_line type)) (told (votes_text result) (votes_one_line result))) refl
+event_bytes (events.Ignored id type from why) = told_row (type_text type) (type_one_line type)
+event_bytes (events.ReplacedChange id index why) = told_row (replaced_text why) (replaced_one_line why)
+event_bytes (events.Switched id config) = told_row (config_text config) (config_one_line config)
+event_bytes (events.RefusedChange id index fault) = told_row (fault_text fault) (fault_one_line fault)
 event_bytes _ = refl
 
 said_bytes : (k : MessageKind) → list_all cell_has_bytes (said k) ≡ true
@@ -113,7 +118,7 @@ item_bytes (items.save index e) = one_row (entry_row (codes "save") index e) (to
 item_bytes (items.apply index e) = one_row (entry_row (codes "apply") index e) (told (body_text e.body) (body_one_line e.body))
 item_bytes (items.send message) = one_row (message_row (codes "send") message) (message_bytes (codes "send") message refl)
 item_bytes (items.moved verb message) = one_row (message_row (verb_name verb) message) (message_bytes (verb_name verb) message (verb_bytes verb))
-item_bytes (items.event e) = one_row (event_row e) (event_bytes e)
+item_bytes (items.event e) = event_bytes e
 item_bytes (items.error e) = one_row (error_row e) (alone (drop 7 (error_text e)) (error_bytes e))
 item_bytes _ = refl
 

@@ -1,11 +1,10 @@
 -- How long the text of steps is at the most.
-use Rattle.std.proofs.Common.{◌≡◌, ◌∙◌, ℕ, ◌+◌, ◌*◌, ◌≤◌, Bool, true, List, [], ◌∷◌, ◌++◌, length, decimal, codes, refl, ap, arith, length-append}
+use Rattle.std.proofs.Common.{◌≡◌, ◌∙◌, ℕ, ◌+◌, ◌*◌, ◌≤◌, Bool, true, List, [], ◌∷◌, ◌++◌, length, map, decimal, codes, refl, ap, arith, length-append}
 use Rattle.std.specs.Prelude.{if◌then◌else◌}
 use Rattle.std.specs.Fmt.{digits}
 use Rattle.std.specs.List.{flat_map, sum_by}
-use Rattle.std.proofs.lemmas.List.Concat.{flat_map-append, length-flat_map}
+use Rattle.std.proofs.lemmas.List.Concat.{flat_map-append}
 use Rattle.std.proofs.lemmas.List.Sums.{sum_by-cons}
-use Rattle.rb_script.specs.Directive.{PlainDirective}
 use Rattle.rb_script.specs.Lines.{Line}
 use Rattle.rb_script.specs.Script.{PlainScript}
 use Rattle.rb_texts.specs.Items.{PlainItem}
@@ -15,13 +14,7 @@ use Rattle.rb_page.specs.Rows.{number, text, Row, row, next_text, row_text, befo
 use Rattle.rb_page.specs.declared.row.RowPlace.TheVariants.{First}
 use Rattle.rb_page.specs.Sizes.{cell_size, row_size, is_view}
 use Rattle.rb_page.proofs.SizeLaws.{rows_counted, rows_short}
-use Rattle.rb_machine.specs.declared.screen.Way.TheVariants as ways
-use Rattle.rb_machine.specs.Cluster.{Cluster}
-use Rattle.rb_machine.specs.Outcome.{outcome, happened, or_ok}
-use Rattle.rb_machine.specs.Scenes.{lines_of}
 use Rattle.rb_replay.specs.Report.{mismatches}
-use Rattle.rb_cluster.specs.Told.{AreOfOne}
-use Rattle.rb_cluster.proofs.ToldLaws.{are_of_one}
 use Rattle.rb_steps.specs.declared.page.TheConstants.{FORMAT}
 use Rattle.rb_steps.specs.Pages.{first_row, steps_text}
 use Rattle.rb_steps.specs.Sizes.{around_size, item_size, step_size}
@@ -54,8 +47,16 @@ one_short r = omega (arith, kept_short (r ∷ []), sum_by-cons row_size r [])
 both_long : (a b : List Line) → length (joined (a ++ b)) ≡ length (joined a) + length (joined b)
 both_long a b = ap (λ (l : List ℕ). length l) (flat_map-append (λ (t : Line). t) a b) ∙ length-append (joined a) (joined b)
 
-texts_long : (texts : List Line) → length (joined texts) ≡ sum_by (λ (t : Line). length t) texts
-texts_long texts = length-flat_map (λ (t : Line). t) texts
+-- ---- what happened
+
+item_short : (i : PlainItem) → length (item_text i) ≤ item_size i
+unfolding item_text
+item_short i = next_short (item_rows i)
+
+items_short : (items : List PlainItem) → length (joined (map item_text items)) ≤ sum_by item_size items
+items_short [] = omega arith
+items_short (i ∷ items) =
+    omega (arith, length-append (item_text i) (joined (map item_text items)), sum_by-cons item_size i items, item_short i, items_short items)
 
 -- ---- steps
 
@@ -64,10 +65,10 @@ step_short s =
     let script = script_rows s.line s.block.expected s.output in
     omega (
       arith,
-      both_long (texts_of script) (s.happened ++ texts_of s.changes),
-      both_long s.happened (texts_of s.changes),
+      both_long (texts_of script) (map item_text s.items ++ texts_of s.changes),
+      both_long (map item_text s.items) (texts_of s.changes),
       kept_short script,
-      texts_long s.happened,
+      items_short s.items,
       kept_short s.changes,
     )
 
@@ -121,36 +122,6 @@ text_short name bytes heads s =
       end_size s,
       steps_short (steps heads s),
     )
-
--- ---- what happened
-
-item_short : (i : PlainItem) → length (item_text i) ≤ item_size i
-unfolding item_text
-item_short i = next_short (item_rows i)
-
-lines_short : (items : List PlainItem) → sum_by (λ (t : Line). length t) (flat_map (lines_of ways.Rows) items) ≤ sum_by item_size items
-lines_short [] = omega arith
-lines_short (i ∷ items) =
-    omega (
-      arith,
-      sum_by-cons (λ (t : Line). length t) (item_text i) (flat_map (lines_of ways.Rows) items),
-      sum_by-cons item_size i items,
-      item_short i,
-      lines_short items,
-    )
-
--- a directive without items has an empty text
-or_ok_long : (texts : List Line) → sum_by (λ (t : Line). length t) (or_ok ways.Rows texts) ≡ sum_by (λ (t : Line). length t) texts
-unfolding item_text item_rows
-or_ok_long [] = refl
-or_ok_long (t ∷ texts) = refl
-
-pub happened_short : (c : Cluster) (d : PlainDirective) → (one : AreOfOne (outcome c d).output (happened c d)) × (sum_by (λ (t : Line). length t) (happened c d) ≤ sum_by item_size one.items)
-happened_short c d =
-    let one = are_of_one c d in
-    let texts = flat_map (lines_of ways.Rows) one.items in
-    let is : sum_by (λ (t : Line). length t) (happened c d) ≡ sum_by (λ (t : Line). length t) (or_ok ways.Rows texts) = ap (λ (l : List Line). sum_by (λ (t : Line). length t) l) one.kept_is in
-    (one, omega (arith, is, or_ok_long texts, lines_short one.items))
 
 -- what shows how a node stands has no row
 none_said : (rs : List Row) → length rs ≡ 0 → sum_by row_size rs ≡ 0

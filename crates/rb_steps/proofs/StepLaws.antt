@@ -1,5 +1,5 @@
 -- The directives of a run, one after another.
-use Rattle.std.proofs.Common.{◌≡◌, ◌∙◌, ℕ, ◌+◌, List, [], ◌∷◌, ◌++◌, drop, Some, refl, ap, ap₂, sym, subst}
+use Rattle.std.proofs.Common.{◌≡◌, ◌∙◌, ℕ, ◌+◌, List, [], ◌∷◌, ◌++◌, drop, map, Some, refl, ap, ap₂, sym, subst}
 use Rattle.std.specs.Prelude.{slice_get}
 use Rattle.std.specs.List.{flat_map}
 use Rattle.std.proofs.lemmas.List.Concat.{flat_map-append}
@@ -12,10 +12,8 @@ use Rattle.rb_page.specs.ItemRows.{item_rows, item_text}
 use Rattle.rb_page.specs.Kept.{joined, texts_of}
 use Rattle.rb_page.specs.Rows.{Row, next_text}
 use Rattle.rb_page.proofs.KeptLaws.{left_some}
-use Rattle.rb_machine.specs.declared.screen.Way.TheVariants as ways
 use Rattle.rb_machine.specs.Cluster.{Cluster}
-use Rattle.rb_machine.specs.Outcome.{outcome, happened, or_ok}
-use Rattle.rb_machine.specs.Scenes.{lines_of}
+use Rattle.rb_machine.specs.Outcome.{execution, outcome}
 use Rattle.rb_steps.specs.Steps.{step, step_texts, steps_from, script_rows}
 use Rattle.rb_steps.specs.States.{state_rows}
 use Rattle.rb_steps.specs.Values.{GoOnShowingBytes, ShowBytes}
@@ -41,25 +39,21 @@ steps_end (line ∷ heads) c [] e = refl
 steps_end (line ∷ heads) c (b ∷ bs) e = absurd cc
 
 -- what one directive adds
-pub step_kept : (line : ℕ) (c after : Cluster) (b : PlainBlock) (output t0 t1 t2 t3 : List Line) → output ≡ (outcome c (directive_of b)).output → after ≡ (outcome c (directive_of b)).cluster
-    → t1 ≡ t0 ++ texts_of (script_rows line b.expected output) → t2 ≡ t1 ++ happened c (directive_of b) → t3 ≡ t2 ++ texts_of (state_rows c.nodes after.nodes) → t3 ≡ t0 ++ step_texts (step line c b)
-step_kept line c after b output t0 t1 t2 t3 printed next first second third =
-    let did = happened c (directive_of b) in
-    three_parts t0 t1 t2 t3 (texts_of (script_rows line b.expected output)) did (texts_of (state_rows c.nodes after.nodes)) first second third
-    ∙ ap₂ (λ (o : List Line) (d : Cluster). t0 ++ (texts_of (script_rows line b.expected o) ++ (did ++ texts_of (state_rows c.nodes d.nodes)))) printed next
+pub step_kept : (line : ℕ) (c after : Cluster) (b : PlainBlock) (output rows t0 t1 t2 t3 : List Line) → output ≡ (outcome c (directive_of b)).output → after ≡ (outcome c (directive_of b)).cluster
+    → rows ≡ map item_text (execution c (directive_of b)).items
+    → t1 ≡ t0 ++ texts_of (script_rows line b.expected output) → t2 ≡ t1 ++ rows → t3 ≡ t2 ++ texts_of (state_rows c.nodes after.nodes) → t3 ≡ t0 ++ step_texts (step line c b)
+step_kept line c after b output rows t0 t1 t2 t3 printed next did first second third =
+    three_parts t0 t1 t2 t3 (texts_of (script_rows line b.expected output)) rows (texts_of (state_rows c.nodes after.nodes)) first second third
+    ∙ ap (λ (r : List Line). t0 ++ (texts_of (script_rows line b.expected output) ++ (r ++ texts_of (state_rows c.nodes after.nodes)))) did
+    ∙ ap₂ (λ (o : List Line) (d : Cluster). t0 ++ (texts_of (script_rows line b.expected o) ++ (map item_text (execution c (directive_of b)).items ++ texts_of (state_rows c.nodes d.nodes)))) printed next
 
 -- ---- texts that are of rows
 
 pub rows_joined : (rs : List Row) → joined (texts_of rs) ≡ flat_map next_text rs
 rows_joined rs = flat_map-map (λ (t : Line). t) next_text rs
 
-pub items_joined : (items : List PlainItem) → joined (flat_map (lines_of ways.Rows) items) ≡ flat_map next_text (flat_map item_rows items)
+pub items_joined : (items : List PlainItem) → joined (map item_text items) ≡ flat_map next_text (flat_map item_rows items)
 unfolding item_text
 items_joined [] = refl
 items_joined (item ∷ items) =
     ap (λ (l : List ℕ). flat_map next_text (item_rows item) ++ l) (items_joined items) ∙ sym (flat_map-append next_text (item_rows item) (flat_map item_rows items))
-
-pub or_ok_joined : (ls : List Line) → joined (or_ok ways.Rows ls) ≡ joined ls
-unfolding item_text item_rows
-or_ok_joined [] = refl
-or_ok_joined (l ∷ ls) = refl

@@ -1,7 +1,6 @@
 -- How long the text of a script's steps is at the most: what stands around them, and what each step says. (This project's.)
 use Rattle.std.specs.Prelude.{ℕ, ◌+◌, ◌*◌, List, length, decimal}
 use Rattle.std.specs.List.{sum_by}
-use Rattle.rb_script.specs.Lines.{Line}
 use Rattle.rb_script.specs.Script.{PlainScript}
 use Rattle.rb_replay.specs.Report.{mismatches}
 use Rattle.rb_texts.specs.Items.{PlainItem}
@@ -13,11 +12,11 @@ use Rattle.rb_steps.specs.Steps.{Step, script_rows}
 abbrev pub around_size : List ℕ → List ℕ → PlainScript → ℕ
 around_size name bytes s = 125 + 6 * length name + 6 * length bytes + length (decimal (length s.blocks)) + length (decimal (length (mismatches s)))
 
--- where a step stands and what it printed, what it did, and what changed
-abbrev pub step_size : Step → ℕ
-step_size s =
-    sum_by row_size (script_rows s.line s.block.expected s.output) + sum_by (λ (t : Line). length t) s.happened + sum_by row_size s.changes
-
 -- what happened, as its rows say it
 abbrev pub item_size : PlainItem → ℕ
 item_size item = sum_by row_size (item_rows item)
+
+-- where a step stands and what it printed, what it did, and what changed
+abbrev pub step_size : Step → ℕ
+step_size s =
+    sum_by row_size (script_rows s.line s.block.expected s.output) + sum_by item_size s.items + sum_by row_size s.changes

@@ -1,12 +1,14 @@
 -- What the run of a script is, as steps: what a page shows. (docs/FORMATS.md.)
-use Rattle.std.specs.Prelude.{ℕ, if◌then◌else◌, codes, List, [], ◌∷◌, ◌++◌, length}
+use Rattle.std.specs.Prelude.{ℕ, if◌then◌else◌, codes, List, [], ◌∷◌, ◌++◌, length, map}
 use Rattle.std.specs.List.{flat_map}
 use Rattle.rb_script.specs.Lines.{Line}
 use Rattle.rb_script.specs.Script.{PlainBlock, PlainScript}
 use Rattle.rb_script.specs.Reading.{directive_of}
 use Rattle.rb_machine.specs.Cluster.{Cluster, empty}
-use Rattle.rb_machine.specs.Outcome.{outcome, happened}
+use Rattle.rb_machine.specs.Outcome.{execution, outcome}
 use Rattle.rb_replay.specs.Report.{same_lines, mismatches}
+use Rattle.rb_texts.specs.Items.{PlainItem}
+use Rattle.rb_page.specs.ItemRows.{item_text}
 use Rattle.rb_page.specs.Kept.{texts_of, line_rows}
 use Rattle.rb_page.specs.Rows.{Row, row, number, text}
 use Rattle.rb_steps.specs.States.{state_rows}
@@ -18,8 +20,8 @@ pub record Step : Type 0 where
   -- what stands in the script, and what was printed
   pub block : PlainBlock
   pub output : List Line
-  -- what it did, as texts of rows, whatever the level is
-  pub happened : List Line
+  -- what happened, whatever the level is
+  pub items : List PlainItem
   -- what stands after it that didn't stand so before
   pub changes : List Row
 
@@ -29,7 +31,7 @@ step line c b = record {
   line = line;
   block = b;
   output = (outcome c (directive_of b)).output;
-  happened = happened c (directive_of b);
+  items = (execution c (directive_of b)).items;
   changes = state_rows c.nodes (outcome c (directive_of b)).cluster.nodes;
 }
 
@@ -54,7 +56,7 @@ abbrev pub script_rows : ℕ → List Line → List Line → List Row
 script_rows line expected output = row (codes "step") (number line ∷ []) ∷ (line_rows (codes "output") output ++ mismatch_rows expected output)
 
 abbrev pub step_texts : Step → List Line
-step_texts s = texts_of (script_rows s.line s.block.expected s.output) ++ (s.happened ++ texts_of s.changes)
+step_texts s = texts_of (script_rows s.line s.block.expected s.output) ++ (map item_text s.items ++ texts_of s.changes)
 
 -- how many directives and mismatches there are
 abbrev pub end_row : PlainScript → Row

@@ -12,8 +12,7 @@ ghost use Rattle.rb_tracker.specs.Trackers.{has_view};
 ghost use Rattle.rb_node.specs.Node.{PlainNode};
 ghost use Rattle.rb_texts.specs.Items.{PlainItem};
 ghost use Rattle.rb_machine.specs.Cluster.{Cluster, empty};
-ghost use Rattle.rb_machine.specs.Outcome.{happened, outcome};
-ghost use Rattle.rb_cluster.specs.Told.{AreOfOne};
+ghost use Rattle.rb_machine.specs.Outcome.{outcome};
 ghost use Rattle.rb_page.specs.Escapes.{is_inert};
 ghost use Rattle.rb_page.specs.Json.{AreRows, is_byte};
 ghost use Rattle.rb_page.specs.Kept.{texts_of};
@@ -27,7 +26,7 @@ ghost use Rattle.rb_steps.specs.Sizes.{around_size, item_size, step_size};
 ghost use Rattle.rb_steps.specs.Rows.{has_text};
 ghost use Rattle.rb_steps.specs.States.{changed_rows, no_view_row, standing, state_rows};
 ghost use Rattle.rb_steps.specs.Steps.{steps};
-ghost use Rattle.rb_steps.specs.Values.{AllDid, GoOnShowingBytes, all_rows};
+ghost use Rattle.rb_steps.specs.Values.{GoOnShowingBytes, all_rows};
 
 /// The text of a script's steps is a list of rows, the first of which names the script.
 pub fn steps_are_rows()
@@ -63,11 +62,10 @@ pub fn changes_grow_with_what_differs()
     ensures most { (old new : PlainNode) → old.id ≡ new.id → node_change old new ≤ 3 + views_changed old.tracker.views new.tracker.views + views_gone old.tracker.views new.tracker.views + length (entries_after new.log (stays old.log new.log)) }
 {}
 
-/// The text is at most as long as what each step says, beside the script's name and bytes and two numbers. What a step did is at most as long as
-/// what the items say that it can show, and those that show how a node stands say nothing.
+/// The text is at most as long as what each step says, beside the script's name and bytes and two numbers: where it stands, what it printed, what
+/// happened and what changed. Items that show how a node stands say nothing.
 pub fn pages_grow_with_what_happens()
     ensures text { (name bytes heads : List ℕ) (s : PlainScript) → length (steps_text name bytes heads s) ≤ around_size name bytes s + sum_by step_size (steps heads s) }
-    ensures happened { (c : Cluster) (d : PlainDirective) → (one : AreOfOne (outcome c d).output (happened c d)) × (sum_by (λ (t : Line). length t) (happened c d) ≤ sum_by item_size one.items) }
     ensures views { (i : PlainItem) → is_view i ≡ true → item_size i ≡ 0 }
 {}
 
@@ -75,7 +73,7 @@ pub fn pages_grow_with_what_happens()
 /// the rows of the items that it can show, and what changed; the end. The name and the script are bytes, and so is what is shown of contents:
 /// [`steps_of`](crate::steps_of) ensures that.
 pub fn steps_are_json()
-    ensures { (name bytes heads : List ℕ) (s : PlainScript) → list_all is_byte name ≡ true → list_all is_byte bytes ≡ true → Reads bytes s → GoOnShowingBytes empty s.blocks → (did : List (List PlainItem)) × AllDid (steps heads s) did × AreRows (first_row name) (all_rows bytes heads s did) (steps_text name bytes heads s) }
+    ensures { (name bytes heads : List ℕ) (s : PlainScript) → list_all is_byte name ≡ true → list_all is_byte bytes ≡ true → Reads bytes s → GoOnShowingBytes empty s.blocks → AreRows (first_row name) (all_rows bytes heads s) (steps_text name bytes heads s) }
 {}
 
 /// A log can be read back: its entries are those of before, up to the index that is written, and behind them the ones that are written. Where nothing

@@ -11,6 +11,7 @@ mod laws;
 mod log;
 mod node;
 mod page;
+mod rows;
 mod script;
 mod shown;
 mod step;
@@ -22,5 +23,5 @@ pub use laws::{
     what_is_not_written_stood, what_stands_still_has_no_row,
 };
 pub use page::{FORMAT, Frame, put_page, put_steps};
-pub use shown::StepMachine;
+pub use shown::{DirectiveRun, StepMachine};
 pub use steps::steps_of;

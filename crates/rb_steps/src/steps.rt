@@ -5,6 +5,7 @@ ghost use Rattle.std.specs.List.{flat_map};
 ghost use Rattle.rb_script.specs.declared.limits.TheConstants.{MAX_DIRECTIVES};
 ghost use Rattle.rb_machine.specs.Cluster.{empty};
 ghost use Rattle.rb_page.specs.Kept.{texts_of};
+ghost use Rattle.rb_replay.specs.Run.{outputs};
 ghost use Rattle.rb_steps.specs.Steps.{end_row, source_row, step_texts, steps, steps_texts};
 ghost use Rattle.rb_steps.specs.Values.{GoOnShowingBytes};
 
@@ -12,17 +13,17 @@ use crate::shown::StepMachine;
 use crate::step::keep_step;
 use rb_machine::Machine;
 use rb_page::{Cell, keep_row};
-use rb_replay::Session;
-use rb_script::{Block, Lines};
+use rb_replay::{Outputs, Session};
+use rb_script::{Block, Lines, Script};
 use std::alloc::{AllocError, Global};
 
 // The block of the directive at an index, which counts from 0.
-fn block_at<M: Machine>(session: &Session<M>, index: usize) -> &Block
-    requires few { length session.now.script.blocks ≤ MAX_DIRECTIVES }
-    requires within { index < length session.now.script.blocks }
-    ensures { slice_get session.now.script.blocks index ≡ Some result.now }
+fn block_at(script: &Script, index: usize) -> &Block
+    requires few { length script.now.blocks ≤ MAX_DIRECTIVES }
+    requires within { index < length script.now.blocks }
+    ensures { slice_get script.now.blocks index ≡ Some result.now }
 {
-    session.block(index + 1).unwrap()
+    script.block(index + 1).unwrap()
 }
 
 // The number at an index, which counts from 0.
@@ -33,24 +34,28 @@ fn number_at(numbers: &[usize], index: usize) -> usize
     numbers[index]
 }
 
-// Adds the rows of the directives.
+// Runs the directives, each once, and adds their rows. What they printed is given back.
 fn keep_directives<M: StepMachine>(
     alloc: Global,
     texts: &mut Lines,
-    session: &Session<M>,
+    script: &Script,
     heads: &[usize],
-) -> Result<(), AllocError>
-    requires { length heads.now ≡ length session.now.script.blocks }
-    ensures texts { OnOk result (texts.new ≡ texts.old ++ flat_map step_texts (steps heads.now session.now.script)) }
-    ensures bytes { OnOk result (GoOnShowingBytes empty session.now.script.blocks) }
+) -> Result<Outputs, AllocError>
+    requires few { length script.now.blocks ≤ MAX_DIRECTIVES }
+    requires count { length heads.now ≡ length script.now.blocks }
+    ensures texts { OnOk result (texts.new ≡ texts.old ++ flat_map step_texts (steps heads.now script.now)) }
+    ensures outputs { IfOk result (λ printed. printed ≡ outputs script.now) }
+    ensures bytes { OnOk result (GoOnShowingBytes empty script.now.blocks) }
 {
+    let mut printed = Outputs::new(alloc);
     let mut machine = M::empty(alloc)?;
-    for i in 0..session.len() {
-        let block = block_at(session, i);
-        let after = keep_step(alloc, texts, &machine, block, number_at(heads, i))?;
-        machine = after;
+    for i in 0..script.len() {
+        let block = block_at(script, i);
+        let ran = keep_step(alloc, texts, &machine, block, number_at(heads, i))?;
+        printed.push(ran.output)?;
+        machine = ran.machine;
     }
-    Ok(())
+    Ok(printed)
 }
 
 // Adds how many directives and mismatches there are.
@@ -72,37 +77,24 @@ fn keep_source(texts: &mut Lines, bytes: &[u8]) -> Result<(), AllocError>
     keep_row(texts, b"text", &[Cell::Text(bytes)])
 }
 
-// Adds the rows of a session's script behind the first.
-fn keep_all<M: StepMachine>(
-    alloc: Global,
-    texts: &mut Lines,
-    session: &Session<M>,
-    bytes: &[u8],
-    heads: &[usize],
-) -> Result<(), AllocError>
-    requires { length heads.now ≡ length session.now.script.blocks }
-    ensures texts { OnOk result (texts.new ≡ texts.old ++ steps_texts bytes.now heads.now session.now.script) }
-    ensures bytes { OnOk result (GoOnShowingBytes empty session.now.script.blocks) }
-{
-    keep_source(texts, bytes)?;
-    keep_directives(alloc, texts, session, heads)?;
-    keep_end(texts, session)?;
-    Ok(())
-}
-
-/// The rows of a session's script behind the first, each as a text, where these are its bytes and the lines on which its heads begin. After each
-/// directive what is shown of a node's content is bytes.
+/// Runs a script, each directive once, and gives a session on it and the rows behind the first, each as a text: these are its bytes, and the lines
+/// on which its heads begin. After each directive what is shown of a node's content is bytes.
 pub fn steps_of<M: StepMachine>(
     alloc: Global,
-    session: &Session<M>,
+    script: Script,
     bytes: &[u8],
     heads: &[usize],
-) -> Result<Lines, AllocError>
-    requires { length heads.now ≡ length session.now.script.blocks }
-    ensures texts { IfOk result (λ texts. texts ≡ steps_texts bytes.now heads.now session.now.script) }
-    ensures bytes { OnOk result (GoOnShowingBytes empty session.now.script.blocks) }
+) -> Result<(Session<M>, Lines), AllocError>
+    requires few { length script.blocks ≤ MAX_DIRECTIVES }
+    requires count { length heads.now ≡ length script.blocks }
+    ensures script { IfOk result (λ ran. ran.0.script ≡ script) }
+    ensures texts { IfOk result (λ ran. ran.1 ≡ steps_texts bytes.now heads.now script) }
+    ensures bytes { OnOk result (GoOnShowingBytes empty script.blocks) }
 {
     let mut texts = Lines::new(alloc);
-    keep_all(alloc, &mut texts, session, bytes, heads)?;
-    Ok(texts)
+    keep_source(&mut texts, bytes)?;
+    let printed = keep_directives::<M>(alloc, &mut texts, &script, heads)?;
+    let session = Session::of_outputs(alloc, script, printed)?;
+    keep_end(&mut texts, &session)?;
+    Ok((session, texts))
 }

@@ -8,7 +8,7 @@ use crate::ending::{CheckEnding, ending_of};
 use crate::format::Format;
 use crate::formatted::formatted;
 use crate::picking::{named_heads, picked_of};
-use crate::reasons::asked_reasons;
+use crate::reasons::run_script;
 use crate::report::{Ran, Report};
 use crate::review::{Review, reviewed};
 use crate::runner::Runner;
@@ -42,20 +42,19 @@ pub(crate) fn check_script<T: Runner, S: System, W: Write + Drop, E: Write + Dro
     report: &mut Report<W, E>,
 ) -> Result<(), PathError> {
     let text = system.read(path)?;
-    let session = match runner.run(system.alloc(), &text.bytes) {
-        Ok(session) => session,
+    let run = match run_script(system.alloc(), runner, asked.explains, &text.bytes) {
+        Ok(run) => run,
         Err(StartFault::Script(fault)) => {
             report.refused(path, fault);
             return Ok(());
         }
         Err(_) => return Err(PathError::alone(Failure::OutOfMemory)),
     };
-    let whys = asked_reasons(system.alloc(), runner, asked, &session)?;
     let subject = Subject {
         path,
         text: &text,
-        session: &session,
-        whys: &whys,
+        session: &run.session,
+        whys: &run.whys,
     };
     answer(system, asked, &subject, review, report)
 }

@@ -38,5 +38,5 @@ pub use format::Format;
 pub use laws::{commands_are_lines, objects_are_ascii};
 pub use paths::check;
 pub use place::place_at;
-pub use runner::Runner;
+pub use runner::{ExplainedRun, Runner};
 pub use target::Target;

@@ -13,6 +13,7 @@ use crate::system::RuntimeSystem;
 use rb_check::{Failure, Status};
 use rb_checked::Shown;
 use rb_files::{Found, PathError, find};
+use rb_line::FailFast;
 use std::io;
 use std::io::{ErrorKind, Write};
 use std::rt::Files;
@@ -34,7 +35,7 @@ pub fn check<T: Runner, R: Files + Input + Print + Clock + AllocGlobal, E: Write
     ensures begins { IfErr result (λ error. error_kind error ≡ ErrorKind.OutOfMemory) }
 {
     let mut progress = ProgressClock::from_now(rt, asked.wants_progress);
-    let mut report = Report::new(rt.alloc(), io::writer(rt), errors, &asked)?;
+    let mut report = Report::new(rt.alloc(), FailFast(io::writer(rt)), errors, &asked)?;
     let found = find(rt, asked.targets, asked.filters);
     tell_lost(&found, &mut report);
     let system = RuntimeSystem(rt);

@@ -1,71 +1,97 @@
-//! The reasons of a script's outputs.
+//! The run of a script, and the reasons of its outputs.
 
-ghost use Rattle.std.specs.Prelude.{◌≡◌, ◌++◌, ◌∷◌, [], IfOk, OnOk};
-ghost use Rattle.rb_checked.specs.Whys.{reasons_of, whys_of};
-ghost use Rattle.rb_suite.specs.Reasons.{differs, shows_outputs, asked_reasons};
+ghost use Rattle.std.specs.Prelude.{◌≡◌, ◌≢◌, ◌≤◌, ◌<◌, Err, IfErr, IfOk, Some, length, slice_get};
+ghost use Rattle.rb_script.specs.declared.limits.TheConstants.{MAX_DIRECTIVES};
+ghost use Rattle.rb_script.specs.Script.{PlainScript};
+ghost use Rattle.rb_script.specs.Reads.{Reads};
+ghost use Rattle.rb_script.specs.Reading.{read_of};
+ghost use Rattle.rb_replay.specs.Run.{outputs};
+ghost use Rattle.rb_replay.specs.Start.{TellsStartFault};
+ghost use Rattle.rb_checked.specs.Whys.{whys_of};
+ghost use Rattle.rb_suite.specs.Reasons.{asked_reasons};
 
-use crate::check_request::CheckRequest;
 use crate::runner::Runner;
-use rb_checked::{Shown, block_at, reasons_of};
 use rb_machine::Machine;
-use rb_replay::Session;
-use rb_script::Lines;
+use rb_replay::{Outputs, Session, StartFault};
+use rb_script::{Block, Lines, Script};
 use std::alloc::{AllocError, Global};
 
-/// The reasons of each directive's output, where they are asked for and something is shown to which they belong; else nothing.
-pub(crate) fn asked_reasons<T: Runner>(
+/// A script that ran, with the reasons of each directive's output, where they are asked for.
+#[derive(Drop)]
+pub(crate) struct ScriptRun<M: Machine> {
+    pub(crate) session: Session<M>,
+    pub(crate) whys: Vec<Lines>,
+}
+
+/// Reads the script of the bytes and runs it, each directive once.
+pub(crate) fn run_script<T: Runner>(
     alloc: Global,
     runner: &mut T,
-    asked: &CheckRequest<'_>,
-    session: &Session<T::Machine>,
-) -> Result<Vec<Lines>, AllocError>
-    ensures { IfOk result (λ whys. whys.items ≡ asked_reasons asked.now.explains asked.now.shown asked.now.reviews session.now.script) }
+    explains: bool,
+    bytes: &[u8],
+) -> Result<ScriptRun<T::Machine>, StartFault>
+    ensures script { IfOk result (λ run. Reads bytes.now run.session.script) }
+    ensures whys { IfOk result (λ run. run.whys.items ≡ asked_reasons explains run.session.script) }
+    ensures only { (s : PlainScript) → Reads bytes.now s → IfErr result (λ fault. fault ≡ StartFault.OutOfMemory) }
+    ensures refused { IfErr result (λ fault. TellsStartFault fault (read_of bytes.now)) }
+    ensures spaced { result ≢ Err StartFault.BadSpacing }
 {
-    if asked.explains && shows_outputs(asked.shown, asked.reviews, session) {
-        script_reasons(alloc, runner, session)
-    } else {
-        Ok(Vec::new(alloc))
+    if explains {
+        return run_explained(alloc, runner, bytes);
     }
+    let session = runner.run(alloc, bytes)?;
+    Ok(ScriptRun {
+        session,
+        whys: Vec::new(alloc),
+    })
 }
 
-fn differs<M: Machine>(session: &Session<M>) -> bool
-    ensures { result ≡ differs session.now.script }
-{
-    !session.mismatches().is_empty()
-}
-
-// Whether the output of a directive is shown, or asked about in a review.
-fn shows_outputs<M: Machine>(shown: Shown, reviews: bool, session: &Session<M>) -> bool
-    ensures { result ≡ shows_outputs shown reviews session.now.script }
-{
-    match shown {
-        Shown::All => true,
-        Shown::Differing | Shown::First => differs(session),
-        Shown::Brief => reviews && differs(session),
-    }
-}
-
-// The reasons of each directive's output. Each directive runs once.
-fn script_reasons<T: Runner>(
+// The same, with the reasons.
+fn run_explained<T: Runner>(
     alloc: Global,
     runner: &mut T,
-    session: &Session<T::Machine>,
-) -> Result<Vec<Lines>, AllocError>
-    ensures { IfOk result (λ whys. whys.items ≡ whys_of session.now.script) }
+    bytes: &[u8],
+) -> Result<ScriptRun<T::Machine>, StartFault>
+    ensures script { IfOk result (λ run. Reads bytes.now run.session.script) }
+    ensures whys { IfOk result (λ run. run.whys.items ≡ whys_of run.session.script) }
+    ensures only { (s : PlainScript) → Reads bytes.now s → IfErr result (λ fault. fault ≡ StartFault.OutOfMemory) }
+    ensures refused { IfErr result (λ fault. TellsStartFault fault (read_of bytes.now)) }
+    ensures spaced { result ≢ Err StartFault.BadSpacing }
 {
+    let script = Script::read(alloc, bytes)?;
+    let (printed, whys) = run_directives(alloc, runner, &script)?;
+    let session = Session::of_outputs(alloc, script, printed)?;
+    Ok(ScriptRun { session, whys })
+}
+
+// The block of the directive at an index, which counts from 0.
+fn block_of(script: &Script, index: usize) -> &Block
+    requires few { length script.now.blocks ≤ MAX_DIRECTIVES }
+    requires within { index < length script.now.blocks }
+    ensures { slice_get script.now.blocks index ≡ Some result.now }
+{
+    script.block(index + 1).unwrap()
+}
+
+// Runs the directives, and gives what they printed, and the reasons of each output.
+fn run_directives<T: Runner>(
+    alloc: Global,
+    runner: &mut T,
+    script: &Script,
+) -> Result<(Outputs, Vec<Lines>), AllocError>
+    requires { length script.now.blocks ≤ MAX_DIRECTIVES }
+    ensures outputs { IfOk result (λ ran. ran.0 ≡ outputs script.now) }
+    ensures whys { IfOk result (λ ran. ran.1.items ≡ whys_of script.now) }
+{
+    let mut printed = Outputs::new(alloc);
     let mut whys = Vec::new(alloc);
     let mut machine: T::Machine = Machine::empty(alloc)?;
-    for i in 0..session.len() {
-        let (next, explained) = runner.explained(machine, block_at(session, i).directive())?;
-        machine = next;
-        push_reasons(alloc, &mut whys, &explained)?;
+    for i in 0..script.len() {
+        let block = block_of(script, i);
+        let ran = runner.run_explained(alloc, machine, block.directive())?;
+        printed.push(ran.output)?;
+        whys.push(ran.reasons)?;
+        machine = ran.machine;
     }
-    Ok(whys)
-}
-
-fn push_reasons(alloc: Global, whys: &mut Vec<Lines>, explained: &Lines) -> Result<(), AllocError>
-    ensures { OnOk result (whys.new.items ≡ whys.old.items ++ reasons_of explained.now ∷ []) }
-{
-    whys.push(reasons_of(alloc, explained)?)?;
-    Ok(())
+    Ok((printed, whys))
 }

@@ -5,7 +5,7 @@ use rb_machine::Machine;
 use rb_replay::Session;
 use rb_script::Lines;
 
-/// A script that ran, with the reasons of its outputs, as far as they are shown.
+/// A script that ran, with the reasons of its outputs, where they are asked for.
 #[derive(Drop)]
 pub(crate) struct Subject<'a, M: Machine> {
     pub(crate) path: &'a str,

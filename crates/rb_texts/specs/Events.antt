@@ -27,7 +27,8 @@ event_level (events.Started id term index config) = levels.Info
 event_level (events.Became id role term) = levels.Info
 event_level (events.CannotCampaign id why) = levels.Warn
 event_level (events.VoteCounted id type granted from result) = levels.Info
-event_level (events.Ignored id type from) = levels.Debug
+event_level (events.Ignored id type from why) = levels.Debug
+event_level (events.RefusedVote id type from why) = levels.Debug
 event_level (events.DroppedProposal id) = levels.Warn
 event_level (events.Conflict id index commit) = levels.Error
 event_level (events.AppendsNothing id) = levels.Warn
@@ -87,6 +88,9 @@ vote_counted_text id type granted from result =
 abbrev pub ignored_text : ℕ → MessageType → ℕ → List ℕ
 ignored_text id type from = decimal id ++ codes " ignored " ++ type_text type ++ codes " from " ++ decimal from
 
+abbrev pub refused_vote_text : ℕ → MessageType → ℕ → List ℕ
+refused_vote_text id type from = decimal id ++ codes " refused " ++ type_text type ++ codes " from " ++ decimal from
+
 abbrev pub conflict_text : ℕ → ℕ → ℕ → List ℕ
 conflict_text id index commit = decimal id ++ codes " conflict at " ++ decimal index ++ codes ", commit " ++ decimal commit
 
@@ -102,7 +106,8 @@ happening_text (events.Started id term index config) = started_text id term inde
 happening_text (events.Became id role term) = became_text id role term
 happening_text (events.CannotCampaign id why) = decimal id ++ codes " can't campaign: " ++ no_campaign_text why
 happening_text (events.VoteCounted id type granted from result) = vote_counted_text id type granted from result
-happening_text (events.Ignored id type from) = ignored_text id type from
+happening_text (events.Ignored id type from why) = ignored_text id type from
+happening_text (events.RefusedVote id type from why) = refused_vote_text id type from
 happening_text (events.DroppedProposal id) = decimal id ++ codes " dropped a proposal"
 happening_text (events.Conflict id index commit) = conflict_text id index commit
 happening_text (events.AppendsNothing id) = decimal id ++ codes " appends nothing: index limit"

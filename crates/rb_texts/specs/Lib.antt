@@ -12,3 +12,4 @@ pub mod Events
 pub mod Errors
 pub mod Texts
 pub mod Pieces
+pub mod Reasons

@@ -5,7 +5,7 @@
 ghost use Rattle.std.specs.Prelude.{◌≡◌, ◌++◌, codes, decimal, OnOk};
 ghost use Rattle.rb_texts.specs.Configs.{config_text};
 ghost use Rattle.rb_texts.specs.Entries.{place_text};
-ghost use Rattle.rb_texts.specs.Events.{event_level, level_text, no_campaign_text, replaced_text, votes_text, fault_text, started_text, became_text, vote_counted_text, ignored_text, conflict_text, replaced_change_text, refused_change_text, happening_text, event_text};
+ghost use Rattle.rb_texts.specs.Events.{event_level, level_text, no_campaign_text, replaced_text, votes_text, fault_text, started_text, became_text, vote_counted_text, ignored_text, refused_vote_text, conflict_text, replaced_change_text, refused_change_text, happening_text, event_text};
 
 use crate::configs::add_config;
 use crate::messages::answer_name;
@@ -22,7 +22,7 @@ pub(crate) fn event_level(event: &Event) -> Level
     ensures { result ≡ event_level event.now }
 {
     match event {
-        Event::Ignored { .. } => Level::Debug,
+        Event::Ignored { .. } | Event::RefusedVote { .. } => Level::Debug,
         Event::Started { .. }
         | Event::Became { .. }
         | Event::VoteCounted { .. }
@@ -202,6 +202,23 @@ fn add_ignored(
     add_pieces(line, &pieces)
 }
 
+fn add_refused_vote(
+    line: &mut LineText,
+    id: u64,
+    message_type: MessageType,
+    from: u64,
+) -> Result<(), AllocError>
+    ensures { OnOk result (line.new ≡ line.old ++ refused_vote_text id message_type from) }
+{
+    let pieces = [
+        LinePiece::Number(id),
+        LinePiece::Bytes(b" refused "),
+        LinePiece::Bytes(message_type.text()),
+        LinePiece::Field(b" from ", from),
+    ];
+    add_pieces(line, &pieces)
+}
+
 fn add_conflict(line: &mut LineText, id: u64, index: u64, commit: u64) -> Result<(), AllocError>
     ensures { OnOk result (line.new ≡ line.old ++ conflict_text id index commit) }
 {
@@ -293,7 +310,14 @@ fn add_happening(line: &mut LineText, event: &Event) -> Result<(), AllocError>
             id,
             message_type,
             from,
+            ..
         } => add_ignored(line, *id, *message_type, *from),
+        Event::RefusedVote {
+            id,
+            message_type,
+            from,
+            ..
+        } => add_refused_vote(line, *id, *message_type, *from),
         Event::DroppedProposal { id } => add_node_text(line, *id, b" dropped a proposal"),
         Event::Conflict { id, index, commit } => add_conflict(line, *id, *index, *commit),
         Event::AppendsNothing { id } => {

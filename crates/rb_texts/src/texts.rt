@@ -4,7 +4,7 @@ ghost use Rattle.std.specs.Prelude.{◌≡◌, ◌++◌, codes, decimal, OnOk};
 ghost use Rattle.rb_texts.specs.Entries.{entry_text, place_text};
 ghost use Rattle.rb_texts.specs.Items.{plain_item};
 ghost use Rattle.rb_texts.specs.Messages.{message_text, verb_text};
-ghost use Rattle.rb_texts.specs.Texts.{line_of, is_shown, item_text, unsaved_text};
+ghost use Rattle.rb_texts.specs.Texts.{line_of, is_event_shown, is_shown, item_text, unsaved_text};
 
 use crate::configs::add_config;
 use crate::entries::add_entry;
@@ -15,7 +15,7 @@ use crate::messages::{add_message, verb_name};
 use crate::piece::{LinePiece, add_bytes, add_numbered, add_pieces, shown_if};
 use crate::states::{add_hard_state, add_log, add_node, add_progress};
 use rb_level::Level;
-use rb_message::Message;
+use rb_message::{Event, Message};
 use rb_raftlog::Entry;
 use rb_script::{LineText, Lines, WrittenLine};
 use std::alloc::AllocError;
@@ -42,12 +42,22 @@ impl WrittenLine for Item<'_> {
     }
 }
 
-fn is_shown(level: Level, item: &Item<'_>) -> bool
+fn is_event_shown(level: Level, event: &Event) -> bool
+    ensures { result ≡ is_event_shown level event.now }
+{
+    match event {
+        Event::RefusedVote { .. } => false,
+        _ => level.rank() <= event_level(event).rank(),
+    }
+}
+
+/// Whether a level shows an item.
+pub fn is_shown(level: Level, item: &Item<'_>) -> bool
     ensures { result ≡ is_shown level (plain_item item.now) }
 {
     match item {
         Item::NothingElse | Item::Error(_) => true,
-        Item::Event(event) => level.rank() <= event_level(event).rank(),
+        Item::Event(event) => is_event_shown(level, event),
         _ => level.rank() <= Level::Fatal.rank(),
     }
 }

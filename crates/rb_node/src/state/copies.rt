@@ -9,7 +9,7 @@ use std::alloc::AllocError;
 
 impl<L: RaftLog> State<L> {
     /// The same state once more. It costs pointers, and a view of each member where it leads.
-    pub(crate) fn try_copy(&self) -> Result<State<L>, AllocError>
+    pub fn try_copy(&self) -> Result<State<L>, AllocError>
         ensures { IfOk result (λ copy. copy ≡ self.now) }
     {
         Ok(State {
@@ -95,7 +95,7 @@ impl<L: RaftLog> State<L> {
     }
 
     /// Whether both are the same in all that a node knows. Numbers are looked at first, then lists. It takes no memory.
-    pub(crate) fn same(&self, other: &State<L>) -> bool
+    pub fn same(&self, other: &State<L>) -> bool
         ensures { IsTrue result ↔ (self.now ≡ other.now) }
     {
         self.has_numbers_of(other) && self.same_lists(other)

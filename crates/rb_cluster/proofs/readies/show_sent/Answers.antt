@@ -3,4 +3,4 @@ use Rattle.rb_cluster.proofs.ViewLaws.{item_shown}
 use Rattle.rb_cluster.proofs.readies.show_sent.Goals as goal
 
 pub loop-k-preserved : goal.loop-k-preserved
-loop-k-preserved c = item_shown items.send c.args.outbox.now c.loop-k.k _ c.loop-k.screen c.show.new.self _ c.message.ensures c.in_ok-show.ensures c.loop-k.invariant
+loop-k-preserved g c = item_shown g.O.Observer.taking items.send c.args.outbox.now c.loop-k.k _ (g.O.Observer.meaning c.loop-k.observer) (g.O.Observer.meaning c.observe.new.self) _ c.message.ensures c.in_ok-observe.ensures c.loop-k.invariant

@@ -3,5 +3,5 @@ use Rattle.rb_cluster.proofs.ViewLaws.{item_shown}
 use Rattle.rb_cluster.proofs.views.show_views.Goals as goal
 
 pub loop-i-preserved : goal.loop-i-preserved
-loop-i-preserved c =
-    item_shown view_item c.args.tracker.now.views c.loop-i.i _ c.loop-i.screen c.show.new.self _ c.view-id.ensures c.in_ok-show.ensures c.loop-i.invariant
+loop-i-preserved g c =
+    item_shown g.O.Observer.taking view_item c.args.tracker.now.views c.loop-i.i _ (g.O.Observer.meaning c.loop-i.observer) (g.O.Observer.meaning c.observe.new.self) _ c.view-id.ensures c.in_ok-observe.ensures c.loop-i.invariant

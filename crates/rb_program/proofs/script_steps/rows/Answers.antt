@@ -3,14 +3,14 @@ use Rattle.rb_script.specs.Lines.{lines}
 use Rattle.rb_script.specs.HeadLines.{AreHeadLines}
 use Rattle.rb_program.proofs.script_steps.rows.Goals as goal
 
-pub steps_of-requires : goal.steps_of-requires
-steps_of-requires g c = ap (λ (ns : List ℕ). length ns) c.as_slice.ensures.value ∙ (c.in_ok-layout.ensures.heads c.args.session.now.script c.requires).count
+pub steps_of-requires-clause-count : goal.steps_of-requires-clause-count
+steps_of-requires-clause-count g c = ap (λ (ns : List ℕ). length ns) c.as_slice.ensures.value ∙ (c.in_ok-layout.ensures.heads c.args.script c.requires).count
 
-pub returns : goal.returns
-returns g c =
-    let s = c.args.session.now.script in
+pub returns-clause-rows : goal.returns-clause-rows
+returns-clause-rows g c =
+    let s = c.args.script in
     record {
       heads = c.as_slice.result.now;
       heads_are = subst (λ (ns : List ℕ). AreHeadLines 1 (lines c.args.bytes.now) s.blocks ns) (sym c.as_slice.ensures.value) (c.in_ok-layout.ensures.heads s c.requires);
-      texts_are = c.in_ok-texts.ensures.texts;
+      texts_are = c.in_ok-ran.ensures.texts;
     }

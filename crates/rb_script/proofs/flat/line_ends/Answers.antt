@@ -11,7 +11,7 @@ loop-feed-preserved c =
     let ls = lines bytes in
     let next = next_line bytes c.in-Some.feed _ (take_rest bytes (c.in-Some.feed + 1)) c.loop-feed.invariant.clean c.in-Some.ensures.found.0 c.in-Some.ensures.found.1 c.in-Some.ensures.first in
     record {
-      ends = ends_more c.loop-feed.ends.items c.push.new.self.items c.loop-feed.end c.in-Some.feed ls next.parts next.len (ends_of 0 (lines c.args.bytes.now)) (c.in_ok-push.ensures.items ∙ ap (λ n. c.loop-feed.ends.items ++ n ∷ []) c.in_ok-counted.ensures) c.loop-feed.invariant.ends;
+      ends = ends_more c.loop-feed.ends.items c.push.new.self.items c.loop-feed.end c.in-Some.feed ls next.parts next.len (ends_of 0 (lines c.args.bytes.now)) c.in_ok-push.ensures.items c.loop-feed.invariant.ends;
       clean = next.clean;
       total = left_less ls next.parts next.len c.loop-feed.end _ c.loop-feed.invariant.total;
     }

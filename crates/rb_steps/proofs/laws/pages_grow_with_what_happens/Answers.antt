@@ -1,11 +1,8 @@
-use Rattle.rb_steps.proofs.SizeLaws.{happened_short, text_short, view_said}
+use Rattle.rb_steps.proofs.SizeLaws.{text_short, view_said}
 use Rattle.rb_steps.proofs.laws.pages_grow_with_what_happens.Goals as goal
 
 pub returns-clause-text : goal.returns-clause-text
 returns-clause-text c = text_short
-
-pub returns-clause-happened : goal.returns-clause-happened
-returns-clause-happened c = happened_short
 
 pub returns-clause-views : goal.returns-clause-views
 returns-clause-views c = view_said

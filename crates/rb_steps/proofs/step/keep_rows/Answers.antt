@@ -16,7 +16,7 @@ keep_changes-requires g c =
 
 pub returns-clause-texts : goal.returns-clause-texts
 returns-clause-texts g c =
-    step_kept c.args.line (g.M.Machine.meaning c.args.machine.now) (g.M.Machine.meaning c.args.after.now) c.args.block.now c.args.output.now
-    c.args.texts.now c.keep_script.new.texts c.keep_happened.new.texts c.keep_changes.new.texts c.requires.output c.requires.after
-    (c.in_ok-keep_script.ensures ∙ ap (λ (ls : List Line). c.args.texts.now ++ texts_of (script_rows c.args.line ls c.args.output.now)) c.expected.ensures)
-    c.in_ok-keep_happened.ensures c.in_ok-keep_changes.ensures.texts
+    step_kept c.args.line (g.M.Machine.meaning c.args.machine.now) (g.M.Machine.meaning c.args.run.now.machine) c.args.block.now c.args.run.now.output c.args.run.now.rows
+    c.args.texts.now c.keep_script.new.texts c.keep_texts.new.texts c.keep_changes.new.texts c.requires.output c.requires.after c.requires.rows
+    (c.in_ok-keep_script.ensures ∙ ap (λ (ls : List Line). c.args.texts.now ++ texts_of (script_rows c.args.line ls c.args.run.now.output)) c.expected.ensures)
+    c.in_ok-keep_texts.ensures c.in_ok-keep_changes.ensures.texts

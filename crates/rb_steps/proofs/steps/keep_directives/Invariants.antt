@@ -1,7 +1,8 @@
--- The rows so far, and those of the directives that are left; what is shown of contents.
-use Rattle.std.proofs.Common.{◌≡◌, ◌++◌, drop}
+-- The rows so far, and those of the directives that are left; what was printed; what is shown of contents.
+use Rattle.std.proofs.Common.{◌≡◌, ◌++◌, drop, take}
 use Rattle.std.specs.List.{flat_map}
 use Rattle.rb_machine.specs.Cluster.{empty}
+use Rattle.rb_replay.specs.Run.{outputs, state}
 use Rattle.rb_steps.specs.Committed.{AreSound}
 use Rattle.rb_steps.specs.Steps.{step_texts, steps, steps_from}
 use Rattle.rb_steps.specs.Values.{GoOnShowingBytes}
@@ -9,7 +10,9 @@ use Rattle.rb_steps.proofs.steps.keep_directives.Given as goal
 
 abbrev pub invariant-loop-i : goal.invariant-loop-i
 invariant-loop-i g l = record {
-  rows : l.texts ++ flat_map step_texts (steps_from (drop l.i l.heads) (g.M.Machine.meaning l.machine) (drop l.i l.session.script.blocks)) ≡ l.initial.texts ++ flat_map step_texts (steps l.heads l.session.script);
+  rows : l.texts ++ flat_map step_texts (steps_from (drop l.i l.heads) (g.M.Machine.meaning l.machine) (drop l.i l.script.blocks)) ≡ l.initial.texts ++ flat_map step_texts (steps l.heads l.script);
+  here : g.M.Machine.meaning l.machine ≡ state l.script l.i;
+  printed : l.printed ≡ take l.i (outputs l.script);
   sound : AreSound (g.M.Machine.meaning l.machine).nodes;
-  bytes : GoOnShowingBytes (g.M.Machine.meaning l.machine) (drop l.i l.session.script.blocks) → GoOnShowingBytes empty l.session.script.blocks;
+  bytes : GoOnShowingBytes (g.M.Machine.meaning l.machine) (drop l.i l.script.blocks) → GoOnShowingBytes empty l.script.blocks;
 }

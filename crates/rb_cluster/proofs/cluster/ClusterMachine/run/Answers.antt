@@ -1,9 +1,10 @@
 use Rattle.std.proofs.Common.{◌∙◌, ap}
 use Rattle.rb_script.specs.Tokens.{plain}
-use Rattle.rb_machine.specs.Outcome.{outcome, is_output}
-use Rattle.rb_cluster.proofs.OutcomeLaws.{outcome_is_output}
+use Rattle.rb_machine.specs.Outcome.{execution, is_output}
+use Rattle.rb_cluster.proofs.OutcomeLaws.{lines_are_output}
 use Rattle.rb_cluster.proofs.cluster.ClusterMachine.run.Goals as goal
 
 pub returns-clause-shape : goal.returns-clause-shape
-unfolding outcome
-returns-clause-shape g c = ap is_output c.in_ok-output.ensures.output ∙ outcome_is_output c.args.self (plain c.args.directive)
+returns-clause-shape g c =
+    let h = execution c.args.self (plain c.args.directive) in
+    ap is_output c.in_ok-output.ensures.output ∙ lines_are_output h.level h.items

@@ -7,7 +7,7 @@ use Rattle.rb_script.specs.Shared.{values}
 use Rattle.rb_machine.specs.Cluster.{Cluster}
 use Rattle.rb_replay.specs.declared.run.Rerun.{Rerun}
 use Rattle.rb_replay.specs.Run.{state, outputs}
-use Rattle.rb_replay.specs.Holding.{Holding, IsFresh}
+use Rattle.rb_replay.specs.Holding.{Holding, IsOneRun}
 use Rattle.rb_replay.specs.Reuse.{Change, IsChange, change_by, new_point, start, stop}
 use Rattle.rb_replay.specs.Splices.{old_stop, IsRerun}
 use Rattle.rb_replay.proofs.RunLaws.{length-outputs}
@@ -52,7 +52,7 @@ joined-requires-clause-small g c =
 pub returns-clause-ready : goal.returns-clause-ready
 returns-clause-ready g c =
     let run = c.requires.run in
-    let fresh : IsFresh c.args.self.now = subst IsFresh c.self.view_is c.self.invariant in
+    let fresh : IsOneRun c.args.self.now = subst IsOneRun c.self.view_is c.self.invariant in
     let held : c.self.inside.outputs ≡ outputs c.args.self.now.script = held-outputs c.self.view_is c.self.invariant in
     let placed : c.self.inside.points.items ≡ c.args.self.now.points = ap (λ (h : Holding). h.points) c.self.view_is in
     let joined : c.in_ok-points.points.items ≡ joined_points (change_by c.args.self.now c.args.new.now c.args.splice) c.args.run.met =

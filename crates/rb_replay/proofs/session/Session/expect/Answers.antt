@@ -1,7 +1,7 @@
 use Rattle.std.proofs.Common.{◌≡◌, ◌-◌, ◌≤◌, ap, subst, length, arith}
 use Rattle.rb_script.specs.declared.limits.TheConstants.{MAX_DIRECTIVES}
 use Rattle.rb_replay.specs.Run.{outputs}
-use Rattle.rb_replay.specs.Holding.{IsFresh}
+use Rattle.rb_replay.specs.Holding.{IsOneRun}
 use Rattle.rb_replay.proofs.RunLaws.{length-outputs, lengths-same}
 use Rattle.rb_replay.proofs.FreshLaws.{fresh-same, held-outputs}
 use Rattle.rb_replay.proofs.session.Session.expect.Goals as goal
@@ -14,7 +14,7 @@ returns-clause-fresh g c = fresh-same c.args.self.now _ c.args.new c.in_ok-misma
 
 pub mended-requires : goal.mended-requires
 mended-requires g c =
-    let fresh : IsFresh c.args.self.now = subst IsFresh c.self.view_is c.self.invariant in
+    let fresh : IsOneRun c.args.self.now = subst IsOneRun c.self.view_is c.self.invariant in
     let held : c.self.inside.outputs ≡ outputs c.args.self.now.script = held-outputs c.self.view_is c.self.invariant in
     let one : c.args.place - (c.args.place - 1) ≡ 1 = omega (arith, c.requires.first) in
     let long : length c.args.new.blocks ≡ length c.args.self.now.script.blocks = lengths-same c.args.new c.args.self.now.script c.requires.same in

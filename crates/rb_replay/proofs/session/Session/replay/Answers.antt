@@ -1,7 +1,7 @@
 use Rattle.std.proofs.Common.{◌≡◌, ◌-◌, ap, sym, ◌∙◌, take, drop, ◌++◌, List, map, refl, arith}
 use Rattle.rb_machine.specs.Cluster.{Cluster}
 use Rattle.rb_replay.specs.Run.{state}
-use Rattle.rb_replay.specs.Holding.{Holding, IsFresh}
+use Rattle.rb_replay.specs.Holding.{Holding, IsOneRun}
 use Rattle.rb_replay.specs.Reuse.{change_by, start, stop, IsCost}
 use Rattle.rb_replay.specs.Splices.{IsReady}
 use Rattle.rb_replay.proofs.ReadyLaws.{start-first, on_err_always}
@@ -29,7 +29,7 @@ take_over-requires-clause-paired g c =
     (joined g.M.Machine.meaning c.in_ok-ready.ready.rejoin.front c.in_ok-ready.ready.rejoin.rest c.self.inside.kept.items c.reserve.new.self.items c.in_ok-ready.ready.running.kept.items c.args.self.now.kept (map (state c.args.new) c.in_ok-ready.ready.points.items)
     c.in_ok-reserve.ensures.items (ap (λ (h : Holding). h.kept) c.self.view_is) ready.states_are)
 
-fresh-now : (g : Over) (c : goal.After-take_over g) → IsFresh (record { script = c.args.new; spacing = c.self.inside.spacing; outputs = c.in_ok-ready.ready.outputs; mismatches = c.in_ok-ready.ready.mismatches.items; points = c.take_over.new.points.items; kept = map g.M.Machine.meaning c.take_over.new.kept.items })
+fresh-now : (g : Over) (c : goal.After-take_over g) → IsOneRun (record { script = c.args.new; spacing = c.self.inside.spacing; outputs = c.in_ok-ready.ready.outputs; mismatches = c.in_ok-ready.ready.mismatches.items; points = c.take_over.new.points.items; kept = map g.M.Machine.meaning c.take_over.new.kept.items })
 fresh-now g c =
     let ready : IsReady g.M.Machine.meaning (change_by c.args.self.now c.args.new c.args.splice) c.args.self.now.kept c.in_ok-ready.ready = c.in_ok-ready.ensures.ready in
     let spacing : c.in_ok-ready.ready.running.spacing ≡ c.self.inside.spacing = ready.spacing_is ∙ sym (ap (λ (h : Holding). h.spacing) c.self.view_is) in

@@ -4,7 +4,7 @@ use Rattle.std.proofs.lemmas.Bool.{cases_lt}
 use Rattle.std.proofs.lemmas.Grind.{common_steps}
 use Rattle.rb_machine.specs.Cluster.{Cluster}
 use Rattle.rb_replay.specs.Run.{state}
-use Rattle.rb_replay.specs.Holding.{Holding, IsFresh}
+use Rattle.rb_replay.specs.Holding.{Holding, IsOneRun}
 use Rattle.rb_replay.specs.Reuse.{change_by, start, old_point, Meets}
 use Rattle.rb_replay.proofs.ReuseLaws.{cost-at_least, unmet_more, start-le, meets-within}
 use Rattle.rb_replay.proofs.ReadyLaws.{kept-rising, states-before, on_err_always}
@@ -40,12 +40,12 @@ pub meets-requires-clause-rising : goal.meets-requires-clause-rising
 meets-requires-clause-rising g c = rw c.deref-in-steps.ensures.value (kept-rising c.self.inside.spacing _ c.self.inside.points.items c.self.invariant.near)
 
 -- what a test that failed says
-differs : {M : Type 0} (meaning : M → Cluster) (h : Holding) (inside : Holding) (ps : List ℕ) (kept : List M) (x : Cluster) (at r t : ℕ) → inside ≡ h → IsFresh inside → ps ≡ inside.points → map meaning kept ≡ inside.kept
+differs : {M : Type 0} (meaning : M → Cluster) (h : Holding) (inside : Holding) (ps : List ℕ) (kept : List M) (x : Cluster) (at r t : ℕ) → inside ≡ h → IsOneRun inside → ps ≡ inside.points → map meaning kept ≡ inside.kept
     → ((f : ℕ → Cluster) → map meaning kept ≡ map f ps → t ≤ at → Contains ps (at - t + r) → x ≡ f (at - t + r) → ⊥)
     → t ≤ at → Contains h.points (at - t + r) → x ≡ state h.script (at - t + r) → ⊥
 differs meaning h inside ps kept x at r t view fresh points states unmet le has same =
     let placed : ps ≡ h.points = points ∙ ap (λ (h : Holding). h.points) view in
-    let stated : map meaning kept ≡ map (state h.script) ps = states ∙ ap (λ (h : Holding). h.kept) view ∙ (subst IsFresh view fresh).states ∙ ap (map (state h.script)) (sym placed) in
+    let stated : map meaning kept ≡ map (state h.script) ps = states ∙ ap (λ (h : Holding). h.kept) view ∙ (subst IsOneRun view fresh).states ∙ ap (map (state h.script)) (sym placed) in
     unmet (state h.script) stated le (subst (λ (l : List ℕ). Contains l (at - t + r)) (sym placed) has) same
 
 pub returns-in_err-keep_due-clause-refused : goal.returns-in_err-keep_due-clause-refused
@@ -108,7 +108,7 @@ pub returns-clause-run : goal.returns-clause-run
 returns-clause-run g c =
     let placed : c.deref-in-steps.result.now ≡ c.args.self.now.points = c.deref-in-steps.ensures.value ∙ ap (λ (h : Holding). h.points) c.self.view_is in
     let stated : map g.M.Machine.meaning c.deref-in-steps-2.result.now ≡ map (state c.args.self.now.script) c.deref-in-steps.result.now =
-    ap (map g.M.Machine.meaning) c.deref-in-steps-2.ensures.value ∙ ap (λ (h : Holding). h.kept) c.self.view_is ∙ (let fresh : IsFresh c.args.self.now = subst IsFresh c.self.view_is c.self.invariant in fresh.states) ∙ ap (map (state c.args.self.now.script)) (sym placed) in
+    ap (map g.M.Machine.meaning) c.deref-in-steps-2.ensures.value ∙ ap (λ (h : Holding). h.kept) c.self.view_is ∙ (let fresh : IsOneRun c.args.self.now = subst IsOneRun c.self.view_is c.self.invariant in fresh.states) ∙ ap (map (state c.args.self.now.script)) (sym placed) in
     let met = c.meets.ensures.met (state c.args.self.now.script) stated c.steps-test.false in
     let kept : c.push.new.self.items ≡ c.steps.running.kept.items ++ c.steps.machine ∷ [] = grind (arith, common_steps) in
     let points : c.push-2.new.self.items ≡ c.steps.running.points.items ++ c.steps.running.at ∷ [] = grind (arith, common_steps) in

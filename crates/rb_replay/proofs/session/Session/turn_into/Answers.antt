@@ -1,13 +1,13 @@
 use Rattle.std.proofs.Common.{subst}
 use Rattle.rb_replay.specs.Run.{directives}
-use Rattle.rb_replay.specs.Holding.{Holding, IsFresh}
+use Rattle.rb_replay.specs.Holding.{Holding, IsOneRun}
 use Rattle.rb_replay.specs.Turns.{IsLongestSplice}
 use Rattle.rb_replay.proofs.TurnLaws.{splice-change, turned-answer, turned-refused}
 use Rattle.rb_replay.proofs.session.Session.turn_into.Goals as goal
 
 pub replay-requires-clause-change : goal.replay-requires-clause-change
 replay-requires-clause-change g c =
-    let fresh : IsFresh c.args.self.now = subst IsFresh c.self.view_is c.self.invariant in
+    let fresh : IsOneRun c.args.self.now = subst IsOneRun c.self.view_is c.self.invariant in
     let longest : IsLongestSplice (directives c.args.self.now.script) (directives c.args.script) c.longest_splice-splice.result = subst (λ (h : Holding). IsLongestSplice (directives h.script) (directives c.args.script) c.longest_splice-splice.result) c.self.view_is c.longest_splice-splice.ensures in
     splice-change c.args.self.now c.args.script c.longest_splice-splice.result fresh longest
 

@@ -1,0 +1,33 @@
+//! Two observers of one run.
+
+use crate::observer::Observer;
+use rb_level::Level;
+use rb_texts::Item;
+use std::alloc::AllocError;
+
+/// Two observers, of which each is shown all: a page has the lines and the rows of one run.
+#[derive(Drop)]
+pub struct Both<A, B> {
+    pub first: A,
+    pub second: B,
+}
+
+impl<A: Observer, B: Observer> Observer for Both<A, B> {
+    ghost Meaning = { A.Meaning × B.Meaning };
+
+    ghost meaning = { λ o. (A.meaning o.first, B.meaning o.second) };
+
+    ghost starting = { λ m level. (A.starting m.0 level, B.starting m.1 level) };
+
+    ghost taking = { λ m item. (A.taking m.0 item, B.taking m.1 item) };
+
+    fn start(&mut self, level: Level) {
+        self.first.start(level);
+        self.second.start(level);
+    }
+
+    fn observe(&mut self, item: &Item<'_>) -> Result<(), AllocError> {
+        self.first.observe(item)?;
+        self.second.observe(item)
+    }
+}

@@ -1,0 +1,61 @@
+//! The lines that a directive prints.
+
+ghost use Rattle.std.specs.Prelude.{◌≡◌, [], IfOk};
+ghost use Rattle.rb_machine.specs.Outcome.{or_ok};
+
+use crate::observer::Observer;
+use rb_level::Level;
+use rb_script::Lines;
+use rb_texts::{Item, put};
+use std::alloc::{AllocError, Global};
+
+/// What a directive has printed so far: the lines of the items that its level shows, each put together where it stays.
+#[derive(Drop)]
+pub struct PrintedLines {
+    pub level: Level,
+    pub lines: Lines,
+}
+
+impl PrintedLines {
+    /// No lines.
+    pub fn new(alloc: Global) -> PrintedLines
+        ensures { result.lines ≡ [] }
+    {
+        PrintedLines {
+            level: Level::Debug,
+            lines: Lines::new(alloc),
+        }
+    }
+
+    /// The lines, or `ok` where there is none.
+    pub fn or_ok(self) -> Result<Lines, AllocError>
+        ensures { IfOk result (λ lines. lines ≡ or_ok self.level self.lines) }
+    {
+        let mut printed = self;
+        if printed.lines.is_empty() {
+            printed.observe(&Item::NothingElse)?;
+        }
+        Ok(printed.lines)
+    }
+}
+
+impl Observer for PrintedLines {
+    ghost use Rattle.rb_machine.specs.declared.printed.PrintedLines.{PrintedLines};
+    ghost use Rattle.rb_machine.specs.Printing.{at_level, with_item};
+
+    ghost Meaning = { PrintedLines };
+
+    ghost meaning = { λ p. p };
+
+    ghost starting = { at_level };
+
+    ghost taking = { with_item };
+
+    fn start(&mut self, level: Level) {
+        self.level = level;
+    }
+
+    fn observe(&mut self, item: &Item<'_>) -> Result<(), AllocError> {
+        put(&mut self.lines, self.level, item)
+    }
+}

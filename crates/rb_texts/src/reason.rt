@@ -1,0 +1,227 @@
+//! The line of a reason.
+//!
+//! It stands below the message that nothing comes of, a little to the right, and says first whether that is ignored or a vote refused.
+
+ghost use Rattle.std.specs.Prelude.{◌≡◌, ◌++◌, codes, decimal, OnOk};
+ghost use Rattle.rb_texts.specs.Items.{plain_item};
+ghost use Rattle.rb_texts.specs.Reasons.{event_reason, reason_of, earlier_text, outdated_text, why_ignored_text, end_text, older_text, why_refused_text, reason_text, shows_reasons, reason_line};
+ghost use Rattle.rb_texts.specs.States.{role_text};
+
+use crate::item::Item;
+use crate::piece::{LinePiece, add_bytes, add_field, add_numbered, add_pieces};
+use crate::states::role_name;
+use rb_level::Level;
+use rb_message::{Event, Role, WhyIgnored, WhyRefused};
+use rb_script::{LineText, Lines, WrittenLine};
+use std::alloc::AllocError;
+
+/// Why nothing came of a message.
+#[derive(Clone, Copy, PartialEq, Eq, Debug)]
+pub enum Reason {
+    Ignored(WhyIgnored),
+    Refused(WhyRefused),
+}
+
+fn event_reason(event: &Event) -> Option<Reason>
+    ensures { result ≡ event_reason event.now }
+{
+    match event {
+        Event::Ignored { why, .. } => Some(Reason::Ignored(*why)),
+        Event::RefusedVote { why, .. } => Some(Reason::Refused(*why)),
+        _ => None,
+    }
+}
+
+/// The reason that an item tells: an event that a message is ignored, or a vote refused.
+pub fn reason_of(item: &Item<'_>) -> Option<Reason>
+    ensures { result ≡ reason_of (plain_item item.now) }
+{
+    match item {
+        Item::Event(event) => event_reason(event),
+        _ => None,
+    }
+}
+
+// Adds a text, a number, a text and another number.
+fn add_numbers<'a>(
+    line: &mut LineText,
+    before: &'a [u8],
+    n: u64,
+    between: &'a [u8],
+    other: u64,
+) -> Result<(), AllocError>
+    ensures { OnOk result (line.new ≡ line.old ++ (before.now ++ decimal n ++ between.now ++ decimal other)) }
+{
+    let pieces = [
+        LinePiece::Field(before, n),
+        LinePiece::Field(between, other),
+    ];
+    add_pieces(line, &pieces)
+}
+
+fn add_earlier(line: &mut LineText, term: u64, own: u64) -> Result<(), AllocError>
+    ensures { OnOk result (line.new ≡ line.old ++ earlier_text term own) }
+{
+    add_numbers(line, b"its term ", term, b" is earlier than ", own)
+}
+
+fn add_hears_leader(line: &mut LineText, lead: u64) -> Result<(), AllocError>
+    ensures { OnOk result (line.new ≡ line.old ++ (codes "leader " ++ decimal lead ++ codes " was heard of within an election timeout")) }
+{
+    let pieces = [
+        LinePiece::Field(b"leader ", lead),
+        LinePiece::Bytes(b" was heard of within an election timeout"),
+    ];
+    add_pieces(line, &pieces)
+}
+
+fn add_no_use(line: &mut LineText, role: Role) -> Result<(), AllocError>
+    ensures { OnOk result (line.new ≡ line.old ++ (codes "a " ++ role_text role ++ codes " has no use for it")) }
+{
+    let pieces = [
+        LinePiece::Bytes(b"a "),
+        LinePiece::Bytes(role_name(role)),
+        LinePiece::Bytes(b" has no use for it"),
+    ];
+    add_pieces(line, &pieces)
+}
+
+// Adds what a node refused, and what is known of it by now.
+fn add_outdated<'a>(
+    line: &mut LineText,
+    from: u64,
+    refused: u64,
+    known: &'a [u8],
+    at: u64,
+) -> Result<(), AllocError>
+    ensures { OnOk result (line.new ≡ line.old ++ outdated_text from refused known.now at) }
+{
+    let pieces = [
+        LinePiece::Number(from),
+        LinePiece::Field(b" refused ", refused),
+        LinePiece::Field(known, at),
+        LinePiece::Bytes(b" by now"),
+    ];
+    add_pieces(line, &pieces)
+}
+
+#[tactic(auto, unfolding(crate::specs::Reasons::why_ignored_text))]
+fn add_why_ignored(line: &mut LineText, why: WhyIgnored) -> Result<(), AllocError>
+    ensures { OnOk result (line.new ≡ line.old ++ why_ignored_text why) }
+{
+    match why {
+        WhyIgnored::EarlierTerm { term, own } => add_earlier(line, term, own),
+        WhyIgnored::HearsLeader { lead } => add_hears_leader(line, lead),
+        WhyIgnored::NoUse { role } => add_no_use(line, role),
+        WhyIgnored::NoLeader => add_bytes(line, b"no leader is known to pass it on to"),
+        WhyIgnored::NoView { from } => add_field(line, b"the leader has no view of ", from),
+        WhyIgnored::HoldsMore {
+            from,
+            refused,
+            matched,
+        } => add_outdated(line, from, refused, b", and holds ", matched),
+        WhyIgnored::ProbesElsewhere {
+            from,
+            refused,
+            probed,
+        } => add_outdated(line, from, refused, b", and is probed at ", probed),
+        WhyIgnored::AwaitsSnapshot { from } => {
+            add_field(line, b"a snapshot is on its way to ", from)
+        }
+        WhyIgnored::NotAVoter { target } => add_numbered(line, target, b" is no voter"),
+        WhyIgnored::LeadsAlready { target } => add_numbered(line, target, b" leads already"),
+        WhyIgnored::IsUnderWay { target } => {
+            add_field(line, b"the lead is on its way to ", target)
+        }
+    }
+}
+
+// Adds what is said of a log, and the term and index that it ends with.
+fn add_end<'a>(
+    line: &mut LineText,
+    before: &'a [u8],
+    term: u64,
+    index: u64,
+) -> Result<(), AllocError>
+    ensures { OnOk result (line.new ≡ line.old ++ end_text before.now term index) }
+{
+    add_pieces(
+        line,
+        &[LinePiece::Bytes(before), LinePiece::Place(term, index)],
+    )
+}
+
+fn add_older(
+    line: &mut LineText,
+    term: u64,
+    index: u64,
+    own_term: u64,
+    own_index: u64,
+) -> Result<(), AllocError>
+    ensures { OnOk result (line.new ≡ line.old ++ older_text term index own_term own_index) }
+{
+    add_end(line, b"its log ends at ", term, index)?;
+    add_end(line, b", the voter's at ", own_term, own_index)
+}
+
+fn add_knows_leader(line: &mut LineText, term: u64, lead: u64) -> Result<(), AllocError>
+    ensures { OnOk result (line.new ≡ line.old ++ (decimal lead ++ codes " leads term " ++ decimal term)) }
+{
+    add_numbers(line, b"", lead, b" leads term ", term)
+}
+
+#[tactic(auto, unfolding(crate::specs::Reasons::why_refused_text))]
+fn add_why_refused(line: &mut LineText, why: WhyRefused) -> Result<(), AllocError>
+    ensures { OnOk result (line.new ≡ line.old ++ why_refused_text why) }
+{
+    match why {
+        WhyRefused::EarlierTerm { term, own } => add_earlier(line, term, own),
+        WhyRefused::Voted { term, vote } => {
+            add_numbers(line, b"the vote of term ", term, b" is given to ", vote)
+        }
+        WhyRefused::KnowsLeader { term, lead } => add_knows_leader(line, term, lead),
+        WhyRefused::OlderLog {
+            term,
+            index,
+            own_term,
+            own_index,
+        } => add_older(line, term, index, own_term, own_index),
+    }
+}
+
+impl WrittenLine for Reason {
+    ghost use Rattle.rb_texts.specs.Reasons.{reason_text};
+
+    ghost bytes = { reason_text };
+
+    #[tactic(auto, unfolding(crate::specs::Reasons::reason_text))]
+    fn add_to(&self, text: &mut LineText) -> Result<(), AllocError> {
+        match self {
+            Reason::Ignored(why) => {
+                add_bytes(text, b"  ignored: ")?;
+                add_why_ignored(text, *why)
+            }
+            Reason::Refused(why) => {
+                add_bytes(text, b"  refused: ")?;
+                add_why_refused(text, *why)
+            }
+        }
+    }
+}
+
+fn shows_reasons(level: Level) -> bool
+    ensures { result ≡ shows_reasons level }
+{
+    level.rank() <= Level::Fatal.rank()
+}
+
+/// Adds the line of a reason, or nothing at level `none`. Where memory runs out, nothing is known of what `lines` holds then: it is only
+/// good for being dropped.
+pub fn put_reason(lines: &mut Lines, level: Level, reason: Reason) -> Result<(), AllocError>
+    ensures { OnOk result (lines.new ≡ lines.old ++ reason_line level reason) }
+{
+    if !shows_reasons(level) {
+        return Ok(());
+    }
+    lines.push_written(&reason)
+}

@@ -1,3 +1,0 @@
-pub mod IgnoredLaws
-pub mod TextLaws
-pub mod RefusedLaws

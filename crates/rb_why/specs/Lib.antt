@@ -1,4 +1,0 @@
-pub use Rattle.rb_node.specs.Node
-pub mod Reasons
-pub mod Telling
-pub mod Texts
