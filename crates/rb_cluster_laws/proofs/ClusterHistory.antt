@@ -23,11 +23,9 @@ use Rattle.rb_node.specs.Node.{PlainNode, Turn, message, started}
 use Rattle.rb_node.specs.Calls.{node_started}
 use Rattle.rb_node.specs.Sends.{snapshot_of}
 use Rattle.rb_node_laws.specs.Calling.{Call, Step, Propose, Advance, after}
-use Rattle.rb_machine.specs.declared.screen.Form.TheVariants as forms
 use Rattle.rb_machine.specs.AddNodes.{base_term, start, options, began, added_each, nodes_added}
 use Rattle.rb_machine.specs.Cluster.{Cluster, empty}
-use Rattle.rb_machine.specs.Outcome.{effect, screen_of, outcome}
-use Rattle.rb_machine.specs.Scenes.{Scene, scene}
+use Rattle.rb_machine.specs.Outcome.{effect, outcome}
 use Rattle.rb_cluster_laws.specs.Clusters.{AreSteady, led}
 use Rattle.rb_cluster_laws.specs.Honesty.{Keeps, IsHonestCall, IsGenuineCall}
 use Rattle.rb_cluster_laws.specs.Network.{Network, put_out, IsBegun}
@@ -253,16 +251,16 @@ one_begins : (index term : ℕ) (content : List ℕ) (from : Snapshot) (given : 
 one_begins index term content from given xs at of con before =
     each_push (λ (k : ℕ) (n : PlainNode). (n.log.base ≡ index) × (n.log.base_term ≡ term) × (n.content ≡ content)) xs (started (length xs + 1) from given) (at, of, con) before
 
-all_begin : (index term : ℕ) (content : List ℕ) (from : Snapshot) (given : Options) (n : ℕ) (x : Scene) → from.index ≡ index → from.term ≡ term → from.content ≡ content → BeginAt index term content x.cluster.nodes → BeginAt index term content (added_each from given x (range_with_len (length x.cluster.nodes + 1) n)).cluster.nodes
+all_begin : (index term : ℕ) (content : List ℕ) (from : Snapshot) (given : Options) (n : ℕ) (x : Cluster) → from.index ≡ index → from.term ≡ term → from.content ≡ content → BeginAt index term content x.nodes → BeginAt index term content (added_each from given x (range_with_len (length x.nodes + 1) n)).cluster.nodes
 all_begin index term content from given zero x at of con before = before
 all_begin index term content from given (suc n) x at of con before =
-    let id = length x.cluster.nodes + 1 in
-    let y = began x (node_started id from given []) in
-    let longer : length y.cluster.nodes ≡ id = length-append x.cluster.nodes (started id from given ∷ []) in
+    let id = length x.nodes + 1 in
+    let y = (began x (node_started id from given [])).cluster in
+    let longer : length y.nodes ≡ id = length-append x.nodes (started id from given ∷ []) in
     subst (λ (low : ℕ). BeginAt index term content (added_each from given y (range_with_len low n)).cluster.nodes) (ap (λ (i : ℕ). i + 1) longer)
-    (all_begin index term content from given n y at of con (one_begins index term content from given x.cluster.nodes at of con before))
+    (all_begin index term content from given n y at of con (one_begins index term content from given x.nodes at of con before))
 
-added_begin : (index term : ℕ) (content : List ℕ) (r : AddNodes) (x : Scene) → (start r).index ≡ index → (start r).term ≡ term → (start r).content ≡ content → BeginAt index term content x.cluster.nodes → BeginAt index term content (nodes_added r x).cluster.nodes
+added_begin : (index term : ℕ) (content : List ℕ) (r : AddNodes) (x : Cluster) → (start r).index ≡ index → (start r).term ≡ term → (start r).content ≡ content → BeginAt index term content x.nodes → BeginAt index term content (nodes_added r x).cluster.nodes
 unfolding nodes_added
 added_begin index term content r x at of con before = all_begin index term content (start r) (options r) r.count x at of con before
 
@@ -271,7 +269,7 @@ still_new_at members index term content c d a r asks adds same at of con new = r
   new = still_new members c d a r asks adds same new.new;
   begins = outcome_has (λ (x : Cluster). BeginAt index term content x.nodes) c d
       (λ b is _. (let so : requests.AddNodes r ≡ b.request = sym adds ∙ ap (λ (x : Asked). x.request) (same_asked (request d) a b asks is) in
-      subst (λ (q : Request). BeginAt index term content (effect q (scene c (screen_of forms.Lines b c))).cluster.nodes) so (added_begin index term content r (scene c (screen_of forms.Lines b c)) at of con new.begins))) new.begins;
+      subst (λ (q : Request). BeginAt index term content (effect q c).cluster.nodes) so (added_begin index term content r c at of con new.begins))) new.begins;
 }
 
 pub empty_new_at : (members : ConfState) (index term : ℕ) (content : List ℕ) → IsNewAt members index term content empty

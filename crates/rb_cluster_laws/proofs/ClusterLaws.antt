@@ -18,11 +18,9 @@ use Rattle.rb_message.specs.declared.message.Message.{Message}
 use Rattle.rb_node.specs.declared.options.Options.{Options}
 use Rattle.rb_node.specs.Node.{PlainNode, started}
 use Rattle.rb_node.specs.Calls.{node_started}
-use Rattle.rb_machine.specs.declared.screen.Form.TheVariants as forms
 use Rattle.rb_machine.specs.AddNodes.{start, options, began, added_each, nodes_added}
 use Rattle.rb_machine.specs.Cluster.{Cluster, empty}
-use Rattle.rb_machine.specs.Outcome.{effect, screen_of, outcome}
-use Rattle.rb_machine.specs.Scenes.{Scene, scene}
+use Rattle.rb_machine.specs.Outcome.{effect, outcome}
 use Rattle.rb_cluster_laws.specs.Clusters.{AreSteady, led, IsNew}
 use Rattle.rb_cluster_laws.specs.Network.{Network, run, IsStarted, AreStarted, Leads}
 use Rattle.rb_cluster_laws.proofs.DirectiveLaws.{IsCovered, by_directives, outcome_has}
@@ -76,24 +74,24 @@ one_started : (members : ConfState) (from : Snapshot) (given : Options) (xs : Li
 one_started members from given xs same before =
     each_push (λ (k : ℕ) (n : PlainNode). IsStarted members (k + 1) n) xs (started (length xs + 1) from given) (record { start = from; options = given; config = same; is = refl }) before
 
-all_started : (members : ConfState) (from : Snapshot) (given : Options) (n : ℕ) (x : Scene) → from.config ≡ members → AreStarted members x.cluster.nodes → AreStarted members (added_each from given x (range_with_len (length x.cluster.nodes + 1) n)).cluster.nodes
+all_started : (members : ConfState) (from : Snapshot) (given : Options) (n : ℕ) (x : Cluster) → from.config ≡ members → AreStarted members x.nodes → AreStarted members (added_each from given x (range_with_len (length x.nodes + 1) n)).cluster.nodes
 all_started members from given zero x same before = before
 all_started members from given (suc n) x same before =
-    let id = length x.cluster.nodes + 1 in
-    let y = began x (node_started id from given []) in
-    let longer : length y.cluster.nodes ≡ id = length-append x.cluster.nodes (started id from given ∷ []) in
+    let id = length x.nodes + 1 in
+    let y = (began x (node_started id from given [])).cluster in
+    let longer : length y.nodes ≡ id = length-append x.nodes (started id from given ∷ []) in
     subst (λ (low : ℕ). AreStarted members (added_each from given y (range_with_len low n)).cluster.nodes) (ap (λ (i : ℕ). i + 1) longer)
-    (all_started members from given n y same (one_started members from given x.cluster.nodes same before))
+    (all_started members from given n y same (one_started members from given x.nodes same before))
 
-none_sent : (from : Snapshot) (given : Options) (ids : List ℕ) (x : Scene) → (added_each from given x ids).cluster.pending ≡ x.cluster.pending
+none_sent : (from : Snapshot) (given : Options) (ids : List ℕ) (x : Cluster) → (added_each from given x ids).cluster.pending ≡ x.pending
 none_sent from given [] x = refl
-none_sent from given (id ∷ ids) x = none_sent from given ids (began x (node_started id from given []))
+none_sent from given (id ∷ ids) x = none_sent from given ids (began x (node_started id from given [])).cluster
 
-added_new : (members : ConfState) (r : AddNodes) (x : Scene) → (start r).config ≡ members → IsNew members x.cluster → IsNew members (nodes_added r x).cluster
+added_new : (members : ConfState) (r : AddNodes) (x : Cluster) → (start r).config ≡ members → IsNew members x → IsNew members (nodes_added r x).cluster
 unfolding nodes_added
 added_new members r x same new = record {
   started = all_started members (start r) (options r) r.count x same new.started;
-  silent = none_sent (start r) (options r) (range_with_len (length x.cluster.nodes + 1) r.count) x ∙ new.silent;
+  silent = none_sent (start r) (options r) (range_with_len (length x.nodes + 1) r.count) x ∙ new.silent;
 }
 
 pub same_asked : (r : Result Asked DirectiveError) (a b : Asked) → r ≡ Ok a → r ≡ Ok b → a ≡ b
@@ -103,7 +101,7 @@ pub still_new : (members : ConfState) (c : Cluster) (d : PlainDirective) (a : As
 still_new members c d a r asks adds same new =
     outcome_has (IsNew members) c d
     (λ b is _. (let so : requests.AddNodes r ≡ b.request = sym adds ∙ ap (λ (x : Asked). x.request) (same_asked (request d) a b asks is) in
-    subst (λ (q : Request). IsNew members (effect q (scene c (screen_of forms.Lines b c))).cluster) so (added_new members r (scene c (screen_of forms.Lines b c)) same new))) new
+    subst (λ (q : Request). IsNew members (effect q c).cluster) so (added_new members r c same new))) new
 
 pub empty_new : (members : ConfState) → IsNew members empty
 unfolding empty

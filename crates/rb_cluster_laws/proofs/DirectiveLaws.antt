@@ -38,40 +38,37 @@ use Rattle.rb_node.specs.Readying.{has_ready, handed, others}
 use Rattle.rb_node.specs.Sends.{snapshot_of}
 use Rattle.rb_node.specs.Ticking.{ticked}
 use Rattle.rb_node_laws.specs.Calling.{Call, Step, Campaign, Propose, Transfer, Tick, Advance, ForgetLeader, ReportUnreachable, SetTimeout, Compact, compacted_unless, after}
-use Rattle.rb_machine.specs.declared.screen.Form.TheVariants as forms
 use Rattle.rb_machine.specs.Acts.{act, ticked_times}
 use Rattle.rb_machine.specs.AddNodes.{added_each, began, nodes_added, options, start}
 use Rattle.rb_machine.specs.Changes.{words_of}
 use Rattle.rb_machine.specs.Cluster.{Cluster, is_node, node_at, with_node, changed_by}
 use Rattle.rb_machine.specs.Deliveries.{left_by, received, all_received, delivered, delivered_each, dropped, dropped_each, meets_any, msgs_delivered}
-use Rattle.rb_machine.specs.Outcome.{absent, first_absent, missing_node, own_fault, fault, effect, unless_refused, screen_of, outcome_of, outcome}
+use Rattle.rb_machine.specs.Outcome.{absent, first_absent, missing_node, own_fault, fault, effect, unless_refused, execution_of, execution, outcome}
 use Rattle.rb_machine.specs.Pending.{is_meant, is_for, mail, has_room, sent, all_sent}
-use Rattle.rb_machine.specs.Readies.{ready_items, advanced_by, all_done, ready_done_by, ready_done, ready_done_each}
-use Rattle.rb_machine.specs.Rounds.{is_chosen, chosen, is_ready, has_work, readied_each, round, settled}
-use Rattle.rb_machine.specs.Scenes.{Scene, scene, shown, all_shown, with_cluster, acted_by, acted}
+use Rattle.rb_machine.specs.Readies.{advanced_by, all_done, ready_done_by, ready_done, ready_done_each}
+use Rattle.rb_machine.specs.Rounds.{is_chosen, chosen, is_ready, has_work, readied, readied_each, round, settled}
+use Rattle.rb_machine.specs.Effects.{Effect, each, acted_by, acted}
 use Rattle.rb_machine.specs.Snapshots.{queued, snapshot_sent_by, compact_error_by, compact_error, compact_by}
 use Rattle.rb_machine.specs.Views.{log_shown_by, status_shown_by}
 use Rattle.rb_machine.proofs.CompactLaws.{may_compact}
-use Rattle.rb_texts.specs.Items.{moved}
-use Rattle.rb_texts.specs.declared.item.Verb.TheVariants as verbs
 use Rattle.rb_cluster_laws.specs.Clusters.{IsSteadyRequest, IsSteadyBy, AreSteady, led}
 use Rattle.rb_cluster_laws.proofs.ListLaws.{set_here}
 
 -- ---- what holds after a directive: it is refused, and the cluster stays; or it has its effect
 
 abbrev pub effect_of : Asked → Cluster → Cluster
-effect_of a c = (effect a.request (scene c (screen_of forms.Lines a c))).cluster
+effect_of a c = (effect a.request c).cluster
 
-unless_has : (P : Cluster → Type 0) (o : Option DirectiveError) (a : Asked) (c : Cluster) → (o ≡ None → P (effect_of a c)) → P c → P (unless_refused forms.Lines o a c).cluster
+unless_has : (P : Cluster → Type 0) (o : Option DirectiveError) (a : Asked) (c : Cluster) → (o ≡ None → P (effect_of a c)) → P c → P (unless_refused o a c).cluster
 unless_has P (Some e) a c done h = h
 unless_has P None a c done h = done refl
 
-request_has : (P : Cluster → Type 0) (r : Result Asked DirectiveError) (c : Cluster) → ((a : Asked) → r ≡ Ok a → fault a.request c ≡ None → P (effect_of a c)) → P c → P (outcome_of forms.Lines r c).cluster
+request_has : (P : Cluster → Type 0) (r : Result Asked DirectiveError) (c : Cluster) → ((a : Asked) → r ≡ Ok a → fault a.request c ≡ None → P (effect_of a c)) → P c → P (execution_of r c).cluster
 request_has P (Err e) c done h = h
 request_has P (Ok a) c done h = unless_has P (fault a.request c) a c (done a refl) h
 
 pub outcome_has : (P : Cluster → Type 0) (c : Cluster) (d : PlainDirective) → ((a : Asked) → request d ≡ Ok a → fault a.request c ≡ None → P (effect_of a c)) → P c → P (outcome c d).cluster
-unfolding outcome
+unfolding outcome execution
 outcome_has P c d done h = request_has P (request d) c done h
 
 -- ---- facts that last
@@ -161,12 +158,12 @@ set_same nodes k n is = ap (slice_set nodes k) (sym (get_or_from_slice_get nodes
 
 module _ {steady : Bool} {P : List PlainNode → List Message → Type 0} (w : Lasts steady P) where
   -- the node with an id acts
-  acts_by : (ms : List Message) (x : Scene) (id : ℕ) (call : Call) (o : Option PlainNode) → node_at x.cluster id ≡ o → IsBrought steady ms (id - 1) call → Covers P ms x.cluster → Covers P ms (acted_by o x id (λ t. after call t)).cluster
+  acts_by : (ms : List Message) (x : Cluster) (id : ℕ) (call : Call) (o : Option PlainNode) → node_at x id ≡ o → IsBrought steady ms (id - 1) call → Covers P ms x → Covers P ms (acted_by o x id (λ t. after call t)).cluster
   acts_by ms x id call None at brought h = h
-  acts_by ms x id call (Some n) at brought h = (w.calls x.cluster.nodes ms (id - 1) call (turn n []) at brought h.0, h.1)
+  acts_by ms x id call (Some n) at brought h = (w.calls x.nodes ms (id - 1) call (turn n []) at brought h.0, h.1)
 
-  acts : (ms : List Message) (x : Scene) (id : ℕ) (call : Call) → IsBrought steady ms (id - 1) call → Covers P ms x.cluster → Covers P ms (acted x id (λ t. after call t)).cluster
-  acts ms x id call brought h = acts_by ms x id call (node_at x.cluster id) refl brought h
+  acts : (ms : List Message) (x : Cluster) (id : ℕ) (call : Call) → IsBrought steady ms (id - 1) call → Covers P ms x → Covers P ms (acted x id (λ t. after call t)).cluster
+  acts ms x id call brought h = acts_by ms x id call (node_at x id) refl brought h
 
   -- ticks, one upon another: after a node has become one and then another, the other stands there
   then_ticks : (ms : List Message) (nodes : List PlainNode) (k times : ℕ) (t : Turn) → slice_get nodes k ≡ Some t.node → P nodes ms → P (slice_set nodes k (ticked_times times t).node) ms
@@ -176,13 +173,13 @@ module _ {steady : Bool} {P : List PlainNode → List Message → Type 0} (w : L
       subst (λ (ns : List PlainNode). P ns ms) (set-set nodes k u.node (ticked_times times u).node)
       (then_ticks ms (slice_set nodes k u.node) k times u (set_here nodes k t.node u.node at) (w.calls nodes ms k Tick t at tt h))
 
-  ticks : (ms : List Message) (x : Scene) (id times : ℕ) (o : Option PlainNode) → node_at x.cluster id ≡ o → Covers P ms x.cluster → Covers P ms (acted_by o x id (ticked_times times)).cluster
+  ticks : (ms : List Message) (x : Cluster) (id times : ℕ) (o : Option PlainNode) → node_at x id ≡ o → Covers P ms x → Covers P ms (acted_by o x id (ticked_times times)).cluster
   ticks ms x id times None at h = h
-  ticks ms x id times (Some n) at h = (then_ticks ms x.cluster.nodes (id - 1) times (turn n []) at h.0, h.1)
+  ticks ms x id times (Some n) at h = (then_ticks ms x.nodes (id - 1) times (turn n []) at h.0, h.1)
 
-  act_lasts : (ms : List Message) (what : Act) (x : Scene) (id : ℕ) → Covers P ms x.cluster → Covers P ms (act what id x).cluster
+  act_lasts : (ms : List Message) (what : Act) (x : Cluster) (id : ℕ) → Covers P ms x → Covers P ms (act what id x).cluster
   act_lasts ms does.Campaign x id h = acts ms x id Campaign tt h
-  act_lasts ms does.TickElection x id h = ticks ms x id ELECTION_TICKS (node_at x.cluster id) refl h
+  act_lasts ms does.TickElection x id h = ticks ms x id ELECTION_TICKS (node_at x id) refl h
   act_lasts ms does.TickHeartbeat x id h = acts ms x id Tick tt h
   act_lasts ms does.ForgetLeader x id h = acts ms x id ForgetLeader tt h
 
@@ -191,145 +188,145 @@ module _ {steady : Bool} {P : List PlainNode → List Message → Type 0} (w : L
   changes ms c id call None at brought h = h
   changes ms c id call (Some n) at brought h = (w.calls c.nodes ms (id - 1) call (turn n []) at brought h.0, h.1)
 
-  compacts : (ms : List Message) (x : Scene) (id index : ℕ) (o : Option PlainNode) → node_at x.cluster id ≡ o → compact_error_by o index ≡ None → Covers P ms x.cluster → Covers P ms (compact_by o id index x).cluster
+  compacts : (ms : List Message) (x : Cluster) (id index : ℕ) (o : Option PlainNode) → node_at x id ≡ o → compact_error_by o index ≡ None → Covers P ms x → Covers P ms (compact_by o id index x).cluster
   compacts ms x id index None at none h = h
   compacts ms x id index (Some n) at none h =
       let upto = min n.applied n.log.durable in
       let may : compact_fault n.log index upto ≡ None = may_compact n.log index upto none in
-      let now = w.calls x.cluster.nodes ms (id - 1) (Compact index) (turn n []) at tt h.0 in
-      (subst (λ (f : Option CompactFault). P (slice_set x.cluster.nodes (id - 1) (compacted_unless f n index)) ms) may now, h.1)
+      let now = w.calls x.nodes ms (id - 1) (Compact index) (turn n []) at tt h.0 in
+      (subst (λ (f : Option CompactFault). P (slice_set x.nodes (id - 1) (compacted_unless f n index)) ms) may now, h.1)
 
   -- nodes join
-  adds : (ms : List Message) (from : Snapshot) (given : Options) (x : Scene) (ids : List ℕ) → (steady ≡ true → ⊥) → Covers P ms x.cluster → Covers P ms (added_each from given x ids).cluster
+  adds : (ms : List Message) (from : Snapshot) (given : Options) (x : Cluster) (ids : List ℕ) → (steady ≡ true → ⊥) → Covers P ms x → Covers P ms (added_each from given x ids).cluster
   adds ms from given x [] free h = h
-  adds ms from given x (id ∷ ids) free h = adds ms from given (began x (node_started id from given [])) ids free (w.joins free x.cluster.nodes ms id from given h.0, h.1)
+  adds ms from given x (id ∷ ids) free h = adds ms from given (began x (node_started id from given [])).cluster ids free (w.joins free x.nodes ms id from given h.0, h.1)
 
   -- ---- deliveries
 
-  receives : (ms : List Message) (x : Scene) (id : ℕ) (list : List Message) → 0 < id → All (IsMail ms id) list → Covers P ms x.cluster → Covers P ms (all_received x id list).cluster
+  receives : (ms : List Message) (x : Cluster) (id : ℕ) (list : List Message) → 0 < id → All (IsMail ms id) list → Covers P ms x → Covers P ms (all_received id x list).cluster
   receives ms x id [] some comes h = h
   receives ms x id (m ∷ list) some comes h =
       let first : IsMail ms id m = All-head (IsMail ms id) m list comes in
       let back : id ≡ id - 1 + 1 = omega (arith, some) in
-      receives ms (received x id m) id list some (All-tail (IsMail ms id) m list comes) (acts ms (shown x (moved verbs.Deliver m)) id (Step m) (first.0, first.1 ∙ back) h)
+      receives ms (received id x m).cluster id list some (All-tail (IsMail ms id) m list comes) (acts ms x id (Step m) (first.0, first.1 ∙ back) h)
 
-  leaves : (ms : List Message) (x : Scene) (id : ℕ) (types : Option TypeSet) → Covers P ms x.cluster → Covers P ms (left_by x id types).cluster
-  leaves ms x id types h = (h.0, All-filter (λ (m : Message). not (is_for id types m)) (Contains ms) x.cluster.pending h.1)
+  leaves : (ms : List Message) (x : Cluster) (id : ℕ) (types : Option TypeSet) → Covers P ms x → Covers P ms (left_by x id types)
+  leaves ms x id types h = (h.0, All-filter (λ (m : Message). not (is_for id types m)) (Contains ms) x.pending h.1)
 
-  delivers : (ms : List Message) (x : Scene) (id : ℕ) (types : Option TypeSet) → 0 < id → Covers P ms x.cluster → Covers P ms (delivered x id types).cluster
+  delivers : (ms : List Message) (x : Cluster) (id : ℕ) (types : Option TypeSet) → 0 < id → Covers P ms x → Covers P ms (delivered types x id).cluster
   unfolding delivered
   delivers ms x id types some h =
-      let pending = x.cluster.pending in
+      let pending = x.pending in
       receives ms (left_by x id types) id (mail pending id types) some (all_mail ms id types pending h.1) (leaves ms x id types h)
 
-  delivers_each : (ms : List Message) (x : Scene) (ids : List ℕ) (types : Option TypeSet) → AreIds ids → Covers P ms x.cluster → Covers P ms (delivered_each x ids types).cluster
+  delivers_each : (ms : List Message) (x : Cluster) (ids : List ℕ) (types : Option TypeSet) → AreIds ids → Covers P ms x → Covers P ms (delivered_each types x ids).cluster
   delivers_each ms x [] types some h = h
   delivers_each ms x (id ∷ ids) types some h =
-      delivers_each ms (delivered x id types) ids types (All-tail (λ (id : ℕ). 0 < id) id ids some) (delivers ms x id types (All-head (λ (id : ℕ). 0 < id) id ids some) h)
+      delivers_each ms (delivered types x id).cluster ids types (All-tail (λ (id : ℕ). 0 < id) id ids some) (delivers ms x id types (All-head (λ (id : ℕ). 0 < id) id ids some) h)
 
-  drops_each : (ms : List Message) (x : Scene) (ids : List ℕ) (types : Option TypeSet) → Covers P ms x.cluster → Covers P ms (dropped_each x ids types).cluster
+  drops_each : (ms : List Message) (x : Cluster) (ids : List ℕ) (types : Option TypeSet) → Covers P ms x → Covers P ms (dropped_each types x ids).cluster
   unfolding dropped
   drops_each ms x [] types h = h
-  drops_each ms x (id ∷ ids) types h = drops_each ms (dropped x id types) ids types (leaves ms x id types h)
+  drops_each ms x (id ∷ ids) types h = drops_each ms (dropped types x id).cluster ids types (leaves ms x id types h)
 
-  delivers_msgs : (ms : List Message) (asked : DeliverMsgs) (x : Scene) → AreIds asked.nodes → Covers P ms x.cluster → Covers P ms (msgs_delivered asked x).cluster
+  delivers_msgs : (ms : List Message) (asked : DeliverMsgs) (x : Cluster) → AreIds asked.nodes → Covers P ms x → Covers P ms (msgs_delivered asked x).cluster
   unfolding msgs_delivered
   delivers_msgs ms asked x some h =
-      let y = delivered_each x asked.nodes asked.types in
-      if_both (λ (q : Scene). Covers P ms q.cluster) (meets_any asked x.cluster.pending) (dropped_each y asked.drop asked.types) _
+      let y = (delivered_each asked.types x asked.nodes).cluster in
+      if_both (λ (q : Effect). Covers P ms q.cluster) (meets_any asked x.pending) _ _
       (λ _. drops_each ms y asked.drop asked.types (delivers_each ms x asked.nodes asked.types some h)) (λ _. h)
 
   -- ---- what is ready
 
-  pushes : (ms : List Message) (x : Scene) (m : Message) → Contains ms m → Covers P ms x.cluster → Covers P ms (record x.cluster { pending = x.cluster.pending ++ m ∷ [] })
-  pushes ms x m there h = (h.0, All-push (Contains ms) x.cluster.pending m h.1 there)
+  pushes : (ms : List Message) (x : Cluster) (m : Message) → Contains ms m → Covers P ms x → Covers P ms (record x { pending = x.pending ++ m ∷ [] })
+  pushes ms x m there h = (h.0, All-push (Contains ms) x.pending m h.1 there)
 
-  sends_all : (ms : List Message) (x : Scene) (list : List Message) → All (Contains ms) list → Covers P ms x.cluster → Covers P ms (all_sent x list).cluster
+  sends_all : (ms : List Message) (x : Cluster) (list : List Message) → All (Contains ms) list → Covers P ms x → Covers P ms (all_sent x list).cluster
   sends_all ms x [] out h = h
   sends_all ms x (m ∷ list) out h =
-      sends_all ms (sent x m) list (All-tail (Contains ms) m list out)
-      (if_both (λ (y : Scene). Covers P ms y.cluster) (has_room x.cluster.pending) _ _ (λ _. pushes ms x m (All-head (Contains ms) m list out) h) (λ _. h))
+      sends_all ms (sent x m).cluster list (All-tail (Contains ms) m list out)
+      (if_both (λ (y : Effect). Covers P ms y.cluster) (has_room x.pending) _ _ (λ _. pushes ms x m (All-head (Contains ms) m list out) h) (λ _. h))
 
-  advances_by : (x : Scene) (id : ℕ) (o : Option PlainNode) → node_at x.cluster id ≡ o → IsCovered P x.cluster → IsCovered P (advanced_by o x id).cluster
+  advances_by : (x : Cluster) (id : ℕ) (o : Option PlainNode) → node_at x id ≡ o → IsCovered P x → IsCovered P (advanced_by o x id).cluster
   advances_by x id None at h = h
   advances_by x id (Some n) at (ms, h) =
       let out = n.sent ++ n.waiting in (
         ms ++ out,
-        sends_all (ms ++ out) (with_cluster x (with_node x.cluster id (after Advance (turn n [])).node)) (handed n)
+        sends_all (ms ++ out) (with_node x id (after Advance (turn n [])).node) (handed n)
             (All-weaker (Contains out) (Contains (ms ++ out)) (λ m there. Contains-append_right ms out m there) (handed n) (handed_out n))
-            (w.advances x.cluster.nodes ms (id - 1) (turn n []) at h.0, still_coming ms out x.cluster.pending h.1),
+            (w.advances x.nodes ms (id - 1) (turn n []) at h.0, still_coming ms out x.pending h.1),
       )
 
-  does_all : (x : Scene) (id : ℕ) (n : PlainNode) → IsCovered P x.cluster → IsCovered P (all_done x id n).cluster
+  does_all : (x : Cluster) (id : ℕ) (n : PlainNode) → IsCovered P x → IsCovered P (all_done x id n).cluster
   unfolding all_done
-  does_all x id n h = advances_by (all_shown x (ready_items id n)) id (node_at x.cluster id) refl h
+  does_all x id n h = advances_by x id (node_at x id) refl h
 
-  readies_by : (x : Scene) (id : ℕ) (o : Option PlainNode) → IsCovered P x.cluster → IsCovered P (ready_done_by o x id).cluster
+  readies_by : (x : Cluster) (id : ℕ) (o : Option PlainNode) → IsCovered P x → IsCovered P (ready_done_by o x id).cluster
   readies_by x id None h = h
-  readies_by x id (Some n) h = if_both (λ (y : Scene). IsCovered P y.cluster) (has_ready n) (all_done x id n) _ (λ _. does_all x id n h) (λ _. h)
+  readies_by x id (Some n) h = if_both (λ (y : Effect). IsCovered P y.cluster) (has_ready n) (all_done x id n) _ (λ _. does_all x id n h) (λ _. h)
 
-  readies_each : (x : Scene) (ids : List ℕ) → IsCovered P x.cluster → IsCovered P (ready_done_each x ids).cluster
+  readies_each : (x : Cluster) (ids : List ℕ) → IsCovered P x → IsCovered P (ready_done_each x ids).cluster
   readies_each x [] h = h
-  readies_each x (id ∷ ids) h = readies_each (ready_done x id) ids (readies_by x id (node_at x.cluster id) h)
+  readies_each x (id ∷ ids) h = readies_each (ready_done x id).cluster ids (readies_by x id (node_at x id) h)
 
   -- ---- rounds
 
-  rounds_ready : (x : Scene) (ids : List ℕ) → IsCovered P x.cluster → IsCovered P (readied_each x ids).cluster
+  rounds_ready : (x : Cluster) (ids : List ℕ) → IsCovered P x → IsCovered P (readied_each x ids).cluster
   rounds_ready x [] h = h
   rounds_ready x (id ∷ ids) h =
-      rounds_ready (if is_ready x.cluster id then ready_done x id else x) ids
-      (if_both (λ (q : Scene). IsCovered P q.cluster) (is_ready x.cluster id) (ready_done x id) x (λ _. readies_by x id (node_at x.cluster id) h) (λ _. h))
+      rounds_ready (readied x id).cluster ids
+      (if_both (λ (q : Effect). IsCovered P q.cluster) (is_ready x id) (ready_done x id) _ (λ _. readies_by x id (node_at x id) h) (λ _. h))
 
-  goes_round : (x : Scene) (ids : List ℕ) → AreIds ids → IsCovered P x.cluster → IsCovered P (round x ids).cluster
+  goes_round : (x : Cluster) (ids : List ℕ) → AreIds ids → IsCovered P x → IsCovered P (round ids x).cluster
   unfolding round
-  goes_round x ids some h = let r = rounds_ready x ids h in (r.0, delivers_each r.0 (readied_each x ids) ids None some r.1)
+  goes_round x ids some h = let r = rounds_ready x ids h in (r.0, delivers_each r.0 (readied_each x ids).cluster ids None some r.1)
 
-  settles : (allowed rounds : ℕ) (x : Scene) (ids : List ℕ) → AreIds ids → IsCovered P x.cluster → IsCovered P (settled allowed rounds x ids).cluster
+  settles : (allowed rounds : ℕ) (x : Cluster) (ids : List ℕ) → AreIds ids → IsCovered P x → IsCovered P (settled allowed rounds ids x).cluster
   unfolding settled
-  settles allowed zero x ids some h = if_both (λ (q : Scene). IsCovered P q.cluster) (has_work x.cluster ids) _ x (λ _. h) (λ _. h)
+  settles allowed zero x ids some h = if_both (λ (q : Effect). IsCovered P q.cluster) (has_work x ids) _ _ (λ _. h) (λ _. h)
   settles allowed (suc rounds) x ids some h =
-      if_both (λ (q : Scene). IsCovered P q.cluster) (has_work x.cluster ids) (settled allowed rounds (round x ids) ids) x
-      (λ _. settles allowed rounds (round x ids) ids some (goes_round x ids some h)) (λ _. h)
+      if_both (λ (q : Effect). IsCovered P q.cluster) (has_work x ids) _ _
+      (λ _. settles allowed rounds (round ids x).cluster ids some (goes_round x ids some h)) (λ _. h)
 
   -- ---- a snapshot sent by hand
 
-  queues : (ms : List Message) (x : Scene) (m : Message) → Contains ms m → Covers P ms x.cluster → Covers P ms (queued x m).cluster
+  queues : (ms : List Message) (x : Cluster) (m : Message) → Contains ms m → Covers P ms x → Covers P ms (queued x m).cluster
   unfolding queued
-  queues ms x m there h = if_both (λ (y : Scene). Covers P ms y.cluster) (has_room x.cluster.pending) _ _ (λ _. pushes ms x m there h) (λ _. h)
+  queues ms x m there h = if_both (λ (y : Effect). Covers P ms y.cluster) (has_room x.pending) _ _ (λ _. pushes ms x m there h) (λ _. h)
 
-  sends_snapshot : (ms : List Message) (x : Scene) (from to : ℕ) (o : Option PlainNode) → node_at x.cluster from ≡ o → Covers P ms x.cluster → IsCovered P (snapshot_sent_by o from to x).cluster
+  sends_snapshot : (ms : List Message) (x : Cluster) (from to : ℕ) (o : Option PlainNode) → node_at x from ≡ o → Covers P ms x → IsCovered P (snapshot_sent_by o from to x).cluster
   sends_snapshot ms x from to None at h = (ms, h)
   sends_snapshot ms x from to (Some n) at h =
       let m = message from to n.term (kind.Snapshot (snapshot_of n)) in
-      (ms ++ m ∷ [], queues (ms ++ m ∷ []) x m (Contains-push ms m) (w.shows x.cluster.nodes ms (from - 1) from to n at h.0, still_coming ms (m ∷ []) x.cluster.pending h.1))
+      (ms ++ m ∷ [], queues (ms ++ m ∷ []) x m (Contains-push ms m) (w.shows x.nodes ms (from - 1) from to n at h.0, still_coming ms (m ∷ []) x.pending h.1))
 
   -- ---- each request, and each directive
 
-  has_effect : (r : Request) (x : Scene) (ms : List Message) → (steady ≡ true → IsSteadyRequest r) → (missing_node x.cluster.nodes (nodes_of r) ≡ None) × (own_fault r x.cluster ≡ None) → Covers P ms x.cluster → IsCovered P (effect r x).cluster
+  has_effect : (r : Request) (x : Cluster) (ms : List Message) → (steady ≡ true → IsSteadyRequest r) → (missing_node x.nodes (nodes_of r) ≡ None) × (own_fault r x ≡ None) → Covers P ms x → IsCovered P (effect r x).cluster
   unfolding nodes_added compact_error
-  has_effect (requests.AddNodes asked) x ms asks may h = (ms, adds ms (start asked) (options asked) x (range_with_len (length x.cluster.nodes + 1) asked.count) asks h)
+  has_effect (requests.AddNodes asked) x ms asks may h = (ms, adds ms (start asked) (options asked) x (range_with_len (length x.nodes + 1) asked.count) asks h)
   has_effect (requests.ProposeConfChange asked) x ms asks may h =
       (ms, acts ms x asked.id (Propose (Change asked.transition (words_of (input_words asked.inputs)))) (λ is. absurd (asks is)) h)
   has_effect (requests.Act what id) x ms asks may h = (ms, act_lasts ms what x id h)
   has_effect (requests.Propose id payload) x ms asks may h = (ms, acts ms x id (Propose (Payload payload)) (λ _. refl) h)
   has_effect (requests.ProcessReady ids) x ms asks may h = readies_each x ids (ms, h)
-  has_effect (requests.DeliverMsgs asked) x ms asks may h = (ms, delivers_msgs ms asked x (all_present x.cluster.nodes asked.nodes may.0) h)
-  has_effect (requests.Stabilize ids rounds) x ms asks may h = settles rounds rounds x (chosen ids x.cluster.nodes) (chosen_some ids x.cluster.nodes) (ms, h)
-  has_effect (requests.ActWith withs.SetRandomizedElectionTimeout id timeout) x ms asks may h = (ms, changes ms x.cluster id (SetTimeout timeout) (node_at x.cluster id) refl tt h)
+  has_effect (requests.DeliverMsgs asked) x ms asks may h = (ms, delivers_msgs ms asked x (all_present x.nodes asked.nodes may.0) h)
+  has_effect (requests.Stabilize ids rounds) x ms asks may h = settles rounds rounds x (chosen ids x.nodes) (chosen_some ids x.nodes) (ms, h)
+  has_effect (requests.ActWith withs.SetRandomizedElectionTimeout id timeout) x ms asks may h = (ms, changes ms x id (SetTimeout timeout) (node_at x id) refl tt h)
   has_effect (requests.ActWith withs.TransferLeadership from to) x ms asks may h = (ms, acts ms x from (Transfer to) tt h)
-  has_effect (requests.ActWith withs.ReportUnreachable id peer) x ms asks may h = (ms, changes ms x.cluster id (ReportUnreachable peer) (node_at x.cluster id) refl tt h)
-  has_effect (requests.ActWith withs.SendSnapshot from to) x ms asks may h = sends_snapshot ms x from to (node_at x.cluster from) refl h
-  has_effect (requests.ActWith withs.Compact id index) x ms asks may h = (ms, compacts ms x id index (node_at x.cluster id) refl may.1 h)
+  has_effect (requests.ActWith withs.ReportUnreachable id peer) x ms asks may h = (ms, changes ms x id (ReportUnreachable peer) (node_at x id) refl tt h)
+  has_effect (requests.ActWith withs.SendSnapshot from to) x ms asks may h = sends_snapshot ms x from to (node_at x from) refl h
+  has_effect (requests.ActWith withs.Compact id index) x ms asks may h = (ms, compacts ms x id index (node_at x id) refl may.1 h)
   has_effect (requests.LogLevel level) x ms asks may h = (ms, h)
-  has_effect (requests.RaftLog id) x ms asks may h = (ms, elim (node_at x.cluster id) as (λ o. Covers P ms (log_shown_by o x).cluster) [ None ↦ h | Some n ↦ h ])
-  has_effect (requests.Status id) x ms asks may h = (ms, elim (node_at x.cluster id) as (λ o. Covers P ms (status_shown_by o x).cluster) [ None ↦ h | Some n ↦ h ])
+  has_effect (requests.RaftLog id) x ms asks may h = (ms, elim (node_at x id) as (λ o. Covers P ms (log_shown_by o x).cluster) [ None ↦ h | Some n ↦ h ])
+  has_effect (requests.Status id) x ms asks may h = (ms, elim (node_at x id) as (λ o. Covers P ms (status_shown_by o x).cluster) [ None ↦ h | Some n ↦ h ])
   has_effect requests.RaftState x ms asks may h = (ms, h)
 
   pub by_directive : (c : Cluster) (d : PlainDirective) → (steady ≡ true → IsSteadyBy (request d)) → IsCovered P c → IsCovered P (outcome c d).cluster
   unfolding fault
   by_directive c d asks h =
       outcome_has (IsCovered P) c d
-      (λ a is none. has_effect a.request (scene c (screen_of forms.Lines a c)) h.0 (λ so. subst IsSteadyBy is (asks so)) (neither (missing_node c.nodes (nodes_of a.request)) (own_fault a.request c) none) h.1) h
+      (λ a is none. has_effect a.request c h.0 (λ so. subst IsSteadyBy is (asks so)) (neither (missing_node c.nodes (nodes_of a.request)) (own_fault a.request c) none) h.1) h
 
   pub by_directives : (c : Cluster) (ds : List PlainDirective) → (steady ≡ true → AreSteady ds) → IsCovered P c → IsCovered P (led c ds)
   by_directives c [] asks h = h

@@ -20,6 +20,7 @@ use Rattle.rb_message.specs.declared.kind.MessageKind.TheVariants as kind
 use Rattle.rb_message.specs.declared.message.Message.{Message}
 use Rattle.rb_message.specs.declared.role.Role.{Role}
 use Rattle.rb_message.specs.declared.role.Role.TheVariants as role
+use Rattle.rb_message.specs.declared.event.WhyIgnored.TheVariants.{HearsLeader}
 use Rattle.rb_node.specs.Node.{PlainNode, Turn, with_node, ignored}
 use Rattle.rb_node.specs.Terms.{followed, raised, raised_by, lowered, lowered_by, shown_term, answers_earlier, is_disturbed_by}
 use Rattle.rb_node.specs.Following.{after_log, with_appended, append_taken}
@@ -133,11 +134,11 @@ unfolding stepped
 stepped_taken t m append asks within =
     let P : Turn → Type 0 = λ u. Taken t.node.log t.node.commit t.node.waiting m.from append u.node in
     if_both P (not (has_term m.kind) || m.term == t.node.term) (at_term t m)
-    (if nat_lt m.term t.node.term then lowered t m else (if is_disturbed_by m.kind t.node then ignored t m else at_term (raised t m) m))
+    (if nat_lt m.term t.node.term then lowered t m else (if is_disturbed_by m.kind t.node then ignored t m (HearsLeader t.node.lead) else at_term (raised t m) m))
     (λ _. term_taken t m append asks within)
-    (λ _. if_both P (nat_lt m.term t.node.term) (lowered t m) (if is_disturbed_by m.kind t.node then ignored t m else at_term (raised t m) m)
+    (λ _. if_both P (nat_lt m.term t.node.term) (lowered t m) (if is_disturbed_by m.kind t.node then ignored t m (HearsLeader t.node.lead) else at_term (raised t m) m)
     (λ _. subst (λ (k : MessageKind). Taken t.node.log t.node.commit t.node.waiting m.from append (lowered_by k t m).node) (sym asks) (shown_taken t m append))
-    (λ _. if_both P (is_disturbed_by m.kind t.node) (ignored t m) (at_term (raised t m) m)
+    (λ _. if_both P (is_disturbed_by m.kind t.node) (ignored t m (HearsLeader t.node.lead)) (at_term (raised t m) m)
     (λ _. (inl refl, inl refl))
     (λ _. raised_taken t m append asks within)))
 

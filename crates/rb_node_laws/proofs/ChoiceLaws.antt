@@ -26,6 +26,7 @@ use Rattle.rb_message.specs.declared.role.Role.TheVariants as role
 use Rattle.rb_node.specs.Campaigns.{why_no_campaign, campaigned_unless, campaigned, stood_unless, campaigned_after_pre_vote}
 use Rattle.rb_node.specs.Changing.{led_on, steps_down, switched, change_applied}
 use Rattle.rb_node.specs.Leading.{appended, is_log_full, all_told}
+use Rattle.rb_message.specs.declared.event.WhyIgnored.TheVariants.{HearsLeader}
 use Rattle.rb_node.specs.Node.{PlainNode, is_leader, Turn, told, message, with_node, with_elapsed, ignored}
 use Rattle.rb_node.specs.Proposing.{why_replaced, change_put, put_in, proposed, takes_none}
 use Rattle.rb_node.specs.Step.{by_role_of, as_leader, stepped, at_term}
@@ -210,11 +211,11 @@ unfolding stepped
 disturbed_stays t m has above disturbs =
     let P : Turn → Type 0 = λ u. u.node ≡ t.node in
     if_both P (not (has_term m.kind) || m.term == t.node.term) (at_term t m)
-    (if nat_lt m.term t.node.term then lowered t m else (if is_disturbed_by m.kind t.node then ignored t m else at_term (raised t m) m))
+    (if nat_lt m.term t.node.term then lowered t m else (if is_disturbed_by m.kind t.node then ignored t m (HearsLeader t.node.lead) else at_term (raised t m) m))
     (λ now. (let same : m.term ≡ t.node.term = of_term t m has now in absurd (omega (arith, same, above))))
-    (λ _. if_both P (nat_lt m.term t.node.term) (lowered t m) (if is_disturbed_by m.kind t.node then ignored t m else at_term (raised t m) m)
+    (λ _. if_both P (nat_lt m.term t.node.term) (lowered t m) (if is_disturbed_by m.kind t.node then ignored t m (HearsLeader t.node.lead) else at_term (raised t m) m)
     (λ low. (let under : m.term < t.node.term = ltb-true m.term t.node.term low in absurd (omega (arith, under, above))))
-    (λ _. if_both P (is_disturbed_by m.kind t.node) (ignored t m) (at_term (raised t m) m) (λ _. refl) (λ no. absurd (false≢true (sym no ∙ disturbs)))))
+    (λ _. if_both P (is_disturbed_by m.kind t.node) (ignored t m (HearsLeader t.node.lead)) (at_term (raised t m) m) (λ _. refl) (λ no. absurd (false≢true (sym no ∙ disturbs)))))
 
 and_also : (a : Bool) → a ≡ true → (a && not false) ≡ true
 and_also true e = refl

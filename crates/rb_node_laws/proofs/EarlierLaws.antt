@@ -7,7 +7,7 @@ use Rattle.rb_message.specs.Messages.{has_term}
 use Rattle.rb_message.specs.declared.kind.MessageKind.{MessageKind}
 use Rattle.rb_message.specs.declared.kind.MessageKind.TheVariants as kind
 use Rattle.rb_message.specs.declared.message.Message.{Message}
-use Rattle.rb_node.specs.Node.{PlainNode, Turn, message, with_node}
+use Rattle.rb_node.specs.Node.{PlainNode, Turn, message}
 use Rattle.rb_node.specs.Step.{at_term_by, stepped}
 use Rattle.rb_node.specs.Terms.{lowered_by, raised, raised_by, shown_term, answers_earlier, is_disturbed_by, hears_leader}
 use Rattle.rb_node.specs.Votes.{pre_vote_answered, grants, can_vote_for}
@@ -134,9 +134,9 @@ abbrev GetsNo : PlainNode → Message → Turn → Type 0
 GetsNo old m t =
     (t.node.waiting ≡ old.waiting) ⊎ (t.node.waiting ≡ old.waiting ++ message old.id m.from old.term (kind.PreVoteResponse false) ∷ [])
 
-old_log_gets_no : (t : Turn) (m : Message) (last_term last_index : ℕ) → is_up_to_date t.node.log last_index last_term ≡ false → GetsNo t.node m (with_node t (pre_vote_answered t.node m last_term last_index))
+old_log_gets_no : (t : Turn) (m : Message) (last_term last_index : ℕ) → is_up_to_date t.node.log last_index last_term ≡ false → GetsNo t.node m (pre_vote_answered t m last_term last_index)
 old_log_gets_no t m last_term last_index old =
-    if_both (λ (n : PlainNode). GetsNo t.node m (with_node t n)) (grants t.node m last_term last_index true) _ _
+    if_both (GetsNo t.node m) (grants t.node m last_term last_index true) _ _
     (λ gives. absurd (false≢true (sym old ∙ (and_parts (can_vote_for t.node m true) (is_up_to_date t.node.log last_index last_term) gives).1)))
     (λ _. inr refl)
 

@@ -203,9 +203,9 @@ any_role_knows r t m same =
 
 term_knows : (k : MessageKind) (t : Turn) (m : Message) → (IsLeaders m.kind → m.term ≡ t.node.term) → Knows t.node m (at_term_by k t m)
 term_knows (kind.Vote last_term last_index transfer) t m same =
-    if_both (λ (n : PlainNode). Knows t.node m (with_node t n)) (grants t.node m last_term last_index false) _ _ (λ _. inl refl) (λ _. inl refl)
+    if_both (Knows t.node m) (grants t.node m last_term last_index false) _ _ (λ _. inl refl) (λ _. inl refl)
 term_knows (kind.PreVote last_term last_index) t m same =
-    if_both (λ (n : PlainNode). Knows t.node m (with_node t n)) (grants t.node m last_term last_index true) _ _ (λ _. inl refl) (λ _. inl refl)
+    if_both (Knows t.node m) (grants t.node m last_term last_index true) _ _ (λ _. inl refl) (λ _. inl refl)
 term_knows _ t m same = any_role_knows t.node.role t m same
 
 -- ---- a later term
@@ -272,7 +272,7 @@ free_votes t m last_term last_index transfer is same =
     let n = t.node in
     by_term (VotesFreely n) t m
     (λ _. subst (λ (k : MessageKind). VotesFreely n (at_term_by k t m)) (sym is)
-    (if_both (λ (x : PlainNode). VotesFreely n (with_node t x)) (grants n m last_term last_index false) _ _
+    (if_both (VotesFreely n) (grants n m last_term last_index false) _ _
     (λ gives. elim (free_parts (n.vote == m.from) (n.vote == 0) (n.lead == 0) (nat_lt n.term m.term) (and_parts (can_vote_for n m false) (is_up_to_date n.log last_index last_term) gives).0) as (λ _. VotesFreely n (with_node t (answered_with (voted_for n m.from) m.from m.term (kind.VoteResponse true)))) [
       | inl own ↦ inl (sym (eqb-true n.vote m.from own))
       | inr free ↦ inr (eqb-true n.vote 0 free.0, eqb-true n.lead 0 free.1)

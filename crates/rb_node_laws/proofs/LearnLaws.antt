@@ -172,9 +172,9 @@ role_learns role.Leader t m never = absurd (never refl)
 
 term_learns : (k : MessageKind) (t : Turn) (m : Message) → m.kind ≡ k → (t.node.role ≡ role.Leader → ⊥) → Learns t.node k (at_term_by k t m)
 term_learns (kind.Vote last_term last_index transfer) t m is never =
-    inl (if_both (λ (n : PlainNode). n.commit ≡ t.node.commit) (grants t.node m last_term last_index false) _ _ (λ _. refl) (λ _. refl))
+    inl (if_both (SameCommit t.node) (grants t.node m last_term last_index false) _ _ (λ _. refl) (λ _. refl))
 term_learns (kind.PreVote last_term last_index) t m is never =
-    inl (if_both (λ (n : PlainNode). n.commit ≡ t.node.commit) (grants t.node m last_term last_index true) _ _ (λ _. refl) (λ _. refl))
+    inl (if_both (SameCommit t.node) (grants t.node m last_term last_index true) _ _ (λ _. refl) (λ _. refl))
 term_learns _ t m is never = subst (λ (x : MessageKind). Learns t.node x (by_role_of t.node.role t m)) is (role_learns t.node.role t m never)
 
 -- ---- a later term
@@ -192,7 +192,7 @@ role_pre_answered role.Leader t m granted is = subst (λ (x : MessageKind). Same
 
 raised_learns : (k : MessageKind) (t : Turn) (m : Message) → m.kind ≡ k → Learns t.node k (at_term_by k (raised_by k t m) m)
 raised_learns (kind.PreVote last_term last_index) t m is =
-    inl (if_both (λ (n : PlainNode). n.commit ≡ t.node.commit) (grants t.node m last_term last_index true) _ _ (λ _. refl) (λ _. refl))
+    inl (if_both (SameCommit t.node) (grants t.node m last_term last_index true) _ _ (λ _. refl) (λ _. refl))
 raised_learns (kind.PreVoteResponse granted) t m is =
     inl (if_both (λ (u : Turn). SameCommit t.node (by_role_of u.node.role u m)) granted t (followed t m.term 0)
     (λ _. role_pre_answered t.node.role t m granted is) (λ _. role_pre_answered role.Follower (followed t m.term 0) m granted is))

@@ -278,8 +278,8 @@ role_knows role.Candidate t m is h = candidate_knows m.kind t m h
 role_knows role.Leader t m is h = leader_knows m.kind t m h
 
 term_knows : (k : MessageKind) (t : Turn) (m : Message) → LeadsKnowing t.node → LeadsKnowing (at_term_by k t m).node
-term_knows (kind.Vote last_term last_index transfer) t m h = if_both LeadsKnowing (grants t.node m last_term last_index false) _ _ (λ _. h) (λ _. h)
-term_knows (kind.PreVote last_term last_index) t m h = if_both LeadsKnowing (grants t.node m last_term last_index true) _ _ (λ _. h) (λ _. h)
+term_knows (kind.Vote last_term last_index transfer) t m h = if_both (λ (u : Turn). LeadsKnowing u.node) (grants t.node m last_term last_index false) _ _ (λ _. h) (λ _. h)
+term_knows (kind.PreVote last_term last_index) t m h = if_both (λ (u : Turn). LeadsKnowing u.node) (grants t.node m last_term last_index true) _ _ (λ _. h) (λ _. h)
 term_knows _ t m h = role_knows t.node.role t m refl h
 
 -- ---- of each term

@@ -10,6 +10,7 @@ use Rattle.rb_message.specs.declared.kind.MessageKind.TheVariants as kind
 use Rattle.rb_message.specs.declared.message.Message.{Message}
 use Rattle.rb_message.specs.declared.role.Role.TheVariants as role
 use Rattle.rb_node.specs.Campaigns.{asked, asked_one, pre_vote_started, precandidate, campaigned_unless, stood, campaigned, why_no_campaign}
+use Rattle.rb_message.specs.declared.event.WhyIgnored.TheVariants.{HearsLeader}
 use Rattle.rb_node.specs.Node.{Turn, PlainNode, ignored}
 use Rattle.rb_node.specs.Step.{at_term_by, stepped, at_term}
 use Rattle.rb_node.specs.Terms.{shown_term, answers_earlier, lowered_by, raised_by, lowered, is_disturbed_by, raised}
@@ -33,9 +34,9 @@ pub asked_same : (n : PlainNode) (ids : List ℕ) (term : ℕ) (question answer 
 asked_same n [] term question answer = refl
 asked_same n (id ∷ ids) term question answer = asked_same (asked_one n id term question answer) ids term question answer ∙ asked_one_same n id term question answer
 
-pre_vote_same : (n : PlainNode) (m : Message) (last_term last_index : ℕ) → core (pre_vote_answered n m last_term last_index) ≡ core n
-pre_vote_same n m last_term last_index =
-    if_both (λ (x : PlainNode). core x ≡ core n) (grants n m last_term last_index true) _ _ (λ _. refl) (λ _. refl)
+pre_vote_same : (t : Turn) (m : Message) (last_term last_index : ℕ) → core (pre_vote_answered t m last_term last_index).node ≡ core t.node
+pre_vote_same t m last_term last_index =
+    if_both (λ (u : Turn). core u.node ≡ core t.node) (grants t.node m last_term last_index true) _ _ (λ _. refl) (λ _. refl)
 
 -- a question before the vote changes no term, no vote and no log
 pub pre_vote_started_core : (t : Turn) → core (pre_vote_started t).node ≡ record (core t.node) { role = role.Precandidate }
@@ -71,7 +72,7 @@ unfolding campaigned
 pre_campaign t on = pre_campaign_unless (why_no_campaign t.node) t on
 
 answers_same : (t : Turn) (m : Message) (k : MessageKind) (last_term last_index : ℕ) → k ≡ kind.PreVote last_term last_index → core (at_term_by k t m).node ≡ core t.node
-answers_same t m k last_term last_index e = ap (λ (x : MessageKind). core (at_term_by x t m).node) e ∙ pre_vote_same t.node m last_term last_index
+answers_same t m k last_term last_index e = ap (λ (x : MessageKind). core (at_term_by x t m).node) e ∙ pre_vote_same t m last_term last_index
 
 raised_same : (t : Turn) (m : Message) (k : MessageKind) (last_term last_index : ℕ) → k ≡ kind.PreVote last_term last_index → core (raised_by k t m).node ≡ core t.node
 raised_same t m k last_term last_index e = ap (λ (x : MessageKind). core (raised_by x t m).node) e
@@ -82,11 +83,11 @@ pre_answer t m last_term last_index e =
     let P : Turn → Type 0 = λ u. core u.node ≡ core t.node in
     let all : core (stepped t m).node ≡ core t.node =
     if_both P (not (has_term m.kind) || m.term == t.node.term) (at_term t m)
-    (if nat_lt m.term t.node.term then lowered t m else (if is_disturbed_by m.kind t.node then ignored t m else at_term (raised t m) m))
+    (if nat_lt m.term t.node.term then lowered t m else (if is_disturbed_by m.kind t.node then ignored t m (HearsLeader t.node.lead) else at_term (raised t m) m))
     (λ _. answers_same t m m.kind last_term last_index e)
-    (λ _. if_both P (nat_lt m.term t.node.term) (lowered t m) (if is_disturbed_by m.kind t.node then ignored t m else at_term (raised t m) m)
+    (λ _. if_both P (nat_lt m.term t.node.term) (lowered t m) (if is_disturbed_by m.kind t.node then ignored t m (HearsLeader t.node.lead) else at_term (raised t m) m)
     (λ _. lowered_same m.kind t m)
-    (λ _. if_both P (is_disturbed_by m.kind t.node) (ignored t m) (at_term (raised t m) m)
+    (λ _. if_both P (is_disturbed_by m.kind t.node) (ignored t m (HearsLeader t.node.lead)) (at_term (raised t m) m)
     (λ _. refl)
     (λ _. answers_same (raised t m) m m.kind last_term last_index e ∙ raised_same t m m.kind last_term last_index e))) in
     same_vote_of t.node (stepped t m).node all

@@ -5,6 +5,8 @@ use Rattle.rb_raftlog.specs.declared.snapshot.Snapshot.{Snapshot}
 use Rattle.rb_raftlog.specs.Log.{term_at, is_term}
 use Rattle.rb_tracker.proofs.SetLaws.{if_both}
 use Rattle.rb_message.specs.Messages.{has_term}
+use Rattle.rb_message.specs.declared.event.WhyIgnored.{WhyIgnored}
+use Rattle.rb_message.specs.declared.event.WhyIgnored.TheVariants.{EarlierTerm, NoUse}
 use Rattle.rb_message.specs.declared.kind.MessageKind.{MessageKind}
 use Rattle.rb_message.specs.declared.kind.MessageKind.TheVariants as kind
 use Rattle.rb_message.specs.declared.message.Message.{Message}
@@ -56,25 +58,25 @@ abbrev PassesOver : Turn → Message → Type 0
 PassesOver t m = ((t.node.role ≡ role.Leader) × (m.term ≡ t.node.term)) ⊎ (m.term < t.node.term)
 
 role_snapshot : (P : Turn → Type 0) (r : Role) (t : Turn) (m : Message) (s : Snapshot) → m.kind ≡ kind.Snapshot s
-    → P (taken_by t m s) → P (taken_by (followed t t.node.term m.from) m s) → (r ≡ role.Leader → P (ignored t m)) → P (by_role_of r t m)
+    → P (taken_by t m s) → P (taken_by (followed t t.node.term m.from) m s) → ((why : WhyIgnored) → r ≡ role.Leader → P (ignored t m why)) → P (by_role_of r t m)
 role_snapshot P role.Follower t m s is taken followed_taken passed = subst (λ (k : MessageKind). P (as_follower k t m)) (sym is) taken
 role_snapshot P role.Precandidate t m s is taken followed_taken passed =
     subst (λ (k : MessageKind). P (as_precandidate k t m)) (sym is) (subst (λ (k : MessageKind). P (as_follower k (followed t t.node.term m.from) m)) (sym is) followed_taken)
 role_snapshot P role.Candidate t m s is taken followed_taken passed =
     subst (λ (k : MessageKind). P (as_candidate k t m)) (sym is) (subst (λ (k : MessageKind). P (as_follower k (followed t t.node.term m.from) m)) (sym is) followed_taken)
-role_snapshot P role.Leader t m s is taken followed_taken passed = subst (λ (k : MessageKind). P (as_leader k t m)) (sym is) (passed refl)
+role_snapshot P role.Leader t m s is taken followed_taken passed = subst (λ (k : MessageKind). P (as_leader k t m)) (sym is) (passed (NoUse role.Leader) refl)
 
 not_disturbed : (t : Turn) (m : Message) (s : Snapshot) → m.kind ≡ kind.Snapshot s → is_disturbed_by m.kind t.node ≡ true → ⊥
 not_disturbed t m s is disturbs = false≢true (sym (ap (λ (k : MessageKind). is_disturbed_by k t.node) is) ∙ disturbs)
 
 by_snapshot : (P : Turn → Type 0) (t : Turn) (m : Message) (s : Snapshot) → m.kind ≡ kind.Snapshot s
     → P (taken_by t m s) → P (taken_by (followed t t.node.term m.from) m s) → P (taken_by (followed t m.term m.from) m s)
-    → (PassesOver t m → P (ignored t m)) → P (stepped t m)
+    → ((why : WhyIgnored) → PassesOver t m → P (ignored t m why)) → P (stepped t m)
 by_snapshot P t m s is taken followed_taken raised_taken passed =
     by_term P t m
     (λ same. subst (λ (k : MessageKind). P (at_term_by k t m)) (sym is)
-    (role_snapshot P t.node.role t m s is taken followed_taken (λ leads. passed (inl (leads, same (ap has_term is))))))
-    (λ low. subst (λ (k : MessageKind). P (lowered_by k t m)) (sym is) (passed (inr low)))
+    (role_snapshot P t.node.role t m s is taken followed_taken (λ why leads. passed why (inl (leads, same (ap has_term is))))))
+    (λ low. subst (λ (k : MessageKind). P (lowered_by k t m)) (sym is) (passed (EarlierTerm m.term t.node.term) (inr low)))
     (λ _ disturbs. absurd (not_disturbed t m s is disturbs))
     (λ _ _. subst (λ (k : MessageKind). P (at_term_by k (raised_by k t m) m)) (sym is)
     (subst (λ (k : MessageKind). P (as_follower k (followed t m.term m.from) m)) (sym is) raised_taken))
@@ -86,7 +88,7 @@ restored_or_kept t m s is =
     (by t (record { log = refl; applied = refl; content = refl; config = refl }))
     (by (followed t t.node.term m.from) (record { log = refl; applied = refl; content = refl; config = refl }))
     (by (followed t m.term m.from) (record { log = refl; applied = refl; content = refl; config = refl }))
-    (λ _. inr (kept t.node))
+    (λ _ _. inr (kept t.node))
 
 -- who follows the sender restores what is past its commit and not in its log
 pub news_restored : (t : Turn) (m : Message) (s : Snapshot) → m.kind ≡ kind.Snapshot s → t.node.term ≤ m.term → (t.node.role ≡ role.Leader → t.node.term < m.term)
@@ -96,7 +98,7 @@ news_restored t m s is reached steps_down past other =
     (taken_news (with_node t (heard t.node m.from)) m.from s past other)
     (taken_news (with_node (followed t t.node.term m.from) (heard (followed t t.node.term m.from).node m.from)) m.from s past other)
     (taken_news (with_node (followed t m.term m.from) (heard (followed t m.term m.from).node m.from)) m.from s past other)
-    (λ passes. elim passes as (λ _. IsRestored (ignored t m).node s) [
+    (λ why passes. elim passes as (λ _. IsRestored (ignored t m why).node s) [
       | inl leads ↦ (let later = steps_down leads.0 in let same = leads.1 in absurd (omega (arith, later, same)))
       | inr low ↦ absurd (omega (arith, low, reached))
     ])

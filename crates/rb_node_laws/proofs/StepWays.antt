@@ -25,6 +25,7 @@ use Rattle.rb_message.specs.declared.role.Role.{Role}
 use Rattle.rb_message.specs.declared.role.Role.TheVariants as role
 use Rattle.rb_node.specs.Campaigns.{asked_one, asked, why_no_campaign, stood, candidate, asked_for_votes, pre_vote_started, precandidate, asked_for_pre_votes, campaigned_unless, campaigned, stood_unless, campaigned_after_pre_vote}
 use Rattle.rb_node.specs.Following.{after_log, commits_to, append_taken, with_appended, snapshot_taken, restored_to, with_match, passed_on, beaten, heard}
+use Rattle.rb_message.specs.declared.event.WhyIgnored.TheVariants.{HearsLeader}
 use Rattle.rb_node.specs.Node.{Turn, with_node, message, answered_with, PlainNode, ignored}
 use Rattle.rb_node.specs.Step.{as_follower, leader_followed, as_precandidate, as_candidate, as_leader, by_role_of, at_term_by, stepped, at_term}
 use Rattle.rb_node.specs.Terms.{followed, raised_by, shown_term, answers_earlier, lowered_by, raised, lowered, is_disturbed_by}
@@ -75,7 +76,7 @@ shown_way {w} t m =
     (λ i says. (let same = acks_same 0 i says in inl (omega (arith, same))))) (λ _. Shows t _)
 
 lowered_way : {w : Ways} (k : MessageKind) (t : Turn) (m : Message) → Path (StepMove w) t (lowered_by k t m)
-lowered_way (kind.PreVote last_term last_index) t m = waits t m.from t.node.term (kind.PreVoteResponse false) (λ _. (refl, tt)) (λ i no. cc)
+lowered_way (kind.PreVote last_term last_index) t m = Onward (waits t m.from t.node.term (kind.PreVoteResponse false) (λ _. (refl, tt)) (λ i no. cc)) (Shows _ _)
 lowered_way (kind.Append append) t m = shown_way t m
 lowered_way (kind.Heartbeat commit) t m = shown_way t m
 lowered_way _ t m = Shows t _
@@ -157,22 +158,22 @@ after_pre_vote_way t = stood_way_unless (why_no_campaign t.node) t refl
 
 vote_way : {w : Ways} (t : Turn) (m : Message) (last_term last_index : ℕ) (transfer : Bool) → w.came m → m.kind ≡ kind.Vote last_term last_index transfer → m.term ≡ t.node.term
     → (is_up_to_date t.node.log last_index last_term ≡ true → w.given m.from t.node.term)
-    → Path (StepMove w) t (with_node t (vote_answered t.node m last_term last_index))
+    → Path (StepMove w) t (vote_answered t m last_term last_index)
 vote_way {w} t m last_term last_index transfer came asks of_term grant =
     let n = t.node in
     let x : PlainNode = voted_for n m.from in
-    if_both (λ (y : PlainNode). Path (StepMove w) t (with_node t y)) (grants n m last_term last_index false) _ _
+    if_both (Path (StepMove w) t) (grants n m last_term last_index false) _ _
     (λ gives. (let new = (and_parts (can_vote_for n m false) (is_up_to_date n.log last_index last_term) gives).1 in
     Onward (Goes_on t (One (Votes_for n m last_term last_index transfer gives (grant new) came asks of_term)))
     (waits (with_node t x) m.from m.term (kind.VoteResponse true) (λ _. (refl, (of_term, λ _. refl))) (λ i no. cc))))
-    (λ _. waits t m.from n.term (kind.VoteResponse false) (λ _. (refl, (refl, λ no. absurd (false≢true no)))) (λ i no. cc))
+    (λ _. Onward (waits t m.from n.term (kind.VoteResponse false) (λ _. (refl, (refl, λ no. absurd (false≢true no)))) (λ i no. cc)) (Shows _ _))
 
 pre_vote_answered_way : {w : Ways} (t : Turn) (m : Message) (last_term last_index : ℕ)
-    → Path (StepMove w) t (with_node t (pre_vote_answered t.node m last_term last_index))
+    → Path (StepMove w) t (pre_vote_answered t m last_term last_index)
 pre_vote_answered_way {w} t m last_term last_index =
-    if_both (λ (y : PlainNode). Path (StepMove w) t (with_node t y)) (grants t.node m last_term last_index true) _ _
+    if_both (Path (StepMove w) t) (grants t.node m last_term last_index true) _ _
     (λ _. waits t m.from m.term (kind.PreVoteResponse true) (λ _. (refl, tt)) (λ i no. cc))
-    (λ _. waits t m.from t.node.term (kind.PreVoteResponse false) (λ _. (refl, tt)) (λ i no. cc))
+    (λ _. Onward (waits t m.from t.node.term (kind.PreVoteResponse false) (λ _. (refl, tt)) (λ i no. cc)) (Shows _ _))
 
 only_stands : (t : Turn) → t.node.role ≡ role.Candidate → t.node.role ≡ role.Leader → ⊥
 only_stands t stands leads = let no : role.Candidate ≡ role.Leader = sym stands ∙ leads in cc
@@ -456,11 +457,11 @@ unfolding stepped
 stepped_way {w} t m came grant elect accept =
     let P : Turn → Type 0 = Path (StepMove w) t in
     if_both P (not (has_term m.kind) || m.term == t.node.term) (at_term t m)
-    (if nat_lt m.term t.node.term then lowered t m else (if is_disturbed_by m.kind t.node then ignored t m else at_term (raised t m) m))
+    (if nat_lt m.term t.node.term then lowered t m else (if is_disturbed_by m.kind t.node then ignored t m (HearsLeader t.node.lead) else at_term (raised t m) m))
     (λ now. term_way m.kind t m refl (brings_now t m came now grant elect accept))
-    (λ apart. if_both P (nat_lt m.term t.node.term) (lowered t m) (if is_disturbed_by m.kind t.node then ignored t m else at_term (raised t m) m)
+    (λ apart. if_both P (nat_lt m.term t.node.term) (lowered t m) (if is_disturbed_by m.kind t.node then ignored t m (HearsLeader t.node.lead) else at_term (raised t m) m)
     (λ _. lowered_way m.kind t m)
-    (λ later. if_both P (is_disturbed_by m.kind t.node) (ignored t m) (at_term (raised t m) m)
+    (λ later. if_both P (is_disturbed_by m.kind t.node) (ignored t m (HearsLeader t.node.lead)) (at_term (raised t m) m)
     (λ _. Shows t _)
     (λ _. Onward (raised_way m.kind t m (above t.node.term m.term later (or_parts (not (has_term m.kind)) (m.term == t.node.term) apart).1))
     (term_way m.kind (raised t m) m refl (brings_later t m came grant)))))

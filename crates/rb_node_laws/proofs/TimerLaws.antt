@@ -109,15 +109,14 @@ Restarts old t = (t.node.vote ≡ old.vote) ⊎ (t.node.clock.elapsed ≡ 0)
 
 pub vote_restarts : (t : Turn) (m : Message) (last_term last_index : ℕ) (transfer : Bool) → m.kind ≡ kind.Vote last_term last_index transfer → Restarts t.node (stepped t m)
 vote_restarts t m last_term last_index transfer is =
-    let P : PlainNode → Type 0 = λ n. Restarts t.node (with_node t n) in
     let u : Turn = followed t m.term 0 in
     by_term (Restarts t.node) t m
     (λ _. subst (λ (k : MessageKind). Restarts t.node (at_term_by k t m)) (sym is)
-    (if_both P (grants t.node m last_term last_index false) _ _ (λ _. inr refl) (λ _. inl refl)))
+    (if_both (Restarts t.node) (grants t.node m last_term last_index false) _ _ (λ _. inr refl) (λ _. inl refl)))
     (λ _. subst (λ (k : MessageKind). Restarts t.node (lowered_by k t m)) (sym is) (inl refl))
     (λ _ _. inl refl)
     (λ _ _. subst (λ (k : MessageKind). Restarts t.node (at_term_by k (raised_by k t m) m)) (sym is)
-    (if_both P (grants u.node m last_term last_index false) _ _ (λ _. inr refl) (λ _. inr refl)))
+    (if_both (Restarts t.node) (grants u.node m last_term last_index false) _ _ (λ _. inr refl) (λ _. inr refl)))
 
 -- ---- a transfer
 

@@ -1,6 +1,7 @@
 mod counting;
 mod logs;
 mod nodes;
+mod refusals;
 mod trackers;
 
 ghost use Rattle.std.specs.Prelude.{IsTrue};

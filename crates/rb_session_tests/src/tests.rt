@@ -3,6 +3,7 @@ mod definitions;
 mod edits;
 mod files;
 mod reading;
+mod sessions;
 
 ghost use Rattle.std.specs.Prelude.{IsTrue};
 

@@ -1,4 +1,4 @@
 mod examples;
-mod making;
-mod tested;
+pub mod making;
+pub mod tested;
 mod values;

@@ -5,6 +5,7 @@
 
 mod before;
 mod calls;
+mod differing;
 mod held;
 mod leading;
 mod making;

@@ -1,5 +1,7 @@
 //! What no clause says: that lines come out of whatever calls bring them, and that each failed call is told.
 
-mod fakes;
+pub mod fakes;
 mod known;
 mod line;
+mod refusals;
+mod streams;

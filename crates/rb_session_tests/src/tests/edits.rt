@@ -1,5 +1,6 @@
 //! Edits that no command asks for: what directives print, and what a line of input is, no session can be given otherwise.
 
+use super::bench::fakes::Room;
 use super::{is, is_text};
 use rb_script::{Edit, EditFault, Grouped, Lines, Script, Through};
 use std::alloc::Global;
@@ -126,4 +127,67 @@ fn outputs_in_place_of_expectations(rt: HostRuntime) {
     is_written_with(&rt, rt.alloc(), &script, &outputs, want);
     drop(script);
     drop(outputs);
+}
+
+/// An output of one line. Nothing if memory was refused.
+fn output_of(alloc: Global) -> Option<Rc<Lines>> {
+    let mut lines = Lines::new(alloc);
+    lines.push(b"x").ok()?;
+    Rc::new(alloc, lines).ok()
+}
+
+/// Three such outputs.
+fn three_outputs(alloc: Global) -> Option<Grouped<Lines>> {
+    let mut all = Vec::new(alloc);
+    for _ in 0..3u64 {
+        all.push(output_of(alloc)?).ok()?;
+    }
+    Grouped::of(alloc, all).ok()
+}
+
+/// Writes the script, and the script with these outputs.
+fn writes_both(rt: &impl Abort, script: &Script, outputs: &Grouped<Lines>) {
+    let mut text = Through(Room::new());
+    is(rt, script.write_to(&mut text).is_ok(), "the script");
+    is(rt, text.0.taken() == SCRIPT, "its text");
+    let mut other = Through(Room::new());
+    is(rt, outputs.len() == script.len(), "an output for each");
+    is(
+        rt,
+        script.write_with(outputs, &mut other).is_ok(),
+        "outputs",
+    );
+    let want = b"a\n----\nx\n\nb\n----\nx\n\nc\n----\nx\n\n# tail\n";
+    is(rt, other.0.taken() == want.as_slice(), "their text");
+}
+
+/// The same, if there is memory for the outputs.
+fn writes_with_outputs(rt: &impl Abort, alloc: Global, script: &Script) -> bool {
+    let Some(outputs) = three_outputs(alloc) else {
+        return false;
+    };
+    writes_both(rt, script, &outputs);
+    drop(outputs);
+    true
+}
+
+/// The same, if there is memory for the script.
+fn writes(rt: &impl Abort, alloc: Global) -> bool {
+    let Ok(script) = Script::read(alloc, SCRIPT) else {
+        return false;
+    };
+    let is_whole = writes_with_outputs(rt, alloc, &script);
+    drop(script);
+    is_whole
+}
+
+#[test]
+fn scripts_are_written(rt: HostRuntime) {
+    is(&rt, writes(&rt, rt.alloc()), "both texts");
+}
+
+// To write takes no memory.
+#[test]
+fn scripts_are_written_under_refusals(rt: HostRuntime) {
+    let _whole = writes(&rt, rt.alloc());
 }

@@ -10,8 +10,8 @@ use super::seen::{CANDIDATE, Case, FOLLOWER, LEADER, PRECANDIDATE, Said, Seen, T
 pub const AT_FOLLOWERS: [Case; 13] = answers! {
     START, Follows, 2 2:
     // it knows of a leader
-    Says::Vote(1, 10, false) => FOLLOWER 2, Nothing 0, VoteRefused 2 0, 0 1;
-    Says::PreVote(1, 10) => FOLLOWER 2, Nothing 0, PreVoteRefused 2 0, 0 1;
+    Says::Vote(1, 10, false) => FOLLOWER 2, RefusedVote 1, VoteRefused 2 0, 0 1;
+    Says::PreVote(1, 10) => FOLLOWER 2, RefusedVote 1, PreVoteRefused 2 0, 0 1;
     Says::VoteAnswer(true) => FOLLOWER 2, Ignored 1, Nothing 0 0, 0 0;
     Says::PreVoteAnswer(true) => FOLLOWER 2, Ignored 1, Nothing 0 0, 0 0;
     Says::Append(1, 10, 10, 1) => FOLLOWER 2, Nothing 0, Accepted 2 11, 0 1;
@@ -49,8 +49,8 @@ pub const AT_PRECANDIDATES: [Case; 13] = answers! {
 pub const AT_CANDIDATES: [Case; 13] = answers! {
     START, Stands, 2 3:
     // it voted for itself
-    Says::Vote(1, 10, false) => CANDIDATE 3, Nothing 0, VoteRefused 3 0, 0 1;
-    Says::PreVote(1, 10) => CANDIDATE 3, Nothing 0, PreVoteRefused 3 0, 0 1;
+    Says::Vote(1, 10, false) => CANDIDATE 3, RefusedVote 1, VoteRefused 3 0, 0 1;
+    Says::PreVote(1, 10) => CANDIDATE 3, RefusedVote 1, PreVoteRefused 3 0, 0 1;
     // the second yes of three wins: its empty entry goes to nodes 2 and 3
     Says::VoteAnswer(true) => LEADER 3, Won 2, Accepted 3 11, 2 1;
     Says::PreVoteAnswer(true) => CANDIDATE 3, Ignored 1, Nothing 0 0, 0 0;
@@ -67,8 +67,8 @@ pub const AT_CANDIDATES: [Case; 13] = answers! {
 
 pub const AT_LEADERS: [Case; 13] = answers! {
     START, Leads, 2 3:
-    Says::Vote(1, 10, false) => LEADER 3, Nothing 0, VoteRefused 3 0, 0 1;
-    Says::PreVote(1, 10) => LEADER 3, Nothing 0, PreVoteRefused 3 0, 0 1;
+    Says::Vote(1, 10, false) => LEADER 3, RefusedVote 1, VoteRefused 3 0, 0 1;
+    Says::PreVote(1, 10) => LEADER 3, RefusedVote 1, PreVoteRefused 3 0, 0 1;
     Says::VoteAnswer(true) => LEADER 3, Ignored 1, Nothing 0 0, 0 0;
     Says::PreVoteAnswer(true) => LEADER 3, Ignored 1, Nothing 0 0, 0 0;
     Says::Append(1, 10, 10, 1) => LEADER 3, Ignored 1, Nothing 0 0, 0 0;

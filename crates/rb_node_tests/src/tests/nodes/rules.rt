@@ -17,19 +17,19 @@ pub const HOLDS: &[Move] = &[
 
 pub const VOTES: [Case; 10] = cases! {
     // a second candidate of a term gets no vote, the first one gets it again, and so does one of the next term
-    START, Voted, Nothing, Move::Get(3, 2, Says::Vote(1, 10, false)) => FOLLOWER 2, Nothing 0, VoteRefused 2 0, 0 1;
+    START, Voted, Nothing, Move::Get(3, 2, Says::Vote(1, 10, false)) => FOLLOWER 2, RefusedVote 1, VoteRefused 2 0, 0 1;
     START, Voted, Nothing, Move::Get(2, 2, Says::Vote(1, 10, false)) => FOLLOWER 2, Nothing 0, VoteGranted 2 0, 0 1;
     START, Voted, Nothing, Move::Get(3, 3, Says::Vote(1, 10, false)) => FOLLOWER 3, Became 1, VoteGranted 3 0, 0 1;
     // a stale candidate gets none: its last term is earlier, however long its log; or it is as late, and its log shorter
-    START, Holds, Nothing, Move::Get(3, 3, Says::Vote(1, 12, false)) => FOLLOWER 3, Became 1, VoteRefused 3 0, 0 1;
-    START, Holds, Nothing, Move::Get(3, 3, Says::Vote(2, 10, false)) => FOLLOWER 3, Became 1, VoteRefused 3 0, 0 1;
+    START, Holds, Nothing, Move::Get(3, 3, Says::Vote(1, 12, false)) => FOLLOWER 3, Became 2, VoteRefused 3 0, 0 1;
+    START, Holds, Nothing, Move::Get(3, 3, Says::Vote(2, 10, false)) => FOLLOWER 3, Became 2, VoteRefused 3 0, 0 1;
     START, Holds, Nothing, Move::Get(3, 3, Says::Vote(2, 11, false)) => FOLLOWER 3, Became 1, VoteGranted 3 0, 0 1;
     START, Holds, Nothing, Move::Get(3, 3, Says::Vote(3, 5, false)) => FOLLOWER 3, Became 1, VoteGranted 3 0, 0 1;
     // nor a yes, which is then of the node's own term
-    START, Holds, Nothing, Move::Get(3, 3, Says::PreVote(1, 12)) => FOLLOWER 2, Nothing 0, PreVoteRefused 2 0, 0 1;
+    START, Holds, Nothing, Move::Get(3, 3, Says::PreVote(1, 12)) => FOLLOWER 2, RefusedVote 1, PreVoteRefused 2 0, 0 1;
     // whom it voted for may ask again in the same term, and others may not
     START, Voted, Nothing, Move::Get(2, 2, Says::PreVote(1, 10)) => FOLLOWER 2, Nothing 0, PreVoteGranted 2 0, 0 1;
-    START, Voted, Nothing, Move::Get(3, 2, Says::PreVote(1, 10)) => FOLLOWER 2, Nothing 0, PreVoteRefused 2 0, 0 1;
+    START, Voted, Nothing, Move::Get(3, 2, Says::PreVote(1, 10)) => FOLLOWER 2, RefusedVote 1, PreVoteRefused 2 0, 0 1;
 };
 
 /// Stands for term 3 and has a yes of its own, and a no of node 2.

@@ -34,6 +34,7 @@ pub enum Told {
     Lost,
     Pending,
     Ignored,
+    RefusedVote,
     DroppedProposal,
     Conflict,
     AppendsNothing,
@@ -156,6 +157,7 @@ fn event_told(event: &Event) -> Told {
             ..
         } => counted(*outcome),
         Event::Ignored { .. } => Told::Ignored,
+        Event::RefusedVote { .. } => Told::RefusedVote,
         Event::DroppedProposal { .. } => Told::DroppedProposal,
         Event::Conflict { .. } => Told::Conflict,
         Event::AppendsNothing { .. } => Told::AppendsNothing,

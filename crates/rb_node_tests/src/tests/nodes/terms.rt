@@ -10,7 +10,7 @@ use super::seen::{CANDIDATE, Case, FOLLOWER, LEADER, Said, Seen, Told, answers};
 pub const EARLIER: [Case; 13] = answers! {
     START, Follows, 3 1:
     Says::Vote(1, 10, false) => FOLLOWER 2, Ignored 1, Nothing 0 0, 0 0;
-    Says::PreVote(1, 10) => FOLLOWER 2, Nothing 0, PreVoteRefused 2 0, 0 1;
+    Says::PreVote(1, 10) => FOLLOWER 2, RefusedVote 1, PreVoteRefused 2 0, 0 1;
     Says::VoteAnswer(true) => FOLLOWER 2, Ignored 1, Nothing 0 0, 0 0;
     Says::PreVoteAnswer(true) => FOLLOWER 2, Ignored 1, Nothing 0 0, 0 0;
     Says::Append(1, 10, 10, 1) => FOLLOWER 2, Ignored 1, Nothing 0 0, 0 0;
@@ -28,7 +28,7 @@ pub const EARLIER: [Case; 13] = answers! {
 pub const ANSWERED_WHERE_IT_ASKS: [Case; 6] = answers! {
     SOUNDS_OUT, Follows, 3 1:
     Says::Vote(1, 10, false) => FOLLOWER 2, Ignored 1, Nothing 0 0, 0 0;
-    Says::PreVote(1, 10) => FOLLOWER 2, Nothing 0, PreVoteRefused 2 0, 0 1;
+    Says::PreVote(1, 10) => FOLLOWER 2, RefusedVote 1, PreVoteRefused 2 0, 0 1;
     Says::Append(1, 10, 10, 1) => FOLLOWER 2, Nothing 0, Accepted 2 0, 0 1;
     Says::Heartbeat(10) => FOLLOWER 2, Nothing 0, Accepted 2 0, 0 1;
     Says::Snapshot(2, 20) => FOLLOWER 2, Ignored 1, Nothing 0 0, 0 0;
@@ -39,7 +39,7 @@ pub const ANSWERED_WHERE_IT_ASKS: [Case; 6] = answers! {
 pub const ANSWERED_WHERE_IT_CHECKS: [Case; 6] = answers! {
     CHECKS, Follows, 3 1:
     Says::Vote(1, 10, false) => FOLLOWER 2, Ignored 1, Nothing 0 0, 0 0;
-    Says::PreVote(1, 10) => FOLLOWER 2, Nothing 0, PreVoteRefused 2 0, 0 1;
+    Says::PreVote(1, 10) => FOLLOWER 2, RefusedVote 1, PreVoteRefused 2 0, 0 1;
     Says::Append(1, 10, 10, 1) => FOLLOWER 2, Nothing 0, Accepted 2 0, 0 1;
     Says::Heartbeat(10) => FOLLOWER 2, Nothing 0, Accepted 2 0, 0 1;
     Says::Snapshot(2, 20) => FOLLOWER 2, Ignored 1, Nothing 0 0, 0 0;
@@ -69,7 +69,7 @@ pub const LATER: [Case; 14] = answers! {
 pub const LATER_AT_LEADERS: [Case; 5] = answers! {
     START, Leads, 3 4:
     Says::Vote(3, 11, false) => FOLLOWER 4, Became 1, VoteGranted 4 0, 0 1;
-    Says::Vote(1, 10, false) => FOLLOWER 4, Became 1, VoteRefused 4 0, 0 1;
+    Says::Vote(1, 10, false) => FOLLOWER 4, Became 2, VoteRefused 4 0, 0 1;
     Says::PreVote(3, 11) => LEADER 3, Nothing 0, PreVoteGranted 4 0, 0 1;
     Says::Append(3, 11, 10, 1) => FOLLOWER 4, Became 1, Accepted 4 12, 0 1;
     Says::Accepted(0) => FOLLOWER 4, Became 2, Nothing 0 0, 0 0;

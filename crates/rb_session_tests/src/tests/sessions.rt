@@ -1,0 +1,11 @@
+//! Sessions and clusters by their calls: worked examples of edits with what each executes and where checkpoints are kept after it, an
+//! insert at each position of a long script, edits that are refused, and each allocation refused.
+
+mod clusters;
+mod edits;
+mod tested;
+
+use rb_raftlog::SplitLog;
+
+/// A session as the program has it.
+type BenchSession = rb_replay::Session<rb_cluster::Cluster<SplitLog>>;
