@@ -13,7 +13,7 @@ from .promises import name_of
 from .script import Step, blocks_of
 from .stage import allowed
 from .steps import steps_above
-from .watched import WatchedHosts
+from .watched import WatchedHosts, Watching
 from .without import reduced
 
 # How often all clocks tick until the nodes have to be healed.
@@ -37,11 +37,10 @@ class Alone(NamedTuple):
 
 
 class PromiseRun:
-    """One script. `known`: promises that aren't looked at."""
+    """One script on a cluster that is held to the promises."""
 
-    def __init__(self, blocks: Sequence[Block], process: Process, chosen: Comparison) -> None:
-        process.reset()
-        self.process, self.chosen, self.cluster = process, chosen, WatchedHosts(process, chosen.begins_at_0)
+    def __init__(self, blocks: Sequence[Block], process: Process, chosen: Comparison, cluster: Watching) -> None:
+        self.process, self.chosen, self.cluster = process, chosen, cluster
         less = ((place, reduced(block, process.hello)) for place, block in enumerate(blocks, 1))
         self.kept = [(place, block) for place, block in less if block is not None]
         self.left_out, self.length = len(blocks) - len(self.kept), len(blocks)
@@ -157,5 +156,13 @@ class PromiseRun:
         return next((node.id for node in members if node.term != leader.term or (node.commit, node.applied) < (leader.commit, leader.applied)), None)
 
 
-def run_alone(blocks: Sequence[Block], process: Process, chosen: Comparison) -> Alone:
-    return PromiseRun(blocks, process, chosen).result()
+def promise_run(blocks: Sequence[Block], process: Process, chosen: Comparison) -> PromiseRun:
+    """One script on somebody's nodes."""
+    process.reset()
+    return PromiseRun(blocks, process, chosen, WatchedHosts(process, chosen.begins_at_0))
+
+
+def run_alone(blocks: Sequence[Block], process: Process, chosen: Comparison, has_all_reads: bool = True) -> Alone:
+    run = promise_run(blocks, process, chosen)
+    run.cluster.has_all_reads = has_all_reads
+    return run.result()

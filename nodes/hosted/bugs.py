@@ -36,7 +36,7 @@ class ForgetsVote(Node):
 
 @planted("keeps-old-vote")
 class KeepsOldVote(Node):
-    """Takes its vote along into a later term, and so has none to give (3.4)."""
+    """Keeps its vote in a later term, and so has none to give (3.4)."""
 
     def reset(self, term: int) -> None:
         vote = self.vote
@@ -46,7 +46,7 @@ class KeepsOldVote(Node):
 
 @planted("votes-by-length")
 class VotesByLength(Node):
-    """Looks at the length of a candidate's log and not at its last term (3.6.1)."""
+    """Compares the length of a candidate's log, and not its last term (3.6.1)."""
 
     def is_new(self, term: int, index: int) -> bool:
         return index >= self.last()
@@ -62,7 +62,7 @@ class VotesForAnyLog(Node):
 
 @planted("ignores-later-terms")
 class IgnoresLaterTerms(Node):
-    """A leader pays no heed to an answer of a later term (3.3)."""
+    """A leader ignores an answer with a later term (3.3)."""
 
     def raise_term(self, m: Message) -> None:
         if not (self.role == "leader" and m.kind in ("MsgAppResp", "MsgHeartbeatResp")):
@@ -71,7 +71,7 @@ class IgnoresLaterTerms(Node):
 
 @planted("takes-earlier-terms")
 class TakesEarlierTerms(Node):
-    """Takes an append of a leader of an earlier term (3.3)."""
+    """Accepts an append of a leader of an earlier term (3.3)."""
 
     def answer_older(self, m: Message) -> None:
         return self.by_role(m) if m.kind == "MsgApp" else super().answer_older(m)
@@ -91,7 +91,7 @@ class HalfIsAQuorum(Node):
 
 @planted("candidate-keeps-standing")
 class CandidateKeepsStanding(Node):
-    """Stays a candidate where another already leads in its term (3.4)."""
+    """Stays a candidate although another node already leads in its term (3.4)."""
 
     def by_role(self, m: Message) -> None:
         if self.role == "candidate" and m.kind in ("MsgApp", "MsgHeartbeat"):
@@ -101,7 +101,7 @@ class CandidateKeepsStanding(Node):
 
 @planted("timeout-runs-on")
 class TimeoutRunsOn(Node):
-    """What it hears of its leader doesn't put its election timeout back (3.4)."""
+    """Doesn't reset its election timeout when it hears from its leader (3.4)."""
 
     def take_beat(self, m: Message) -> None:
         elapsed = self.elapsed
@@ -116,7 +116,7 @@ class TimeoutRunsOn(Node):
 
 @planted("pre-vote-raises-term")
 class PreVoteRaisesTerm(Node):
-    """Asking before the vote already begins the next term (9.6)."""
+    """A pre-vote already begins the next term (9.6)."""
 
     def campaign(self, kind: str = "usual") -> None:
         super().campaign(kind)
@@ -126,7 +126,7 @@ class PreVoteRaisesTerm(Node):
 
 @planted("pre-vote-binds")
 class PreVoteBinds(Node):
-    """A yes to the question before the vote counts as its vote (9.6)."""
+    """A granted pre-vote counts as its vote (9.6)."""
 
     def answer_candidate(self, m: Message) -> None:
         waiting = len(self.waiting)
@@ -137,7 +137,7 @@ class PreVoteBinds(Node):
 
 @planted("is-disturbed")
 class IsDisturbed(Node):
-    """Gives a candidate an ear though it heard of its leader just now (4.2.3)."""
+    """Answers a candidate although it has just heard from its leader (4.2.3)."""
 
     def is_undisturbed(self, m: Message) -> bool:
         return False
@@ -145,7 +145,7 @@ class IsDisturbed(Node):
 
 @planted("leads-without-quorum")
 class LeadsWithoutQuorum(Node):
-    """Leads on though no quorum answers (6.2)."""
+    """Keeps leading although no quorum answers (6.2)."""
 
     def keeps_lead(self) -> bool:
         self.elapsed = 0
@@ -158,7 +158,7 @@ class LeadsWithoutQuorum(Node):
 
 @planted("keeps-conflict")
 class KeepsConflict(Node):
-    """Appends behind what it has, and takes away nothing that conflicts (3.5)."""
+    """Appends after the entries that it has, and removes none that conflict (3.5)."""
 
     def put_after(self, numbered: list[Numbered]) -> None:
         self.entries = self.entries + [entry for at, entry in numbered if at > self.last()]
@@ -166,7 +166,7 @@ class KeepsConflict(Node):
 
 @planted("cuts-always")
 class CutsAlways(Node):
-    """Cuts its log behind each append, also where nothing conflicts: an old append takes new entries away (3.5)."""
+    """Cuts its log after each append, even if nothing conflicts: an old append removes new entries (3.5)."""
 
     def put_after(self, numbered: list[Numbered]) -> None:
         super().put_after(numbered)
@@ -252,7 +252,7 @@ class NoEmptyEntry(Node):
 
 @planted("window-overflows")
 class WindowOverflows(Node):
-    """Sends on into a full window."""
+    """Keeps sending into a full window."""
 
     def sends(self, id: int, mode: str) -> None:
         view = self.views.get(id)
@@ -311,7 +311,7 @@ class CompactedTermLost(Node):
 
 @planted("changes-too-early")
 class ChangesTooEarly(Node):
-    """Takes a change though an earlier one isn't applied (4.1)."""
+    """Accepts a change although an earlier one isn't applied (4.1)."""
 
     def append_change(self, change: Change) -> None:
         self.pending_change = 0
@@ -362,7 +362,7 @@ class LearnersCount(Node):
 
 @planted("never-leaves-joint")
 class NeverLeavesJoint(Node):
-    """Stays in a joint configuration that should be left by itself (4.3)."""
+    """Stays in a joint configuration that it should leave automatically (4.3)."""
 
     def leave_by_itself(self) -> None:
         pass
@@ -370,7 +370,7 @@ class NeverLeavesJoint(Node):
 
 @planted("transfers-to-who-lags")
 class TransfersToWhoLags(Node):
-    """Tells the target of a transfer to campaign before it holds all (3.10)."""
+    """Tells the target of a transfer to campaign before it has all entries (3.10)."""
 
     def start_transfer(self, m: Message) -> None:
         before = self.transferee
@@ -381,7 +381,7 @@ class TransfersToWhoLags(Node):
 
 @planted("proposes-while-transferring")
 class ProposesWhileTransferring(Node):
-    """Takes proposals while it hands over the lead (3.10)."""
+    """Accepts proposals while it transfers leadership (3.10)."""
 
     def take_proposal(self, m: Message) -> None:
         transferee, self.transferee = self.transferee, 0

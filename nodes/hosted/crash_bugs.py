@@ -32,7 +32,7 @@ class RestartForgetsTerm(Node):
 
 @planted("restart-commits-all")
 class RestartCommitsAll(Node):
-    """Takes all that it has saved for committed when it starts again (3.5)."""
+    """Treats all saved entries as committed after a restart (3.5)."""
 
     def restart(self, saved: str = "nothing") -> None:
         super().restart(saved)
@@ -86,7 +86,7 @@ class RestartHasFirstConfiguration(Node):
 
 @planted("restart-sends-on")
 class RestartSendsOn(Node):
-    """Sends after a restart what it had wanted to say before (3.8)."""
+    """Sends messages after a restart that were waiting before it (3.8)."""
 
     def restart(self, saved: str = "nothing") -> None:
         sent, waiting = self.sent, self.waiting
@@ -99,7 +99,7 @@ class RestartSendsOn(Node):
 
 @planted("vote-not-saved")
 class VoteNotSaved(Node):
-    """Doesn't save a vote that it gives in a term that is saved (3.8)."""
+    """Doesn't save a vote that it grants in a term that is already saved (3.8)."""
 
     def ready(self) -> Ready:
         ready = super().ready()
@@ -143,7 +143,7 @@ class CompactionKeepsOldConfiguration(Node):
 
 @planted("advance-takes-later-entries")
 class AdvanceTakesLaterEntries(Node):
-    """Takes entries for saved that arrived while others were written (10.2.1)."""
+    """Treats entries as saved that arrived while others were written (10.2.1)."""
 
     def save(self, done: Accepted) -> None:
         super().save(done)
@@ -152,7 +152,7 @@ class AdvanceTakesLaterEntries(Node):
 
 @planted("advance-loses-later-messages")
 class AdvanceLosesLaterMessages(Node):
-    """Forgets what it had to say since it was asked what is ready."""
+    """Loses messages that it had to send since `ready` was called."""
 
     def advance(self) -> None:
         super().advance()
@@ -161,7 +161,7 @@ class AdvanceLosesLaterMessages(Node):
 
 @planted("saved-by-index")
 class SavedByIndex(Node):
-    """Takes an entry for saved by its index, also where another has taken its place meanwhile."""
+    """Treats an entry as saved by its index, even if another entry has taken its place meanwhile."""
 
     def save(self, done: Accepted) -> None:
         super().save(done)
@@ -201,7 +201,7 @@ class VotesByNumber(Node):
 
 @planted("late-acknowledgements-count")
 class LateAcknowledgementsCount(Node):
-    """Takes acknowledgements of an earlier term (3.3)."""
+    """Accepts acknowledgements of an earlier term (3.3)."""
 
     def answer_older(self, m: Message) -> None:
         return self.by_role(m) if m.kind == "MsgAppResp" and self.role == "leader" else super().answer_older(m)
@@ -209,7 +209,7 @@ class LateAcknowledgementsCount(Node):
 
 @planted("late-refusals-step-back")
 class LateRefusalsStepBack(Node):
-    """Steps back by a refusal of what the follower has acknowledged since (3.5)."""
+    """Steps back after a refusal of what the follower has acknowledged since (3.5)."""
 
     def take_refusal(self, m: Message, view: View) -> None:
         if view.state == "replicate" and m.index <= view.match:
@@ -221,7 +221,7 @@ class LateRefusalsStepBack(Node):
 
 @planted("match-falls")
 class MatchFalls(Node):
-    """Takes the last acknowledgement for the greatest (3.5)."""
+    """Takes the last acknowledgement, even if an earlier one was greater (3.5)."""
 
     def take_acceptance(self, m: Message, view: View) -> None:
         if view.state == "replicate" and 0 < m.index < view.match:
@@ -231,7 +231,7 @@ class MatchFalls(Node):
 
 @planted("answers-to-questions-are-votes")
 class AnswersToQuestionsAreVotes(Node):
-    """A candidate counts a late yes to the question before the vote (9.6)."""
+    """A candidate counts a late pre-vote as a vote (9.6)."""
 
     def by_role(self, m: Message) -> None:
         if self.role == "candidate" and m.kind == "MsgPreVoteResp":
@@ -249,7 +249,7 @@ class LateHeartbeatsLead(Node):
 
 @planted("lost-snapshot-waited-for")
 class LostSnapshotWaitedFor(Node):
-    """Waits for the answer to a snapshot of which it hears that it was lost."""
+    """Waits for the answer to a snapshot that was reported lost."""
 
     def report_snapshot(self, id: int, is_lost: bool) -> None:
         if not is_lost:
@@ -294,7 +294,7 @@ class ReadsCountLateAnswers(Node):
 
 @planted("limit-ignored")
 class LimitIgnored(Node):
-    """Sends all it has in one append, whatever the limit of sizes."""
+    """Sends all it has in one append, whatever the size limit is."""
 
     def limited(self, entries: tuple[Entry, ...]) -> tuple[Entry, ...]:
         return entries

@@ -172,6 +172,7 @@ THEMES = [
     Theme("crashed stories", nodes=(3, 3, 5, 5), crashes=0.05, stories=tuple(CRASHES), story=0.3, length=18),
     Theme("stories", nodes=(3, 3, 3, 5), stories=tuple(NETWORK), story=0.3, length=18),
     Theme("five", nodes=(5,), network=0.1, length=60), Theme("network", nodes=(2, 3, 3, 5), network=0.25),
+    Theme("long", nodes=(3, 3, 5), crashes=0.03, weights=(("campaign", 3), ("propose", 14)), length=120),
     Theme("members", nodes=(1, 2, 3, 3), weights=(("propose_conf_change", 20), ("add_nodes", 4))),
     Theme("members that crash", nodes=(3, 3), crashes=0.08, weights=(("propose_conf_change", 20), ("add_nodes", 4))),
     Theme("snapshots", nodes=(2, 3, 3), weights=(("compact", 15), ("propose", 14)), stories=tuple(NETWORK), story=0.1),
@@ -194,7 +195,7 @@ def disturbed(dice: Dice, theme: Theme, step: Step) -> Step:
     if dice.random() < theme.network:
         id, other = dice.randint(1, nodes), dice.randint(1, nodes)
         held = [RunnerStep("hold", id, other), RunnerStep("release", id, other), RunnerStep("release", other, id)]
-        usual = [RunnerStep(name, id) for name in ("reverse", "double", "late")]
+        usual = [*(RunnerStep(name, id) for name in ("reverse", "double", "late")), RunnerStep("again", id, other)]
         return step._replace(before=(*step.before, dice.choice([*usual, *held, RunnerStep("cut", id, dice.choice([0, 1, 1, 2]))])))
     if dice.random() < theme.crashes:
         names = [*CRASHED, "save", "save", "snapshot-lost"]

@@ -10,11 +10,11 @@ from plain.script import Block, Script
 
 from .accepted import Accepted
 from .alone import run_alone
-from .compare import Comparison, Outcome, run_beside
+from .compare import Comparison, Difference, Outcome, run_beside
 from .dice import steps_of
 from .judge import Judge, Unjudged
 from .mutate import Mutator
-from .plan import agrees_at_once, plan_of
+from .plan import Plan, asked_at_once, keeps_promises_at_once, plan_of
 from .process import Process
 from .script import Step, blocks_of
 from .shrink import Shrinker
@@ -29,6 +29,10 @@ MOST_KNOWN_FAILURES = 4
 # Of this many scripts without the runner's steps the proved program is asked about one.
 JUDGED = 40
 CALIBRATING = 24
+# Of so many scripts that are held to promises alone, one has reads at nodes that don't lead too. Nodes that pass these on aren't asked at once.
+READ_EVERYWHERE = 4
+# So many scripts are asked at once in any case; after that only if one of so many agreed.
+MOST_TRIED, LEAST_AGREED = 40, 6
 # An aspect in which more scripts differ first isn't compared by default.
 MOST_LOUD = 4
 
@@ -86,7 +90,7 @@ class Explorer:
     def __init__(self, process: Process, judge: Judge, chosen: Chosen) -> None:
         self.process, self.judge, self.chosen = process, judge, chosen
         self.met: set[int] = set()
-        self.judged = 0
+        self.judged = self.tried = self.agreed = 0
 
     def outcome(self, steps: Sequence[Step], goes_on: bool = True) -> Outcome:
         return run_beside(blocks_of(steps), self.process, self.chosen.comparison, goes_on)
@@ -96,22 +100,53 @@ class Explorer:
         steps = spec.steps(self.chosen.dice)
         if not self.process.is_started:
             self.process.reset()
+        if spec.is_alone:
+            return self.explore_alone(spec, steps)
         plan = plan_of(blocks_of(steps), self.process, self.chosen.comparison)
         new = frozenset(plan.met - self.met)
         self.met |= new
-        if spec.is_alone:
-            alone = run_alone(blocks_of(steps), self.process, self.chosen.comparison)
-            kinds = self.unknown(alone.kinds())
-            return Found(spec, len(steps), alone.directives, alone.directives, alone.left_out, kinds, new, self.kept(steps, kinds, new), False, False)
         is_wrong = self.is_wrong(steps)
-        can_be_quick = self.process.hello.has_batch and "lines" not in self.chosen.comparison.aspects
-        if can_be_quick and agrees_at_once(plan, self.process, self.chosen.comparison):
-            return Found(spec, len(steps), plan.directives, plan.directives, plan.left_out, (), new, self.kept(steps, (), new), is_wrong, True)
+        steps, agreed = self.agreed_at_once(steps, plan)
+        if agreed:
+            return Found(spec, len(steps), agreed.directives, agreed.directives, agreed.left_out, (), new, self.kept(steps, (), new), is_wrong, True)
         steps, outcome = self.beyond_known(steps)
         kinds = self.unknown(outcome.kinds())
         return Found(
             spec, len(steps), outcome.compared, outcome.agreed, outcome.left_out, kinds, new, self.kept(steps, kinds, new), is_wrong, False,
         )
+
+    def explore_alone(self, spec: Spec, steps: list[Step]) -> Found:
+        """Holds the nodes to the promises alone. Where such scripts lead the reference counts for nothing, since none of them has children."""
+        blocks, has_all_reads = blocks_of(steps), spec.number // max(1, self.chosen.alone) % READ_EVERYWHERE == 0
+        at_once = keeps_promises_at_once(blocks, self.process, self.chosen.comparison, has_all_reads) if self.may_ask_at_once() else None
+        self.note_at_once(at_once is not None)
+        alone = at_once or run_alone(blocks, self.process, self.chosen.comparison, has_all_reads)
+        kinds, none = self.unknown(alone.kinds()), frozenset[int]()
+        return Found(spec, len(steps), alone.directives, alone.directives, alone.left_out, kinds, none, self.kept(steps, kinds, none), False, at_once is not None)
+
+    # Asking at once
+
+    def may_ask_at_once(self) -> bool:
+        """Whether it may pay: nodes that mostly do something else than the reference are asked one call at a time from the start."""
+        is_usual = self.tried < MOST_TRIED or self.agreed * LEAST_AGREED >= self.tried
+        return self.process.hello.has_batch and "lines" not in self.chosen.comparison.aspects and is_usual
+
+    def note_at_once(self, has_agreed: bool) -> None:
+        self.tried, self.agreed = self.tried + 1, self.agreed + has_agreed
+
+    def agreed_at_once(self, steps: list[Step], plan: Plan) -> tuple[list[Step], Plan | None]:
+        """The plan as which all nodes did, if they did, of the script without directives at which a call fails as one knows."""
+        if not self.may_ask_at_once():
+            return steps, None
+        tried = steps
+        for _ in range(MOST_KNOWN_FAILURES):
+            result = asked_at_once(plan, self.process, self.chosen.comparison)
+            if result is True or not isinstance(result, Difference) or self.chosen.accepted.reason_of(result.kind()) is None:
+                self.note_at_once(result is True)
+                return (tried, plan) if result is True else (steps, None)
+            tried = tried[:result.place - 1] + tried[result.place:]
+            plan = plan_of(blocks_of(tried), self.process, self.chosen.comparison)
+        return steps, None
 
     def unknown(self, kinds: Iterable[tuple[str, int]]) -> tuple[Shown, ...]:
         found = (Shown(*pair) for pair in kinds)

@@ -47,17 +47,17 @@ class Words(NamedTuple):
 
 def add_common(parser: argparse.ArgumentParser) -> None:
     """The words that all tools have."""
-    parser.add_argument("--with", dest="command", required=True, metavar="COMMAND", help="hosts the nodes: docs/OWN-NODES.md")
-    parser.add_argument("--except", dest="ignored", action="append", default=[], metavar="'NAME: REASON'", help="a promise that isn't looked at")
-    parser.add_argument("--accepted", type=pathlib.Path, metavar="FILE", help="kinds that are known, with reasons")
-    parser.add_argument("--begin-at-0", action="store_true", help="nodes with voters begin with an empty log, and not after a snapshot")
-    parser.add_argument("--steps", choices=["run", "ignore"], default="run", help="whether the runner's steps in comments are carried out")
-    parser.add_argument("--seconds", type=float, default=5.0, help="for one answer")
+    parser.add_argument("--with", dest="command", required=True, metavar="COMMAND", help="the program that hosts your nodes: docs/OWN-NODES.md")
+    parser.add_argument("--except", dest="ignored", action="append", default=[], metavar="'NAME: REASON'", help="a promise that isn't checked")
+    parser.add_argument("--accepted", type=pathlib.Path, metavar="FILE", help="a list of known kinds, with reasons")
+    parser.add_argument("--begin-at-0", action="store_true", help="nodes with voters begin with an empty log, not after a snapshot")
+    parser.add_argument("--steps", choices=["run", "ignore"], default="run", help="whether to carry out the runner's steps in comments")
+    parser.add_argument("--seconds", type=float, default=5.0, help="the time for one answer")
 
 
 def add_comparing(parser: argparse.ArgumentParser, default: str) -> None:
-    parser.add_argument("--compare", default=default, metavar="WORDS", help="states, or also, with commas between them, " + ", ".join(ASPECTS))
-    parser.add_argument("--like", default="", metavar="NAME|FILE", help="switches of the reference: rules that your library has otherwise")
+    parser.add_argument("--compare", default=default, metavar="WORDS", help="what to compare: states, and with commas also " + ", ".join(ASPECTS))
+    parser.add_argument("--like", default="", metavar="NAME|FILE", help="switches of the reference: rules in which your library differs")
 
 
 def aspects_of(words: str) -> frozenset[str]:
@@ -71,7 +71,7 @@ def aspects_of(words: str) -> frozenset[str]:
 def shard_of(text: str) -> tuple[int, int]:
     found = re.fullmatch(r"(\d{1,6})/(\d{1,6})", text)
     if not found or not 1 <= int(found[1]) <= int(found[2]):
-        raise argparse.ArgumentTypeError(f"{text}: K/N is wanted, with K from 1 to N")
+        raise argparse.ArgumentTypeError(f"{text}: must be K/N, with K from 1 to N")
     return int(found[1]), int(found[2])
 
 
@@ -80,15 +80,15 @@ def read_words(program: str, description: str) -> Words:
     add_common(parser)
     if program == "explore":
         add_comparing(parser, "auto")
-    parser.add_argument("--seed", type=int, default=0, help="the first one")
+    parser.add_argument("--seed", type=int, default=0, help="the first seed")
     parser.add_argument("--count", type=int, help="how many scripts")
-    parser.add_argument("--minutes", type=float, help=f"how long; {MINUTES:g} without a count")
+    parser.add_argument("--minutes", type=float, help=f"how long; {MINUTES:g} by default, if there is no count")
     parser.add_argument("--dice", choices=DICE, default="mixed")
     parser.add_argument("--shard", type=shard_of, default=(1, 1), metavar="K/N", help="every Nth seed, from the Kth on")
-    parser.add_argument("--out", type=pathlib.Path, metavar="FOLDER", help="takes the short scripts")
-    parser.add_argument("--json", type=pathlib.Path, metavar="FILE", help="takes the result")
-    parser.add_argument("--junit", type=pathlib.Path, metavar="FILE", help="takes the result")
-    parser.add_argument("--jobs", type=int, default=len(os.sched_getaffinity(0)), help="processes side by side")
+    parser.add_argument("--out", type=pathlib.Path, metavar="FOLDER", help="where to write the short scripts")
+    parser.add_argument("--json", type=pathlib.Path, metavar="FILE", help="where to write the result")
+    parser.add_argument("--junit", type=pathlib.Path, metavar="FILE", help="where to write the result")
+    parser.add_argument("--jobs", type=int, default=len(os.sched_getaffinity(0)), help="how many processes run at the same time")
     given = parser.parse_args()
     compare = given.compare if program == "explore" else "states"
     aspects = frozenset() if compare == "auto" else aspects_of(compare)
@@ -252,7 +252,7 @@ def main(program: str, description: str) -> int:
         print(f"nodes/{program}: {fault}", file=sys.stderr)
         return 2
     if not Judge().is_there and program == "explore":
-        print(f"nodes/{program}: raftbench isn't built, so nothing judges the reference: ./raftbench --help builds it", file=sys.stderr)
+        print(f"nodes/{program}: raftbench isn't built, so the reference isn't compared with it: ./raftbench --help builds it", file=sys.stderr)
     try:
         result = explored(words)
     except (Broken, Failed, Unjudged) as fault:

@@ -3,6 +3,7 @@ from __future__ import annotations
 
 import os
 import pathlib
+import shutil
 import subprocess
 
 from typing import Sequence
@@ -13,6 +14,17 @@ TOP = pathlib.Path(__file__).resolve().parents[2]
 MOST_SECONDS = 60
 
 
+def found_program() -> pathlib.Path:
+    """The program that RAFTBENCH names, that this clone has built, that was unpacked beside nodes/, or that is installed."""
+    built = TOP / "crates" / "raftbench" / "out" / "raftbench"
+    if "RAFTBENCH" in os.environ:
+        return pathlib.Path(os.environ["RAFTBENCH"])
+    if (TOP / "crates").exists():
+        return built
+    unpacked = TOP / "bin" / "raftbench"
+    return unpacked if unpacked.exists() else pathlib.Path(shutil.which("raftbench") or built)
+
+
 class Unjudged(Exception):
     """The proved program gave no outputs of a script."""
 
@@ -21,7 +33,7 @@ class Judge:
     """The proved program: its outputs of a script are what the plain bench has to print."""
 
     def __init__(self, is_asked: bool = True) -> None:
-        self.program = pathlib.Path(os.environ.get("RAFTBENCH", TOP / "crates" / "raftbench" / "out" / "raftbench"))
+        self.program = found_program()
         self.is_there = is_asked and self.program.exists()
 
     def outputs(self, blocks: Sequence[Block]) -> list[list[str]]:

@@ -1,5 +1,5 @@
-"""Switches of the reference: rules that a known library has otherwise. With them on the reference does as that library does, and what still
-differs is news. Each is named in `SWITCHES`; nodes/like/ has the lists of known libraries, and a file of your own may be such a list.
+"""Switches of the reference: rules in which a known library differs. With them the reference does as that library does, and what still differs is
+new. Each is named in `SWITCHES`; nodes/like/ has the lists of known libraries, and a file of your own may be such a list.
 
 The proved program has no switches: a switched reference is the plain node alone.
 """
@@ -19,46 +19,48 @@ LEAVING = Change("auto", ())
 
 SWITCHES = {
     "own-answers-at-once": "a node's own vote and its own new entries count before they are saved",
-    "added-view-at-last": "the view of a member that a change adds begins at the last entry, and not behind it",
+    "added-view-at-last": "the view of a member that a change adds begins at the last entry, and not after it",
     "snapshot-keeps-next": "a snapshot that is sent leaves the view's next as it is",
     "refusal-has-term": "a refused append is answered with a term too, and the leader skips by it",
     "refusal-hints-last": "a refused append is answered with the last index",
     "refusal-goes-below-match": "a late refusal leads back below what the member is known to hold",
-    "leaving-not-told": "what leaves a joint configuration by itself goes out with the next message, and a transfer doesn't hold it up",
-    "leaving-needs-applying": "a leader leaves a joint configuration by itself only where it applies something",
-    "leaving-not-pending": "leaving a joint configuration by itself is no pending change",
-    "answers-in-order": "answers go out in the order in which they arose, and not behind all that was sent",
+    "leaving-not-told": "the change that leaves a joint configuration automatically goes out with the next message, and a transfer doesn't delay it",
+    "leaving-needs-applying": "a leader leaves a joint configuration automatically only if it applies something",
+    "leaving-not-pending": "leaving a joint configuration automatically is not a pending change",
+    "answers-in-order": "answers go out in the order in which they were made, and not after all that was sent",
     "full-window-frees": "a heartbeat's answer frees a place of a full window",
     "empty-probe-goes-on": "a probe waits only after an append with entries",
     "probe-ends-above": "a probe ends only by an answer above its match",
-    "old-append-answered": "an append below commit is answered, also where it differs",
+    "old-append-answered": "an append below commit is answered, even if it differs",
     "strange-snapshot-ignored": "a snapshot whose configuration lacks the node is ignored",
     "outgoing-snapshot-ignored": "a snapshot in whose joint configuration the node is only an outgoing voter is ignored",
-    "stranger-ignored": "an answer of a node that is no member is ignored, whatever its term",
-    "transfer-ends-with-voter": "a transfer ends where its target votes no more",
+    "stranger-ignored": "an answer of a node that isn't a member is ignored, whatever its term",
+    "transfer-ends-with-voter": "a transfer ends if its target is no longer a voter",
     "transfer-to-itself-ends": "a transfer to the leader itself ends another",
-    "transfer-to-passer": "a transfer that a follower passes on goes to that follower",
+    "transfer-to-passer": "a transfer that a follower forwards goes to that follower",
     "applied-when-saved": "applied and content of a restored snapshot move when it is saved",
-    "no-snapshot-unheard": "no snapshot goes to a member that wasn't heard of",
+    "no-snapshot-unheard": "no snapshot goes to a member that wasn't heard from",
     "demoted-leader-stops": "a leader that a change removes or demotes does nothing more about it",
-    "change-tells-all": "after a change all members get what is new",
-    "pre-vote-keeps-timeout": "asking before the vote leaves the timeout as it is",
-    "unsaved-snapshot-waits": "no campaign falls due while a restored snapshot isn't saved",
+    "change-tells-all": "after a change all members get the new entries",
+    "pre-vote-keeps-timeout": "a pre-vote leaves the timeout as it is",
+    "unsaved-snapshot-waits": "no timeout passes while a restored snapshot isn't saved",
     "pending-change-campaigns": "a change that isn't applied keeps nobody from campaigning",
-    "term-0-is-taken": "a message of term 0 is of no term, and is taken; a candidate that hears a leader in one goes back to term 0",
-    "acknowledged-past-last": "an acknowledged index past the leader's last is taken as it is",
+    "term-0-is-taken": "a message of term 0 has no term, and is accepted; a candidate that hears a leader in one goes back to term 0",
+    "acknowledged-past-last": "an acknowledged index past the leader's last entry is accepted as it is",
     "removed-and-added-anew": "a learner that one change removes and adds gets a new view",
-    "proposal-keeps-sender": "a proposal that is passed on is from whom it came from first",
-    "transfer-has-term": "a request to hand over the lead that is passed on has its sender's term, and is ignored where that is old",
-    "no-words-leave-with-auto": "a change without words leaves a joint configuration with `auto` alone, and else would enter one",
-    "won-question-campaigns": "who wins the question before the vote campaigns, also if it votes no more or a change or a snapshot waits",
+    "proposal-keeps-sender": "a forwarded proposal is from the node that sent it first",
+    "transfer-has-term": "a forwarded request for a transfer has its sender's term, and is ignored if that is old",
+    "no-words-leave-with-auto": "a change without words leaves a joint configuration only with `auto`, and otherwise would enter one",
+    "won-question-campaigns": "a node that wins a pre-vote campaigns, even if it is no longer a voter, or a change or a snapshot waits",
     "refused-candidate-stays": "a candidate that a quorum has refused stays one",
     "change-counts-when-appended": "a configuration counts from when its change is appended, and no longer if the change is overwritten",
-    "commit-told-later": "a commit is told with the next append or heartbeat",
-    "proposal-refused": "a follower passes no proposal on",
-    "known-leader-refuses": "a node that knows of a leader ignores candidates, however long it has heard nothing",
+    "commit-told-later": "a commit is sent with the next append or heartbeat",
+    "proposal-refused": "a follower forwards no proposals",
+    "known-leader-refuses": "a node that knows a leader ignores candidates, even if it has heard nothing for long",
     "own-vote-at-once": "a node's own vote counts before it is saved, and its own new entries don't",
-    "lead-is-kept": "a follower that a candidate brings to a later term keeps whom it held for the leader",
+    "lead-is-kept": "a follower that a candidate brings to a later term still knows its old leader",
+    "stale-leader-keeps-term": "a leader that hears of a later term in an append's answer is a follower in its own term",
+    "heartbeat-answers-have-no-term": "a later term in a heartbeat's answer changes nothing",
     "last-snapshot-sent": "a snapshot that is sent is where the log begins, and not what is applied",
     "restart-keeps-applied": "applied and content survive a restart",
     "restart-forgets-commit": "commit isn't saved: after a restart it is where the log begins",
@@ -287,6 +289,11 @@ class Switched(Node):
         return super().count_vote(m)
 
     def raise_term(self, m: Message) -> None:
+        if self.on("heartbeat-answers-have-no-term") and m.kind == "MsgHeartbeatResp":
+            return
+        if self.on("stale-leader-keeps-term") and m.kind == "MsgAppResp" and self.role == "leader":
+            self.follow(self.term, 0)
+            return
         lead = self.lead if self.role == "follower" and self.on("lead-is-kept") and m.kind not in FROM_LEADERS else 0
         super().raise_term(m)
         if lead and m.term == self.term:

@@ -8,7 +8,7 @@ from .dice import CRASHED, Sane, Theme, with_runner
 from .script import Step
 from .steps import RunnerStep
 
-MOST_DIRECTIVES = 90
+MOST_DIRECTIVES = 150
 
 
 class Mutator(random.Random):
@@ -49,7 +49,8 @@ class Mutator(random.Random):
     def disturbed(self, steps: list[Step]) -> list[Step]:
         at, nodes = min(self.place(steps), len(steps) - 1), self.nodes(steps)
         one, other = self.randint(1, nodes), self.randint(1, nodes)
-        network = [RunnerStep(name, one) for name in ("reverse", "double", "late")] + [RunnerStep("hold", one, other), RunnerStep("release", one, other), RunnerStep("cut", one, self.choice([0, 1]))]
+        network = [RunnerStep(name, one) for name in ("reverse", "double", "late")] + [RunnerStep(name, one, other) for name in ("hold", "release", "again")]
+        network.append(RunnerStep("cut", one, self.choice([0, 1])))
         crash = [RunnerStep(name, one) for name in (*CRASHED, "save", "save")]
         step = steps[at]
         return [*steps[:at], step._replace(before=(*step.before, self.choice(network + crash))), *steps[at + 1:]]

@@ -11,14 +11,17 @@ from plain.node import Node
 from plain.records import Message, Numbered, Options, Ready
 from plain.script import Block, Directive
 
-from .compare import NEVER, Comparison
+from .alone import Alone, PromiseRun
+from .compare import NEVER, Comparison, Difference, failure
 from .coverage import effect, message_relation, situation, view_relation
 from .likes import Switched
 from .node import options_out
 from .process import Failed, Process
+from .promises import Promises
 from .protocol import Hello, Json, body_out, change_out, config_out, data_out
 from .stage import Reference, allowed
 from .steps import steps_above
+from .watched import Watching
 from .without import reduced
 
 content_text = functools.lru_cache(maxsize=10_000)(data_out)
@@ -26,14 +29,14 @@ known_config_out = functools.lru_cache(maxsize=10_000)(config_out)
 SETTLED: frozenset[str] = frozenset()
 
 
-class Unplanned(Exception):
-    """The script has a step that can't be asked for ahead."""
-
-
 class Sent(Message):
-    """A message of the reference with the number that it has among those that the process gives."""
+    """A message of the reference with the number that it has among those that the process gives, and with how many entries it was given."""
 
     number: int
+    given: int
+
+    def is_cut(self) -> bool:
+        return len(self.entries) < self.given
 
 
 class Expected(NamedTuple):
@@ -61,7 +64,7 @@ class View(NamedTuple):
 
 
 class Asked(NamedTuple):
-    """A call, and what is expected: states, or what is ready, a message, a log with its end, or views."""
+    """A call, and what is expected: states, or what is ready, a message, a log with its end, or views. `role` is the node's before the call."""
 
     call: Json
     states: list[Expected]
@@ -70,6 +73,8 @@ class Asked(NamedTuple):
     entries: list[Numbered] | None = None
     end: tuple[int, int, int] | None = None
     views: dict[int, View] | None = None
+    role: str = ""
+    cut: Sent | None = None  # the message of a `step`, which is made from what the process gave before
 
 
 PARTS: dict[str, Callable[..., Json]] = {
@@ -92,7 +97,6 @@ class Planned(Reference):
         self.asked: list[Asked] = []
         self.met: set[int] = set()
         self.number = 0
-        self.can_be_asked = True
         self.steps_to = 0  # the node that the last call is a step of, if more may join it
 
     def node(self, id: int) -> Node:
@@ -106,7 +110,7 @@ class Planned(Reference):
 
     def ask(self, node_id: int, call: str, **parts: Any) -> None:
         self.steps_to = 0
-        self.asked.append(Asked({"call": call, "node": node_id, **parts}, [self.expected(self.node(node_id))]))
+        self.asked.append(Asked({"call": call, "node": node_id, **parts}, [self.expected(self.node(node_id))], role=self.role_before))
 
     # Nothing is printed
 
@@ -157,10 +161,11 @@ class Planned(Reference):
             self.ask(id, name, **PARTS[name](*parts))
 
     def ask_step(self, id: int, m: Message) -> None:
-        if not isinstance(m, Sent) or not hasattr(m, "number"):
-            self.can_be_asked = False
-            return
-        if self.steps_to == id:
+        assert isinstance(m, Sent)
+        if m.is_cut():
+            self.ask(id, "step")
+            self.asked[-1] = self.asked[-1]._replace(cut=m)
+        elif self.steps_to == id:
             self.asked[-1].call["numbers"].append(m.number)
             self.asked[-1].states.append(self.expected(self.node(id)))
         else:
@@ -169,15 +174,21 @@ class Planned(Reference):
 
     def numbered(self, message: Message) -> Sent:
         sent = Sent(*message)
-        sent.number = self.number
+        sent.number, sent.given = self.number, len(message.entries)
         self.number += 1
         return sent
+
+    def cut(self, m: Message, most: int) -> Message:
+        less = super().cut(m, most)
+        if less is not m and isinstance(m, Sent) and isinstance(less, Sent):
+            less.number, less.given = m.number, m.given
+        return less
 
     def take_ready(self, id: int) -> Ready:
         ready = super().take_ready(id)
         ready = ready._replace(messages=[self.numbered(m) for m in ready.messages])
         self.steps_to = 0
-        self.asked.append(Asked({"call": "ready", "node": id}, [], ready))
+        self.asked.append(Asked({"call": "ready", "node": id}, [], ready, role=self.role_before))
         return ready
 
     def finish(self, id: int) -> bool:
@@ -200,10 +211,8 @@ class Planned(Reference):
     def drop(self, message: Message) -> None:
         if "lost" not in self.hello.calls or message.sender not in self.nodes:
             return
-        if isinstance(message, Sent) and hasattr(message, "number"):
-            self.ask(message.sender, "lost", number=message.number)
-        else:
-            self.can_be_asked = False
+        assert isinstance(message, Sent)
+        self.ask(message.sender, "lost", number=message.number)
 
     # A script
 
@@ -216,7 +225,7 @@ class Planned(Reference):
         self.steps_to = 0
 
     def ask_logs(self) -> None:
-        for id in self.nodes:
+        for id in self.nodes if "log" not in self.hello.without else []:
             node = self.node(id)
             end = node.base, node.base_term, node.durable
             self.asked.append(Asked({"call": "log", "node": id}, [], entries=node.entries_from(node.base + 1), end=end))
@@ -231,28 +240,31 @@ def directive_of(block: Block) -> Directive:
 
 
 class Plan(NamedTuple):
+    """What a script asks: `places` are those of the directives of its calls, from 1 on."""
+
     directives: int
     left_out: int
     asked: list[Asked]
-    can_be_asked: bool
+    places: list[tuple[int, Block]]
     met: set[int]
     comes_to_rest: bool
 
 
 def plan_of(blocks: Sequence[Block], process: Process, chosen: Comparison) -> Plan:
     """Runs a script on the reference."""
-    kept = [less for block in blocks if (less := known_reduced(block, process.hello)) is not None]
+    kept = [(place, less) for place, block in enumerate(blocks, 1) if (less := known_reduced(block, process.hello)) is not None]
     cluster = Planned(chosen.kind, chosen.begins_at_0, process.hello, "views" in chosen.aspects and "status" not in process.without)
+    places: list[tuple[int, Block]] = []
     is_at_rest = True
-    for block in kept:
+    for place, block in kept:
         if block.lead and chosen.has_steps:
             cluster.carry_out(allowed(steps_above(block), process))
             cluster.ask_views()
         is_at_rest = NEVER not in cluster.run(directive_of(block)) and is_at_rest
         cluster.ask_views()
-    if "log" not in process.without:
-        cluster.ask_logs()
-    return Plan(len(kept), len(blocks) - len(kept), cluster.asked, cluster.can_be_asked, cluster.met, is_at_rest)
+        places += [(place, block)] * (len(cluster.asked) - len(places))
+    cluster.ask_logs()
+    return Plan(len(kept), len(blocks) - len(kept), cluster.asked, places, cluster.met, is_at_rest)
 
 
 class Checker:
@@ -386,13 +398,76 @@ def is_view(wanted: View, given: Json) -> bool:
     return wanted.state != "snapshot" or get("snapshot", 0) == wanted.pending
 
 
-def agrees_at_once(plan: Plan, process: Process, chosen: Comparison) -> bool:
-    """Whether nodes that take batches answer all of a script as expected. They are asked anew where they don't."""
-    if not plan.can_be_asked or not plan.comes_to_rest:
+# Asking at once
+
+
+def answers_at_once(asked: Sequence[Asked], process: Process) -> list[Json]:
+    """The answers to all calls. A message that the network cut is made from what the process gave, so its call has to wait for that."""
+    process.reset()
+    answers: list[Json] = []
+    given: list[Json] = []
+    begun = 0
+    for at in [at for at, each in enumerate(asked) if each.cut] + [len(asked)]:
+        calls = [call_of(each, given) for each in asked[begun:at]]
+        if calls:
+            answers += process.ask_all(calls, begun)
+            given += [message for answer in answers[begun:] for message in messages_of(answer)]
+        begun = at
+    return answers
+
+
+def call_of(asked: Asked, given: Sequence[Json]) -> Json:
+    if asked.cut is None:
+        return asked.call
+    whole = given[asked.cut.number] if asked.cut.number < len(given) else {}
+    return {**asked.call, "message": {**whole, "entries": (whole.get("entries") or [])[:len(asked.cut.entries)]}}
+
+
+def messages_of(answer: Json) -> list[Json]:
+    """The messages that an answer gives; what isn't such an answer gives none, and is found by the checker."""
+    ready = answer.get("ready")
+    messages = [answer["message"]] if "message" in answer else (ready.get("messages") or []) if isinstance(ready, dict) else []
+    return [message for message in messages if isinstance(message, dict)]
+
+
+def asked_at_once(plan: Plan, process: Process, chosen: Comparison) -> bool | Difference:
+    """Whether nodes that take batches answer all of a script as expected; the failure of a call, where one fails by an error. They are asked anew if they don't."""
+    if not plan.comes_to_rest:
         return False
     try:
-        process.reset()
-        answers = process.ask_all([asked.call for asked in plan.asked]) if plan.asked else []
+        return Checker(process.hello, chosen.aspects).agrees(plan.asked, answers_at_once(plan.asked, process))
+    except Failed as failed:
+        if failed.number >= len(plan.places):
+            return False
+        place, block = plan.places[failed.number]
+        return failure(place, directive_of(block).name.decode("latin-1"), failed, plan.asked[failed.number].role)
+
+
+class PlannedAlone(Watching, Planned):
+    """The reference, held to the promises, which notes the calls that it gets."""
+
+    def __init__(self, kind: type[Node], begins_at_0: bool, hello: Hello) -> None:
+        super().__init__(kind, begins_at_0, hello, False)
+        self.promises = Promises()
+
+
+def keeps_promises_at_once(blocks: Sequence[Block], process: Process, chosen: Comparison, has_all_reads: bool) -> Alone | None:
+    """What a script comes to with nodes that do as a reference that keeps all promises, also while it heals; None if they do otherwise."""
+    cluster = PlannedAlone(chosen.kind, chosen.begins_at_0, process.hello)
+    cluster.has_all_reads = has_all_reads
+    result = PromiseRun(blocks, process, chosen, cluster).result()
+    if result.broken or result.failed:
+        return None
+    cluster.ask_logs()
+    try:
+        answers = answers_at_once(cluster.asked, process)
     except Failed:
-        return False
-    return Checker(process.hello, chosen.aspects).agrees(plan.asked, answers)
+        return None
+    is_same = Checker(process.hello, chosen.aspects | {"ready"}).agrees(cluster.asked, answers)
+    return result if is_same and all(are_linearizable(answer, cluster.promises) for answer in answers) else None
+
+
+def are_linearizable(answer: Json, promises: Promises) -> bool:
+    """Whether the reads that an answer serves, if any, see what was committed when they were asked for."""
+    reads = (answer.get("ready") or {}).get("reads") or []
+    return all(read.get("index", 0) >= promises.asked.get(read.get("id", 0), 0) for read in reads)

@@ -1,5 +1,8 @@
 """The process that hosts somebody else's nodes: a call is a line to it, an answer a line from it. It may hang, die, babble and flood: then the
 call has `Failed`, with a sentence, and the process is killed; the next script starts a new one.
+
+It runs in a process group of its own. A watchdog kills the group when the tool ends, by whatever it ends: it reads a pipe that the tool alone
+holds open.
 """
 from __future__ import annotations
 
@@ -41,6 +44,8 @@ MOST_ERRORS = 2000
 # So many calls of a batch have the time of one.
 CALLS_IN_TIME = 100
 CHUNK = 1 << 16
+# Reads the group's number, and kills that group at the end of its input. Nothing but SIGKILL ends it before.
+WATCHDOG = 'trap "" INT TERM HUP QUIT; read group || exit; while read line; do :; done; kill -s KILL -- "-$group"'
 
 
 class Failed(Exception):
@@ -51,6 +56,7 @@ class Failed(Exception):
         self.call, self.node = str(call["call"]), int(call.get("node", 0))
         self.short = f"at {at}" if at else short_of(why)
         self.at = at
+        self.number = 1 << 30  # of the call, among those that were asked at once and answered
 
     def __str__(self) -> str:
         return sentence(*self.args) + (f" ({self.at})" if self.at else "")
@@ -70,6 +76,26 @@ def error_of(call: Json, answer: Json) -> Failed:
     """The failure that an answer with `error` is."""
     error, at = answer["error"], answer.get("at", "")
     return Failed(call, "error: " + printable(error if isinstance(error, str) else shown(error)), at=printable(at)[:80] if isinstance(at, str) else "")
+
+
+class Watchdog:
+    """Kills a process group when this process ends. It is started before the group, whose first process names itself."""
+
+    def __init__(self) -> None:
+        reads, self.writes = os.pipe()
+        # It holds none of the streams that others may read to their ends.
+        self.process = subprocess.Popen(["/bin/sh", "-c", WATCHDOG], stdin=reads, stdout=subprocess.DEVNULL, stderr=subprocess.DEVNULL, start_new_session=True)
+        os.close(reads)
+
+    def watch_this_process(self) -> None:
+        """Called in the new process before it becomes the command: the pipe stays open up to then."""
+        os.write(self.writes, b"%d\n" % os.getpid())
+
+    def end(self) -> None:
+        """Ends it without killing anything."""
+        self.process.kill()
+        self.process.wait()
+        os.close(self.writes)
 
 
 class Process:
@@ -96,10 +122,16 @@ class Process:
         return self.hello.without
 
     def start(self) -> None:
-        self.process = subprocess.Popen(
-            self.command, shell=isinstance(self.command, str), stdin=subprocess.PIPE, stdout=subprocess.PIPE, stderr=subprocess.PIPE,
-            bufsize=0, start_new_session=True,
-        )
+        watchdog = Watchdog()
+        try:
+            self.process = subprocess.Popen(
+                self.command, shell=isinstance(self.command, str), stdin=subprocess.PIPE, stdout=subprocess.PIPE, stderr=subprocess.PIPE,
+                bufsize=0, start_new_session=True, preexec_fn=watchdog.watch_this_process,
+            )
+        except BaseException:
+            watchdog.end()
+            raise
+        self.watchdog = watchdog
         self.pipes = [pipe.fileno() for pipe in streams_of(self.process)]
         for pipe in self.pipes:
             os.set_blocking(pipe, False)
@@ -121,6 +153,8 @@ class Process:
             os.killpg(self.process.pid, signal.SIGKILL)
         except ProcessLookupError:
             pass
+        # The number isn't another group's until this process is waited for.
+        self.watchdog.end()
         self.process.wait()
         for pipe in streams_of(self.process):
             pipe.close()
@@ -143,8 +177,8 @@ class Process:
         """The answer to a call, an object; Failed where there is none. Where it is an error the process stays as it is."""
         return self.ask_all([call])[0]
 
-    def ask_all(self, calls: Sequence[Json]) -> list[Json]:
-        """The answers to calls that are written at once, up to the first that failed."""
+    def ask_all(self, calls: Sequence[Json], begun: int = 0) -> list[Json]:
+        """The answers to calls that are written at once. If one is an error, that is raised, with its number from `begun` on."""
         self.calls += len(calls)
         if self.rest:
             raise self.failed(calls[0], f"it said what it wasn't asked: {shown(bytes(self.rest[:200]).decode('latin-1'))}")
@@ -159,7 +193,9 @@ class Process:
             if self.record is not None:
                 self.record.append((call, answer))
             if "error" in answer:
-                raise error_of(call, answer)
+                failed = error_of(call, answer)
+                failed.number = begun + len(answers)
+                raise failed
             answers.append(answer)
         return answers
 

@@ -12,25 +12,25 @@ from plain.records import AnyNode, Entry, Message, Ready
 
 # The promises, each with its place in the thesis.
 PROMISES = {
-    "one leader a term": "two nodes never lead in one term (3.4)",
-    "one vote a term": "a node votes for one candidate in a term (3.4)",
-    "a leader has a quorum of votes": "who leads was voted for by a quorum of its configuration (3.4, 4.3)",
-    "terms and commits don't fall": "term, commit and applied of a node only rise; at a restart commit and applied may fall (3.3, 3.5)",
+    "one leader per term": "two nodes never lead in one term (3.4)",
+    "one vote per term": "a node votes for one candidate in a term (3.4)",
+    "a leader has a quorum of votes": "a quorum of its configuration voted for it (3.4, 4.3)",
+    "terms and commits don't fall": "term, commit and applied of a node only rise, but a restart may lower commit and applied (3.3, 3.5)",
     "a leader only appends": "a leader keeps the entries of its log (3.5)",
     "logs match": "logs with an entry of the same index and term are the same up to it (3.5)",
-    "a leader has what was committed": "an entry that was committed is in the log of each later leader (3.6.3)",
-    "no two commit different entries": "an index holds one committed entry (3.6.3)",
-    "no two apply different entries": "nodes that applied up to an index applied the same (3.6.3)",
+    "a leader has all committed entries": "an entry that was committed is in the log of each later leader (3.6.3)",
+    "no two nodes commit different entries": "an index holds one committed entry (3.6.3)",
+    "no two nodes apply different entries": "nodes that have applied up to the same index have applied the same entries (3.6.3)",
     "a quorum holds what a leader commits": "a leader commits an entry of its term once a quorum has it (3.5, 3.6.2)",
-    "what is acknowledged is held": "who says that it has entries has them, as the leader does (3.5)",
-    "a vote that is told is kept": "who grants its vote has voted so (3.4)",
-    "a restart keeps term and vote": "term and vote that were saved are there after a restart (3.8)",
-    "a restart keeps saved entries": "entries that were saved are there after a restart (3.8)",
-    "a restart keeps what was acknowledged": "entries that were acknowledged are there after a restart (3.8)",
-    "what must be saved first is marked": "`sync` is true if entries, a term or a vote have to be saved (3.8)",
-    "a read is linearizable": "a read sees what was committed when it was asked for (6.4)",
-    "appends keep to the limit of sizes": "an append with several entries keeps to `max_size_per_msg`",
-    "comes to rest": "without loss the nodes have no more to say after 200 rounds",
+    "acknowledged entries are held": "a node that acknowledges entries has them, and they are the leader's (3.5)",
+    "a granted vote is kept": "a node that grants a vote has voted for that candidate (3.4)",
+    "a restart keeps term and vote": "a saved term and vote are there after a restart (3.8)",
+    "a restart keeps saved entries": "saved entries are there after a restart (3.8)",
+    "a restart keeps acknowledged entries": "acknowledged entries are there after a restart (3.8)",
+    "unsaved state sets sync": "`sync` is true if entries, a term or a vote have to be saved (3.8)",
+    "a read is linearizable": "a read sees everything that was committed when it was requested (6.4)",
+    "appends keep to the size limit": "an append with several entries keeps to `max_size_per_msg`",
+    "comes to rest": "if no message is lost, nothing is left to do after 200 rounds",
     "heals": "once all messages are delivered and time passes, there is a leader, it commits, and all members catch up",
 }
 
@@ -93,7 +93,7 @@ class Promises:
         self.saved.setdefault(id, Saved(node.term, node.vote, {}))
         now = self.before[id] = Known(node.role, node.term, node.commit, node.applied, node.config)
         if node.vote and self.votes.setdefault((id, node.term), node.vote) != node.vote:
-            self.note(f"one vote a term: {id} voted for {self.votes[id, node.term]} and {node.vote} in term {node.term}")
+            self.note(f"one vote per term: {id} voted for {self.votes[id, node.term]} and {node.vote} in term {node.term}")
         if node.role == "leader":
             self.look_at_role(node, was)
             if was and was.role == "leader" and was.term == now.term and now.commit > was.commit and was.config == now.config:
@@ -106,7 +106,7 @@ class Promises:
     def look_at_role(self, node: AnyNode, was: Known | None) -> None:
         id, term = node.id, node.term
         if self.leaders.setdefault(term, id) != id:
-            self.note(f"one leader a term: {self.leaders[term]} and {id} lead in term {term}")
+            self.note(f"one leader per term: {self.leaders[term]} and {id} lead in term {term}")
         begins = was and (was.role, was.term) != ("leader", term) and was.config == node.config
         if begins and self.shows("vote", "config") and not both(node.config, lambda voter: self.votes.get((voter, term)) == id):
             voters = [voter for voter in sorted(node.config.voters()) if self.votes.get((voter, term)) == id]
@@ -155,16 +155,16 @@ class Promises:
                 if index <= node.commit:
                     _, first, who = self.entries.setdefault(index, (node.term, entry, node.id))
                     if first != entry:
-                        self.note(f"no two commit different entries: {who} and {node.id} do at {index}")
+                        self.note(f"no two nodes commit different entries: {who} and {node.id} do at {index}")
         if self.shows("applied", "content"):
             content, who = self.contents.setdefault(node.applied, (node.content, node.id))
             if content != node.content and node.applied:
-                self.note(f"no two apply different entries: {who} and {node.id} do up to {node.applied}")
+                self.note(f"no two nodes apply different entries: {who} and {node.id} do up to {node.applied}")
 
     def look_at_leader(self, node: AnyNode, log: Mapping[int, Entry]) -> None:
         for index, (term, entry, _) in self.entries.items():
             if term < node.term and index > node.base and log.get(index) != entry:
-                return self.note(f"a leader has what was committed: {node.id}, in term {node.term}, lacks {index}")
+                return self.note(f"a leader has all committed entries: {node.id}, in term {node.term}, lacks {index}")
         return None
 
     def compare(self, one: int, mine: Mapping[int, Entry], other: int, theirs: Mapping[int, Entry]) -> None:
@@ -183,28 +183,28 @@ class Promises:
         saved = self.saved.get(node.id)
         if self.shows("sync", "ready", "vote") and not ready.sync:
             if ready.entries or saved and (node.term, node.vote) != (saved.term, saved.vote):
-                self.note(f"what must be saved first is marked: {node.id} has a term, a vote or entries to save")
+                self.note(f"unsaved state sets sync: {node.id} has a term, a vote or entries to save")
         for read in ready.reads:
             if read.index < self.asked.get(read.id, 0):
                 self.note(f"a read is linearizable: {node.id} serves one at {read.index}, and {self.asked[read.id]} was committed before")
         for m in ready.messages:
             if m.kind == "MsgVoteResp" and not m.refused and self.shows("vote") and self.votes.get((node.id, m.term), m.to) != m.to:
-                self.note(f"a vote that is told is kept: {node.id} grants {m.to} its vote, and voted for {self.votes[node.id, m.term]}")
+                self.note(f"a granted vote is kept: {node.id} grants {m.to} its vote, and voted for {self.votes[node.id, m.term]}")
             elif m.kind == "MsgAppResp" and not m.refused and m.index and self.shows("log"):
                 self.look_at_acknowledgement(node, m, nodes)
             elif m.kind == "MsgApp" and limit and len(m.entries) > 1:
                 size = sum(max(1, len(entry.body if isinstance(entry.body, bytes) else entry.body.words)) for entry in m.entries)
                 if size > limit:
-                    self.note(f"appends keep to the limit of sizes: {node.id} sends {len(m.entries)} entries of {size} bytes")
+                    self.note(f"appends keep to the size limit: {node.id} sends {len(m.entries)} entries of {size} bytes")
 
     def look_at_acknowledgement(self, node: AnyNode, m: Message, nodes: Mapping[int, AnyNode]) -> None:
         log, leader = log_of(node), nodes.get(m.to)
         if m.index > node.base and m.index not in log:
-            return self.note(f"what is acknowledged is held: {node.id} acknowledges {m.index}, which it lacks")
+            return self.note(f"acknowledged entries are held: {node.id} acknowledges {m.index}, which it lacks")
         if leader and leader.role == "leader" and leader.term == m.term == node.term and m.index in log:
             there = log_of(leader).get(m.index)
             if there is not None and there != log[m.index]:
-                self.note(f"what is acknowledged is held: {node.id} acknowledges {m.index} to {m.to}, which has another entry there")
+                self.note(f"acknowledged entries are held: {node.id} acknowledges {m.index} to {m.to}, which has another entry there")
         self.untold.setdefault(node.id, {}).update((index, entry) for index, entry in log.items() if index <= m.index)
         return None
 
@@ -231,7 +231,7 @@ class Promises:
         if not self.shows("log"):
             return
         log, base = log_of(node), node.base
-        for name, kept in (("a restart keeps what was acknowledged", self.acknowledged.get(id, {})), ("a restart keeps saved entries", saved.entries)):
+        for name, kept in (("a restart keeps acknowledged entries", self.acknowledged.get(id, {})), ("a restart keeps saved entries", saved.entries)):
             lost = next((index for index, entry in kept.items() if index > base and log.get(index) != entry), None)
             if lost is not None:
                 self.note(f"{name}: {id} lacks {lost}")

@@ -10,7 +10,7 @@ from typing import Iterator, Sequence
 from plain.script import Block, Fault, Script, read_with_lines
 
 from .accepted import Accepted, exceptions_of
-from .alone import PromiseRun
+from .alone import promise_run, run_alone
 from .compare import Comparison, Outcome, run_beside
 from .explorer import Chosen, Explorer
 from .exploring import add_common, add_comparing, aspects_of, shown_of
@@ -28,12 +28,12 @@ def words_of(program: str, description: str, words: Sequence[str]) -> argparse.N
     add_common(parser)
     if program != "promises":
         add_comparing(parser, "states")
-    parser.add_argument("--filter", default="", metavar="WORD", help="only paths that have WORD in them")
-    parser.add_argument("--verbose", action="store_true", help="shows what the nodes print")
+    parser.add_argument("--filter", default="", metavar="WORD", help="only paths that contain WORD")
+    parser.add_argument("--verbose", action="store_true", help="also shows what the nodes print")
     if program == "shrink":
-        parser.add_argument("--kind", help="what the script has to show; by default what it shows first")
-        parser.add_argument("--alone", action="store_true", help="by the promises alone")
-        parser.add_argument("--runs", type=int, default=1000, help="how often it is run at most")
+        parser.add_argument("--kind", help="the kind that the script has to show; by default the first that it shows")
+        parser.add_argument("--alone", action="store_true", help="checks promises only, without the reference")
+        parser.add_argument("--runs", type=int, default=1000, help="runs the script at most this often")
         parser.add_argument("file", type=pathlib.Path, metavar="FILE")
     else:
         parser.add_argument("paths", nargs="+", type=pathlib.Path, metavar="PATH")
@@ -119,7 +119,7 @@ class Compared(Files):
         super().__init__("run", given)
         self.totals, self.judge, self.begun = Totals(), Judge(), time.monotonic()
         if not self.judge.is_there:
-            print("nodes/run: raftbench isn't built, so nothing judges the reference: ./raftbench --help builds it", file=sys.stderr)
+            print("nodes/run: raftbench isn't built, so the reference isn't compared with it: ./raftbench --help builds it", file=sys.stderr)
 
     def run(self, file: pathlib.Path, blocks: Sequence[Block], lines: Sequence[int]) -> None:
         outcome = run_beside(blocks, self.process, self.comparison)
@@ -161,7 +161,7 @@ class Promised(Files):
         self.scripts = self.kept = 0
 
     def run(self, file: pathlib.Path, blocks: Sequence[Block], lines: Sequence[int]) -> None:
-        run = PromiseRun(blocks, self.process, self.comparison)
+        run = promise_run(blocks, self.process, self.comparison)
         alone = run.result()
         self.scripts += 1
         self.kept += not alone.kinds()
@@ -220,7 +220,7 @@ def steps_of_blocks(blocks: Sequence[Block]) -> list[Step]:
 def shrink_file(words: Sequence[str]) -> int:
     """nodes/shrink: writes the shorter script, and says on standard error what it shows."""
     try:
-        given = words_of("shrink", "Shrinks a script as long as it shows what it showed.", words)
+        given = words_of("shrink", "Shortens a script as long as it shows the same kind of difference.", words)
         comparison = comparison_of(given)
     except Unknown as fault:
         print(f"nodes/shrink: {fault}", file=sys.stderr)
@@ -246,7 +246,7 @@ def shrink_file(words: Sequence[str]) -> int:
 
 def shrink_script(explorer: Explorer, script: Script, given: argparse.Namespace) -> int:
     steps, is_alone = steps_of_blocks(script.blocks), bool(given.alone)
-    kinds = PromiseRun(script.blocks, explorer.process, explorer.chosen.comparison).result().kinds() if is_alone else list(explorer.outcome(steps).kinds())
+    kinds = run_alone(script.blocks, explorer.process, explorer.chosen.comparison).kinds() if is_alone else list(explorer.outcome(steps).kinds())
     kind = given.kind or (kinds[0][0] if kinds else None)
     if kind is None or kind not in dict(kinds):
         print(f"nodes/shrink: it shows {', '.join(name for name, _ in kinds) or 'nothing'}", file=sys.stderr)

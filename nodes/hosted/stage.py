@@ -30,11 +30,12 @@ class Called(NamedTuple):
 
 
 class Holding(Network):
-    """A network that holds back what some nodes send to others."""
+    """A network that holds back what some nodes send to others, and knows what was delivered last from one to another."""
 
     def __init__(self) -> None:
         super().__init__()
         self.held: set[tuple[int, int]] = set()
+        self.delivered: dict[tuple[int, int], Message] = {}
 
     def is_held(self, m: Message) -> bool:
         return (m.sender, m.to) in self.held
@@ -72,6 +73,7 @@ class Stage(Cluster):
         super().__init__()
         self.network: Holding = Holding()
         self.begins_at_0, self.limit, self.reads = begins_at_0, 0, 0
+        self.has_all_reads = True  # also at nodes that don't lead, which libraries pass on or decline
         self.under_way: set[int] = set()  # nodes whose `ready` isn't advanced
         self.calls: list[Called] = []
         self.readies: list[tuple[int, Ready]] = []
@@ -104,6 +106,8 @@ class Stage(Cluster):
 
     def call(self, id: int, name: str, *parts: Any) -> None:
         self.what, self.role_before = (parts[0].kind if name == "step" else name), self.nodes[id].role
+        if name == "step":
+            self.network.delivered[parts[0].sender, id] = parts[0]
         super().call(id, name, *parts)
 
     def do_compact(self, words: Sequence[Any], *_: object) -> None:
@@ -152,7 +156,7 @@ class Stage(Cluster):
         self.calls, self.readies, self.touched, self.sent, self.lines, self.shown = [], [], set(), [], [], self.level
         for step in steps:
             self.limit = step.number if step.name == "limit" else self.limit
-            if step.name in ("reverse", "double", "late", "cut", "hold", "release"):
+            if step.name in (*UNORDERED, "cut", "hold", "release"):
                 self.disturb(step)
             elif step.node in self.nodes:
                 self.do_to_node(step)
@@ -163,10 +167,23 @@ class Stage(Cluster):
             network.held.add((id, step.number))
         elif name == "release":
             network.held.discard((id, step.number))
+        elif name == "again":
+            message = network.delivered.get((step.number, id))
+            if message:
+                network.put(message)
         elif name == "cut":
-            network.change(id, lambda messages: [cut(m, step.number) for m in messages])
+            network.change(id, lambda messages: [self.cut(m, step.number) for m in messages])
         else:
             network.change(id, ARRANGED[name])
+
+    def cut(self, message: Message, most: int) -> Message:
+        """An append with this many entries at most; what its sender gave is cut too."""
+        if message.kind != "MsgApp" or len(message.entries) <= most:
+            return message
+        less = message._replace(entries=message.entries[:most])
+        if isinstance(message, Wired) and isinstance(less, Wired):
+            less.json = {**message.json, "entries": message.json["entries"][:most]}
+        return less
 
     def do_to_node(self, step: RunnerStep) -> None:
         id, name = step.node, step.name
@@ -174,8 +191,9 @@ class Stage(Cluster):
             if id not in self.under_way and self.nodes[id].has_ready():
                 self.begin(id)
         elif name == "read":
-            self.reads += 1
-            self.call(id, "read", self.reads)
+            if self.has_all_reads or self.nodes[id].role == "leader":
+                self.reads += 1
+                self.call(id, "read", self.reads)
         elif name.startswith("snapshot-"):
             self.call(id, "report_snapshot", step.number, name == "snapshot-lost")
         else:
@@ -193,16 +211,6 @@ class Stage(Cluster):
         self.under_way.discard(id)
         self.restarted.add(id)
         self.call(id, "restart", saved)
-
-
-def cut(message: Message, most: int) -> Message:
-    """An append with this many entries at most; what its sender gave is cut too."""
-    if message.kind != "MsgApp" or len(message.entries) <= most:
-        return message
-    less = message._replace(entries=message.entries[:most])
-    if isinstance(message, Wired) and isinstance(less, Wired):
-        less.json = {**message.json, "entries": message.json["entries"][:most]}
-    return less
 
 
 ARRANGED = {

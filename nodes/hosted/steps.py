@@ -3,6 +3,7 @@
     # network: reverse 2        messages to node 2 are delivered in reverse
     # network: double 2         they are delivered a second time after all of them, in reverse
     # network: late 2           the first of them is delivered last
+    # network: again 2 1        the last message from 1 that node 2 was delivered is on its way once more
     # network: cut 2 1          appends to node 2 keep one entry at most
     # network: hold 2 1         messages from 2 to 1 wait, also later ones
     # network: release 2 1      they are on their way again
@@ -25,11 +26,11 @@ from plain.script import Block
 
 ONE, TWO = r"(\d{1,2})", r"(\d{1,2}) (\d{1,4})"
 STEP = re.compile(
-    rf"[ \t]*# (?:network: (?:(reverse|double|late) {ONE}|(cut|hold|release) {TWO})"
+    rf"[ \t]*# (?:network: (?:(reverse|double|late) {ONE}|(cut|hold|release|again) {TWO})"
     rf"|node: (?:(restart|save|read) {ONE}|crash {ONE} (before save|in save|after save|before advance)|(snapshot-lost|snapshot-arrived) {TWO}|(limit) (\d{{1,7}})))[ \t]*",
 )
 # What a network does that keeps the order of each pair's messages.
-UNORDERED = ("reverse", "double", "late")
+UNORDERED = ("reverse", "double", "late", "again")
 
 
 class RunnerStep(NamedTuple):
@@ -42,7 +43,7 @@ class RunnerStep(NamedTuple):
     def text(self) -> str:
         if self.name in ("reverse", "double", "late"):
             return f"# network: {self.name} {self.node}"
-        if self.name in ("cut", "hold", "release"):
+        if self.name in ("cut", "hold", "release", "again"):
             return f"# network: {self.name} {self.node} {self.number}"
         if self.name in ("before save", "in save", "after save", "before advance"):
             return f"# node: crash {self.node} {self.name}"

@@ -107,6 +107,20 @@ def doubled_votes(dice: Dice, one: int, other: int) -> Sequence[Part]:
     return [*asked, drop(dice.others(one, other)), (f"deliver-msgs {one}", RunnerStep("double", one)), dice.choice(["raft-state", "stabilize"])]
 
 
+def once_more(dice: Dice, one: int, other: int) -> Sequence[Part]:
+    """What one node has answered reaches it once more after it has crashed, or after somebody else was elected: a question for its vote, an append, or an answer."""
+    asked: list[Part] = dice.choice([[f"campaign {one}"], [f"campaign {one}", "stabilize", *proposals(dice, one, [1, 2])]])
+    begun: list[Part] = [*asked, *there_and_back(one, other), *([f"process-ready {one}"] if dice.some(0.5) else [])]
+    third = dice.choice([id for id in range(1, max(3, dice.nodes) + 1) if id not in (one, other)])
+    between: list[Part] = dice.choice([
+        [("raft-state", RunnerStep("restart", other))], [("raft-state", RunnerStep("restart", one)), f"campaign {one}", f"process-ready {one}"],
+        [f"campaign {third}", f"process-ready {third}", f"deliver-msgs {other}", f"process-ready {other}"], [f"campaign {third}", f"stabilize {dice.others(one)}"],
+        [f"campaign {one}", f"process-ready {one}"], ["stabilize", f"propose {one} {dice.payload()}", "stabilize"],
+    ])
+    to, sender = dice.choice([(other, one), (other, one), (one, other)])
+    return [*begun, *between, (f"deliver-msgs {to}", RunnerStep("again", to, sender)), f"process-ready {to}", dice.choice(["raft-state", "stabilize"]), "stabilize"]
+
+
 def late_refusal(dice: Dice, leader: int, behind: int) -> Sequence[Part]:
     """A refusal arrives twice: once more when the follower has caught up."""
     missed = [f"propose {leader} {dice.payload()}", f"process-ready {leader}", drop(str(behind)), f"stabilize {dice.others(behind)}", drop(str(behind))]
@@ -288,7 +302,7 @@ def read_by_deposed(dice: Dice, leader: int, other: int) -> Sequence[Part]:
 
 
 NETWORK: list[Story] = [
-    late, cut_at_loser, cut_after_return, cut_before_tail, stale_answers, late_votes, doubled_votes, late_refusal, held_snapshot, lost_snapshot,
+    late, cut_at_loser, cut_after_return, cut_before_tail, stale_answers, late_votes, doubled_votes, once_more, late_refusal, held_snapshot, lost_snapshot,
     snapshot_over_own, compacted_unheard, removed_while_asking, overtaken_question,
 ]
 CRASHES: list[Story] = [

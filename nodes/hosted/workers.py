@@ -1,10 +1,15 @@
-"""Several processes side by side, each with nodes of its own. They take lists of items as they get free; results are in the items' order."""
+"""Several processes side by side, each with nodes of its own. They take lists of items as they get free; results are in the items' order. They end
+when the process ends that started them, by whatever it ends.
+"""
 from __future__ import annotations
 
 import contextlib
 import multiprocessing
+import multiprocessing.connection
+import os
 import queue
 import signal
+import threading
 from typing import Any, Callable, Iterator, Protocol, Sequence
 
 from .judge import Unjudged
@@ -30,6 +35,7 @@ Task = Callable[[Any, Any], Any]
 def work(make: Callable[[], Worker], items: Any, results: Any) -> None:
     """What a worker does: pairs of a number and a list of tasks with their items, until there is None."""
     signal.signal(signal.SIGINT, signal.SIG_IGN)
+    threading.Thread(target=end_with_parent, daemon=True).start()
     worker = make()
     try:
         while (taken := items.get()) is not None:
@@ -41,6 +47,14 @@ def work(make: Callable[[], Worker], items: Any, results: Any) -> None:
         results.put(("failed", 0, f"the reference could not be judged: {fault}", ""))
     finally:
         worker.process.close()
+
+
+def end_with_parent() -> None:
+    """Ends this process at once when the one ends that started it. The watchdog of its nodes ends them then."""
+    parent = multiprocessing.parent_process()
+    if parent:
+        multiprocessing.connection.wait([parent.sentinel])
+        os._exit(1)
 
 
 class Fleet:

@@ -48,16 +48,16 @@ VOTES_TWICE = """\
 votes.txt:13: stabilize: role leader for follower of node 1 after MsgVote at a candidate
 - 1 follower term=1 vote=1 lead=0 commit=2 applied=2 content=0:""
 + 1 leader term=1 vote=2 lead=1 commit=2 applied=2 content=0:""
-votes.txt:13: promise broken: one vote a term: 1 voted for 1 and 2 in term 1
-votes.txt:13: promise broken: a vote that is told is kept: 1 grants 2 its vote, and voted for 1
+votes.txt:13: promise broken: one vote per term: 1 voted for 1 and 2 in term 1
+votes.txt:13: promise broken: a granted vote is kept: 1 grants 2 its vote, and voted for 1
 votes.txt:13: promise broken: a leader has a quorum of votes: 1 leads in term 1 by [1]
-votes.txt:13: promise broken: one leader a term: 1 and 2 lead in term 1
+votes.txt:13: promise broken: one leader per term: 1 and 2 lead in term 1
 plain, compared by states:
      1  role leader for follower after MsgVote at a candidate
-     1  promise broken: one vote a term
-     1  promise broken: a vote that is told is kept
+     1  promise broken: one vote per term
+     1  promise broken: a granted vote is kept
      1  promise broken: a leader has a quorum of votes
-     1  promise broken: one leader a term
+     1  promise broken: one leader per term
 1 script, 0 without a difference; 3 of 4 directives agree up to each script's first difference (75.0 %), 0 left out, 0.2 s
 """
 CONVERSATION = TOP / "nodes" / "conversation.txt"
@@ -279,10 +279,10 @@ class Told(Node):
 A, B = (1, b"a"), (1, b"b")
 # Nodes, one after the other, and the promise that is broken by it, if one is (Ongaro's thesis, figure 3.2, and 3.4).
 TOLD = [
-    ("one leader a term", [Told(1, 2, "leader"), Told(2, 2, "leader")]),
+    ("one leader per term", [Told(1, 2, "leader"), Told(2, 2, "leader")]),
     (None, [Told(1, 2, "leader"), Told(2, 3, "leader"), Told(1, 4, "leader")]),
-    ("one vote a term", [Told(1, 2, vote=1), Told(1, 2, vote=2)]),
-    ("one vote a term", [Told(1, 2, vote=1), Told(1, 2), Told(1, 2, vote=3)]),
+    ("one vote per term", [Told(1, 2, vote=1), Told(1, 2, vote=2)]),
+    ("one vote per term", [Told(1, 2, vote=1), Told(1, 2), Told(1, 2, vote=3)]),
     (None, [Told(1, 2, vote=1), Told(1, 3, vote=2), Told(2, 3, vote=1)]),
     ("terms and commits don't fall", [Told(1, 2), Told(1, 1)]),
     ("terms and commits don't fall", [Told(1, 2, commit=1, log=[A]), Told(1, 2, log=[A])]),
@@ -290,10 +290,10 @@ TOLD = [
     ("logs match", [Told(1, 2, log=[A, (2, b"c")]), Told(2, 2, log=[B, (2, b"c")])]),
     ("logs match", [Told(1, 2, log=[A]), Told(2, 2, log=[B])]),
     (None, [Told(1, 2, log=[A, (2, b"c")]), Told(2, 3, log=[A, (3, b"d")])]),
-    ("no two commit different entries", [Told(1, 2, commit=1, log=[A]), Told(2, 2, commit=1, log=[(2, b"a")])]),
-    ("no two apply different entries", [Told(1, 2, commit=1, applied=1, content=b"a", log=[A]), Told(2, 2, commit=1, applied=1, content=b"aa", log=[A])]),
-    ("a leader has what was committed", [Told(1, 2, commit=1, log=[A]), Told(2, 3, "leader")]),
-    ("a leader has what was committed", [Told(1, 2, commit=1, log=[A]), Told(2, 3, "leader", log=[(3, b"")])]),
+    ("no two nodes commit different entries", [Told(1, 2, commit=1, log=[A]), Told(2, 2, commit=1, log=[(2, b"a")])]),
+    ("no two nodes apply different entries", [Told(1, 2, commit=1, applied=1, content=b"a", log=[A]), Told(2, 2, commit=1, applied=1, content=b"aa", log=[A])]),
+    ("a leader has all committed entries", [Told(1, 2, commit=1, log=[A]), Told(2, 3, "leader")]),
+    ("a leader has all committed entries", [Told(1, 2, commit=1, log=[A]), Told(2, 3, "leader", log=[(3, b"")])]),
     (None, [Told(1, 2, commit=1, log=[A]), Told(2, 3, "leader", log=[A, (3, b"")])]),
 ]
 
@@ -319,7 +319,7 @@ def part_explore() -> Checks:
         yield "a bug is found", None if status == 1 and files else output + errors
         again, _, _ = tool("explore", *words[:-1], 1)
         yield "the same seeds give the same result", None if without_times(output) == without_times(again) else again
-        block = block_of("promise broken: one vote a term: in 4 scripts, the first with seed 0; 15 directives, shrunk to 4")
+        block = block_of("promise broken: one vote per term: in 4 scripts, the first with seed 0; 15 directives, shrunk to 4")
         yield "it is shown as in the document, and first", None if output.startswith(block) else output
         shortest = min((len(read_script(file.read_bytes()).blocks) for file in files), default=99)
         yield "its script is short", None if shortest <= 4 else f"{shortest} directives"
@@ -349,14 +349,14 @@ def part_explore() -> Checks:
 def results_of(folder: str, output: str, words: Sequence[object]) -> Checks:
     """Results for machines: JSON, shards that are merged, JUnit."""
     result = json.loads(pathlib.Path(f"{folder}/1.json").read_text())
-    yield "JSON has the first finding", None if result["kinds"][0]["kind"] == "promise broken: one vote a term" and len(result["kinds"][0]["steps"]) == 4 else f"{result}"
+    yield "JSON has the first finding", None if result["kinds"][0]["kind"] == "promise broken: one vote per term" and len(result["kinds"][0]["steps"]) == 4 else f"{result}"
     suite = xml.etree.ElementTree.parse(f"{folder}/1.xml").getroot()[0]
     failures = [case.get("name") for case in suite if case.find("failure") is not None]
     yield "JUnit has each kind", None if failures == [kind["kind"] for kind in result["kinds"]] and suite.get("failures") == str(len(failures)) else f"{failures}"
     for shard in (1, 2):
         tool("explore", *words[:2], "--count", 15, "--jobs", 2, "--shard", f"{shard}/2", "--json", f"{folder}/shard{shard}.json")
     merged, errors, status = tool("merge", f"{folder}/shard1.json", f"{folder}/shard2.json")
-    yield "shards are merged", None if status == 1 and " 30 scripts, " in merged and "one vote a term" in merged else merged + errors
+    yield "shards are merged", None if status == 1 and " 30 scripts, " in merged and "one vote per term" in merged else merged + errors
     _, errors, status = tool("merge", f"{folder}/1.xml")
     yield "merge takes results alone", None if status == 4 and "1.xml" in errors else errors
 

@@ -109,10 +109,10 @@ def part_promises() -> Checks:
         call("campaign", 1, state("leader", 1, 1, 1, 10)), call("campaign", 2, state("leader", 1, 2, 2, 10)),
     ]
     kinds = [found.kind for found in findings(pairs)]
-    yield "two leaders", expect(1, kinds.count("promise broken: one leader a term"))
+    yield "two leaders", expect(1, kinds.count("promise broken: one leader per term"))
     yield "votes of a quorum", expect(2, kinds.count("promise broken: a leader has a quorum of votes"))
     kinds = [found.kind for found in findings(pairs, is_ordered=False)]
-    yield "not in order", expect((1, 0), (kinds.count("promise broken: one leader a term"), kinds.count("promise broken: a leader has a quorum of votes")))
+    yield "not in order", expect((1, 0), (kinds.count("promise broken: one leader per term"), kinds.count("promise broken: a leader has a quorum of votes")))
     falls = [HELLO, start(1, state("follower", 0, 0, 0, 10)), call("tick", 1, state("follower", 0, 0, 0, 12)), call("tick", 1, state("follower", 0, 0, 0, 11))]
     yield "a commit that falls", expect(1, [found.kind for found in findings(falls)].count("promise broken: terms and commits don't fall"))
     by_hand = [*falls[:2], call("changed", 1, state("leader", 3, 1, 1, 12)), *falls[2:]]

@@ -3,16 +3,21 @@ scripts, exceptions. Each part generates pairs of a name and what is wrong, or N
 """
 from __future__ import annotations
 
+import pathlib
 import re
-from collections.abc import Iterator
+import tempfile
+from collections.abc import Iterator, Sequence
 from typing import Callable
 
-from nodes.hosted.accepted import exceptions_of
+from nodes.hosted.accepted import Accepted, exceptions_of
 from nodes.hosted.alone import run_alone
 from nodes.hosted.compare import Comparison
 from nodes.hosted.dice import steps_of
+from nodes.hosted.explorer import Chosen, Explorer, Found, Spec
+from nodes.hosted.judge import Judge
 from nodes.hosted.likes import Unknown, kind_with
 from nodes.hosted.mutate import Mutator
+from nodes.hosted.plan import asked_at_once, plan_of
 from nodes.hosted.process import Process
 from nodes.hosted.promises import PROMISES, name_of
 from nodes.hosted.script import Step, blocks_of
@@ -67,7 +72,7 @@ def part_steps() -> Checks:
     table = (TOP / "docs/OWN-NODES.md").read_text().split("| Step | Does |")[1].split("\n\n")[0]
     texts = [text for row in table.splitlines()[2:] for text in re.findall(r"`(# [^`]*|before advance|release 2 1|snapshot-arrived 1 2)`", row.split("|")[1])]
     full = [{"before advance": "# node: crash 2 before advance", "release 2 1": "# network: release 2 1", "snapshot-arrived 1 2": "# node: snapshot-arrived 1 2"}.get(text, text) for text in texts]
-    yield "the document names all", is_equal(len(full), 16)
+    yield "the document names all", is_equal(len(full), 17)
     for text in full:
         step = step_of(text)
         yield text, is_equal(step and step.text(), text)
@@ -85,6 +90,11 @@ def part_network() -> Checks:
     for name, wanted in (("late", [2, 3, 1]), ("reverse", [3, 2, 1]), ("double", [1, 2, 3, 3, 2, 1])):
         cluster = run(Reference(), "add-nodes 2 voters=(1,2) index=10", *["campaign 1", "process-ready 1"] * 3, f"# network: {name} 2 / raft-state")
         yield name, is_equal([m.term for m in cluster.network.pending if m.to == 2], wanted)
+    asked = run(Reference(), *begun, "deliver-msgs 2", "process-ready 2", "deliver-msgs 3", "# network: again 2 1 / raft-state")
+    yield "again", is_equal([(m.kind, m.sender, m.to, m.term) for m in asked.network.pending if m.to == 2], [("MsgVote", 1, 2, 1)])
+    run(asked, "deliver-msgs 2", "process-ready 2")
+    yield "it grants its vote once more (thesis, 3.4)", is_equal([(m.kind, m.refused) for m in asked.network.pending if m.sender == 2], [("MsgVoteResp", False)] * 2)
+    yield "nothing that wasn't delivered comes again", is_equal(run(Reference(), *begun, "# network: again 1 2 / raft-state").network.pending[2:], [])
     cluster = run(Reference(), "add-nodes 2 voters=(1,2) index=10", "campaign 1", "stabilize", "propose 1 a", "propose 1 b", "process-ready 1", "# network: cut 2 0 / raft-state")
     yield "cut", is_equal([len(m.entries) for m in cluster.network.pending], [0, 0])
 
@@ -203,9 +213,9 @@ BREAKING: list[tuple[type[Node], tuple[str, ...], set[str]]] = [
     (Node, (*BEGUN, "# node: restart 2 / raft-state", "# node: crash 1 before save / stabilize"), set()),
     (Node, (*BEGUN, "campaign 2", "# node: crash 2 before save / raft-state", "campaign 2", "stabilize"), set()),
     (ForgetsVote, (*BEGUN, "# node: restart 2 / raft-state"), {"a restart keeps term and vote"}),
-    (ForgetsEntries, (*BEGUN, "# node: restart 2 / raft-state"), {"a restart keeps saved entries", "a restart keeps what was acknowledged"}),
+    (ForgetsEntries, (*BEGUN, "# node: restart 2 / raft-state"), {"a restart keeps saved entries", "a restart keeps acknowledged entries"}),
     (ForgetsEntries, ("add-nodes 3 voters=(1,2,3) index=10", "# node: restart 2 / raft-state"), set()),
-    (Acknowledges, BEGUN, {"what is acknowledged is held"}),
+    (Acknowledges, BEGUN, {"acknowledged entries are held"}),
     (CommitsAlone, ("add-nodes 3 voters=(1,2,3) index=10", "campaign 1", "process-ready 1", "deliver-msgs 2", "process-ready 2", "deliver-msgs 1", "propose 1 a", "process-ready 1"), {"a quorum holds what a leader commits"}),
 ]
 
@@ -231,8 +241,8 @@ def part_alone() -> Checks:
 
 
 def part_exceptions() -> Checks:
-    yield "a promise with its reason", is_equal(exceptions_of(["one vote a term: we know"]), frozenset({"one vote a term"}))
-    for wrong in ("one vote a term", "no such promise: why", "one vote a term: "):
+    yield "a promise with its reason", is_equal(exceptions_of(["one vote per term: we know"]), frozenset({"one vote per term"}))
+    for wrong in ("one vote per term", "no such promise: why", "one vote per term: "):
         try:
             exceptions_of([wrong])
             yield wrong, "is taken"
@@ -266,6 +276,12 @@ def part_other_switches() -> Checks:
     asks = ("campaign 3", "process-ready 3", "deliver-msgs 2")
     yield "known-leader-refuses", is_equal([run(Reference(), *changed, *asks).nodes[2].term, switched("known-leader-refuses", *changed, *asks).nodes[2].term], [2, 1])
     yield "lead-is-kept", is_equal([run(Reference(), *changed, *asks).nodes[2].lead, switched("lead-is-kept", *changed, *asks).nodes[2].lead], [0, 1])
+    # hashicorp/raft 1.1.2, replication.go: handleStaleTerm notifies stepDown, and heartbeat doesn't look at resp.Term.
+    for name, kind, wanted in (("stale-leader-keeps-term", "MsgAppResp", ("follower", 1, 1, 0)), ("heartbeat-answers-have-no-term", "MsgHeartbeatResp", ("leader", 1, 1, 1))):
+        pair = run(Reference(), *changed).nodes[1], switched(name, *changed).nodes[1]
+        for node in pair:
+            node.step(Message(kind, 2, 1, 7))
+        yield name, is_equal([(node.role, node.term, node.vote, node.lead) for node in pair], [("follower", 7, 0, 0), wanted])
     applied = ("propose 1 a", "stabilize", "# node: restart 2 / raft-state")
     yield "restart-keeps-applied", is_equal([run(Reference(), *changed, *applied).nodes[2].content, switched("restart-keeps-applied", *changed, *applied).nodes[2].content], [b"", b"a"])
     snapshots = [cluster.nodes[1].snapshot_for(2).snapshot for cluster in (run(Reference(), *changed), switched("last-snapshot-sent", *changed))]
@@ -312,6 +328,65 @@ def part_children() -> Checks:
     yield "the same seed gives the same script", is_equal(parents, [steps_of(seed) for seed in range(8)])
 
 
+# Asking at once
+
+
+def explored(command: str, numbers: Sequence[int], has_batch: bool) -> list[Found]:
+    """What scripts of the default search come to, of which every sixth is held to promises alone."""
+    process = Process(command.split(), 60.0, 600.0)
+    try:
+        process.reset()
+        process.hello = process.hello._replace(has_batch=has_batch)
+        comparison = Comparison(aspects=frozenset({"views", "messages", "ready"}))
+        explorer = Explorer(process, Judge(is_asked=False), Chosen(comparison, "mixed", 6, Accepted()))
+        return [explorer.explore(Spec(number, number, number % 6 == 5)) for number in numbers]
+    finally:
+        process.close()
+
+
+def part_at_once() -> Checks:
+    """Nodes that do as the reference are asked all of a script at once, also where the network cuts appends, and by the promises alone; and what is found is
+    what is found one call at a time."""
+    plain = str(TOP / "nodes" / "plain")
+    slow = [found.spec.number for found in explored(plain, [0, 1, 2, 3, 5, 11, 17, 23], True) if not found.was_quick]
+    yield "nodes without a bug are asked at once", is_equal(slow, [])
+    for bug in ("votes-twice", "restart-forgets-vote"):
+        quick, each = (explored(f"{plain} --bug {bug}", [0, 1, 11, 17], has_batch) for has_batch in (True, False))
+        yield f"{bug}: the same is found", is_equal([found.kinds for found in quick], [found.kinds for found in each])
+        yield f"{bug}: something is found", None if any(found.kinds for found in each) else "nothing"
+    process = Process(plain, 60.0, 600.0)
+    try:
+        process.reset()
+        cut = script(*BEGUN, "propose 1 b", "propose 1 c", "process-ready 1", "# network: cut 2 0 / deliver-msgs 2", "process-ready 2", "deliver-msgs 1", "stabilize")
+        plan = plan_of(blocks_of(cut), process, Comparison())
+        process.record = []
+        yield "a cut append", is_equal(asked_at_once(plan, process, Comparison()), True)
+        taken = [call["message"]["entries"] for call, _ in process.record if "message" in call]
+        yield "is what the process gave, cut", is_equal(taken, [[], []])
+    finally:
+        process.close()
+
+
+def part_known_failures() -> Checks:
+    """What comes after a call that fails as one knows is asked at once too."""
+    failing = [str(TOP / "tests" / "nodes" / "bad_node.py"), "errs", "forget_leader"]
+    process = Process(failing, 60.0, 600.0)
+    with tempfile.NamedTemporaryFile("w", suffix=".txt") as file:
+        file.write("*\tfailed forget_leader (error: not today) at a follower\tnot today\n")
+        file.flush()
+        explorer = Explorer(process, Judge(is_asked=False), Chosen(Comparison(), "mixed", 0, Accepted(pathlib.Path(file.name))))
+        try:
+            process.reset()
+            process.hello = process.hello._replace(has_batch=True)
+            steps = script(*BEGUN, "forget-leader 2", "propose 1 b", "stabilize")
+            left, plan = explorer.agreed_at_once(steps, plan_of(blocks_of(steps), process, Comparison()))
+        finally:
+            process.close()
+    yield "the script goes on without it", is_equal([step.head for step in left], [*BEGUN, "propose 1 b", "stabilize"])
+    yield "and agrees", None if plan else "it doesn't"
+
+
 UNITS: list[Callable[[], Checks]] = [
     part_steps, part_network, part_restarts, part_between, part_reads, part_limits, part_promises_of_restarts, part_alone, part_exceptions, part_other_switches, part_shrinking, part_children,
+    part_at_once, part_known_failures,
 ]
