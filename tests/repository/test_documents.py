@@ -1,6 +1,7 @@
-"""Compares the documents with the tree. docs/PROOFS.md names each law, and only functions that are there. Links lead to files. The version's toolchain
-is README.md's. Documents keep to their numbers of words, and no old name of a document is left.
+"""Compares the documents with the tree. docs/PROOFS.md names each law, and only functions and clauses that are there. What docs/READING.md shows of a file
+stands in it. Links lead to files. The version's toolchain is README.md's. Documents keep to their numbers of words, and no old name of a document is left.
 """
+import collections
 import pathlib
 import re
 import subprocess
@@ -10,6 +11,11 @@ from tests.harness import TOP
 from tests.repository.promises import bodies_of, functions_of, laws_of
 
 NAME = r"[a-z0-9]+(?:_[a-z0-9]+)+"
+# A function, and in brackets behind it some of its clauses.
+CLAUSES = re.compile(r"`([\w:]+)` \(((?:`\w+`(?:, )?)+)\)")
+# What names contracts; elsewhere a name before brackets is a command or a field.
+OF_CONTRACTS = ("README.md", "docs/ARCHITECTURE.md", "docs/DECISIONS.md", "docs/MEASURES.md", "docs/READING.md")
+DOCUMENTS = [TOP / "README.md", *sorted((TOP / "docs").glob("*.md"))]
 
 
 def parts() -> Iterator[tuple[list[str], str]]:
@@ -22,7 +28,7 @@ def parts() -> Iterator[tuple[list[str], str]]:
 
 def named_functions(text: str) -> set[str]:
     """What the last cells of a part's tables name, as `function` or `Type::function`."""
-    cells = [row.split("|")[2] for row in re.findall(r"^\|.*\|$", text, re.M)]
+    cells = [CLAUSES.sub(r"`\1`", row.split("|")[2]) for row in re.findall(r"^\|.*\|$", text, re.M)]
     return set(re.findall(r"`([\w:]+)`", " ".join(cells)))
 
 
@@ -32,6 +38,55 @@ def test_named_functions_are_there() -> Iterator[str]:
         there = {name for crate in crates for it in functions_of(crate) if it.clauses for name in (it.name, it.name.split("::")[-1])}
         for name in sorted(named_functions(text) - there):
             yield f"{', '.join(crates)}: {name} isn't there, or has no clause"
+
+
+def clauses_by_function(crates: list[str]) -> dict[str, set[str]]:
+    """The clauses of the functions of crates, by a function's name and by that with its type before it."""
+    found: dict[str, set[str]] = collections.defaultdict(set)
+    for crate in crates:
+        for it in functions_of(crate):
+            for name in {it.name, it.name.split("::")[-1]}:
+                found[name] |= set(it.clauses)
+    return found
+
+
+def strange_clauses(text: str, there: dict[str, set[str]]) -> Iterator[str]:
+    """The clauses that a text names and that their function hasn't."""
+    for name, listed in CLAUSES.findall(text):
+        for clause in re.findall(r"\w+", listed):
+            if clause not in there.get(name, ()):
+                yield f"{name} has no clause {clause}"
+
+
+def test_named_clauses_are_there() -> Iterator[str]:
+    """The clauses in brackets behind a function are its clauses: in a part of docs/PROOFS.md in that part's crates, elsewhere in any crate."""
+    count = 0
+    for crates, text in parts():
+        there = clauses_by_function(crates)
+        count += len(CLAUSES.findall(text))
+        yield from (f"docs/PROOFS.md, {', '.join(crates)}: {it}" for it in strange_clauses(text, there))
+        # A clause of another name is seen.
+        for name, listed in CLAUSES.findall(text):
+            wrong = re.sub(r"\w+", r"\g<0>_too", listed)
+            if len(list(strange_clauses(f"`{name}` ({wrong})", there))) != len(listed.split(", ")):
+                yield f"docs/PROOFS.md: a wrong clause of {name} isn't seen"
+    if count < 20:
+        yield f"docs/PROOFS.md names the clauses of {count} functions, and named those of 20 or more"
+    everywhere = clauses_by_function([path.name for path in sorted((TOP / "crates").iterdir())])
+    for name in OF_CONTRACTS:
+        yield from (f"{name}: {it}" for it in strange_clauses((TOP / name).read_text(), everywhere))
+
+
+def test_excerpts_are_of_their_files() -> Iterator[str]:
+    """Each line that docs/READING.md shows stands in the file that is named before it, in this order; `..` stands for what is left out."""
+    shown = re.findall(r"(crates/[\w/.]+)[^`\n]*:\n\n```\n(.*?)```", (TOP / "docs" / "READING.md").read_text(), re.S)
+    if len(shown) < 5:
+        yield f"docs/READING.md has {len(shown)} excerpts, and had 5"
+    for path, text in shown:
+        left = iter((TOP / path).read_text().splitlines())
+        for line in text.splitlines():
+            if line.strip() not in ("", "..") and not any(line.strip() == it.strip() for it in left):
+                yield f"docs/READING.md: {path} hasn't the line {line.strip()}"
 
 
 def test_each_law_is_named() -> Iterator[str]:
@@ -46,7 +101,7 @@ def test_each_law_is_named() -> Iterator[str]:
 def test_telling_bodies_are_tried() -> Iterator[str]:
     """The wrong bodies of the bugs that would matter most, named as `rb_crate's name, name`, are tried by the gate."""
     part = (TOP / "docs" / "PROOFS.md").read_text().split("## The bugs that would matter most\n")[1].split("\n## ")[0]
-    telling = [(crate, name) for crate, names in re.findall(rf"\b(rb_\w+|raftbench)'s ({NAME}\b(?:,\s{NAME}\b(?!'s))*)", part) for name in re.findall(NAME, names)]
+    telling = [(crate, name) for crate, names in re.findall(rf"\b(rb_\w+|raftbench)'s\s({NAME}\b(?:,\s{NAME}\b(?!'s))*)", part) for name in re.findall(NAME, names)]
     if len(telling) < 20:
         yield f"docs/PROOFS.md names {len(telling)} wrong bodies, and should name 20"
     for crate, name in telling:
@@ -56,7 +111,7 @@ def test_telling_bodies_are_tried() -> Iterator[str]:
 
 def test_links_lead_to_files() -> Iterator[str]:
     """Each path of the repository that a document names is there."""
-    for document in [TOP / "README.md", *sorted((TOP / "docs").glob("*.md"))]:
+    for document in DOCUMENTS:
         for path in re.findall(r"\b(?:docs|examples|bench|tests|editors)/[A-Za-z0-9_./-]+", document.read_text()):
             place = TOP / path.rstrip("./")
             # A case is named without its ending.
@@ -86,7 +141,7 @@ MOST_WORDS_IN_ALL = 30000
 
 
 def test_documents_are_short() -> Iterator[str]:
-    counts = {str(path.relative_to(TOP)): len(path.read_text().split()) for path in [TOP / "README.md", *sorted((TOP / "docs").glob("*.md"))]}
+    counts = {str(path.relative_to(TOP)): len(path.read_text().split()) for path in DOCUMENTS}
     for name, count in counts.items():
         if count > MOST_WORDS.get(name, 0):
             yield f"{name} has {count} words, and {MOST_WORDS.get(name, 0)} are allowed"

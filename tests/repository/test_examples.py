@@ -33,6 +33,21 @@ def test_scripts() -> Iterator[str]:
             yield f"{path.relative_to(TOP)}: is rewritten to {rewritten + told!r}"
 
 
+def test_recipes() -> Iterator[str]:
+    """The list of examples/how-do-i names each of its eight scripts, each begins with its question, and `check` finds nothing to say of them."""
+    folder = TOP / "examples" / "how-do-i"
+    rows = re.findall(r"^\| (.*) \| \[(.*)\]\((.*)\) \|$", (folder / "README.md").read_text(), re.M)
+    if sorted(name for _, name, _ in rows) != sorted(path.name for path in folder.glob("*.txt")) or len(rows) < 8:
+        yield f"its README.md names {rows}"
+    for question, name, link in rows:
+        first = (folder / name).read_text().split("\n")[0]
+        if first != f"# How do I {question.replace('`', '')}?" or link != name:
+            yield f"{name} begins with {first!r}"
+    status, report, told = answer("check", folder)
+    if status != 0 or not re.fullmatch(rb"%d scripts, \d+ directives, 0 mismatches, 0 refused, \d+\.\d{3} s\n" % len(rows), report) or told:
+        yield f"check says {report + told!r}"
+
+
 def test_conversation() -> Iterator[str]:
     """The recorded conversation is held again, and docs/USING.md shows it."""
     sent, wanted = (TALK / "sent.txt").read_bytes(), (TALK / "answered.txt").read_bytes()

@@ -138,7 +138,7 @@ def name_faults(texts: dict[str, str]) -> Iterator[str]:
 
 # Lines that name what rb_replay may not, rows by which it would name rb_cluster or build on a crate that does, and a type and a trait with another's name.
 WRONG_LINES = [
-    "use rb_machine::{Machine, Screen};",
+    "use rb_machine::{Machine, PrintedLines};",
     "let meter = M::Meter::new();",
     "let meter = Meter::new();",
     "use rb_cluster::Meter;",
