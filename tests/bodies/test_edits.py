@@ -1,10 +1,14 @@
-"""Looks at each wrong body that is kept, tried or not: its texts are in the sources, once, and its function is there."""
+"""Looks at each wrong body that is kept, tried or not: its texts are in the sources, once, and its function is there.
+
+Those of crates/CRATE/must-fail too: `rt ci` passes over one that can't be made.
+"""
+import pathlib
 import re
 from collections.abc import Iterator
 
 from tests.bodies.crates import Crate, crates_of
 from tests.bodies.edits import HEAD, BadEdit, Edit, read_edits, texts_with
-from tests.harness import TESTS, Result
+from tests.harness import TESTS, TOP, Result
 
 BODIES = TESTS / "bodies"
 MANY = 1_000
@@ -41,10 +45,29 @@ def problems_of(edit: Edit | BadEdit, crate: Crate) -> Iterator[str]:
         yield str(error)
 
 
+def lost_texts(path: pathlib.Path) -> Iterator[str]:
+    """The old texts of an edit in a crate's must-fail/ that aren't in their file, or more than once."""
+    text, count = "", 0
+    for line in path.read_text().splitlines():
+        key, _, value = line.partition(": ")
+        if key == "file":
+            text = (path.parents[1] / value.strip()).read_text()
+        elif key == "old":
+            count += 1
+            if text.count(value) != 1:
+                yield f"an old text stands {text.count(value)} times in its file: {value.strip()}"
+    if not count:
+        yield "it changes nothing"
+
+
 def results(word: str) -> Iterator[Result]:
     """Each edit of each crate, and that there are as many as ever."""
     crates = crates_of()
     count = 0
+    for path in sorted(TOP.glob("crates/*/must-fail/*.edit")):
+        name = f"{path.parents[1].name}/must-fail/{path.stem}"
+        if word in name:
+            yield Result(name, tuple(lost_texts(path)))
     for path in sorted(BODIES.glob("*.edits")):
         if path.stem == "trials":
             continue

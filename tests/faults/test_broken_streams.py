@@ -223,7 +223,7 @@ def failing_reads(room: Room) -> Iterator[Call]:
 
 
 def failing_writes(room: Room) -> Iterator[Call]:
-    """Each write of one byte fails in turn, or takes none, and so do all later ones; or it alone. One that a signal interrupts is made again."""
+    """Each write of one byte fails in turn, or takes none, and so do all later ones; or it alone. One that a signal interrupts has failed."""
     for words, given, wanted in (
         (room.talks, TALK, wanted_talk(TALK)),
         (["run", "-"], SCRIPT, wanted_run("run", SCRIPT)),
@@ -234,11 +234,9 @@ def failing_writes(room: Room) -> Iterator[Call]:
             yield partial(failing_write, room, words, given, wanted, n, kind)
 
 
-def failing_write(room: Room, words: list[str], given: bytes, wanted: Answer, n: int, kind: int, is_made_again: bool = True) -> str | None:
+def failing_write(room: Room, words: list[str], given: bytes, wanted: Answer, n: int, kind: int) -> str | None:
     name, what = f"{words}, write {n} fails with {kind}", {"ONE_BYTE": 1, "WRITE_FAILS": n, "WITH": kind}
     alone = answer(words, given, room.with_calls(**what))
-    if kind == errno.EINTR and is_made_again:
-        return difference(name, alone, wanted)
     # What is left in a buffer may go out at the end, after a write that failed alone: a beginning of the text all the same.
     output, errors, status = alone
     if (errors, status) != (FAILED, 4) or not wanted[0].startswith(output) or len(output) < n - 1:
@@ -270,8 +268,6 @@ def unread_check(room: Room, what: dict[str, int]) -> str | None:
 
 def failing_report(room: Room, what: dict[str, int]) -> str | None:
     name, n, alone = f"check with {what}", what["WRITE_FAILS"], checked(room, **what)
-    if what["WITH"] == errno.EINTR:
-        return difference(name, alone, (CHECKED, b"", 1))
     if alone[1:] != (UNSHOWN, 4) or not CHECKED.startswith(alone[0]) or len(alone[0]) < n - 1:
         return f"{name}: {alone!r} came"
     return difference(f"{name}, and all later ones", checked(room, FROM_THERE_ON=1, **what), (CHECKED[:n - 1], UNSHOWN, 4))
@@ -304,7 +300,7 @@ def failing_writes_of_a_server(room: Room) -> Iterator[Call]:
     yield lambda: difference("lsp", (unframed(wanted[0]), *wanted[1:]), ([it for messages in due for it in messages], b"", 0))
     for n in range(1, len(wanted[0]) + 1, 3):
         kind = [errno.EIO, errno.ENOSPC, 0, errno.EINTR][n % 4]
-        yield partial(failing_write, room, ["lsp"], b"".join(sent), wanted, n, kind, is_made_again=False)
+        yield partial(failing_write, room, ["lsp"], b"".join(sent), wanted, n, kind)
 
 
 def full_files(room: Room) -> Iterator[Call]:

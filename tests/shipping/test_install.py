@@ -6,6 +6,7 @@ import itertools
 import pathlib
 import re
 import shutil
+import signal
 import stat
 import subprocess
 import sys
@@ -149,23 +150,23 @@ def test_fails_where_it_is_not_built(place: Clone) -> None:
     assert place.call([place.prefix])[0] == 70 and not place.prefix.exists()
 
 
-# The calls of `./install` that change something. Each is made to fail, or to kill the process, at each of its calls in turn.
+# The calls of `./install` that change something. Each is made to fail, or to send the process a signal, at each of its calls in turn.
 CHANGES = ["os.mkdir", "os.rename", "os.link", "os.replace", "os.chmod", "os.unlink", "os.rmdir", "shutil.copyfile"]
 
 
-def install_stopped_at(place: Clone, at: int, kills: bool, words: list[str]) -> tuple[int, str]:
-    """Runs `./install` in a process of its own whose change number `at` fails, or kills it. Returns its status, negative after a signal, and its errors."""
+def install_stopped_at(place: Clone, at: int, number: int, words: list[str]) -> tuple[int, str]:
+    """Runs `./install` in a process of its own whose change number `at` fails, or which gets a signal then. Returns its status, negative after a signal, and its errors."""
     driver = place.room / "stopped.py"
     driver.write_text(STOPPED)
     done = subprocess.run(
-        [sys.executable, driver, place.program, str(at), str(int(kills)), *CHANGES, "--", *words], capture_output=True, text=True, env=place.around, check=False
+        [sys.executable, driver, place.program, str(at), str(int(number)), *CHANGES, "--", *words], capture_output=True, text=True, env=place.around, check=False
     )
     return done.returncode, done.stderr
 
 
 STOPPED = """
 import importlib.machinery, importlib.util, os, shutil, signal, sys
-_, path, at, kills, *rest = sys.argv
+_, path, at, number, *rest = sys.argv
 changes, words = rest[:rest.index("--")], rest[rest.index("--") + 1:]
 loader = importlib.machinery.SourceFileLoader("install", path)
 module = importlib.util.module_from_spec(importlib.util.spec_from_loader("install", loader))
@@ -176,9 +177,9 @@ def stopping(change):
     def stopped(*words, **how):
         global left
         left -= 1
-        if left == 0 and kills == "1":
-            os.kill(os.getpid(), signal.SIGKILL)
-        if left == 0:
+        if left == 0 and number != "0":
+            os.kill(os.getpid(), int(number))
+        elif left == 0:
             raise OSError(28, "no room is left")
         return change(*words, **how)
     return stopped
@@ -215,7 +216,7 @@ def test_failures_leave_what_was_there(place: Clone) -> None:
             before = tree(place.prefix)
             place.write("made", NEXT_PROGRAM)
             place.is_built_already()
-            status, told = install_stopped_at(place, at, False, [str(place.prefix)])
+            status, told = install_stopped_at(place, at, 0, [str(place.prefix)])
             if "all done" in told:
                 break
             # Removing what is temporary may fail: all is installed then, and the next call removes it.
@@ -228,6 +229,31 @@ def test_failures_leave_what_was_there(place: Clone) -> None:
         assert at > 40 and files_of(place.prefix) == wanted, (at, told)
 
 
+def test_interrupts_leave_what_was_there(place: Clone) -> None:
+    """A signal before any third change: everything is as before, or all is installed where the signal comes too late."""
+    wanted, stopped = few_files(place), 0
+    for number, is_there in itertools.product((signal.SIGINT, signal.SIGTERM, signal.SIGHUP), (False, True)):
+        for at in itertools.count(1 + number % 3, 3):
+            shutil.rmtree(place.prefix, ignore_errors=True)
+            place.write("made", PROGRAM)
+            place.is_built_already()
+            if is_there:
+                place.install()
+            before = tree(place.prefix)
+            place.write("made", NEXT_PROGRAM)
+            place.is_built_already()
+            status, told = install_stopped_at(place, at, number, [str(place.prefix)])
+            if status == 0:
+                assert files_of(place.prefix) == wanted and (place.prefix / "bin/raftbench").read_text() == NEXT_PROGRAM, (number, at, told)
+            else:
+                stopped += 1
+                assert status == 1 and "interrupted" in told and tree(place.prefix) == before, (number, at, status, told, tree(place.prefix))
+            assert not list(place.room.glob(".raftbench-*")), (number, at)
+            if status == 0:
+                break
+    assert stopped > 60, stopped
+
+
 def test_a_killed_call_is_made_good(place: Clone) -> None:
     """Killed at any change, each file is an old or a new one, and whole; the next call installs all, or removes all."""
     wanted = few_files(place)
@@ -238,7 +264,7 @@ def test_a_killed_call_is_made_good(place: Clone) -> None:
             shutil.rmtree(place.prefix, ignore_errors=True)
             if is_there:
                 place.install()
-            status, told = install_stopped_at(place, at, True, [str(place.prefix)])
+            status, told = install_stopped_at(place, at, signal.SIGKILL, [str(place.prefix)])
             if "all done" in told:
                 assert status == 0, told
                 break
@@ -405,6 +431,15 @@ def completes(place: Clone, shell: str) -> None:
         assert offered(*words.split(" ")) == wanted, (words, offered(*words.split(" ")))
     for words, one in (("run --every 1", "16"), ("check --a", "--accept"), ("chart --u", "--until")):
         assert one in [word.rstrip("=") for word in offered(*words.split(" "))], words
+
+
+def test_bash_completes_after_an_equals_sign(place: Clone) -> None:
+    """bash gives `--color=al` as three words, and `--color=` as two."""
+    for given, wanted in (
+        (["--color", "=", "al"], ["always"]), (["--color", "="], ["always", "auto", "never"]), (["--format", "=", "j"], ["json"]),
+        (["--format", "="], ["github", "json", "text"]), (["--every", "=", "6"], ["64"]), (["--filter", "="], []), (["--filter", "=", "s"], []),
+    ):
+        assert completed_by_bash(["raftbench", "check", *given], place) == wanted, given
 
 
 def test_completes_in_each_shell(place: Clone) -> None:

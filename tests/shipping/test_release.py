@@ -1,5 +1,5 @@
-"""Releases from a small clone whose program only pretends, and looks at the archive: what is in it, what PROOF says, and that a second run,
-by another clone and under other settings, gives the same bytes. Where the program is built, it is started in a bare root folder
+"""Releases from a small clone whose program and toolchain only pretend, and looks at the archive: what is in it, what PROOF says, that only what the
+toolchain says is proved is packed, and that a second run, by another clone and under other settings, gives the same bytes. Where the program is built, it is started in a bare root folder
 that has nothing but what the system's loader lists, and docs/USING.md's hook and jobs are carried out with an archive of it.
 """
 import hashlib
@@ -8,7 +8,9 @@ import pathlib
 import re
 import shutil
 import subprocess
+import sys
 import tarfile
+import time
 from typing import Any
 
 from tests.harness import BUILT, TOP, NotHere, matched
@@ -16,12 +18,15 @@ from tests.shipping.places import Place, kept, put_program
 
 KIT = "kit-1 logic ab"
 PRETENDING = f"#!/bin/sh\n[ \"$1\" = --version ] && echo 'raftbench 1.2.3, proved with {KIT}'\nexit 0\n"
-# It proves nothing, and makes a program if it is told to prove first, with what is kept of a build.
-WRAPPER = """#!/bin/sh
-[ "$RAFTBENCH_PROVE_FIRST ${RAFTBENCH_BUILT_AFTER-no} ${RAFTBENCH_UNPROVED-no}" = "1 no no" ] || exit 9
-cd "$(dirname "$0")" && mkdir -p crates/raftbench/out && cp made crates/raftbench/out/raftbench
-printf '%s\\n' 'a sum' 'another' low mid raftbench >crates/raftbench/out/built.sums
+# It says its kit, and does what the file `ci` says in a folder that has the program's crates alone.
+TOOLCHAIN = """#!/bin/sh
+case $1 in version) cat "$PLACE/kit" ;; ci) [ ! -e crates/other ] && . "$PLACE/ci" ;; *) exit 9 ;; esac
 """
+# One crate was proved before. The program is made of the commit's files.
+PROVES = """mkdir -p crates/raftbench/out && cp made crates/raftbench/out/raftbench
+printf '%s\n' 'rt: low proved' 'rt: mid is kept: an earlier run' '== raftbench' 'rt: raftbench proved' '3 passed, 0 failed'
+"""
+ROWS = "# rows\nlow:\nraftbench: mid clap\nother: low\nmid: low # as other does\n"
 CRATES = ("low", "mid", "other", "raftbench")
 SAVE = ["-c", "user.name=x", "-c", "user.email=x@x", "commit", "-q", "-m", "one"]
 MATCHING = "add-nodes 1 voters=(1) index=10\n----\nINFO 1 started at 1/10 with voters=(1)\n"
@@ -33,20 +38,37 @@ class Clone(Place):
     def __init__(self, room: pathlib.Path) -> None:
         # No setting of whoever runs this.
         os.environ.update(GIT_CONFIG_GLOBAL=os.devnull, GIT_CONFIG_NOSYSTEM="1")
-        super().__init__(room, "release", "install", "README.md", "share", "editors", "docs", "examples")
+        super().__init__(room, "release", "raftbench", "install", "README.md", "share", "editors", "docs", "examples", "nodes", "plain", "tests/cases/rules")
+        (self.clone / "tests/nodes").mkdir()
+        shutil.copy(TOP / "tests/nodes/bugs.txt", self.clone / "tests/nodes")
         for name in CRATES:
             self.write(f"crates/{name}/src/lib.rt", f"{name}\n")
         self.write(".gitignore", "out/\n")
-        self.write("raftbench", WRAPPER)
+        self.write("crates.txt", ROWS)
         self.write("made", PRETENDING)
+        put_program(self.room / "tools/rt", TOOLCHAIN)
+        self.says(PROVES)
+        self.around |= {"PATH": f"{self.room}/tools:{self.around['PATH']}", "PLACE": str(self.room)}
         self.git("init", "-q")
         self.save()
+
+    def says(self, ci: str, kit: str = KIT) -> None:
+        """What the toolchain does, and its kit."""
+        (self.room / "ci").write_text(ci)
+        (self.room / "kit").write_text(f"{kit}\n")
+
+    def fails(self, wanted: str) -> None:
+        """Nothing is packed, and this is told."""
+        status, output, told = self.call("")
+        assert (status, output) == (1, "") and wanted in told, (status, output, told)
+        assert not list(self.room.glob("*.tar.gz")) and not list(self.room.glob(".raftbench*")), "something is packed"
 
     def take_the_built(self) -> None:
         """The program that is built, where it is."""
         if not BUILT.exists():
             raise NotHere
         shutil.copy(BUILT, self.clone / "made")
+        self.says(PROVES, matched(r", proved with (.*)$", subprocess.run([BUILT, "--version"], capture_output=True, text=True, check=True).stdout)[1])
         self.save()
 
     def git(self, *words: str | pathlib.Path, at: pathlib.Path | None = None) -> str:
@@ -61,26 +83,32 @@ class Clone(Place):
     def archive(self, *words: str, **how: Any) -> pathlib.Path:
         status, output, told = self.call(words, **how)
         assert (status, told) == (0, ""), (status, output, told)
-        return self.room / output.strip()
+        return self.room / output.split()[0]
+
+
+def is_run(path: pathlib.Path) -> bool:
+    return path.is_file() and os.access(path, os.X_OK) and path.stat().st_mode & 0o100 != 0
 
 
 def test_has_what_is_used(place: Clone) -> None:
     path = place.archive()
-    assert path.name == f"raftbench-1.2.3-{os.uname().machine}.tar.gz", path
+    assert path.name == f"raftbench-1.2.3-{place.git('rev-parse', 'HEAD')[:10]}-{os.uname().machine}.tar.gz", path
     with tarfile.open(path) as packed:
         members = packed.getmembers()
     name = path.name.removesuffix(".tar.gz")
     assert [it.name for it in members] == sorted((it.name for it in members), key=lambda it: it.split("/")), "not in order"
     there = {it.name.removeprefix(f"{name}/") for it in members if it.isfile()}
     wanted = {"PROOF", "README.md", "bin/raftbench", "bin/raftbench-from-etcd"}
-    wanted |= {f"{it}/{path}" for it in ("docs", "examples") for path in kept(TOP / it)}
+    wanted |= {f"{it}/{path}" for it in ("docs", "examples", "nodes", "plain", "tests/cases/rules") for path in kept(TOP / it)} | {"tests/nodes/bugs.txt"}
     wanted |= {f"share/{path}" for path in kept(TOP / "share")}
     wanted |= {f"share/raftbench/editors/{path}" for path in kept(TOP / "editors") if path != "from-etcd"}
     assert there == wanted, there ^ wanted
     when = int(place.git("log", "-1", "--format=%ct"))
     for it in members:
         assert (it.uid, it.gid, it.mtime) == (0, 0, when), it.get_info()
-        assert it.mode == (0o755 if it.isdir() or f"{name}/bin/" in it.name else 0o644), it.get_info()
+        assert it.mode == (0o755 if it.isdir() or f"{name}/bin/" in it.name or is_run(TOP / it.name.removeprefix(f"{name}/")) else 0o644), it.get_info()
+    readme = read_from(path, "README.md").decode()
+    assert readme.startswith("# raftbench 1.2.3, unpacked\n\nYou have the proved program.") and readme.endswith((TOP / "README.md").read_text()), readme[:200]
     assert not list(place.room.glob(".raftbench*")), "something is left"
 
 
@@ -101,6 +129,35 @@ def test_says_what_was_proved(place: Clone) -> None:
     rows = re.findall(r"^(\w+) +proved +([0-9a-f]{40,})$", told, re.M)
     assert rows == [(name, place.git("rev-parse", f"HEAD:crates/{name}")) for name in ("low", "mid", "raftbench")], rows
     assert f"    git checkout {commit}\n" in told and "sha256sum crates/raftbench/out/raftbench" in told, told
+
+
+def test_packs_what_the_toolchain_has_proved(place: Clone) -> None:
+    """Not what stands in the program's place, though ./raftbench takes it for built from these sources."""
+    (place.room / "start").touch()
+    put_program(place.clone / "crates/raftbench/out/raftbench", f"#!/bin/sh\necho 'raftbench 1.2.3, proved with {KIT}'\n")
+    start = {"RAFTBENCH_BUILT_AFTER": str(place.room / "start")}
+    os.utime(place.clone / "crates/raftbench/out/raftbench", (time.time() + 5, time.time() + 5))
+    # ./raftbench is told that it was built after this moment, as ./test does.
+    assert place.call("run", program=place.clone / "raftbench", around=start)[1] == f"raftbench 1.2.3, proved with {KIT}\n"
+    assert (place.clone / "crates/raftbench/out/built.sums").exists()
+    path = place.archive()
+    assert read_from(path, "bin/raftbench").decode() == PRETENDING
+    path.unlink()
+    # Nor where the toolchain refuses a crate, has no verdict of it, builds no program, or is another.
+    place.says(PROVES.replace("rt: mid is kept: an earlier run", "rt: mid NOT PROVED").replace("3 passed, 0 failed'", "rt: FAILED: mid' '2 passed, 1 failed'; exit 1"))
+    place.fails("not all is proved: rt: FAILED: mid")
+    for missing in ("low proved", "mid is kept: an earlier run", "raftbench proved"):
+        for said in ("", "rt: low proved nothing", "rt: mid", "rt: mid: its tests are proved"):
+            place.says(PROVES.replace(f"rt: {missing}", said))
+            place.fails(f"rt ci has not said that {missing.split()[0]} is proved")
+    place.says(PROVES.replace("cp made crates", "cp nothing crates"))
+    place.fails("rt ci has built no program")
+    place.says(PROVES, "kit-2")
+    place.fails("and rt is of kit-2")
+    place.says(PROVES)
+    place.write("made", PRETENDING.replace(", proved with ", ", not proved, "))
+    place.save()
+    place.fails("not proved")
 
 
 def test_gives_the_same_bytes(place: Clone) -> None:
@@ -192,6 +249,63 @@ def test_starts_in_a_bare_root(place: Clone) -> None:
     assert in_root(root, "/raftbench", "check", "/tour").returncode == 1
 
 
+def test_nodes_work_where_they_are_unpacked(place: Clone) -> None:
+    """Without the toolchain. They find the program beside them, or in the path."""
+    place.take_the_built()
+    place.around.pop("RAFTBENCH", None)
+    folder = put_archive(place, place.room)
+    around = {"PATH": f"{pathlib.Path(sys.executable).parent}:/usr/bin:/bin", "HOME": str(place.room)}
+    for program in ("bin/raftbench", "usr/bin/raftbench"):
+        status, output, told = place.call(["--with", folder / "nodes/first", folder / "examples/tour/01-election.txt"], program=folder / "nodes/run", around=around)
+        assert status in (0, 1) and "1 script, " in output and not told, (program, status, output, told)
+        # It is installed elsewhere.
+        (folder / "usr/bin").mkdir(parents=True, exist_ok=True)
+        if program == "bin/raftbench":
+            (folder / program).rename(folder / "usr/bin/raftbench")
+        around = {**around, "PATH": f"{folder / 'usr/bin'}:{around['PATH']}"}
+    (folder / "usr/bin/raftbench").unlink()
+    last = place.call(["--with", folder / "nodes/first", folder / "examples/tour/01-election.txt"], program=folder / "nodes/run", around=around)
+    assert "the reference isn't compared" in last[2], last
+
+
+def test_debian_has_a_package(place: Clone) -> None:
+    """It has the archive's files where Debian has them, is the same whenever it is made, is installed into a folder, used there, and removed."""
+    for tool in ("dpkg", "dpkg-deb", *([] if os.geteuid() == 0 else ["fakeroot"])):
+        if not shutil.which(tool):
+            raise NotHere(tool)
+    place.take_the_built()
+    place.around.pop("RAFTBENCH", None)
+    around = {"PATH": f"{place.around['PATH']}:/usr/sbin:/sbin"}
+    archive, package = place.call("", around=around)[1].split()
+    first = (place.room / package).read_bytes()
+    assert place.call("", around=around)[1].split() == [archive, package] and (place.room / package).read_bytes() == first, "other bytes"
+    assert matched(r"raftbench_([0-9.]+)\+([0-9a-f]{10})_\w+\.deb$", package)[2] == place.git("rev-parse", "HEAD")[:10]
+    root = place.room / "root"
+    (root / "var/lib/dpkg").mkdir(parents=True)
+    (root / "var/lib/dpkg/status").touch()
+    as_root = [] if os.geteuid() == 0 else ["fakeroot"]
+
+    def dpkg(*words: str) -> str:
+        # The C library isn't in that root.
+        status, output, told = place.call([*as_root, "dpkg", f"--root={root}", "--force-depends", *words][1:], program=[*as_root, "dpkg"][0], around=around)
+        assert status == 0, (words, output, told)
+        return output
+
+    dpkg("--install", package)
+    listed = dpkg("--listfiles", "raftbench").splitlines()
+    for name in ("bin/raftbench", "bin/raftbench-from-etcd", "share/man/man1/raftbench.1.gz", "share/zsh/vendor-completions/_raftbench", "share/raftbench/nodes/run",
+                 "share/doc/raftbench/copyright", "share/doc/raftbench/changelog.Debian.gz", "share/doc/raftbench/PROOF", "share/bash-completion/completions/raftbench"):
+        assert f"/usr/{name}" in listed and (root / "usr" / name).is_file(), name
+    bare = {"PATH": f"{root / 'usr/bin'}:{pathlib.Path(sys.executable).parent}:/usr/bin:/bin"}
+    tour = root / "usr/share/doc/raftbench/examples/tour"
+    status, output, _ = place.call(["check", tour], program=root / "usr/bin/raftbench", around=bare)
+    assert status == 0 and " 0 mismatches, 0 refused" in output, output
+    status, output, told = place.call(["--with", root / "usr/share/raftbench/nodes/first", tour / "01-election.txt"], program=root / "usr/share/raftbench/nodes/run", around=bare)
+    assert "1 script, " in output and not told, (output, told)
+    dpkg("--purge", "raftbench")
+    assert not [path for path in root.rglob("*raftbench*") if "var" not in path.relative_to(root).parts], "something is left"
+
+
 def shown_in(document: pathlib.Path, language: str) -> list[str]:
     """What a document shows in this language, in order."""
     return re.findall(rf"^```{language}\n(.*?)^```$", document.read_text(), re.M | re.S)
@@ -253,20 +367,19 @@ def test_carries_out_the_jobs(place: Clone) -> None:
     archive = place.archive()
     jobs = [job for job in shown_in(TOP / "docs/USING.md", "yaml") if "raftbench check" in job]
     assert len(jobs) == 2, jobs
-    name = matched(r"raftbench-[0-9.]+-x86_64\.tar\.gz", jobs[0])[0]
     for at, job in enumerate(jobs):
         theirs = place.room / f"job {at}"
         (theirs / "tests").mkdir(parents=True)
         (theirs / "tools").mkdir()
         (theirs / "tests/one.txt").write_text(MATCHING)
-        shutil.copy(archive, theirs / "tools" / name)
-        (theirs / "tools/raftbench.sha256").write_text(f"{hashlib.sha256(archive.read_bytes()).hexdigest()}  tools/{name}\n")
+        shutil.copy(archive, theirs / "tools")
+        (theirs / "tools/raftbench.sha256").write_text(f"{hashlib.sha256(archive.read_bytes()).hexdigest()}  tools/{archive.name}\n")
         done = carried_out(job, theirs)
         told = ("", "::error file=tests/one.txt,line=1,") if "--format github" in job else ("1 script, 1 directive, 0 mismatches", "tests/one.txt:1: add-nodes")
         assert done.returncode == 0 and told[0] in done.stdout, (job, done)
         (theirs / "tests/one.txt").write_text(MATCHING.replace("1/10", "1/11"))
         done = carried_out(job, theirs)
         assert done.returncode == 1 and told[1] in done.stdout, done
-        (theirs / "tools" / name).write_bytes(b"another archive")
+        (theirs / "tools" / archive.name).write_bytes(b"another archive")
         done = carried_out(job, theirs)
         assert done.returncode == 1 and "FAILED" in done.stdout, done
