@@ -319,7 +319,7 @@ def part_explore() -> Checks:
         yield "a bug is found", None if status == 1 and files else output + errors
         again, _, _ = tool("explore", *words[:-1], 1)
         yield "the same seeds give the same result", None if without_times(output) == without_times(again) else again
-        block = block_of("promise broken: one vote per term: in 4 scripts, the first with seed 0; 15 directives, shrunk to 4")
+        block = block_of("promise broken: one vote per term: in 5 scripts, the first with seed 0; 15 directives, shrunk to 4")
         yield "it is shown as in the document, and first", None if output.startswith(block) else output
         shortest = min((len(read_script(file.read_bytes()).blocks) for file in files), default=99)
         yield "its script is short", None if shortest <= 4 else f"{shortest} directives"
