@@ -48,7 +48,9 @@ class Started:
 
     def __init__(self, room: pathlib.Path, command: list[str], count: int) -> None:
         self.pids, self.count = room / "pids", count
-        self.tool = subprocess.Popen(command, stdout=subprocess.PIPE, stderr=subprocess.STDOUT, start_new_session=True)
+        # Signals that this test's caller ignores, as nohup does, end the tool all the same.
+        heard = ["env", "--default-signal=HUP,INT,QUIT,TERM", *command]
+        self.tool = subprocess.Popen(heard, stdout=subprocess.PIPE, stderr=subprocess.STDOUT, start_new_session=True)
 
     def adapters(self) -> list[int]:
         return [int(line) for line in self.pids.read_text().split()] if self.pids.exists() else []
