@@ -141,7 +141,7 @@ def run_file(module: types.ModuleType, word: str) -> int:
             print(f"{result.name}: not tried, since {result.missing} isn't here")
             continue
         for problem in result.problems[:MOST_PROBLEMS]:
-            print(f"FAILED {result.name}: {problem}")
+            print(f"FAILED {result.name}: {problem[:MOST_SHOWN]}")
         passed, failed = passed + (not result.problems), failed + bool(result.problems)
         sys.stdout.flush()
     print(f"{passed} passed, {failed} failed")
